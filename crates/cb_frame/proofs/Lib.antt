@@ -1,0 +1,5 @@
+pub mod Fields
+pub mod Entries
+pub mod Found
+pub mod Again
+pub mod Sizes

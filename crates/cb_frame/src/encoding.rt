@@ -1,0 +1,181 @@
+//! From a frame to its bytes.
+ghost use Rattle.std.specs.Prelude.{◌≡◌, ◌<◌, ◌≤◌, ◌*◌, ◌^◌, ◌∷◌, ◌++◌, length, OnOk, IfOk};
+ghost use Rattle.std.specs.Int.{w16, w32, w64};
+ghost use Rattle.std.specs.List.{flat_map, All};
+ghost use Rattle.cb_frame.specs.Grammar.{FitsSome, BodyFitsSome, WritesFitSome};
+ghost use Rattle.cb_frame.specs.Kinds.{code_of, kind_of_body};
+ghost use Rattle.cb_frame.specs.Spelling.{word, spelling, body_spelling, short_spelling, write_spelling, page_spelling};
+
+use crate::{Body, Frame, ShortBody, Write};
+use cb_page::{GrantNo, Page, PageNo};
+use std::alloc::{AllocError, Global};
+
+/// The length of a frame's header.
+const HEADER: usize = 16;
+
+/// The bytes of a frame. It is refused only where memory is; it takes what the bytes need, at once.
+#[tactic(auto, unfolding(crate::specs::Spelling::spelling))]
+pub fn encode(alloc: Global, frame: &Frame) -> Result<Vec<u8>, AllocError>
+    requires { FitsSome frame.now }
+    ensures { IfOk result (λ v. v.items ≡ spelling frame.now) }
+{
+    let size = body_size(&frame.body);
+    let mut out = Vec::with_capacity(alloc, HEADER + size)?;
+    out.push(1)?;
+    out.push(frame.kind().code())?;
+    put_u16(&mut out, frame.client.get())?;
+    put_u64(&mut out, frame.incarnation.get())?;
+    put_u32(&mut out, size as u32)?;
+    put_body(&mut out, &frame.body)?;
+    Ok(out)
+}
+
+/// The length of the body's bytes.
+#[tactic(auto, unfolding(crate::specs::Spelling::word, crate::specs::Spelling::page_spelling, crate::specs::Spelling::body_spelling))]
+fn body_size(body: &Body) -> usize
+    requires { BodyFitsSome body.now }
+    ensures value { result ≡ length (body_spelling body.now) }
+    ensures small { result < 2 ^ 32 }
+{
+    match body {
+        Body::Short(body) => short_size(*body),
+        Body::Commit { writes, .. } => 10 + writes_size(writes.as_slice()),
+        Body::Granted { bytes, .. } => 22 + bytes.len(),
+    }
+}
+
+#[tactic(auto, unfolding(crate::specs::Spelling::word, crate::specs::Spelling::short_spelling))]
+fn short_size(body: ShortBody) -> usize
+    ensures value { result ≡ length (short_spelling body) }
+    ensures small { result ≤ 20 }
+{
+    match body {
+        ShortBody::Hello | ShortBody::Welcome => 0,
+        ShortBody::Drop { .. } | ShortBody::AbortNow { .. } => 8,
+        ShortBody::AskRead { .. } | ShortBody::GiveBack { .. } | ShortBody::Callback { .. } => 12,
+        ShortBody::Done { .. } => 16,
+        ShortBody::AskWrite { .. } | ShortBody::InUse { .. } | ShortBody::MayWrite { .. } => 20,
+    }
+}
+
+/// The length of the bytes of a commit's pages. They have one size, since they fit.
+fn writes_size(writes: &[Write]) -> usize
+    requires { WritesFitSome writes.now }
+    ensures value { result ≡ length (flat_map write_spelling writes.now) }
+    ensures small { result ≤ 4096 * 4110 }
+{
+    match writes.first() {
+        None => 0,
+        Some(write) => writes.len() * (14 + write.bytes.len()),
+    }
+}
+
+#[tactic(auto, using(std::proofs::Common::append_assoc), unfolding(crate::specs::Spelling::body_spelling))]
+fn put_body(out: &mut Vec<u8>, body: &Body) -> Result<(), AllocError>
+    requires { BodyFitsSome body.now }
+    ensures { OnOk result (out.new.items ≡ out.old.items ++ body_spelling body.now) }
+{
+    match body {
+        Body::Short(body) => put_short(out, *body)?,
+        Body::Commit { txn, writes } => {
+            put_u64(out, txn.get())?;
+            put_u16(out, writes.len() as u16)?;
+            put_writes(out, writes.as_slice())?;
+        }
+        Body::Granted {
+            page,
+            grant,
+            version,
+            bytes,
+        } => {
+            put_page_grant(out, *page, *grant)?;
+            put_u64(out, version.get())?;
+            put_page(out, bytes)?;
+        }
+    }
+    Ok(())
+}
+
+#[tactic(auto, using(std::proofs::Common::append_assoc), unfolding(crate::specs::Spelling::short_spelling))]
+fn put_short(out: &mut Vec<u8>, body: ShortBody) -> Result<(), AllocError>
+    ensures { OnOk result (out.new.items ≡ out.old.items ++ short_spelling body) }
+{
+    match body {
+        ShortBody::Hello | ShortBody::Welcome => Ok(()),
+        ShortBody::Drop { txn } | ShortBody::AbortNow { txn } => put_u64(out, txn.get()),
+        ShortBody::AskRead { txn, page } => {
+            put_u64(out, txn.get())?;
+            put_u32(out, page.get())
+        }
+        ShortBody::AskWrite { txn, page, grant }
+        | ShortBody::InUse { txn, page, grant }
+        | ShortBody::MayWrite { txn, page, grant } => {
+            put_u64(out, txn.get())?;
+            put_page_grant(out, page, grant)
+        }
+        ShortBody::GiveBack { page, grant } | ShortBody::Callback { page, grant } => {
+            put_page_grant(out, page, grant)
+        }
+        ShortBody::Done { txn, number } => {
+            put_u64(out, txn.get())?;
+            put_u64(out, number.get())
+        }
+    }
+}
+
+fn put_writes(out: &mut Vec<u8>, writes: &[Write]) -> Result<(), AllocError>
+    requires { All (λ w. length w.bytes < 2 ^ 16) writes.now }
+    ensures { OnOk result (out.new.items ≡ out.old.items ++ flat_map write_spelling writes.now) }
+{
+    for write in writes {
+        put_write(out, write)?;
+    }
+    Ok(())
+}
+
+#[tactic(auto, using(std::proofs::Common::append_assoc), unfolding(crate::specs::Spelling::write_spelling))]
+fn put_write(out: &mut Vec<u8>, write: &Write) -> Result<(), AllocError>
+    requires { length write.now.bytes < 2 ^ 16 }
+    ensures { OnOk result (out.new.items ≡ out.old.items ++ write_spelling write.now) }
+{
+    put_page_grant(out, write.page, write.grant)?;
+    put_page(out, &write.bytes)
+}
+
+#[tactic(auto, using(std::proofs::Common::append_assoc), unfolding(crate::specs::Spelling::page_spelling))]
+fn put_page(out: &mut Vec<u8>, page: &Page) -> Result<(), AllocError>
+    requires { length page.now < 2 ^ 16 }
+    ensures { OnOk result (out.new.items ≡ out.old.items ++ page_spelling page.now) }
+{
+    put_u16(out, page.len() as u16)?;
+    out.extend_from_slice(page.as_slice())
+}
+
+#[tactic(auto, using(std::proofs::Common::append_assoc))]
+fn put_page_grant(out: &mut Vec<u8>, page: PageNo, grant: GrantNo) -> Result<(), AllocError>
+    ensures { OnOk result (out.new.items ≡ out.old.items ++ (word w32 page ++ word w64 grant)) }
+{
+    put_u32(out, page.get())?;
+    put_u64(out, grant.get())
+}
+
+#[tactic(auto, unfolding(crate::specs::Spelling::word))]
+fn put_u16(out: &mut Vec<u8>, n: u16) -> Result<(), AllocError>
+    ensures { OnOk result (out.new.items ≡ out.old.items ++ word w16 n) }
+{
+    out.extend_from_slice(&n.to_be_bytes())
+}
+
+#[tactic(auto, unfolding(crate::specs::Spelling::word))]
+fn put_u32(out: &mut Vec<u8>, n: u32) -> Result<(), AllocError>
+    ensures { OnOk result (out.new.items ≡ out.old.items ++ word w32 n) }
+{
+    out.extend_from_slice(&n.to_be_bytes())
+}
+
+#[tactic(auto, unfolding(crate::specs::Spelling::word))]
+fn put_u64(out: &mut Vec<u8>, n: u64) -> Result<(), AllocError>
+    ensures { OnOk result (out.new.items ≡ out.old.items ++ word w64 n) }
+{
+    out.extend_from_slice(&n.to_be_bytes())
+}

@@ -1,0 +1,215 @@
+//! Frames, as values.
+ghost use Rattle.std.specs.Prelude.{◌≡◌, IsTrue, ◌↔◌};
+ghost use Rattle.cb_frame.specs.Kinds.{kind_of_short, kind_of_body};
+
+use crate::{Kind, Writes};
+use cb_page::{ClientNo, CommitNo, GrantNo, Incarnation, Limits, Page, PageNo, TxnNo, Version};
+
+/// A message between a client and the server.
+#[derive(Debug, Drop)]
+pub struct Frame {
+    /// The client that the frame comes from or goes to.
+    pub client: ClientNo,
+    /// The incarnation of that client.
+    pub incarnation: Incarnation,
+    pub body: Body,
+}
+
+/// What a frame says.
+#[derive(Debug, Drop)]
+pub enum Body {
+    /// A body without page bytes.
+    Short(ShortBody),
+    /// A transaction commits, with the pages that it has written.
+    Commit {
+        txn: TxnNo,
+        writes: Writes,
+    },
+    /// The server grants a page, with its bytes.
+    Granted {
+        page: PageNo,
+        grant: GrantNo,
+        version: Version,
+        bytes: Page,
+    },
+}
+
+/// A message that carries no page bytes, and so owns no memory.
+#[derive(Clone, Copy, Debug, PartialEq, Eq)]
+pub struct ShortFrame {
+    /// The client that the frame comes from or goes to.
+    pub client: ClientNo,
+    /// The incarnation of that client.
+    pub incarnation: Incarnation,
+    pub body: ShortBody,
+}
+
+/// What a frame without page bytes says; [`Kind`] has the meaning of each.
+#[derive(Clone, Copy, Debug, PartialEq, Eq)]
+pub enum ShortBody {
+    Hello,
+    AskRead {
+        txn: TxnNo,
+        page: PageNo,
+    },
+    AskWrite {
+        txn: TxnNo,
+        page: PageNo,
+        grant: GrantNo,
+    },
+    GiveBack {
+        page: PageNo,
+        grant: GrantNo,
+    },
+    InUse {
+        txn: TxnNo,
+        page: PageNo,
+        grant: GrantNo,
+    },
+    Drop {
+        txn: TxnNo,
+    },
+    Welcome,
+    MayWrite {
+        txn: TxnNo,
+        page: PageNo,
+        grant: GrantNo,
+    },
+    Callback {
+        page: PageNo,
+        grant: GrantNo,
+    },
+    Done {
+        txn: TxnNo,
+        number: CommitNo,
+    },
+    AbortNow {
+        txn: TxnNo,
+    },
+}
+
+impl ShortBody {
+    ghost use Rattle.cb_frame.specs.Grammar.{ShortFits};
+
+    /// The kind of a frame with this body.
+    pub fn kind(self) -> Kind
+        ensures { result ≡ kind_of_short self }
+    {
+        match self {
+            ShortBody::Hello => Kind::Hello,
+            ShortBody::AskRead { .. } => Kind::AskRead,
+            ShortBody::AskWrite { .. } => Kind::AskWrite,
+            ShortBody::GiveBack { .. } => Kind::GiveBack,
+            ShortBody::InUse { .. } => Kind::InUse,
+            ShortBody::Drop { .. } => Kind::Drop,
+            ShortBody::Welcome => Kind::Welcome,
+            ShortBody::MayWrite { .. } => Kind::MayWrite,
+            ShortBody::Callback { .. } => Kind::Callback,
+            ShortBody::Done { .. } => Kind::Done,
+            ShortBody::AbortNow { .. } => Kind::AbortNow,
+        }
+    }
+
+    // The other numbers are in range by their types, as `get` says.
+    fn fits(self, limits: &Limits) -> bool
+        ensures { IsTrue result ↔ ShortFits limits.now self }
+    {
+        match self {
+            ShortBody::Hello | ShortBody::Welcome => true,
+            ShortBody::Drop { txn } | ShortBody::AbortNow { txn } => {
+                let _in_range = txn.get();
+                true
+            }
+            ShortBody::AskRead { txn, page } => {
+                let _in_range = txn.get();
+                limits.has_page(page.get())
+            }
+            ShortBody::AskWrite { txn, page, grant }
+            | ShortBody::InUse { txn, page, grant }
+            | ShortBody::MayWrite { txn, page, grant } => {
+                let _in_range = (txn.get(), grant.get());
+                limits.has_page(page.get())
+            }
+            ShortBody::GiveBack { page, grant } | ShortBody::Callback { page, grant } => {
+                let _in_range = grant.get();
+                limits.has_page(page.get())
+            }
+            ShortBody::Done { txn, number } => {
+                let _in_range = (txn.get(), number.get());
+                true
+            }
+        }
+    }
+}
+
+impl Body {
+    ghost use Rattle.cb_frame.specs.Grammar.{BodyFits};
+
+    /// The kind of a frame with this body.
+    pub fn kind(&self) -> Kind
+        ensures { result ≡ kind_of_body self.now }
+    {
+        match self {
+            Body::Short(body) => body.kind(),
+            Body::Commit { .. } => Kind::Commit,
+            Body::Granted { .. } => Kind::Granted,
+        }
+    }
+
+    fn fits(&self, limits: &Limits) -> bool
+        ensures { IsTrue result ↔ BodyFits limits.now self.now }
+    {
+        match self {
+            Body::Short(body) => body.fits(limits),
+            Body::Commit { txn, writes } => {
+                let _in_range = txn.get();
+                writes.fit(limits)
+            }
+            Body::Granted {
+                page,
+                grant,
+                version,
+                bytes,
+            } => {
+                let _in_range = (grant.get(), version.get());
+                limits.has_page(page.get()) && bytes.len() == limits.page_size()
+            }
+        }
+    }
+}
+
+impl Frame {
+    ghost use Rattle.cb_page.specs.Bounds.{AreInRange};
+    ghost use Rattle.cb_frame.specs.Grammar.{Fits};
+
+    /// What the frame is for.
+    pub fn kind(&self) -> Kind
+        ensures { result ≡ kind_of_body self.now.body }
+    {
+        self.body.kind()
+    }
+
+    /// Whether the frame is one under these limits: its numbers are in range, its pages have the store's size, and a
+    /// commit's pages rise.
+    pub fn fits(&self, limits: &Limits) -> bool
+        ensures value { IsTrue result ↔ Fits limits.now self.now }
+        ensures range { AreInRange limits.now }
+    {
+        let _in_range = self.incarnation.get();
+        limits.has_client(self.client.get()) && self.body.fits(limits)
+    }
+}
+
+impl From<ShortFrame> for Frame {
+    ghost use Rattle.cb_frame.specs.declared.frame.Body.TheVariants as body;
+
+    ghost from_gives = { λ s f. f ≡ record { client = s.client; incarnation = s.incarnation; body = body.Short s.body } };
+
+    fn from(frame: ShortFrame) -> Frame {
+        Frame {
+            client: frame.client,
+            incarnation: frame.incarnation,
+            body: Body::Short(frame.body),
+        }
+    }
+}

@@ -1,0 +1,6 @@
+pub mod Faults
+pub mod Numbers
+pub mod Bounds
+pub mod Limits
+pub mod Flags
+pub mod Words

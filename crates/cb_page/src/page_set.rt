@@ -1,0 +1,128 @@
+//! Sets of pages.
+ghost use Rattle.std.specs.Prelude.{◌≡◌, ℕ, ◌+◌, ◌<◌, ◌≤◌, ◌≢◌, ◌↔◌, Bool, true, false, List, length, replicate, slice_set, IfOk, IsTrue, MatchOption};
+ghost use Rattle.std.specs.Int.{bit_at};
+ghost use Rattle.cb_page.specs.Flags.{has};
+
+use crate::PageNo;
+use std::alloc::{AllocError, Global};
+use std::marker::Model;
+
+/// A set of the pages below a number that is fixed when the set is made. In contracts it is a list with one flag for
+/// each of these pages.
+///
+/// Only `new` takes memory. The walk by `next` passes over 64 pages a step where none of them is in the set.
+#[derive(Debug, Drop)]
+pub struct PageSet {
+    /// Bit `page % 64` of word `page / 64` is 1 where the page is in the set.
+    words: Vec<u64>,
+    pages: usize,
+}
+
+impl Model for PageSet {
+    ghost use Rattle.std.specs.Prelude.{◌≡◌, ◌≤◌, ◌+◌, ◌/◌, ◌*◌, List, Bool, length};
+    ghost use Rattle.cb_page.specs.Words.{flags_of};
+
+    ghost Value = { List Bool };
+
+    ghost view = { λ a. flags_of a.words.items a.pages };
+
+    ghost invariant = { λ a. (a.pages ≤ 64 * length a.words.items) × (length a.words.items ≤ 64) };
+}
+
+impl PageSet {
+    /// The empty set over the pages below a number. It is refused only where memory is.
+    pub fn new(alloc: Global, pages: usize) -> Result<PageSet, AllocError>
+        requires { pages ≤ 4096 }
+        ensures { IfOk result (λ s. s ≡ replicate pages false) }
+    {
+        Ok(PageSet {
+            words: zero_words(alloc, pages.div_ceil(64))?,
+            pages,
+        })
+    }
+
+    /// How many pages the set may hold: those below this number.
+    pub fn pages(&self) -> usize
+        ensures value { result ≡ length self.now }
+        ensures greatest { result ≤ 4096 }
+    {
+        self.pages
+    }
+
+    /// Whether the page is in the set; `false` for a page past the end.
+    pub fn contains(&self, page: PageNo) -> bool
+        ensures { result ≡ has self.now page }
+    {
+        let page = page.index();
+        page < self.pages && self.words[page / 64] >> (page % 64) & 1 == 1
+    }
+
+    /// Puts the page in.
+    pub fn insert(&mut self, page: PageNo)
+        requires { page < length self.old }
+        ensures { self.new ≡ slice_set self.old page true }
+    {
+        let page = page.index();
+        let word = self.words[page / 64];
+        self.words[page / 64] = word | 1 << (page % 64);
+    }
+
+    /// Takes the page out.
+    pub fn remove(&mut self, page: PageNo)
+        requires { page < length self.old }
+        ensures { self.new ≡ slice_set self.old page false }
+    {
+        let page = page.index();
+        let word = self.words[page / 64];
+        self.words[page / 64] = word & !(1 << (page % 64));
+    }
+
+    /// Takes all pages out.
+    pub fn clear(&mut self)
+        ensures { self.new ≡ replicate (length self.old) false }
+    {
+        self.words.fill(0);
+    }
+
+    /// The least member at or after a place: with `from` one past the last answer this walks through the set, rising.
+    pub fn next(&self, from: usize) -> Option<PageNo>
+        ensures { MatchOption result
+            ((k : ℕ) → from ≤ k → has self.now k ≡ false)
+            (λ p. (from ≤ p) × (has self.now p ≡ true) × ((k : ℕ) → from ≤ k → k < p → has self.now k ≡ false)) }
+    {
+        let mut start = from % 64;
+        for at in from / 64..self.words.len() {
+            if let Some(bit) = lowest_bit(self.words[at], start) {
+                let page = 64 * at + bit;
+                return if page < self.pages {
+                    Some(PageNo::new(page as u32))
+                } else {
+                    None
+                };
+            }
+            start = 0;
+        }
+        None
+    }
+}
+
+fn zero_words(alloc: Global, count: usize) -> Result<Vec<u64>, AllocError>
+    ensures { IfOk result (λ words. words.items ≡ replicate count 0) }
+{
+    vec![in alloc; 0u64; count]
+}
+
+/// The lowest bit that is 1 in the word, at or after a place.
+fn lowest_bit(word: u64, start: usize) -> Option<usize>
+    requires { start < 64 }
+    ensures { MatchOption result
+        ((k : ℕ) → start ≤ k → k < 64 → bit_at word k ≡ 0)
+        (λ b. (start ≤ b) × (b < 64) × (bit_at word b ≡ 1) × ((k : ℕ) → start ≤ k → k < b → bit_at word k ≡ 0)) }
+{
+    let rest = word >> start;
+    if rest == 0 {
+        None
+    } else {
+        Some(start + rest.trailing_zeros() as usize)
+    }
+}

@@ -1,0 +1,54 @@
+use crate::{LimitFault, Limits, PageNo, PageSet};
+use std::test::Fail;
+
+#[test]
+fn limit_faults(rt: HostRuntime) {
+    for (limits, fault) in [
+        ([0, 0, 16, 4, 1, 2], LimitFault::Clients),
+        ([33, 8, 16, 4, 1, 2], LimitFault::Clients),
+        ([1, 0, 16, 4, 1, 2], LimitFault::Pages),
+        ([1, 4097, 16, 4, 1, 2], LimitFault::Pages),
+        ([1, 8, 24, 4, 1, 2], LimitFault::PageSize),
+        ([1, 8, 0, 4, 1, 2], LimitFault::PageSize),
+        ([1, 8, 4112, 4, 1, 2], LimitFault::PageSize),
+        ([1, 8, 16, 1, 1, 2], LimitFault::Slots),
+        ([1, 8, 16, 1025, 1, 2], LimitFault::Slots),
+        ([1, 8, 16, 4, 4, 2], LimitFault::Kin),
+        ([1, 8, 16, 4, 0, 2], LimitFault::Kin),
+        ([1, 8, 16, 4, 1, 0], LimitFault::Kout),
+        ([1, 8, 16, 4, 1, 4097], LimitFault::Kout),
+    ] {
+        let [clients, pages, page_size, slots, kin, kout] = limits;
+        let made = Limits::new(clients, pages, page_size, slots, kin, kout);
+        assert!(rt; made == Err(fault), "at {fault}");
+    }
+    assert!(rt; Limits::new(32, 4096, 4096, 2, 1, 4096).is_ok());
+}
+
+#[test]
+fn page_set_walk(rt: HostRuntime) -> Result<(), Fail> {
+    let mut set = PageSet::new(rt.alloc(), 200)?;
+    set.insert(PageNo::new(199));
+    set.insert(PageNo::new(64));
+    set.insert(PageNo::new(3));
+    set.insert(PageNo::new(63));
+    set.insert(PageNo::new(128));
+    set.remove(PageNo::new(128));
+    for (from, member) in [
+        (0, Some(3)),
+        (3, Some(3)),
+        (4, Some(63)),
+        (64, Some(64)),
+        (65, Some(199)),
+        (200, None),
+        (5000, None),
+    ] {
+        assert!(rt; set.next(from).map(PageNo::get) == member, "from {from}");
+    }
+    assert!(rt; set.contains(PageNo::new(63)));
+    assert!(rt; !set.contains(PageNo::new(128)));
+    assert!(rt; !set.contains(PageNo::new(200)));
+    set.clear();
+    assert!(rt; set.next(0).is_none());
+    Ok(())
+}

@@ -1,0 +1,31 @@
+-- The pages of a pool with their counts.
+use Rattle.std.specs.Prelude.{◌≡◌, ℕ, ◌+◌, Bool, true, false, ◌&&◌, List, [], ◌∷◌, length, Option, Some, None}
+use Rattle.std.specs.Option.{is_some}
+use Rattle.cb_pool.specs.PoolState.{held}
+
+-- which pages are fixed, and the bytes of each page that is here
+pub record CopiesState : Type 0 where
+  pub fixed : List Bool
+  pub pages : List (Option (List ℕ))
+
+-- 1 for true
+abbrev pub bit : Bool → ℕ
+bit true = 1
+bit false = 0
+
+-- how many pages are here and fixed
+abbrev pub held_fixed : List (Option (List ℕ)) → List Bool → ℕ
+held_fixed [] fs = 0
+held_fixed (p ∷ ps) [] = 0
+held_fixed (p ∷ ps) (f ∷ fs) = bit (is_some p && f) + held_fixed ps fs
+
+-- the counts are those of the pages
+pub record AreCounted (pages : List (Option (List ℕ))) (fixed : List Bool) (here here_fixed : ℕ) : Type 0 where
+  pub flags : length fixed ≡ length pages
+  pub here_is : here ≡ held pages
+  pub here_fixed_is : here_fixed ≡ held_fixed pages fixed
+
+-- a page that is here, of this many bytes
+abbrev pub IfHere : Option (List ℕ) → ℕ → Type 0
+IfHere None n = ⊥
+IfHere (Some bytes) n = length bytes ≡ n

@@ -1,0 +1,174 @@
+ghost use Rattle.std.specs.Prelude.{◌≡◌, ◌<◌, ◌↔◌, [], length, replicate, slice_set, true, false, Some, None, IfOk, IfSome, OnErr, IsTrue};
+ghost use Rattle.std.specs.Borrow.{sem};
+ghost use Rattle.std.specs.Option.{is_none, is_some, option_copied};
+ghost use Rattle.cb_pool.specs.Lending.{pool_ends_as};
+ghost use Rattle.cb_pool.specs.PoolState.{PoolState, empty_pool, copy_of, HasRoom, let_go, MayGo, IsPool};
+ghost use Rattle.cb_pool.specs.Refusals.{fault_of};
+
+use crate::copies::Copies;
+use cb_page::{Limits, Page, PageNo};
+use cb_twoq::{ChooseFault, Chooser};
+use std::alloc::{AllocError, Global};
+use std::marker::Model;
+use thiserror::Error;
+
+/// Why a page was not installed. Nothing changed then.
+#[derive(Clone, Copy, Debug, PartialEq, Eq, Error)]
+pub enum PoolFault {
+    /// The page isn't here, and each slot has a fixed page.
+    #[error("1 Full")]
+    Full,
+    /// A growth was refused.
+    #[error("2 Memory")]
+    Memory,
+}
+
+impl From<ChooseFault> for PoolFault {
+    ghost from_gives = { λ refused e. e ≡ fault_of refused };
+
+    fn from(refused: ChooseFault) -> PoolFault {
+        match refused {
+            ChooseFault::Full => PoolFault::Full,
+            ChooseFault::Memory => PoolFault::Memory,
+        }
+    }
+}
+
+/// A client's copies of pages, of which a chooser picks the one to let go.
+///
+/// In contracts a pool is its count of slots, the page size, a flag for each page of the store that is fixed, and
+/// the bytes of each page that is here. It doesn't show the chooser. A page's bytes are moved in and lent out, and
+/// never copied save by `write`, which overwrites them.
+#[derive(Drop)]
+pub struct Pool<Q: Chooser> {
+    chooser: Q,
+    slots: usize,
+    page_size: usize,
+    copies: Copies,
+}
+
+impl<Q: Chooser> Model for Pool<Q> {
+    ghost use Rattle.cb_pool.specs.PoolState.{PoolState};
+    ghost use Rattle.cb_pool.specs.Agree.{Agrees};
+
+    ghost Value = { PoolState };
+
+    ghost view = { λ a. record {
+      slots = a.slots;
+      page_size = a.page_size;
+      fixed = a.copies.fixed;
+      pages = a.copies.pages;
+    } };
+
+    ghost invariant = { λ a. Agrees (record {
+      slots = a.slots;
+      page_size = a.page_size;
+      fixed = a.copies.fixed;
+      pages = a.copies.pages;
+    }) (Q.members a.chooser) (Q.slots a.chooser) };
+}
+
+impl<Q: Chooser> Pool<Q> {
+    /// An empty pool over an empty chooser of as many slots as the limits say. It is refused only where memory is.
+    pub fn new(alloc: Global, chooser: Q, limits: &Limits) -> Result<Pool<Q>, AllocError>
+        requires members { Q.members chooser ≡ [] }
+        requires slots { Q.slots chooser ≡ limits.now.slots }
+        ensures { IfOk result (λ p. p ≡ empty_pool limits.now.slots limits.now.pages limits.now.page_size) }
+    {
+        Ok(Pool {
+            chooser,
+            slots: limits.slots(),
+            page_size: limits.page_size(),
+            copies: Copies::new(alloc, limits.pages() as usize)?,
+        })
+    }
+
+    /// Lends the bytes of a page, if it is here, with no reference to it.
+    pub fn peek(&self, page: PageNo) -> Option<&[u8]>
+        ensures bytes { option_copied result ≡ copy_of self.now page }
+        ensures is_pool { IsPool self.now }
+    {
+        self.copies.get(page)
+    }
+
+    /// Lends the bytes of a page, if it is here, and counts as a reference to it.
+    ///
+    /// The pool is the same once the loan is over, save that the chooser may let another page go later.
+    pub fn hit(&mut self, page: PageNo) -> Option<&[u8]>
+        ensures* ends { sem 𝓛 (pool_ends_as Q.row Q.Chooser self.entry self.old) }
+        ensures bytes { option_copied result ≡ copy_of self.old page }
+    {
+        self.touch(page);
+        self.peek(page)
+    }
+
+    /// Refers to a page, if it is here.
+    fn touch(&mut self, page: PageNo)
+        ensures { self.new ≡ self.old }
+    {
+        if self.copies.has(page) {
+            let _gone = self.chooser.reference(page, self.copies.fixed());
+        }
+    }
+
+    /// Takes in a page's bytes, which counts as a reference to it, and answers the page let go for it, if any.
+    ///
+    /// Bytes that are here already are replaced. `Full` comes where the page isn't here and there is no room, and
+    /// `Memory` only where a growth of the chooser was refused; the bytes handed in are dropped then.
+    pub fn install(&mut self, page: PageNo, bytes: Page) -> Result<Option<PageNo>, PoolFault>
+        requires below { page < length self.old.fixed }
+        requires size { length bytes ≡ self.old.page_size }
+        ensures pages { IfOk result (λ gone.
+            self.new ≡ record self.old { pages = slice_set (let_go gone self.old.pages) page (Some bytes) }) }
+        ensures gone { IfOk result (MayGo self.old page) }
+        ensures full { (result ≡ Err PoolFault.Full) ↔ (IsTrue (is_none (copy_of self.old page)) × ¬ (HasRoom self.old)) }
+        ensures here { IsTrue (is_some (copy_of self.old page)) → result ≡ Ok None }
+        ensures err { OnErr result (self.new ≡ self.old) }
+    {
+        let gone = self.chooser.reference(page, self.copies.fixed())?;
+        self.copies.place(page, &gone, bytes);
+        Ok(gone)
+    }
+
+    /// Whether `install` finds a slot for every page: fewer pages are here than there are slots, or one that is here
+    /// isn't fixed.
+    pub fn room(&self) -> bool
+        ensures room { IsTrue result ↔ HasRoom self.now }
+        ensures is_pool { IsPool self.now }
+    {
+        self.copies.count() < self.slots || self.copies.has_loose()
+    }
+
+    /// Keeps a page from being let go. It needn't be here: it is fixed once it is installed.
+    pub fn fix(&mut self, page: PageNo)
+        requires { page < length self.old.fixed }
+        ensures { self.new ≡ record self.old { fixed = slice_set self.old.fixed page true } }
+    {
+        self.copies.fix(page);
+    }
+
+    /// Lets every page be let go.
+    pub fn unfix_all(&mut self)
+        ensures { self.new ≡ record self.old { fixed = replicate (length self.old.fixed) false } }
+    {
+        self.copies.unfix_all();
+    }
+
+    /// Overwrites the bytes of a page that is here, with no reference to it.
+    pub fn write(&mut self, page: PageNo, bytes: &[u8])
+        requires here { IsTrue (is_some (copy_of self.old page)) }
+        requires size { length bytes.now ≡ self.old.page_size }
+        ensures { self.new ≡ record self.old { pages = slice_set self.old.pages page (Some bytes.now) } }
+    {
+        self.copies.write(page, bytes);
+    }
+
+    /// Takes a page out, here or not, fixed or not; it stays fixed. The chooser forgets it.
+    pub fn remove(&mut self, page: PageNo)
+        requires { page < length self.old.fixed }
+        ensures { self.new ≡ record self.old { pages = slice_set self.old.pages page None } }
+    {
+        self.chooser.forget(page);
+        self.copies.put(page, None);
+    }
+}

@@ -1,0 +1,230 @@
+//! What no clause says: which page a hit saves, that each call succeeds, and what stands after a refused growth; and a
+//! caller that hits and peeks.
+
+ghost use Rattle.std.specs.Prelude.{◌≡◌, ◌<◌, ◌≤◌, length, true, IfOk};
+ghost use Rattle.cb_pool.specs.PoolState.{empty_pool};
+
+use crate::{Pool, PoolFault};
+use Seen::{Byte, Full, Gone, Memory, No, Nothing, Yes};
+use Step::{Fix, Hit, HitThenPeek, Peek, Put, Remove, Room, UnfixAll, Write};
+use cb_page::{Limits, Page, PageNo};
+use cb_twoq::{Chooser, TwoQ};
+use std::alloc::{AllocError, Global};
+use std::process::Abort;
+
+/// A caller of the pool. It hits a page and, once that loan is over, peeks at it: it still knows all that it knew of
+/// the pool, so that both loans are known to be as long.
+fn hit_then_peek<Q: Chooser>(pool: &mut Pool<Q>, page: PageNo) -> bool
+    ensures kept { pool.new ≡ pool.old }
+    ensures same { result ≡ true }
+{
+    let hit = match pool.hit(page) {
+        Some(bytes) => bytes.len(),
+        None => 0,
+    };
+    let peeked = match pool.peek(page) {
+        Some(bytes) => bytes.len(),
+        None => 0,
+    };
+    hit == peeked
+}
+
+/// A call of a pool, at a page and with sixteen bytes that are all the same.
+#[derive(Clone, Copy)]
+enum Step {
+    Put(u32, u8),
+    Peek(u32),
+    Hit(u32),
+    HitThenPeek(u32),
+    Write(u32, u8),
+    Fix(u32),
+    UnfixAll,
+    Remove(u32),
+    Room,
+}
+
+/// What a call answers: the page let go, the first of the bytes lent, whether there is room.
+#[derive(Clone, Copy, PartialEq, Eq)]
+enum Seen {
+    Nothing,
+    Gone(u32),
+    Byte(u8),
+    Yes,
+    No,
+    Full,
+    Memory,
+}
+
+/// Installs a page.
+fn put<Q: Chooser>(alloc: Global, pool: &mut Pool<Q>, page: PageNo, byte: u8) -> Seen
+    requires page { page < length pool.old.fixed }
+    requires size { pool.old.page_size ≡ 16 }
+    ensures pages { length pool.new.fixed ≡ length pool.old.fixed }
+    ensures size { pool.new.page_size ≡ 16 }
+{
+    let Ok(bytes) = vec![in alloc; byte; 16] else {
+        return Memory;
+    };
+    match pool.install(page, Page::from_vec(bytes)) {
+        Ok(Some(gone)) => Gone(gone.get()),
+        Ok(None) => Nothing,
+        Err(PoolFault::Full) => Full,
+        Err(PoolFault::Memory) => Memory,
+    }
+}
+
+/// The first of the bytes lent.
+fn lent(bytes: Option<&[u8]>) -> Seen {
+    match bytes {
+        Some([byte, ..]) => Byte(*byte),
+        _ => Nothing,
+    }
+}
+
+/// Overwrites a page, if it is here.
+fn write<Q: Chooser>(pool: &mut Pool<Q>, page: PageNo, byte: u8) -> Seen
+    requires { pool.old.page_size ≡ 16 }
+    ensures pages { length pool.new.fixed ≡ length pool.old.fixed }
+    ensures size { pool.new.page_size ≡ 16 }
+{
+    if pool.peek(page).is_none() {
+        return No;
+    }
+    pool.write(page, &[byte; 16]);
+    Yes
+}
+
+/// Makes a call, at a page below 8.
+fn act<Q: Chooser>(alloc: Global, pool: &mut Pool<Q>, step: Step) -> Seen
+    requires pages { 8 ≤ length pool.old.fixed }
+    requires size { pool.old.page_size ≡ 16 }
+    ensures pages { length pool.new.fixed ≡ length pool.old.fixed }
+    ensures size { pool.new.page_size ≡ 16 }
+{
+    match step {
+        Put(page, byte) => put(alloc, pool, PageNo::new(page % 8), byte),
+        Peek(page) => lent(pool.peek(PageNo::new(page % 8))),
+        Hit(page) => lent(pool.hit(PageNo::new(page % 8))),
+        HitThenPeek(page) if hit_then_peek(pool, PageNo::new(page % 8)) => Yes,
+        HitThenPeek(_) => No,
+        Write(page, byte) => write(pool, PageNo::new(page % 8), byte),
+        Fix(page) => {
+            pool.fix(PageNo::new(page % 8));
+            Nothing
+        }
+        UnfixAll => {
+            pool.unfix_all();
+            Nothing
+        }
+        Remove(page) => {
+            pool.remove(PageNo::new(page % 8));
+            Nothing
+        }
+        Room if pool.room() => Yes,
+        Room => No,
+    }
+}
+
+/// A pool of eight pages over an empty chooser, whatever the chooser.
+fn pool_of<Q: Chooser>(alloc: Global, limits: &Limits) -> Result<Pool<Q>, AllocError>
+    ensures { IfOk result (λ p. p ≡ empty_pool limits.now.slots limits.now.pages limits.now.page_size) }
+{
+    Pool::new(alloc, Q::make(alloc, limits)?, limits)
+}
+
+/// Makes calls in turn, each of which has to answer what stands beside it.
+///
+/// A call whose growth was refused is made again, and has to answer as if nothing had been refused.
+fn play<Q: Chooser>(rt: &impl Abort, alloc: Global, pool: &mut Pool<Q>, steps: &[(Step, Seen)])
+    requires pages { 8 ≤ length pool.old.fixed }
+    requires size { pool.old.page_size ≡ 16 }
+    ensures pages { 8 ≤ length pool.new.fixed }
+    ensures size { pool.new.page_size ≡ 16 }
+{
+    for &(step, wanted) in steps {
+        let mut seen = act(alloc, pool, step);
+        if seen == Memory {
+            seen = act(alloc, pool, step);
+        }
+        assert!(rt; seen == wanted);
+    }
+}
+
+/// Makes calls in turn of a pool of so many slots: first those that bring it about, then those of the case.
+fn play_on<Q: Chooser>(
+    rt: &impl Abort,
+    alloc: Global,
+    slots: u64,
+    before: &[(Step, Seen)],
+    steps: &[(Step, Seen)],
+) {
+    let limits = Limits::new(1, 8, 16, slots, 1, 4).expect(rt, "limits");
+    if let Ok(mut pool) = pool_of::<Q>(alloc, &limits) {
+        play(rt, alloc, &mut pool, before);
+        play(rt, alloc, &mut pool, steps);
+    }
+}
+
+/// Pages 1 and 2 come back while they are remembered: they are on Am, 1 the older, and 5 is on A1in.
+const ON_AM: [(Step, Seen); 7] = [
+    (Put(1, 7), Nothing),
+    (Put(2, 7), Nothing),
+    (Put(3, 7), Nothing),
+    (Put(4, 7), Gone(1)),
+    (Put(5, 7), Gone(2)),
+    (Put(1, 7), Gone(3)),
+    (Put(2, 7), Gone(4)),
+];
+
+#[test]
+fn hit_decides_what_is_let_go(rt: HostRuntime) {
+    play_on::<TwoQ>(
+        &rt,
+        rt.alloc(),
+        3,
+        &ON_AM,
+        &[(Peek(1), Byte(7)), (Put(6, 7), Gone(1))],
+    );
+    play_on::<TwoQ>(
+        &rt,
+        rt.alloc(),
+        3,
+        &ON_AM,
+        &[(Hit(1), Byte(7)), (Put(6, 7), Gone(2))],
+    );
+}
+
+#[test]
+fn calls_of_a_pool(rt: HostRuntime) {
+    play_on::<TwoQ>(
+        &rt,
+        rt.alloc(),
+        2,
+        &[],
+        &[
+            (Room, Yes),
+            (Put(1, 7), Nothing),
+            (Put(2, 8), Nothing),
+            (Peek(1), Byte(7)),
+            (Peek(2), Byte(8)),
+            (Peek(3), Nothing),
+            (Fix(1), Nothing),
+            (Room, Yes),
+            (Put(3, 9), Gone(2)),
+            (HitThenPeek(1), Yes),
+            (Write(1, 3), Yes),
+            (Hit(1), Byte(3)),
+            (Fix(3), Nothing),
+            (Room, No),
+            (Put(4, 1), Full),
+            (Put(3, 5), Nothing),
+            (Peek(3), Byte(5)),
+            (Remove(3), Nothing),
+            (Room, Yes),
+            (Peek(3), Nothing),
+            (UnfixAll, Nothing),
+            (Put(4, 6), Nothing),
+            (Peek(4), Byte(6)),
+        ],
+    );
+}

@@ -1,0 +1,14 @@
+mod PiecesLemmas
+mod TextLemmas
+pub mod Sessions
+pub mod Settled
+pub mod Taking
+pub mod Replying
+pub mod PoolRoom
+pub mod ClientCopies
+pub mod ClientCalls
+pub mod ClientMessages
+pub mod Nets
+pub mod NetSends
+pub mod NetAnswers
+pub mod NetOpening

@@ -1,0 +1,226 @@
+//! What a client answers, call by call, against the protocol's text.
+
+use super::{Client, ReadAnswer};
+use crate::client_fault::ClientFault;
+use Seen::{Asked, Began, Bytes, GivenBack, Memory, Nothing, Refused};
+use Step::{Begin, Granted, Peek, Read, Welcome};
+use cb_page::{GrantNo, Limits, Page, PageNo, Version};
+use std::alloc::Global;
+use std::process::Abort;
+
+/// A call of a client, or a message that it takes. A grant has a page, a number, a version and the byte of which its
+/// bytes are made.
+#[derive(Clone, Copy)]
+enum Step {
+    Welcome,
+    Begin,
+    Read(u32),
+    Peek(u32),
+    Granted(u32, u64, u64, u8),
+}
+
+/// What is answered: the transaction begun or asked for, the first of the bytes, whether a grant is given back.
+#[derive(Clone, Copy, Debug, PartialEq, Eq)]
+enum Seen {
+    Nothing,
+    Began(u64),
+    Asked(u64),
+    Bytes(u8),
+    GivenBack,
+    Refused(ClientFault),
+    Memory,
+}
+
+/// The first of the bytes of a copy.
+fn peeked(client: &Client, page: PageNo) -> Seen {
+    match client.peek(page) {
+        Some([byte, ..]) => Bytes(*byte),
+        _ => Nothing,
+    }
+}
+
+fn read(client: &mut Client, page: PageNo) -> Seen {
+    match client.read(page) {
+        Ok(answer) => match answer {
+            ReadAnswer::Bytes => peeked(client, page),
+            ReadAnswer::Asked(txn) => Asked(txn.get()),
+        },
+        Err(fault) => Refused(fault),
+    }
+}
+
+fn begun(client: &mut Client) -> Seen {
+    match client.begin() {
+        Ok(txn) => Began(txn.get()),
+        Err(fault) => Refused(fault),
+    }
+}
+
+fn granted(
+    alloc: Global,
+    client: &mut Client,
+    page: u32,
+    grant: u64,
+    version: u64,
+    byte: u8,
+) -> Seen {
+    let limits = client.limits;
+    let Some(page) = PageNo::in_store(&limits, u64::from(page)) else {
+        return Nothing;
+    };
+    let (Some(grant), Some(version)) = (GrantNo::checked(grant), Version::checked(version)) else {
+        return Nothing;
+    };
+    let Ok(bytes) = vec![in alloc; byte; limits.page_size()] else {
+        return Memory;
+    };
+    let gives_back = client.reply_to_granted(page, grant);
+    match client.take_granted(page, grant, version, Page::from_vec(bytes)) {
+        Ok(()) if gives_back => GivenBack,
+        Ok(()) => Nothing,
+        Err(_) => Memory,
+    }
+}
+
+fn answer_to(alloc: Global, client: &mut Client, step: Step) -> Seen {
+    match step {
+        Welcome => {
+            client.take_welcome();
+            Nothing
+        }
+        Begin => begun(client),
+        Read(page) if page < 4096 => read(client, PageNo::new(page)),
+        Peek(page) if page < 4096 => peeked(client, PageNo::new(page)),
+        Granted(page, grant, version, byte) => granted(alloc, client, page, grant, version, byte),
+        _ => Nothing,
+    }
+}
+
+/// A client with eight pages of sixteen bytes and that many slots answers these steps so.
+fn plays(rt: &impl Abort, alloc: Global, slots: u64, steps: &[(Step, Seen)]) {
+    let Ok(limits) = Limits::new(2, 8, 16, slots, 1, 4) else {
+        return;
+    };
+    let Ok(mut client) = Client::new(alloc, &limits) else {
+        return;
+    };
+    client.hello();
+    for (n, (step, want)) in steps.iter().enumerate() {
+        let got = answer_to(alloc, &mut client, *step);
+        assert!(rt; got == *want, "step {n}: {got:?}");
+    }
+}
+
+#[test]
+fn refused_calls(rt: HostRuntime) {
+    plays(
+        &rt,
+        rt.alloc(),
+        2,
+        &[
+            (Read(9), Refused(ClientFault::NotWelcome)),
+            (Begin, Refused(ClientFault::NotWelcome)),
+            (Granted(0, 1, 0, 7), Nothing),
+            (Welcome, Nothing),
+            (Read(9), Refused(ClientFault::NoTransaction)),
+            (Begin, Began(1)),
+            (Begin, Refused(ClientFault::TransactionOpen)),
+            (Read(9), Refused(ClientFault::PageRange)),
+            (Peek(9), Nothing),
+            (Read(0), Asked(1)),
+            (Read(9), Refused(ClientFault::Waiting)),
+            (Begin, Refused(ClientFault::TransactionOpen)),
+        ],
+    );
+}
+
+#[test]
+fn grants_not_asked_for(rt: HostRuntime) {
+    plays(
+        &rt,
+        rt.alloc(),
+        2,
+        &[
+            (Welcome, Nothing),
+            (Granted(0, 3, 0, 7), GivenBack),
+            (Peek(0), Nothing),
+            (Begin, Began(1)),
+            (Read(0), Asked(1)),
+            (Granted(1, 9, 0, 7), GivenBack),
+            // older than the greatest number that came
+            (Granted(0, 2, 0, 7), GivenBack),
+            (Granted(0, 3, 0, 7), GivenBack),
+            (Peek(0), Nothing),
+            (Granted(0, 4, 0, 8), Nothing),
+            (Read(0), Bytes(8)),
+            // another than the one that is held; that one once more
+            (Granted(0, 5, 1, 9), GivenBack),
+            (Granted(0, 4, 0, 9), Nothing),
+            (Peek(0), Bytes(8)),
+        ],
+    );
+}
+
+#[test]
+fn bare_page_filled_by_its_own_version(rt: HostRuntime) {
+    plays(
+        &rt,
+        rt.alloc(),
+        2,
+        &[
+            (Welcome, Nothing),
+            (Begin, Began(1)),
+            (Read(5), Asked(1)),
+            (Granted(5, 1, 1, 9), Nothing),
+            (Read(5), Bytes(9)),
+            (Read(1), Asked(1)),
+            (Granted(1, 2, 0, 1), Nothing),
+            (Read(2), Asked(1)),
+            (Granted(2, 3, 0, 2), Nothing),
+            // page 5 is bare
+            (Peek(5), Nothing),
+            (Granted(5, 1, 1, 9), Nothing),
+            (Peek(5), Nothing),
+            (Read(5), Asked(1)),
+            (Granted(5, 1, 0, 0), Nothing),
+            (Peek(5), Nothing),
+            (Granted(5, 1, 1, 9), Nothing),
+            // page 1 is bare
+            (Peek(1), Nothing),
+            (Peek(2), Bytes(2)),
+            (Read(5), Bytes(9)),
+        ],
+    );
+}
+
+/// A read that finds the bytes counts as a reference: of two pages that came back, the one not read since goes first.
+#[test]
+fn hit_is_a_reference(rt: HostRuntime) {
+    plays(
+        &rt,
+        rt.alloc(),
+        3,
+        &[
+            (Welcome, Nothing),
+            (Begin, Began(1)),
+            (Read(0), Asked(1)),
+            (Granted(0, 1, 0, 0), Nothing),
+            (Read(1), Asked(1)),
+            (Granted(1, 2, 0, 1), Nothing),
+            (Read(2), Asked(1)),
+            (Granted(2, 3, 0, 2), Nothing),
+            (Read(3), Asked(1)),
+            (Granted(3, 4, 0, 3), Nothing),
+            // page 0 was let go; it comes back, and then page 1, which was let go for it
+            (Read(0), Asked(1)),
+            (Granted(0, 1, 0, 0), Nothing),
+            (Read(1), Asked(1)),
+            (Granted(1, 2, 0, 1), Nothing),
+            (Read(0), Bytes(0)),
+            (Read(2), Asked(1)),
+            (Granted(2, 3, 0, 2), Nothing),
+            (Peek(0), Bytes(0)),
+            (Peek(1), Nothing),
+        ],
+    );
+}

@@ -1,0 +1,5 @@
+pub use Rattle.cb_page.specs.Flags
+pub mod Pages
+pub mod Law
+pub mod Queues
+pub mod Rooms

@@ -1,0 +1,55 @@
+ghost use Rattle.std.specs.Prelude.{◌≡◌, ◌≤◌, ◌↔◌, ℕ, List, [], length, true, None, IfOk, OnErr};
+ghost use Rattle.cb_twoq.specs.Pages.{has};
+ghost use Rattle.cb_twoq.specs.Law.{Chooses, IsFull, Forgets};
+
+use cb_page::{Limits, PageNo, PageSet};
+use std::alloc::{AllocError, Global};
+use thiserror::Error;
+
+/// Why a reference was refused. Nothing changed then.
+#[derive(Clone, Copy, Debug, PartialEq, Eq, Error)]
+pub enum ChooseFault {
+    /// The page has no slot, and each slot has a fixed page.
+    #[error("1 Full")]
+    Full,
+    /// A growth was refused.
+    #[error("2 Memory")]
+    Memory,
+}
+
+/// Chooses which page leaves a pool for the page that comes in.
+///
+/// The clauses are the whole law of a chooser: a pool, and all that stands on pools, holds for every
+/// type that keeps them, whatever pages it lets go. A type may promise more, as `TwoQ` does.
+pub trait Chooser: Drop {
+    /// The pages in slots, each once.
+    ghost members: { Self → List ℕ };
+
+    /// How many slots there are, which no call changes.
+    ghost slots: { Self → ℕ };
+
+    /// A chooser with no members and as many slots as the limits say, or the refusal of a growth.
+    fn make(alloc: Global, limits: &Limits) -> Result<Self, AllocError>
+    where
+        Self: Sized,
+        ensures members { IfOk result (λ q. members q ≡ []) }
+        ensures slots { IfOk result (λ q. slots q ≡ limits.now.slots) };
+
+    /// Refers to a page, which is a member afterwards, and answers the page let go for it, if any.
+    ///
+    /// A reference to a member takes no memory, whatever the type, and lets nothing go.
+    fn reference(&mut self, page: PageNo, fixed: &PageSet) -> Result<Option<PageNo>, ChooseFault>
+        ensures ok { IfOk result (λ gone.
+            Chooses (slots self.old) fixed.now (members self.old) page gone (members self.new)) }
+        ensures member { has (members self.old) page ≡ true → result ≡ Ok None }
+        ensures full { (result ≡ Err ChooseFault.Full)
+            ↔ IsFull (slots self.old) fixed.now (members self.old) page }
+        ensures err { OnErr result (self.new ≡ self.old) }
+        ensures within { length (members self.new) ≤ slots self.new }
+        ensures slots { slots self.new ≡ slots self.old };
+
+    /// Takes a page out, where it is a member. No growth is needed.
+    fn forget(&mut self, page: PageNo)
+        ensures forgets { Forgets (members self.old) page (members self.new) }
+        ensures slots { slots self.new ≡ slots self.old };
+}

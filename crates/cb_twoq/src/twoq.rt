@@ -1,0 +1,108 @@
+ghost use Rattle.std.specs.Prelude.{◌≡◌, ◌≢◌, ◌≤◌, ◌↔◌, length, true, Some, None, IfOk, OnErr};
+ghost use Rattle.cb_twoq.specs.Pages.{has};
+ghost use Rattle.cb_twoq.specs.Queues.{TwoQState, empty, reference, forget, members_of};
+ghost use Rattle.cb_twoq.specs.Law.{Chooses, IsFull, Forgets};
+
+use crate::chooser::{ChooseFault, Chooser};
+use crate::queue::copied;
+use crate::queues::Queues;
+use cb_page::{Limits, PageNo, PageSet};
+use std::alloc::{AllocError, Global};
+use std::marker::Model;
+
+/// The three lists of 2Q, newest page first.
+#[derive(Debug, Drop)]
+pub struct Lists {
+    /// Pages in slots, referred to once since they came in.
+    pub a1in: Vec<PageNo>,
+    /// Pages in slots that came back while they were remembered.
+    pub am: Vec<PageNo>,
+    /// Pages remembered: let go from A1in, and in no slot.
+    pub a1out: Vec<PageNo>,
+}
+
+/// 2Q, the full version, on three plain lists; fixed pages are passed over.
+///
+/// In contracts a `TwoQ` is its settings and its three lists, newest first. It takes all its memory
+/// in `new`: no later call needs a growth. Each reference passes over the lists.
+#[derive(Debug, Drop)]
+pub struct TwoQ {
+    queues: Queues,
+}
+
+impl Model for TwoQ {
+    ghost use Rattle.cb_twoq.specs.Queues.{TwoQState, AreQueues};
+
+    ghost Value = { TwoQState };
+
+    ghost view = { λ q. q.queues };
+
+    ghost invariant = { λ q. AreQueues q.queues };
+}
+
+impl TwoQ {
+    /// Empty lists, for `b` slots; A1in may be reclaimed first while it is longer than `kin`, and A1out has at
+    /// most `kout` pages.
+    pub fn new(alloc: Global, b: usize, kin: usize, kout: usize) -> Result<TwoQ, AllocError>
+        ensures { IfOk result (λ q. q ≡ empty b kin kout) }
+    {
+        Ok(TwoQ {
+            queues: Queues::new(alloc, b, kin, kout)?,
+        })
+    }
+
+    /// A copy of the lists, newest page first.
+    pub fn lists(&self, alloc: Global) -> Result<Lists, AllocError>
+        ensures a1in { IfOk result (λ l. l.a1in.items ≡ self.now.a1in) }
+        ensures am { IfOk result (λ l. l.am.items ≡ self.now.am) }
+        ensures a1out { IfOk result (λ l. l.a1out.items ≡ self.now.a1out) }
+    {
+        let queues = &self.queues;
+        Ok(Lists {
+            a1in: copied(alloc, &queues.a1in)?,
+            am: copied(alloc, &queues.am)?,
+            a1out: copied(alloc, &queues.a1out)?,
+        })
+    }
+}
+
+impl Chooser for TwoQ {
+    ghost members = { members_of };
+
+    ghost slots = { λ q. q.slots };
+
+    fn make(alloc: Global, limits: &Limits) -> Result<TwoQ, AllocError> {
+        TwoQ::new(alloc, limits.slots(), limits.kin(), limits.kout())
+    }
+
+    fn reference(&mut self, page: PageNo, fixed: &PageSet) -> Result<Option<PageNo>, ChooseFault>
+        ensures two_q { IfOk result (λ gone. reference page fixed.now self.old ≡ Some (gone, self.new)) }
+        ensures none { (result ≡ Err ChooseFault.Full) ↔ (reference page fixed.now self.old ≡ None) }
+        // all room was made by `new`
+        ensures memory { result ≢ Err ChooseFault.Memory }
+        ensures ok { IfOk result (λ gone.
+            Chooses self.old.slots fixed.now (members_of self.old) page gone (members_of self.new)) }
+        ensures member { has (members_of self.old) page ≡ true → result ≡ Ok None }
+        ensures full { (result ≡ Err ChooseFault.Full)
+            ↔ IsFull self.old.slots fixed.now (members_of self.old) page }
+        ensures err { OnErr result (self.new ≡ self.old) }
+        ensures within { length (members_of self.new) ≤ self.new.slots }
+        ensures slots { self.new.slots ≡ self.old.slots }
+    {
+        if self.queues.renew(page) {
+            return Ok(None);
+        }
+        match self.queues.reclaim(fixed) {
+            Some(room) => Ok(self.queues.enter(page, room)),
+            None => Err(ChooseFault::Full),
+        }
+    }
+
+    fn forget(&mut self, page: PageNo)
+        ensures two_q { self.new ≡ forget page self.old }
+        ensures forgets { Forgets (members_of self.old) page (members_of self.new) }
+        ensures slots { self.new.slots ≡ self.old.slots }
+    {
+        self.queues.forget(page);
+    }
+}
