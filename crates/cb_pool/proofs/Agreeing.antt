@@ -1,12 +1,12 @@
 -- What the chooser did, done to the pages.
-use Rattle.std.proofs.Common.{◌≡◌, ◌≢◌, true≢false, ◌<◌, ◌≤◌, ◌+◌, ◌-◌, ◌⊎◌, inl, inr, ℕ, Bool, true, false, nat_eq, nat_lt, List, length, Option, Some, None, slice_index_or, slice_set, refl, sym, ◌∙◌, ap, subst, rules, arith}
+use Rattle.std.proofs.Common.{◌≡◌, ◌≢◌, ◌<◌, ◌≤◌, ◌+◌, ◌⊎◌, inl, inr, ℕ, Bool, true, false, nat_eq, List, length, Option, Some, None, refl, sym, ◌∙◌, ap, arith}
 use Rattle.std.proofs.lemmas.Grind.{common_steps}
 use Rattle.std.specs.Option.{is_some}
 use Rattle.std.proofs.Math.ListN.{get_or, set, length-set}
-use Rattle.std.proofs.lemmas.List.{get_or-set_same, get_or-set_other, get_or_past}
+use Rattle.std.proofs.lemmas.List.{get_or-set_same, get_or-set_other}
 use Rattle.cb_twoq.specs.Pages.{has}
 use Rattle.cb_twoq.specs.Law.{Chooses, Forgets}
-use Rattle.cb_pool.specs.PoolState.{PoolState, IsPool, held, let_go, AreSized}
+use Rattle.cb_pool.specs.PoolState.{PoolState, held, let_go, AreSized}
 use Rattle.cb_pool.specs.CopiesState.{bit}
 use Rattle.cb_pool.specs.Agree.{Agrees}
 use Rattle.cb_pool.proofs.Counted.{Pages, here, held_set, within_pages}

@@ -1,5 +1,5 @@
 -- How a pool's pages agree with its chooser.
-use Rattle.std.specs.Prelude.{◌≡◌, ℕ, List, length, slice_index_or, Option, None}
+use Rattle.std.specs.Prelude.{◌≡◌, ℕ, List, length, slice_index_or, None}
 use Rattle.std.specs.Option.{is_some}
 use Rattle.cb_twoq.specs.Pages.{has}
 use Rattle.cb_pool.specs.PoolState.{PoolState, IsPool, held}

@@ -1,4 +1,5 @@
 mod PiecesLemmas
+mod PlayedEvents
 mod TextLemmas
 pub mod Sessions
 pub mod Settled
@@ -12,3 +13,6 @@ pub mod Nets
 pub mod NetSends
 pub mod NetAnswers
 pub mod NetOpening
+pub mod SameFrames
+pub mod Worlds
+pub mod Playing

@@ -1,5 +1,5 @@
 -- The events of the net, in the form in which its methods cite them.
-use Rattle.std.proofs.Common.{◌≡◌, ℕ, ◌<◌, ◌≤◌, ◌+◌, ◌==◌, Bool, true, false, ◌&&◌, List, [], ◌∷◌, ◌++◌, Option, None, Some, Result, Ok, Err, IfOk, IsErr, ◌↔◌, length, map, refl, ap, sym, ◌∙◌, subst, arith}
+use Rattle.std.proofs.Common.{◌≡◌, ℕ, ◌<◌, ◌≤◌, ◌==◌, Bool, true, false, ◌&&◌, List, [], ◌∷◌, ◌++◌, Option, None, Some, Result, Ok, Err, IfOk, length, map, refl, ap, sym, ◌∙◌, subst, arith}
 use Rattle.std.specs.Prelude.{slice_set, slice_get}
 use Rattle.std.proofs.lemmas.Bool.Decides.{nat_tests}
 use Rattle.cb_schedule.specs.declared.server.ServerReply.TheVariants as reply
@@ -30,7 +30,7 @@ use Rattle.cb_schedule.specs.NetMoves.{Says, AnswersRead, asking_frame, IsNet, B
 use Rattle.cb_schedule.specs.Wire.{body_of, message_of, AllSpell}
 use Rattle.cb_schedule.specs.WorldState.{NetState, client_at, with_client, with_server}
 use Rattle.cb_schedule.proofs.Nets.{call_becomes, server_becomes, client_becomes, exhausted_becomes, other_becomes, no_packet_becomes, no_client_becomes, kept_clients}
-use Rattle.cb_protocol.specs.Answers.{AnswerWord, AnsweredBytes, AnsweredOk, Asked, Refused, Taken}
+use Rattle.cb_protocol.specs.Answers.{AnswerWord, AnsweredBytes, AnsweredOk, Asked, Refused}
 use Rattle.cb_protocol.specs.ClientCalls.{Call, CallBegin, CallPeek, CallRead, peek_word}
 use Rattle.cb_protocol.specs.Messages as protocol
 use Rattle.cb_protocol.specs.Serial.{Operation}

@@ -1,5 +1,5 @@
 -- The net of a store before any event is the protocol's opening world.
-use Rattle.std.proofs.Common.{◌≡◌, ℕ, ◌<◌, ◌≤◌, ◌==◌, nat_lt, Bool, true, false, List, [], ◌∷◌, Option, None, Some, length, replicate, refl, ap, sym, ◌∙◌, subst, arith}
+use Rattle.std.proofs.Common.{◌≡◌, ℕ, ◌≤◌, nat_lt, Bool, true, false, [], None, length, replicate, refl, ap, sym, ◌∙◌, arith}
 use Rattle.std.specs.Prelude.{slice_index_or}
 use Rattle.std.proofs.lemmas.Bool.Decides.{nat_tests}
 use Rattle.std.proofs.lemmas.List.{get_or-replicate, get_or_past, length-replicate}
@@ -12,9 +12,7 @@ use Rattle.cb_schedule.proofs.ClientCopies.{starts}
 use Rattle.cb_schedule.specs.NetMoves.{IsNet, IsPacket}
 use Rattle.cb_schedule.specs.ServerState.{new_state, fresh_session, no_session, server_of, session_at, session_of, row_at, grant_of}
 use Rattle.cb_schedule.specs.WorldState.{NetState, ShowsNet, opening_of, client_at}
-use Rattle.cb_schedule.specs.declared.server.Session.{Session}
-use Rattle.cb_protocol.specs.Client.{new_client}
-use Rattle.cb_protocol.specs.Server.{Server, new_server}
+use Rattle.cb_protocol.specs.Server.{new_server}
 use Rattle.cb_protocol.specs.Session as table
 use Rattle.cb_protocol.specs.World.{new_world, opening_store}
 

@@ -1,6 +1,5 @@
 -- A net keeps its rule as it sends and as its parts change.
-use Rattle.std.proofs.Common.{◌≡◌, ℕ, ◌<◌, List, [], ◌∷◌, ◌++◌, length, refl}
-use Rattle.std.specs.List.{All}
+use Rattle.std.proofs.Common.{[], ◌∷◌, ◌++◌, refl}
 use Rattle.std.proofs.lemmas.List.Elements.{All-push}
 use Rattle.cb_frame.specs.Grammar.{Fits}
 use Rattle.cb_frame.specs.Spelling.{spelling}

@@ -1,8 +1,8 @@
 -- What each kind of event makes of the net.
-use Rattle.std.proofs.Common.{◌≡◌, ◌≢◌, ℕ, ◌<◌, ◌≤◌, ◌+◌, ◌==◌, nat_lt, Bool, true, false, List, [], ◌∷◌, ◌++◌, Option, None, Some, zero, suc, length, map, refl, ap, sym, ◌∙◌, subst, arith, if◌then◌else◌}
+use Rattle.std.proofs.Common.{◌≡◌, ◌≢◌, ℕ, ◌<◌, ◌≤◌, ◌==◌, nat_lt, Bool, true, false, List, [], ◌∷◌, ◌++◌, Option, None, Some, zero, suc, length, map, refl, ap, sym, ◌∙◌, subst, arith, if◌then◌else◌}
 use Rattle.std.proofs.lemmas.Bool.Decides.{nat_tests}
-use Rattle.std.specs.Prelude.{slice_set, slice_get, slice_index_or, ⊤}
-use Rattle.std.proofs.lemmas.Grind.{common_steps, get_or-set_at}
+use Rattle.std.specs.Prelude.{slice_set, slice_get, slice_index_or}
+use Rattle.std.proofs.lemmas.Grind.{get_or-set_at}
 use Rattle.std.proofs.lemmas.List.{append-nil, get_or-set_other, set-get_or}
 use Rattle.cb_page.specs.Bounds.{Bounds}
 use Rattle.cb_schedule.specs.ClientState.{ClientState, client_of, fresh}
@@ -26,7 +26,7 @@ use Rattle.cb_protocol.specs.ClientMessages.{ChoiceAllowed, client_take}
 use Rattle.cb_protocol.specs.Server.{Server, ServerStep, server_after}
 use Rattle.cb_protocol.specs.ServerMessages.{is_exhausted, server_take}
 use Rattle.cb_protocol.specs.Serial.{Operation}
-use Rattle.cb_protocol.specs.World.{World, TranscriptEntry, ClientCalls, TakePacket, MessageChoiceAllowed, EventChoiceAllowed, answer_only, answer_with, client_does, deliver, server_does, messages_said, messages_sent, numbered_from, packet_at, step}
+use Rattle.cb_protocol.specs.World.{World, TranscriptEntry, ClientCalls, TakePacket, MessageChoiceAllowed, answer_only, answer_with, client_does, deliver, server_does, messages_said, messages_sent, numbered_from, packet_at, step}
 
 all_spell : (l : Bounds) (ps qs : List (List ℕ)) (ms ns : List Message) → AllSpell l ps ms → AllSpell l qs ns → AllSpell l (ps ++ qs) (ms ++ ns)
 all_spell l [] qs [] ns a b = b

@@ -1,24 +1,23 @@
 -- What the code of the server answers and becomes is what the protocol's server does.
-use Rattle.std.proofs.Common.{◌≡◌, ◌≢◌, ℕ, ◌<◌, ◌≤◌, ◌+◌, ◌-◌, ◌==◌, ◌^◌, nat_lt, Bool, true, false, ◌&&◌, ◌||◌, not, List, [], ◌∷◌, ◌++◌, Option, None, Some, Result, Ok, Err, IsErr, ◌↔◌, zero, suc, length, refl, ap, sym, ◌∙◌, subst, arith, if◌then◌else◌}
+use Rattle.std.proofs.Common.{◌≡◌, ◌≢◌, ℕ, ◌<◌, ◌≤◌, ◌+◌, ◌-◌, ◌==◌, ◌^◌, nat_lt, Bool, true, false, ◌&&◌, ◌||◌, List, [], ◌∷◌, Option, None, Some, Result, Ok, Err, IsErr, ◌↔◌, zero, suc, length, refl, ap, sym, ◌∙◌, subst, arith, if◌then◌else◌}
 use Rattle.std.proofs.lemmas.Bool.Decides.{nat_tests}
-use Rattle.std.specs.Prelude.{slice_set, slice_index_or}
+use Rattle.std.specs.Prelude.{slice_set}
 use Rattle.std.proofs.lemmas.Grind.{common_steps, get_or-set_at}
-use Rattle.std.proofs.lemmas.List.{append-nil, get_or-set_other}
+use Rattle.std.proofs.lemmas.List.{get_or-set_other}
 use Rattle.std.proofs.Math.ListN.{length-set}
 use Rattle.cb_commit.specs.Stores.{version_at, bytes_at}
 use Rattle.cb_schedule.specs.declared.server.Session.{Session}
-use Rattle.cb_schedule.specs.declared.server.Row.{Row}
 use Rattle.cb_schedule.specs.declared.server.ServerReply.{ServerReply}
 use Rattle.cb_schedule.specs.declared.server.ServerReply.TheVariants as reply
 use Rattle.cb_schedule.specs.declared.server.ServerFault.{ServerFault}
 use Rattle.cb_schedule.specs.declared.server.ServerFault.TheVariants.{Exhausted}
-use Rattle.cb_schedule.specs.ServerState.{ServerState, no_session, server_of, session_of, session_at, row_at, grant_of, renumbered, with_row, with_session, begun, granted, would_live, lacks_grant, ask_row_reply, ask_reply, asked_by, asked, row_reply, next_reply, hello_reply, welcomed, given_back, bodies_of, Replies, TakesMessage, IsServer, IsSession}
+use Rattle.cb_schedule.specs.ServerState.{ServerState, no_session, server_of, session_at, row_at, renumbered, with_row, with_session, begun, granted, would_live, ask_row_reply, ask_reply, asked_by, asked, row_reply, next_reply, hello_reply, welcomed, given_back, bodies_of, Replies, TakesMessage, IsServer, IsSession}
 use Rattle.cb_schedule.proofs.Taking.{Took, waits_none, ask_ended, ask_row, ask_new, hello_greater, give_back_held, give_back_other, begun_is}
-use Rattle.cb_protocol.specs.Basics.{update, is_none, is_exactly, max_number}
-use Rattle.cb_protocol.specs.Messages.{Body, AskRead, GiveBack, Granted, Hello, Message, Welcome}
-use Rattle.cb_protocol.specs.Server.{Server, ServerStep, Send, server_after}
+use Rattle.cb_protocol.specs.Basics.{is_none, is_exactly, max_number}
+use Rattle.cb_protocol.specs.Messages.{Body, AskRead, GiveBack, Granted, Hello, Message}
+use Rattle.cb_protocol.specs.Server.{Server}
 use Rattle.cb_protocol.specs.Settling.{send_granted}
-use Rattle.cb_protocol.specs.ServerMessages.{take_current, server_take, has_waiting_ask, read_asks_below, lacks_number, is_exhausted}
+use Rattle.cb_protocol.specs.ServerMessages.{take_current, server_take, read_asks_below, lacks_number, is_exhausted}
 use Rattle.cb_protocol.specs.WaitsFor.{on_cycle}
 use Rattle.cb_protocol.specs.World.{messages_sent, messages_said}
 

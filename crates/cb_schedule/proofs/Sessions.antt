@@ -1,12 +1,10 @@
 -- What a change of one session is to the protocol's server.
-use Rattle.std.proofs.Common.{◌≡◌, ℕ, ◌<◌, ◌==◌, Bool, true, false, List, Option, None, Some, length, refl, ap, sym, arith, if◌then◌else◌}
-use Rattle.std.specs.Prelude.{slice_set, slice_index_or}
-use Rattle.std.proofs.lemmas.List.{get_or-set_other}
-use Rattle.std.proofs.lemmas.Grind.{get_or-set_at, common_steps}
+use Rattle.std.proofs.Common.{◌≡◌, ℕ, ◌<◌, List, length, arith}
+use Rattle.std.specs.Prelude.{slice_set}
+use Rattle.std.proofs.lemmas.Grind.{common_steps}
 use Rattle.std.proofs.Math.ListN.{length-set}
 use Rattle.cb_schedule.specs.declared.server.Session.{Session}
-use Rattle.cb_schedule.specs.declared.server.Row.{Row}
-use Rattle.cb_schedule.specs.ServerState.{ServerState, session_at, session_of, server_of, no_session}
+use Rattle.cb_schedule.specs.ServerState.{ServerState, session_at, session_of, server_of}
 use Rattle.cb_protocol.specs.Basics.{update}
 
 session_put : (xs : List Session) (c d : ℕ) (s : Session) → c < length xs → session_of (session_at (slice_set xs c s) d) ≡ update (λ e. session_of (session_at xs e)) c (session_of s) d

@@ -1,5 +1,5 @@
 -- Settling a server whose queues are empty, and one where a single read ask waits.
-use Rattle.std.proofs.Common.{◌≡◌, ◌≢◌, ℕ, ◌<◌, ◌+◌, ◌==◌, nat_lt, Bool, true, false, List, [], ◌∷◌, ◌++◌, Option, None, Some, zero, suc, length, refl, ap, sym, ◌∙◌, subst, arith, if◌then◌else◌, add-one}
+use Rattle.std.proofs.Common.{◌≡◌, ◌≢◌, ℕ, ◌+◌, ◌==◌, nat_lt, Bool, true, false, List, [], ◌∷◌, ◌++◌, None, zero, suc, length, refl, ap, sym, ◌∙◌, subst, arith, if◌then◌else◌, add-one}
 use Rattle.cb_schedule.specs.ServerState.{ServerState, server_of}
 use Rattle.cb_protocol.specs.Server.{Server, ServerStep, WaitingAsk, EnterQueue, after_server_step, server_after}
 use Rattle.cb_protocol.specs.Settling.{Decision, Settled, Decided, decide, settle_page, settle_pages, grant_row, no_other_holder}

@@ -1,20 +1,20 @@
 -- What the protocol's server does at each message, where it is the server of the world.
-use Rattle.std.proofs.Common.{◌≡◌, ◌≢◌, ℕ, ◌<◌, ◌≤◌, ◌+◌, ◌-◌, ◌==◌, ◌^◌, nat_lt, Bool, true, false, ◌&&◌, ◌||◌, List, [], ◌∷◌, ◌++◌, Option, None, Some, zero, suc, length, refl, ap, sym, ◌∙◌, subst, arith, if◌then◌else◌}
+use Rattle.std.proofs.Common.{◌≡◌, ℕ, ◌<◌, ◌≤◌, ◌+◌, ◌-◌, ◌==◌, nat_lt, Bool, true, false, ◌||◌, List, [], ◌∷◌, ◌++◌, Option, None, Some, zero, suc, length, refl, ap, sym, ◌∙◌, subst, arith, if◌then◌else◌}
 use Rattle.std.proofs.lemmas.Bool.Decides.{nat_tests}
-use Rattle.std.specs.Prelude.{slice_set, slice_index_or}
-use Rattle.std.proofs.lemmas.Grind.{common_steps, get_or-set_at}
+use Rattle.std.specs.Prelude.{slice_index_or}
+use Rattle.std.proofs.lemmas.Grind.{common_steps}
 use Rattle.std.proofs.lemmas.List.{append-nil}
 use Rattle.cb_schedule.specs.declared.server.Session.{Session}
 use Rattle.cb_schedule.specs.declared.server.Row.{Row}
 use Rattle.cb_schedule.specs.ServerState.{ServerState, server_of, session_of, session_at, row_at, grant_of, renumbered, with_row, with_session, begun, granted, IsServer, IsSession}
 use Rattle.cb_schedule.proofs.Sessions.{server_put}
-use Rattle.cb_schedule.proofs.Settled.{entered, settles_empty, settles_entered, grant_below, granted_queue}
-use Rattle.cb_protocol.specs.Basics.{update, is_none, is_exactly}
-use Rattle.cb_protocol.specs.Messages.{Body, AskRead, GiveBack, Hello, Message, Welcome}
+use Rattle.cb_schedule.proofs.Settled.{entered, settles_empty, settles_entered, granted_queue}
+use Rattle.cb_protocol.specs.Basics.{update, is_exactly}
+use Rattle.cb_protocol.specs.Messages.{Body, AskRead, GiveBack, Message, Welcome}
 use Rattle.cb_protocol.specs.Session as table
 use Rattle.cb_protocol.specs.Server.{Server, ServerStep, Send, EnterQueue, ForgetTransaction, ChangeSession, UnmarkInUse, after_server_step, server_after}
 use Rattle.cb_protocol.specs.Settling.{settle_pages, grant_row, send_granted}
-use Rattle.cb_protocol.specs.ServerMessages.{and_then, begin_transaction, direct_answer, take_current, admit_incarnation, server_take, has_waiting_ask, new_ask}
+use Rattle.cb_protocol.specs.ServerMessages.{and_then, begin_transaction, direct_answer, take_current, admit_incarnation, has_waiting_ask, new_ask}
 use Rattle.cb_protocol.specs.World.{messages_sent}
 
 either : {A : Type 0} (b : Bool) (x : A) → (if b then x else x) ≡ x

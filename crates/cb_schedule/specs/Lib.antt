@@ -11,3 +11,5 @@ pub mod Wire
 pub mod ProtocolEvents
 pub mod WorldState
 pub mod NetMoves
+pub mod Transcripts
+pub mod Plays

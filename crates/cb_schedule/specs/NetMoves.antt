@@ -1,5 +1,5 @@
 -- What an event makes of the net.
-use Rattle.std.specs.Prelude.{◌≡◌, ℕ, ◌+◌, ◌<◌, ◌≤◌, Bool, true, false, List, [], ◌∷◌, ◌++◌, length, map, Option, Some, None, slice_get}
+use Rattle.std.specs.Prelude.{◌≡◌, ℕ, List, [], ◌∷◌, ◌++◌, length, map, Option, Some, None, slice_get}
 use Rattle.std.specs.List.{All}
 use Rattle.cb_page.specs.Bounds.{Bounds, AreInRange}
 use Rattle.cb_commit.specs.Stores.{IsOf}
@@ -13,13 +13,11 @@ use Rattle.cb_schedule.specs.declared.answer.Word.TheVariants as word
 use Rattle.cb_schedule.specs.declared.net.Granting.{Granting}
 use Rattle.cb_schedule.specs.declared.client.ReadAnswer.{ReadAnswer}
 use Rattle.cb_schedule.specs.declared.client.ReadAnswer.TheVariants as read
-use Rattle.cb_schedule.specs.ClientState.{ClientState, IsClient, bytes_in}
-use Rattle.cb_schedule.specs.ServerState.{ServerState, IsServer, bodies_of}
+use Rattle.cb_schedule.specs.ClientState.{bytes_in}
 use Rattle.cb_schedule.specs.ProtocolLimits.{limits_of}
 use Rattle.cb_schedule.specs.ProtocolEvents.{sent_of, word_of}
 use Rattle.cb_schedule.specs.Wire.{AllSpell, Spells, IsSentSoFar, body_of, message_of}
 use Rattle.cb_frame.specs.Grammar.{Fits}
-use Rattle.cb_schedule.specs.declared.server.ServerReply.{ServerReply}
 use Rattle.cb_schedule.specs.WorldState.{NetState, ShowsNet, client_at}
 use Rattle.cb_schedule.specs.declared.answer.Answer.{Answer}
 use Rattle.cb_protocol.specs.Messages.{Message, Body}

@@ -1,5 +1,5 @@
 -- What an event and its answer are in the protocol.
-use Rattle.std.specs.Prelude.{◌≡◌, ℕ, ◌<◌, List, [], ◌∷◌, ◌++◌, map, reverse}
+use Rattle.std.specs.Prelude.{List, map, reverse}
 use Rattle.cb_schedule.specs.declared.event.Call.{Call}
 use Rattle.cb_schedule.specs.declared.event.Call.TheVariants as call
 use Rattle.cb_schedule.specs.declared.event.Event.{Event}

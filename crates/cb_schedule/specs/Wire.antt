@@ -1,5 +1,5 @@
 -- The protocol's messages that frames carry.
-use Rattle.std.specs.Prelude.{◌≡◌, ℕ, ◌+◌, ◌<◌, List, [], ◌∷◌, map}
+use Rattle.std.specs.Prelude.{◌≡◌, ℕ, List, [], ◌∷◌, map}
 use Rattle.cb_page.specs.Bounds.{Bounds}
 use Rattle.cb_frame.specs.declared.frame.Frame.{Frame}
 use Rattle.cb_frame.specs.declared.frame.Body.{Body}

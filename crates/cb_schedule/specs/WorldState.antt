@@ -1,18 +1,12 @@
 -- A world as its callers see it, and the protocol's world that it is.
-use Rattle.std.specs.Prelude.{◌≡◌, ℕ, ◌+◌, ◌<◌, ◌≤◌, Bool, true, false, List, [], ◌∷◌, ◌++◌, length, map, slice_index_or, slice_set}
-use Rattle.cb_page.specs.Bounds.{Bounds, AreInRange}
-use Rattle.cb_commit.specs.Stores.{StoreState, IsOf, IsSound, version_at, bytes_at}
+use Rattle.std.specs.Prelude.{◌≡◌, ℕ, Bool, List, slice_index_or, slice_set}
+use Rattle.cb_page.specs.Bounds.{Bounds}
+use Rattle.cb_commit.specs.Stores.{StoreState, version_at, bytes_at}
 use Rattle.cb_schedule.specs.ClientState.{ClientState, client_of, fresh}
 use Rattle.cb_schedule.specs.ServerState.{ServerState, server_of}
-use Rattle.cb_schedule.specs.ProtocolLimits.{limits_of}
-use Rattle.cb_schedule.specs.ProtocolEvents.{event_of, answer_of, transcript_of}
-use Rattle.cb_schedule.specs.Wire.{AllSpell, IsSentSoFar}
-use Rattle.cb_schedule.specs.declared.event.Event.{Event}
-use Rattle.cb_schedule.specs.declared.answer.Answer.{Answer}
+use Rattle.cb_schedule.specs.ProtocolEvents.{transcript_of}
+use Rattle.cb_schedule.specs.Wire.{AllSpell}
 use Rattle.cb_schedule.specs.declared.answer.Entry.{Entry}
-use Rattle.cb_protocol.specs.Messages.{Message}
-use Rattle.cb_protocol.specs.Headline.{Promise}
-use Rattle.cb_protocol.specs.WaitsFor.{on_cycle}
 use Rattle.cb_protocol.specs.World as protocol
 
 -- the server, the clients at their first incarnation, and every packet that was ever sent, as bytes
@@ -22,9 +16,9 @@ pub record NetState : Type 0 where
   pub clients : List ClientState
   pub packets : List (List ℕ)
 
--- the opening store, the net, what was told so far, and whether want of memory stopped it
+-- the limits, the net, every event so far with its answer, and whether want of memory stopped the world
 pub record WorldState : Type 0 where
-  pub opening : StoreState
+  pub limits : Bounds
   pub net : NetState
   pub transcript : List Entry
   pub stopped : Bool
@@ -55,3 +49,7 @@ pub record Shows (v : WorldState) (w : protocol.World) : Type 0 where
 -- the protocol's opening of a store
 abbrev pub opening_of : StoreState → protocol.Opening
 opening_of s = record { bytes = bytes_at s; version = version_at s; number = s.number }
+
+-- The opening store of the world, as the protocol has it. It is the server's: nothing is committed yet.
+abbrev pub opened : WorldState → protocol.Opening
+opened v = opening_of v.net.server.store

@@ -34,6 +34,27 @@ pub enum Word {
     NoClient,
 }
 
+impl Word {
+    /// The same word. `AllocError` only where there is no memory for the bytes of a read.
+    pub fn copy(&self, alloc: Global) -> Result<Word, AllocError>
+        ensures { IfOk result (λ word. word ≡ self.now) }
+    {
+        Ok(match self {
+            Word::Ok => Word::Ok,
+            Word::Bytes(bytes) => Word::Bytes(Page::copy_of(alloc, bytes.as_slice())?),
+            Word::Asked => Word::Asked,
+            Word::Permitted => Word::Permitted,
+            Word::Nothing => Word::Nothing,
+            Word::Flushed(number) => Word::Flushed(*number),
+            Word::Taken => Word::Taken,
+            Word::NoPacket => Word::NoPacket,
+            Word::Refused(fault) => Word::Refused(*fault),
+            Word::ServerExhausted => Word::ServerExhausted,
+            Word::NoClient => Word::NoClient,
+        })
+    }
+}
+
 /// A packet that an event sent.
 #[derive(Clone, Copy, Debug, PartialEq, Eq)]
 pub struct Sent {
@@ -83,6 +104,15 @@ impl SentPackets {
     {
         self.list.as_slice()
     }
+
+    /// The same packets. `AllocError` only where memory was refused.
+    pub fn copy(&self, alloc: Global) -> Result<SentPackets, AllocError>
+        ensures { IfOk result (λ sent. sent ≡ self.now) }
+    {
+        Ok(SentPackets {
+            list: Vec::from_slice(alloc, self.list.as_slice())?,
+        })
+    }
 }
 
 /// What became of an event: the answer, and the packets sent by it.
@@ -101,6 +131,16 @@ impl Answer {
             word,
             sent: SentPackets::none(alloc),
         }
+    }
+
+    /// The same answer. `AllocError` only where memory was refused.
+    pub fn copy(&self, alloc: Global) -> Result<Answer, AllocError>
+        ensures { IfOk result (λ answer. answer ≡ self.now) }
+    {
+        Ok(Answer {
+            word: self.word.copy(alloc)?,
+            sent: self.sent.copy(alloc)?,
+        })
     }
 }
 

@@ -1,4 +1,5 @@
-ghost use Rattle.std.specs.Prelude.{◌≡◌, IfOk, OnErr};
+ghost use Rattle.std.specs.Prelude.{◌≡◌, ◌↔◌, IfOk, IsTrue, OnErr};
+ghost use Rattle.cb_schedule.specs.ProtocolEvents.{IsPlayed};
 ghost use Rattle.cb_schedule.specs.Events.{HasBytes, CallsWithBytes};
 
 use cb_page::{ClientNo, Page, PageNo};
@@ -59,6 +60,22 @@ impl Call {
 }
 
 impl Event {
+    /// Whether a world plays such an event yet: hello, begin, read, peek and take.
+    pub fn is_played(&self) -> bool
+        ensures { IsTrue result ↔ IsPlayed self.now }
+    {
+        match self {
+            Event::Call { call, .. } => {
+                matches!(
+                    call,
+                    Call::Hello | Call::Begin | Call::Read { .. } | Call::Peek { .. }
+                )
+            }
+            Event::Take { .. } => true,
+            _ => false,
+        }
+    }
+
     /// The same event. It fails only where there is no memory for the bytes of a write.
     pub fn copy(&self, alloc: Global) -> Result<Event, AllocError>
         ensures same { IfOk result (λ event. event ≡ self.now) }

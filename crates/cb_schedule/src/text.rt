@@ -1,6 +1,8 @@
 //! Reads the text of a schedule.
 ghost use Rattle.std.specs.Prelude.{◌≡◌, ◌≢◌, ℕ, ◌==◌, true, false, Some, None, [], ◌∷◌, ◌++◌, length, map, slice_index, nat_lt, List, IfOk, IfErr, OnOk, IsSome, MatchResult};
+ghost use Rattle.std.specs.List.{All};
 ghost use Rattle.std.specs.Option.{option_to_list};
+ghost use Rattle.cb_schedule.specs.ProtocolEvents.{IsPlayed};
 ghost use Rattle.cb_page.specs.Faults.{first_fault};
 ghost use Rattle.cb_schedule.specs.Commands.{Client, Page, arguments_of, event_of};
 ghost use Rattle.cb_schedule.specs.Pieces.{words_of, is_number, number_of};
@@ -246,6 +248,8 @@ pub fn read_schedule(
     text: &[u8],
 ) -> Result<Vec<Event>, ScheduleFault>
     ensures events { IfOk result (λ events. IsSchedule limits.now text.now events.items) }
+    // Every event is one that a world plays.
+    ensures played { IfOk result (λ events. All IsPlayed events.items) }
     // A schedule is read, unless memory runs out.
     ensures only { (meant : List Event) → IsSchedule limits.now text.now meant →
         MatchResult result (λ events. events.items ≡ meant) (λ e. e ≡ ScheduleFault.Memory) }

@@ -41,10 +41,8 @@ fn peeked(client: &Client, page: PageNo) -> Seen {
 
 fn read(client: &mut Client, page: PageNo) -> Seen {
     match client.read(page) {
-        Ok(answer) => match answer {
-            ReadAnswer::Bytes => peeked(client, page),
-            ReadAnswer::Asked(txn) => Asked(txn.get()),
-        },
+        Ok(ReadAnswer::Bytes) => peeked(client, page),
+        Ok(ReadAnswer::Asked(txn)) => Asked(txn.get()),
         Err(fault) => Refused(fault),
     }
 }
@@ -82,7 +80,7 @@ fn granted(
     }
 }
 
-fn answer_to(alloc: Global, client: &mut Client, step: Step) -> Seen {
+fn answered(alloc: Global, client: &mut Client, step: Step) -> Seen {
     match step {
         Welcome => {
             client.take_welcome();
@@ -96,9 +94,9 @@ fn answer_to(alloc: Global, client: &mut Client, step: Step) -> Seen {
     }
 }
 
-/// A client with eight pages of sixteen bytes and that many slots answers these steps so.
-fn plays(rt: &impl Abort, alloc: Global, slots: u64, steps: &[(Step, Seen)]) {
-    let Ok(limits) = Limits::new(2, 8, 16, slots, 1, 4) else {
+/// A client with eight pages of sixteen bytes and two slots answers these steps so.
+fn plays(rt: &impl Abort, alloc: Global, steps: &[(Step, Seen)]) {
+    let Ok(limits) = Limits::new(2, 8, 16, 2, 1, 1) else {
         return;
     };
     let Ok(mut client) = Client::new(alloc, &limits) else {
@@ -106,7 +104,7 @@ fn plays(rt: &impl Abort, alloc: Global, slots: u64, steps: &[(Step, Seen)]) {
     };
     client.hello();
     for (n, (step, want)) in steps.iter().enumerate() {
-        let got = answer_to(alloc, &mut client, *step);
+        let got = answered(alloc, &mut client, *step);
         assert!(rt; got == *want, "step {n}: {got:?}");
     }
 }
@@ -116,7 +114,6 @@ fn refused_calls(rt: HostRuntime) {
     plays(
         &rt,
         rt.alloc(),
-        2,
         &[
             (Read(9), Refused(ClientFault::NotWelcome)),
             (Begin, Refused(ClientFault::NotWelcome)),
@@ -139,7 +136,6 @@ fn grants_not_asked_for(rt: HostRuntime) {
     plays(
         &rt,
         rt.alloc(),
-        2,
         &[
             (Welcome, Nothing),
             (Granted(0, 3, 0, 7), GivenBack),
@@ -166,7 +162,6 @@ fn bare_page_filled_by_its_own_version(rt: HostRuntime) {
     plays(
         &rt,
         rt.alloc(),
-        2,
         &[
             (Welcome, Nothing),
             (Begin, Began(1)),
@@ -189,38 +184,6 @@ fn bare_page_filled_by_its_own_version(rt: HostRuntime) {
             (Peek(1), Nothing),
             (Peek(2), Bytes(2)),
             (Read(5), Bytes(9)),
-        ],
-    );
-}
-
-/// A read that finds the bytes counts as a reference: of two pages that came back, the one not read since goes first.
-#[test]
-fn hit_is_a_reference(rt: HostRuntime) {
-    plays(
-        &rt,
-        rt.alloc(),
-        3,
-        &[
-            (Welcome, Nothing),
-            (Begin, Began(1)),
-            (Read(0), Asked(1)),
-            (Granted(0, 1, 0, 0), Nothing),
-            (Read(1), Asked(1)),
-            (Granted(1, 2, 0, 1), Nothing),
-            (Read(2), Asked(1)),
-            (Granted(2, 3, 0, 2), Nothing),
-            (Read(3), Asked(1)),
-            (Granted(3, 4, 0, 3), Nothing),
-            // page 0 was let go; it comes back, and then page 1, which was let go for it
-            (Read(0), Asked(1)),
-            (Granted(0, 1, 0, 0), Nothing),
-            (Read(1), Asked(1)),
-            (Granted(1, 2, 0, 1), Nothing),
-            (Read(0), Bytes(0)),
-            (Read(2), Asked(1)),
-            (Granted(2, 3, 0, 2), Nothing),
-            (Peek(0), Bytes(0)),
-            (Peek(1), Nothing),
         ],
     );
 }

@@ -1,4 +1,4 @@
-use Rattle.std.proofs.Common.{◌≡◌, ◌≤◌, ◌<◌, ◌+◌, ◌&&◌, length, rules, sym, ◌∙◌, ap, arith}
+use Rattle.std.proofs.Common.{◌≡◌, ◌<◌, ◌+◌, ◌&&◌, length, ap, arith}
 use Rattle.cb_page.specs.Flags as flags
 use Rattle.cb_pool.specs.CopiesState.{CopiesState, bit}
 use Rattle.cb_pool.proofs.Counted.{here, some_fixed, at_most, counted_fix}

@@ -1,7 +1,5 @@
-use Rattle.std.proofs.Common.{◌<◌, rules, arith}
+use Rattle.std.proofs.Common.{◌<◌, arith}
 use Rattle.std.proofs.lemmas.Grind.{common_steps}
-use Rattle.cb_pool.specs.PoolState.{HasLoose, held}
-use Rattle.cb_pool.specs.CopiesState.{held_fixed}
 use Rattle.cb_pool.proofs.Counted.{finds_loose, counts_loose}
 use Rattle.cb_pool.proofs.copies.Copies.has_loose.Goals as goal
 

@@ -1,4 +1,4 @@
-use Rattle.std.proofs.Common.{◌≡◌, None, replicate, rules, sym, ◌∙◌, ap, arith}
+use Rattle.std.proofs.Common.{◌≡◌, None, replicate, ◌∙◌, ap, arith}
 use Rattle.cb_pool.proofs.Counted.{counted_none}
 use Rattle.cb_pool.proofs.copies.Copies.new.Goals as goal
 

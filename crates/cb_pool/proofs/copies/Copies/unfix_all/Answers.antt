@@ -1,4 +1,3 @@
-use Rattle.std.proofs.Common.{◌≡◌, rules}
 use Rattle.cb_pool.proofs.Counted.{counted_unfix}
 use Rattle.cb_pool.proofs.copies.Copies.unfix_all.Goals as goal
 

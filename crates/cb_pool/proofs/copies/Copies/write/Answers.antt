@@ -1,4 +1,4 @@
-use Rattle.std.proofs.Common.{◌≡◌, length, None, ap, sym, ◌∙◌, rules, slice_index_or}
+use Rattle.std.proofs.Common.{length, None, ap, slice_index_or}
 use Rattle.cb_pool.specs.CopiesState.{CopiesState, IfHere}
 use Rattle.cb_pool.proofs.Counted.{counted_write}
 use Rattle.cb_pool.proofs.copies.Copies.write.Goals as goal

@@ -1,4 +1,4 @@
-use Rattle.std.proofs.Common.{◌≡◌, ◌<◌, length, rules, ap, sym, subst, ◌∙◌, arith}
+use Rattle.std.proofs.Common.{◌≡◌, ◌<◌, length, ap, sym, subst, ◌∙◌}
 use Rattle.cb_twoq.specs.Law.{Chooses}
 use Rattle.cb_pool.specs.PoolState.{PoolState}
 use Rattle.cb_pool.proofs.Agreeing.{installed}

@@ -1,11 +1,5 @@
-use Rattle.std.proofs.Common.{◌≡◌, [], refl, ap, Ok, Err}
-use Rattle.cb_protocol.specs.Answers.{AnsweredOk}
-use Rattle.cb_protocol.specs.ClientCalls.{CallBegin}
-use Rattle.cb_schedule.specs.WorldState.{client_at}
-use Rattle.cb_schedule.specs.ProtocolEvents.{word_of}
-use Rattle.cb_schedule.specs.declared.answer.Answer.{Answer}
-use Rattle.cb_schedule.specs.declared.answer.Word.TheVariants as word
-use Rattle.cb_schedule.proofs.NetAnswers.{call_silent, begin_answers}
+use Rattle.std.proofs.Common.{Ok, Err}
+use Rattle.cb_schedule.proofs.NetAnswers.{begin_answers}
 use Rattle.cb_schedule.proofs.net.Net.begin.Goals as goal
 
 pub returns-in-Ok : goal.returns-in-Ok

@@ -1,4 +1,4 @@
-use Rattle.std.proofs.Common.{◌≡◌, [], refl, ap, sym, ◌∙◌}
+use Rattle.std.proofs.Common.{[], refl, ap, sym, ◌∙◌}
 use Rattle.cb_frame.specs.declared.frame.Frame.{Frame}
 use Rattle.cb_frame.specs.declared.frame.Body.TheVariants as body
 use Rattle.cb_frame.specs.declared.frame.ShortBody.TheVariants as short

@@ -1,4 +1,3 @@
-use Rattle.std.proofs.Common.{sym}
 use Rattle.cb_schedule.proofs.NetOpening.{opening_is_net, shows_opening}
 use Rattle.cb_schedule.proofs.net.Net.new.Goals as goal
 

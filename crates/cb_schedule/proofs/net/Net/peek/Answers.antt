@@ -1,4 +1,4 @@
-use Rattle.std.proofs.Common.{◌≡◌, [], refl, ap, sym, Some, None, option_copied}
+use Rattle.std.proofs.Common.{Some, None}
 use Rattle.cb_schedule.proofs.NetAnswers.{peek_answers}
 use Rattle.cb_schedule.proofs.net.Net.peek.Goals as goal
 

@@ -1,4 +1,3 @@
-use Rattle.std.proofs.Common.{◌≡◌, refl}
 use Rattle.cb_schedule.specs.declared.answer.Answer.{Answer}
 use Rattle.cb_protocol.specs.World.{ClientCalls}
 use Rattle.cb_protocol.specs.ClientCalls.{CallRead}

@@ -1,6 +1,5 @@
-use Rattle.std.proofs.Common.{◌≡◌, ◌∷◌, ◌++◌, ◌∙◌, List, ℕ, [], ap, subst, sym}
+use Rattle.std.proofs.Common.{◌≡◌, ◌∷◌, ◌++◌, [], ap}
 use Rattle.cb_frame.specs.Spelling.{spelling}
-use Rattle.cb_schedule.specs.NetMoves.{IsNet}
 use Rattle.cb_schedule.specs.WorldState.{NetState}
 use Rattle.cb_schedule.proofs.NetSends.{sent_net}
 use Rattle.cb_schedule.proofs.net.Net.send.Goals as goal

@@ -1,4 +1,4 @@
-use Rattle.std.proofs.Common.{◌≡◌, refl}
+use Rattle.std.proofs.Common.{refl}
 use Rattle.cb_protocol.specs.Messages.{AskRead}
 use Rattle.cb_schedule.proofs.NetAnswers.{server_answers, exhausted_answers}
 use Rattle.cb_schedule.proofs.net.Net.take_ask.Goals as goal

@@ -1,6 +1,6 @@
-use Rattle.std.proofs.Common.{◌≡◌, refl, sym, subst, ◌∙◌, ℕ, Bool, List}
-use Rattle.cb_protocol.specs.Messages.{Body, Granted}
-use Rattle.cb_schedule.specs.ClientGrants.{gives_back, replies}
+use Rattle.std.proofs.Common.{refl, sym, subst, ◌∙◌, Bool}
+use Rattle.cb_protocol.specs.Messages.{Granted}
+use Rattle.cb_schedule.specs.ClientGrants.{replies}
 use Rattle.cb_schedule.specs.ClientAnswers.{Takes}
 use Rattle.cb_schedule.specs.WorldState.{client_at}
 use Rattle.cb_schedule.proofs.NetAnswers.{client_answers, other_answers, not_first}

@@ -1,4 +1,4 @@
-use Rattle.std.proofs.Common.{◌≡◌, refl, sym, ◌∙◌, ℕ}
+use Rattle.std.proofs.Common.{refl, sym, ◌∙◌}
 use Rattle.cb_protocol.specs.Messages.{Welcome}
 use Rattle.cb_schedule.proofs.NetAnswers.{client_silent, other_answers, not_first}
 use Rattle.cb_schedule.proofs.net.Net.take_welcome.Goals as goal

@@ -1,4 +1,4 @@
-use Rattle.std.proofs.Common.{arith, ◌≤◌, sym, IfOk, OnOk, OnErr, Bool, true, false, subst, IsErr, ◌↔◌, Result, Ok, Err, ◌≡◌, refl}
+use Rattle.std.proofs.Common.{arith, ◌≤◌, sym, IfOk, OnOk, OnErr, true, false, subst, IsErr, ◌↔◌, Result, Ok, Err, ◌≡◌, refl}
 use Rattle.cb_schedule.specs.declared.server.ServerReply.{ServerReply}
 use Rattle.cb_schedule.specs.declared.server.ServerFault.{ServerFault}
 use Rattle.cb_protocol.specs.Messages.{AskRead}

@@ -1,4 +1,3 @@
-use Rattle.cb_schedule.specs.ServerState.{Replies}
 use Rattle.cb_schedule.proofs.Replying.{hello_took}
 use Rattle.cb_schedule.proofs.server.Server.reply_to_hello.Goals as goal
 

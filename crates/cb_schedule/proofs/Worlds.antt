@@ -1,0 +1,180 @@
+-- A world of the protocol, event by event: it stays reached from the opening store, which stays what it was.
+use Rattle.std.proofs.Common.{◌≡◌, ℕ, ◌+◌, Bool, true, false, List, [], ◌∷◌, ◌++◌, length, map, refl, ap, sym, ◌∙◌, subst, suc, ◌≤◌, nat_lt, arith}
+use Rattle.std.specs.Prelude.{reverse}
+use Rattle.std.specs.List.{AllByRecursion}
+use Rattle.std.proofs.lemmas.List.{get_or_past, map-append, reverse-append}
+use Rattle.std.proofs.lemmas.List.Elements.{All-get_or}
+use Rattle.std.proofs.lemmas.Bool.Decides.{nat_tests}
+use Rattle.cb_page.specs.Bounds.{Bounds}
+use Rattle.cb_commit.specs.Stores.{IsSound, IsStored, StoreState, no_page, version_at}
+use Rattle.cb_schedule.specs.NetMoves as net
+use Rattle.cb_schedule.specs.Plays.{IsSpelled, IsWorld, Stands, Steps}
+use Rattle.cb_schedule.specs.ProtocolEvents.{event_of, answer_of, word_of, sent_of, entry_of, transcript_of}
+use Rattle.cb_schedule.specs.ProtocolLimits.{limits_of}
+use Rattle.cb_schedule.specs.ServerState.{ServerState, server_of}
+use Rattle.cb_schedule.specs.Wire.{AllSpell}
+use Rattle.cb_schedule.specs.WorldState.{NetState, WorldState, Shows, ShowsNet, opened, opening_of}
+use Rattle.cb_schedule.specs.declared.event.Event.{Event}
+use Rattle.cb_schedule.specs.declared.answer.Answer.{Answer}
+use Rattle.cb_schedule.specs.declared.answer.Sent.{Sent}
+use Rattle.cb_schedule.specs.declared.answer.Entry.{Entry}
+use Rattle.cb_schedule.proofs.Nets.{spell_length}
+use Rattle.cb_schedule.proofs.SameFrames.{packets_more, all_spelled}
+use Rattle.cb_protocol.specs.AnyMessages.{Ledger}
+use Rattle.cb_protocol.specs.Basics.{Limits}
+use Rattle.cb_protocol.specs.Headline.{Promise, Promises, SoundOpening}
+use Rattle.cb_protocol.specs.Laws.{ReachedWorld, WholePromise}
+use Rattle.cb_protocol.specs.Messages.{Message}
+use Rattle.cb_protocol.specs.Server.{Server}
+use Rattle.cb_protocol.specs.WaitsFor.{on_cycle}
+use Rattle.cb_protocol.specs.World as protocol
+use Rattle.cb_protocol.specs.World.{numbered_from}
+
+-- the last promise of a run
+last_promise : (o : protocol.Opening) (w : protocol.World) (ms : List protocol.Moment) → Promise o w → Promises o ms → Promise o (protocol.world_after w ms)
+last_promise o w [] p ps = p
+last_promise o w (m ∷ ms) p ps = last_promise o m.world ms ps.0 ps.1
+
+pub promise_of : (L : Limits) (o : protocol.Opening) (w : protocol.World) → WholePromise → SoundOpening o → ReachedWorld L on_cycle o w → Promise o w
+promise_of L o w whole sound r =
+    let all = whole L on_cycle o r.0 sound r.1 in
+    subst (λ (x : protocol.World). Promise o x) r.2 (last_promise o (protocol.new_world L o) r.0 all.0 all.1)
+
+pub plays_more : (L : Limits) (w : protocol.World) (ms : List protocol.Moment) (m : protocol.Moment) → protocol.Plays L on_cycle w ms → protocol.Becomes L on_cycle (protocol.world_after w ms) m.event m.answer m.world → protocol.Plays L on_cycle w (ms ++ m ∷ [])
+plays_more L w [] m p b = (b, tt)
+plays_more L w (k ∷ ks) m p b = (p.0, plays_more L k.world ks m p.1 b)
+
+pub after_more : (w : protocol.World) (ms : List protocol.Moment) (m : protocol.Moment) → protocol.world_after w (ms ++ m ∷ []) ≡ m.world
+after_more w [] m = refl
+after_more w (k ∷ ks) m = after_more k.world ks m
+
+pub promises_more : (o : protocol.Opening) (ms : List protocol.Moment) (m : protocol.Moment) → Promises o ms → Promise o m.world → Promises o (ms ++ m ∷ [])
+promises_more o [] m ps p = (p, tt)
+promises_more o (k ∷ ks) m ps p = (ps.0, promises_more o ks m ps.1 p)
+
+-- a world that is reached becomes one that is
+pub reached_more : (L : Limits) (o : protocol.Opening) (w v : protocol.World) (e : protocol.Event) (a : protocol.Answer) → ReachedWorld L on_cycle o w → protocol.Becomes L on_cycle w e a v → ReachedWorld L on_cycle o v
+reached_more L o w v e a r b =
+    let m : protocol.Moment = record { event = e; answer = a; world = v } in (
+      r.0 ++ m ∷ [],
+      plays_more L (protocol.new_world L o) r.0 m r.1 (subst (λ (x : protocol.World). protocol.Becomes L on_cycle x e a v) (sym r.2) b),
+      after_more (protocol.new_world L o) r.0 m,
+    )
+
+-- no commit is applied, so the store is the opening store
+opening_same : (s : ServerState) (o : protocol.Opening) → Ledger o (server_of s) → opening_of s.store ≡ o
+opening_same s o l = λ i. record { bytes = λ p. l.bytes p i; version = λ p. l.version p i; number = l.numbered i }
+
+pub opening_kept : (n : NetState) (o : protocol.Opening) (w : protocol.World) → ShowsNet n w → Promise o w → opening_of n.server.store ≡ o
+opening_kept n o w sh p = opening_same n.server o (subst (λ (s : Server). Ledger o s) sh.server p.ledger)
+
+-- the protocol's world after the event
+abbrev After : protocol.World → protocol.Event → Answer → List Message → protocol.World → protocol.World
+After w e a fs u = (protocol.answer_with w e (word_of a.word) fs u).world
+
+transcript_more : (told : List Entry) (e : Event) (a : Answer) → record { event = event_of e; word = word_of a.word } ∷ transcript_of told ≡ transcript_of (told ++ record { event = e; answer = a } ∷ [])
+transcript_more told e a = sym (ap reverse (map-append entry_of told (record { event = e; answer = a } ∷ [])) ∙ reverse-append (map entry_of told) (entry_of (record { event = e; answer = a }) ∷ []))
+
+as_many : (n : ℕ) (fs : List Message) → length (numbered_from n fs) ≡ length fs
+as_many n [] = refl
+as_many n (f ∷ fs) = ap suc (as_many (n + 1) fs)
+
+sent_length : (ss : List Sent) → length (map sent_of ss) ≡ length ss
+sent_length [] = refl
+sent_length (s ∷ ss) = ap suc (sent_length ss)
+
+-- What an event makes of the net it makes of the world, as the protocol has it.
+pub net_becomes : (w v : WorldState) (e : Event) (a : Answer) (u : protocol.World) → w.net.limits ≡ w.limits
+    → net.Becomes w.net (event_of e) a v.net → v.transcript ≡ w.transcript ++ record { event = e; answer = a } ∷ [] → Shows w u
+    → (x : protocol.World) × protocol.Becomes (limits_of w.limits) on_cycle u (event_of e) (answer_of a) x × Shows v x
+net_becomes w v e a u l b t sh =
+    let by = b.by_event u sh.net in
+    let fs = by.1 in
+    let x : protocol.World = After u (event_of e) a fs by.2 in
+    let numbers : numbered_from (length u.packets) fs ≡ map sent_of a.sent = ap (λ k. numbered_from k fs) (spell_length w.net.limits w.net.packets u.packets sh.net.packets) ∙ by.5 in (
+      x,
+      subst (λ (m : Bounds). protocol.Becomes (limits_of m) on_cycle u (event_of e) (answer_of a) x) l
+          (by.0, by.3, by.4 ∙ ap (λ (ss : List protocol.SentPacket). record { answer = record { word = word_of a.word; sent = ss }; world = x }) numbers),
+      record { net = by.6; transcript = ap (λ (hs : List protocol.TranscriptEntry). record { event = event_of e; word = word_of a.word } ∷ hs) sh.transcript ∙ transcript_more w.transcript e a ∙ ap transcript_of (sym t) },
+    )
+
+-- The packets are the old ones and as many more as the answer names.
+pub packets_added : (n m : NetState) (e : protocol.Event) (a : Answer) (u : protocol.World) → net.Becomes n e a m → ShowsNet n u
+    → (sent : List (List ℕ)) × (m.packets ≡ n.packets ++ sent) × (length sent ≡ length a.sent)
+packets_added n m e a u b sh =
+    let by = b.by_event u sh in
+    let fs = by.1 in
+    let more = packets_more n.limits n.packets m.packets u.packets fs sh.packets (subst (λ (l : Bounds). AllSpell l m.packets (u.packets ++ fs)) b.limits by.6.packets) in
+    (more.0, more.1, more.2 ∙ sym (as_many (length n.packets) fs) ∙ ap length by.5 ∙ sent_length a.sent)
+
+-- A running world plays an event.
+pub steps : (w v : WorldState) (e : Event) (a : Answer) → WholePromise → Stands w → w.stopped ≡ false → v.stopped ≡ false → v.limits ≡ w.limits
+    → net.Becomes w.net (event_of e) a v.net → v.transcript ≡ w.transcript ++ record { event = e; answer = a } ∷ [] → Steps w e a v
+steps w v e a whole s ran runs l b t =
+    let next = net_becomes w v e a s.world s.limits b t s.shows in
+    let reached = reached_more (limits_of w.limits) (opened w) s.world next.0 (event_of e) (answer_of a) s.reached next.1 in
+    let promise = promise_of (limits_of w.limits) (opened w) next.0 whole s.sound reached in
+    record {
+      ran = ran;
+      runs = runs;
+      limits = l;
+      opening = opening_kept v.net (opened w) next.0 next.2.net promise;
+      transcript = t;
+      packets = packets_added w.net v.net (event_of e) a s.world b s.shows.net;
+      becomes = λ u sh. net_becomes w v e a u s.limits b t sh;
+      promise = (next.0, next.2, reached, promise);
+    }
+
+-- It is such a world afterwards.
+pub stands_after : (w v : WorldState) (e : Event) (a : Answer) → SoundOpening (opened w) → v.net.limits ≡ v.limits → Steps w e a v → Stands v
+stands_after w v e a sound l s = record {
+  limits = l;
+  sound = subst SoundOpening (sym s.opening) sound;
+  world = s.promise.0;
+  shows = s.promise.1;
+  reached = subst (λ (o : protocol.Opening). ReachedWorld (limits_of v.limits) on_cycle o s.promise.0) (sym s.opening) (subst (λ (m : Bounds). ReachedWorld (limits_of m) on_cycle (opened w) s.promise.0) (sym s.limits) s.promise.2);
+}
+
+-- Its packets are spellings of frames.
+pub spelled_packets : (v : WorldState) → Stands v → AllByRecursion (IsSpelled v.limits) v.net.packets
+spelled_packets v s = subst (λ (l : Bounds). AllByRecursion (IsSpelled l) v.net.packets) s.limits (all_spelled v.net.limits v.net.packets s.world.packets s.shows.net.packets)
+
+-- The world of a store before any event.
+pub stands_at_first : (v : WorldState) (l : Bounds) (s : StoreState) → v.limits ≡ l → v.net.limits ≡ l → SoundOpening (opening_of s) → ShowsNet v.net (protocol.new_world (limits_of l) (opening_of s)) → v.transcript ≡ []
+    → (opened v ≡ opening_of s) × Shows v (protocol.new_world (limits_of l) (opening_of s)) × Stands v
+stands_at_first v l s e f sound sh t =
+    let o : opened v ≡ opening_of s = ap (λ (k : Server). record { bytes = k.store.bytes; version = k.store.version; number = k.store.last_commit }) (sym sh.server) in
+    let shows : Shows v (protocol.new_world (limits_of l) (opening_of s)) = record { net = sh; transcript = ap transcript_of (sym t) } in (
+      o,
+      shows,
+      record {
+        limits = f ∙ sym e;
+        sound = subst SoundOpening (sym o) sound;
+        world = protocol.new_world (limits_of l) (opening_of s);
+        shows = shows;
+        reached = ([], tt, λ i. protocol.new_world (limits_of (e i)) (o i));
+      },
+    )
+
+pub first_promise : (L : Limits) (o : protocol.Opening) → WholePromise → SoundOpening o → Promise o (protocol.new_world L o)
+first_promise L o whole sound = (whole L on_cycle o [] sound tt).0
+
+-- no page of a store is newer than its last commit
+pub sound_opening : (s : StoreState) → IsSound s → SoundOpening (opening_of s)
+sound_opening s sound p = by_test (nat_lt p (length s.pages)) refl
+  where
+    by_test : (b : Bool) → nat_lt p (length s.pages) ≡ b → version_at s p ≤ s.number
+    by_test true e = (All-get_or (IsStored s.page_size s.number) s.pages p no_page (grind (arith, nat_tests)) sound.pages).version
+    by_test false e =
+        let past : length s.pages ≤ p = grind (arith, nat_tests) in
+        rw (version_at, get_or_past s.pages p no_page past) (omega arith)
+
+-- A running world that is told an event is such a world again.
+pub stepped : (w v : WorldState) (e : Event) → WholePromise → IsWorld w → w.stopped ≡ false → v.stopped ≡ false → v.limits ≡ w.limits
+    → (a : Answer) × net.Becomes w.net (event_of e) a v.net × (v.transcript ≡ w.transcript ++ record { event = e; answer = a } ∷ [])
+    → IsWorld v × ((a : Answer) × Steps w e a v)
+stepped w v e whole z ran runs l told =
+    let s = z.stands ran in
+    let one = steps w v e told.0 whole s ran runs l told.1 told.2 in
+    let after = stands_after w v e told.0 s.sound (told.1.limits ∙ s.limits ∙ sym l) one in
+    (record { packets = spelled_packets v after; stands = λ _. after }, (told.0, one))

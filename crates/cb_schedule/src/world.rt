@@ -1,0 +1,194 @@
+//! The world: it plays events one by one, and keeps what became of each.
+ghost use Rattle.std.specs.Prelude.{◌≡◌, ◌↔◌, ℕ, ◌<◌, List, [], ◌∷◌, ◌++◌, length, take, option_copied, slice_get, true, false, IfOk, IfErr, IfSome, OnErr, IsErr, IsTrue};
+ghost use Rattle.std.specs.List.{AllByRecursion};
+ghost use Rattle.cb_commit.specs.Stores.{IsOf};
+ghost use Rattle.cb_protocol.specs.Headline.{Promise};
+ghost use Rattle.cb_protocol.specs.World.{new_world};
+ghost use Rattle.cb_schedule.specs.Plays.{IsSpelled, Played, Stands, Steps};
+ghost use Rattle.cb_schedule.specs.ProtocolEvents.{IsPlayed};
+ghost use Rattle.cb_schedule.specs.ProtocolLimits.{limits_of};
+ghost use Rattle.cb_schedule.specs.WorldState.{Shows, opened, opening_of};
+ghost use Rattle.cb_schedule.specs.declared.answer.Answer.{Answer as AnswerState};
+ghost use Rattle.cb_schedule.specs.declared.answer.Entry.{Entry as EntryState};
+
+use crate::answer::{Answer, Entry};
+use crate::event::Event;
+use crate::net::Net;
+use crate::transcript::Transcript;
+use cb_commit::Store;
+use cb_page::Limits;
+use cb_protocol::callback_read;
+use std::alloc::{AllocError, Global};
+use std::marker::Model;
+
+/// Want of memory in a play, and what became of the events before it.
+#[derive(Debug, Drop)]
+pub struct PlayFault {
+    pub transcript: Transcript,
+}
+
+/// A server, its clients, every packet that was sent, and what became of every event. In contracts a running world is a
+/// world of the protocol, reached from the opening store.
+#[derive(Drop)]
+pub struct World {
+    alloc: Global,
+    limits: Limits,
+    net: Net,
+    transcript: Transcript,
+    stopped: bool,
+}
+
+impl Model for World {
+    ghost use Rattle.std.specs.Prelude.{◌≡◌, false};
+    ghost use Rattle.cb_schedule.specs.WorldState.{WorldState};
+    ghost use Rattle.cb_schedule.specs.Plays.{IsWorld};
+
+    ghost Value = { WorldState };
+
+    ghost view = { λ w. record { limits = w.limits; net = w.net; transcript = w.transcript.entries; stopped = w.stopped } };
+
+    ghost invariant = { λ w. IsWorld (record { limits = w.limits; net = w.net; transcript = w.transcript.entries; stopped = w.stopped }) };
+}
+
+impl World {
+    /// The world of a store in which nothing has happened: each client at its first incarnation, and no packet. `AllocError`
+    /// only where memory was refused.
+    pub fn new(alloc: Global, limits: &Limits, store: Store) -> Result<World, AllocError>
+        requires { IsOf limits.now store }
+        ensures runs { IfOk result (λ w. w.stopped ≡ false) }
+        ensures transcript { IfOk result (λ w. w.transcript ≡ []) }
+        ensures packets { IfOk result (λ w. w.net.packets ≡ []) }
+        ensures limits { IfOk result (λ w. w.limits ≡ limits.now) }
+        ensures opening { IfOk result (λ w. opened w ≡ opening_of store) }
+        ensures shows { IfOk result (λ w. Shows w (new_world (limits_of limits.now) (opening_of store))) }
+        ensures promise { IfOk result (λ w. Promise (opened w) (new_world (limits_of limits.now) (opening_of store))) }
+    {
+        callback_read();
+        let _number = store.number();
+        Ok(World {
+            alloc,
+            limits: *limits,
+            net: Net::new(alloc, limits, store)?,
+            transcript: Transcript::new(alloc),
+            stopped: false,
+        })
+    }
+
+    /// Plays one event. `AllocError` where memory was refused: the world is stopped from then on, and each later call answers
+    /// it again.
+    pub fn step(&mut self, event: Event) -> Result<Answer, AllocError>
+        requires played { IsPlayed event }
+        ensures ok { IfOk result (λ a. Steps self.old event a self.new) }
+        ensures stopped { OnErr result (self.new.stopped ≡ true) }
+        ensures kept { OnErr result (self.new.transcript ≡ self.old.transcript) }
+        ensures packets { OnErr result ((sent : List (List ℕ)) × (self.new.net.packets ≡ self.old.net.packets ++ sent)) }
+        ensures stays { self.old.stopped ≡ true → IsErr result }
+    {
+        self.advance(event)?;
+        let answer = last_answer(self.alloc, self.transcript.entries());
+        if answer.is_err() {
+            self.stopped = true;
+            self.transcript.forget_last();
+        }
+        answer
+    }
+
+    /// Plays events in order until memory is refused; then the fault has what became of the events before. A stopped world
+    /// plays none.
+    pub fn play(mut self, events: &[Event]) -> Result<Transcript, PlayFault>
+        requires { AllByRecursion IsPlayed events.now }
+        ensures ok { IfOk result (λ told. Played self events.now told.entries) }
+        ensures fault { IfErr result (λ fault. self.stopped ≡ false → (n : ℕ) × (n < length events.now) × Played self (take n events.now) fault.transcript.entries) }
+        ensures stopped { self.stopped ≡ true → IfErr result (λ fault. fault.transcript.entries ≡ self.transcript) }
+        ensures stays { self.stopped ≡ true → IsErr result }
+    {
+        callback_read();
+        if !self.is_running() {
+            return Err(PlayFault {
+                transcript: self.into_transcript(),
+            });
+        }
+        for event in events {
+            let Ok(()) = self.advance_by(event) else {
+                return Err(PlayFault {
+                    transcript: self.into_transcript(),
+                });
+            };
+        }
+        Ok(self.into_transcript())
+    }
+
+    /// Plays one event, and leaves its answer in the transcript alone.
+    fn advance(&mut self, event: Event) -> Result<(), AllocError>
+        requires played { IsPlayed event }
+        ensures ok { IfOk result (λ _. (a : AnswerState) × Steps self.old event a self.new) }
+        ensures stopped { OnErr result (self.new.stopped ≡ true) }
+        ensures kept { OnErr result (self.new.transcript ≡ self.old.transcript) }
+        ensures packets { OnErr result (self.new.net.packets ≡ self.old.net.packets) }
+        ensures stays { self.old.stopped ≡ true → IsErr result }
+    {
+        callback_read();
+        if self.stopped {
+            return Err(AllocError);
+        }
+        self.stopped = true;
+        self.transcript.tell(self.alloc, &mut self.net, event)?;
+        self.stopped = false;
+        Ok(())
+    }
+
+    /// The same with an event that is kept.
+    fn advance_by(&mut self, event: &Event) -> Result<(), AllocError>
+        requires played { IsPlayed event.now }
+        ensures ok { IfOk result (λ _. (a : AnswerState) × Steps self.old event.now a self.new) }
+        ensures kept { OnErr result (self.new.transcript ≡ self.old.transcript) }
+    {
+        let event = event.copy(self.alloc)?;
+        self.advance(event)
+    }
+
+    /// Whether no want of memory stopped the world.
+    pub fn is_running(&self) -> bool
+        ensures value { IsTrue result ↔ (self.now.stopped ≡ false) }
+        ensures stands { self.now.stopped ≡ false → Stands self.now }
+    {
+        !self.stopped
+    }
+
+    /// The limits of its store, clients and pools.
+    pub fn limits(&self) -> &Limits
+        ensures { result.now ≡ self.now.limits }
+    {
+        &self.limits
+    }
+
+    /// What became of every event so far.
+    pub fn transcript(&self) -> &Transcript
+        ensures { result.now.entries ≡ self.now.transcript }
+    {
+        &self.transcript
+    }
+
+    /// The bytes of the packet of that number among all that were ever sent, from 0: the frame that was sent.
+    pub fn packet(&self, number: u64) -> Option<&[u8]>
+        ensures bytes { option_copied result ≡ slice_get self.now.net.packets number }
+        ensures frame { IfSome result (λ bytes. IsSpelled self.now.limits bytes.now) }
+    {
+        self.net.packet(number)
+    }
+
+    /// What became of every event.
+    fn into_transcript(self) -> Transcript
+        ensures { result.entries ≡ self.transcript }
+    {
+        self.transcript
+    }
+}
+
+/// A copy of the last answer.
+fn last_answer(alloc: Global, entries: &[Entry]) -> Result<Answer, AllocError>
+    requires { 0 < length entries.now }
+    ensures { IfOk result (λ a. (es : List EntryState) (e : EntryState) → entries.now ≡ es ++ e ∷ [] → a ≡ e.answer) }
+{
+    entries[entries.len() - 1].answer.copy(alloc)
+}
