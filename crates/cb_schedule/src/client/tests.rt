@@ -41,9 +41,15 @@ fn peeked(client: &Client, page: PageNo) -> Seen {
 
 fn read(client: &mut Client, page: PageNo) -> Seen {
     match client.read(page) {
-        Ok(ReadAnswer::Bytes) => peeked(client, page),
-        Ok(ReadAnswer::Asked(txn)) => Asked(txn.get()),
+        Ok(found) => found_by_read(client, page, found),
         Err(fault) => Refused(fault),
+    }
+}
+
+fn found_by_read(client: &Client, page: PageNo, found: ReadAnswer) -> Seen {
+    match found {
+        ReadAnswer::Bytes => peeked(client, page),
+        ReadAnswer::Asked(txn) => Asked(txn.get()),
     }
 }
 
