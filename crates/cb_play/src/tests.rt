@@ -1,6 +1,9 @@
 use crate::arguments::{Request, request_of};
+use crate::exit_code;
 use crate::play::play_to;
+use crate::program::run;
 use std::alloc::Global;
+use std::process::ExitCode;
 use std::test::Fail;
 
 const FIRST: &str = "clients = 1\npages = 8\npage_size = 16\nslots = 4\n";
@@ -261,5 +264,56 @@ fn command_lines(rt: HostRuntime) -> Result<(), Fail> {
         .err()
         .ok_or("no help was shown")?;
     assert!(rt; !help.use_stderr() && help.exit_code() == 0);
+    Ok(())
+}
+
+/// What the program prints for these words, behind its name.
+fn run_words(rt: &HostRuntime, words: &[&str]) -> Result<Printed, Fail> {
+    let mut line = Vec::new(rt.alloc());
+    line.push(String::from_str(rt.alloc(), "cb_play")?)?;
+    for word in words {
+        line.push(String::from_str(rt.alloc(), word)?)?;
+    }
+    let mut out = Vec::new(rt.alloc());
+    let mut err = Vec::new(rt.alloc());
+    let status = run(rt, line.as_slice(), &mut out, &mut err)?;
+    Ok(Printed { status, out, err })
+}
+
+/// Files that can't be read are named, the configuration first; both are read before either is checked.
+#[test]
+fn unreadable_files(rt: HostRuntime) -> Result<(), Fail> {
+    for (config, schedule, line) in [
+        ("no.toml", "no.schedule", "cannot read no.toml\n"),
+        ("no.toml", "/dev/null", "cannot read no.toml\n"),
+        ("/dev/null", "no.schedule", "cannot read no.schedule\n"),
+        ("/dev/null", "/dev/null", "config: missing clients\n"),
+    ] {
+        let printed = run_words(&rt, ["play", config, schedule].as_slice())?;
+        assert!(rt; printed.err.as_slice() == line.as_bytes(), "at {line}");
+        assert!(rt; printed.out.is_empty() && printed.status == 2, "at {line}");
+    }
+    Ok(())
+}
+
+/// Help that was asked for goes to the standard output with status 0; wrong words, and none, to the standard error with 2.
+#[test]
+fn help_and_wrong_words(rt: HostRuntime) -> Result<(), Fail> {
+    for words in [["--help"].as_slice(), ["play", "--help"].as_slice()] {
+        let printed = run_words(&rt, words)?;
+        assert!(rt; printed.status == 0 && printed.err.is_empty());
+        assert!(rt; printed.out.as_slice().ends_with(b"  4  no memory\n"));
+    }
+    for words in [[].as_slice(), ["play"].as_slice(), ["pray"].as_slice()] {
+        let printed = run_words(&rt, words)?;
+        assert!(rt; printed.status == 2 && printed.out.is_empty() && !printed.err.is_empty());
+    }
+    Ok(())
+}
+
+/// The process ends with the program's status: the words of a test's command line are no request.
+#[test]
+fn status_of_the_process(rt: HostRuntime) -> Result<(), Fail> {
+    assert!(rt; exit_code(&rt)? == ExitCode::from(2));
     Ok(())
 }
