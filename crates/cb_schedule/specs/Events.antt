@@ -1,8 +1,10 @@
--- Which events carry the bytes of a page.
+-- Which events and answers carry the bytes of a page.
 use Rattle.cb_schedule.specs.declared.event.Call.{Call}
 use Rattle.cb_schedule.specs.declared.event.Call.TheVariants as call
 use Rattle.cb_schedule.specs.declared.event.Event.{Event}
 use Rattle.cb_schedule.specs.declared.event.Event.TheVariants as event
+use Rattle.cb_schedule.specs.declared.answer.Word.{Word}
+use Rattle.cb_schedule.specs.declared.answer.Word.TheVariants as word
 
 -- the call is a write
 abbrev pub HasBytes : Call → Type 0
@@ -13,3 +15,8 @@ HasBytes other = ⊥
 abbrev pub CallsWithBytes : Event → Type 0
 CallsWithBytes (event.Call client made) = HasBytes made
 CallsWithBytes other = ⊥
+
+-- the word is the bytes that a read or a peek found
+abbrev pub IsBytes : Word → Type 0
+IsBytes (word.Bytes bytes) = Unit {0}
+IsBytes other = ⊥

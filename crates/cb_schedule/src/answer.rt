@@ -1,4 +1,5 @@
-ghost use Rattle.std.specs.Prelude.{◌≡◌, List, [], ◌∷◌, IfOk};
+ghost use Rattle.std.specs.Prelude.{◌≡◌, List, [], ◌∷◌, IfOk, OnErr};
+ghost use Rattle.cb_schedule.specs.Events.{IsBytes};
 
 use crate::client_fault::ClientFault;
 use crate::event::Event;
@@ -35,9 +36,10 @@ pub enum Word {
 }
 
 impl Word {
-    /// The same word. `AllocError` only where there is no memory for the bytes of a read.
+    /// The same word. It fails only where there is no memory for the bytes of a read.
     pub fn copy(&self, alloc: Global) -> Result<Word, AllocError>
-        ensures { IfOk result (λ word. word ≡ self.now) }
+        ensures same { IfOk result (λ word. word ≡ self.now) }
+        ensures fails { OnErr result (IsBytes self.now) }
     {
         Ok(match self {
             Word::Ok => Word::Ok,

@@ -12,6 +12,7 @@ mod command;
 mod copies;
 mod event;
 mod net;
+mod packet;
 mod pieces;
 mod server;
 mod text;

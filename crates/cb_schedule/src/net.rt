@@ -1,5 +1,5 @@
 //! The net: the server, the clients at their first incarnation, and every packet that was ever sent.
-ghost use Rattle.std.specs.Prelude.{◌≡◌, ℕ, ◌+◌, ◌<◌, ◌≤◌, Bool, true, false, List, [], ◌∷◌, ◌++◌, length, replicate, slice_get, slice_set, option_copied, Some, None, IfOk, IfErr, IsSome, OnOk, OnErr, ◌↔◌};
+ghost use Rattle.std.specs.Prelude.{◌≡◌, ℕ, ◌+◌, ◌<◌, ◌≤◌, Bool, true, false, List, [], ◌∷◌, ◌++◌, length, take, replicate, slice_get, slice_set, option_copied, Some, None, IfOk, IfErr, IsSome, OnOk, OnErr, ◌↔◌};
 ghost use Rattle.cb_commit.specs.Stores.{IsOf, version_at, bytes_at};
 ghost use Rattle.cb_frame.specs.Grammar.{Fits, IsFrame};
 ghost use Rattle.cb_frame.specs.Kinds.{kind_of_body};
@@ -25,40 +25,13 @@ use crate::answer::{Answer, Sent, SentPackets, Word};
 use crate::client::{Client, ReadAnswer};
 use crate::client_fault::ClientFault;
 use crate::event::{Call, Event};
+use crate::packet::Packet;
 use crate::server::{Server, ServerFault, ServerReply};
 use cb_commit::Store;
 use cb_frame::{Body, Frame, FrameFault, ShortBody, ShortFrame, decode, encode};
 use cb_page::{ClientNo, GrantNo, Incarnation, Limits, Page, PageNo, TxnNo, Version};
 use std::alloc::{AllocError, Global};
 use std::marker::Model;
-
-/// A packet that was sent: the bytes of a frame.
-#[derive(Debug, Drop)]
-pub(crate) struct Packet {
-    bytes: Vec<u8>,
-}
-
-impl Model for Packet {
-    ghost use Rattle.std.specs.Prelude.{List, ℕ};
-
-    ghost Value = { List ℕ };
-
-    ghost view = { λ a. a.bytes.items };
-}
-
-impl Packet {
-    fn new(bytes: Vec<u8>) -> Packet
-        ensures { result ≡ bytes.items }
-    {
-        Packet { bytes }
-    }
-
-    pub(crate) fn as_slice(&self) -> &[u8]
-        ensures { result.now ≡ self.now }
-    {
-        self.bytes.as_slice()
-    }
-}
 
 /// The server, the clients, and every packet that was ever sent.
 #[derive(Drop)]
@@ -326,6 +299,20 @@ impl Net {
             word: Word::Asked,
             sent,
         })
+    }
+
+    /// How many packets were ever sent.
+    pub(crate) fn packet_count(&self) -> usize
+        ensures { result ≡ length self.now.packets }
+    {
+        self.packets.len()
+    }
+
+    /// Only the first packets stay, so many of them.
+    pub(crate) fn keep_packets(&mut self, count: usize)
+        ensures { self.new ≡ record self.old { packets = take count self.old.packets } }
+    {
+        self.packets.truncate(count);
     }
 
     /// The bytes of a packet.

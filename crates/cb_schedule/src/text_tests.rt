@@ -1,4 +1,4 @@
-use crate::{Call, Event, ScheduleFault, read_schedule};
+use crate::{Call, ClientFault, Event, ScheduleFault, read_schedule};
 use cb_page::{ClientNo, Limits, Page, PageNo};
 use std::alloc::Global;
 use std::process::Abort;
@@ -18,8 +18,51 @@ fn fault_of(rt: &impl Abort, alloc: Global, text: &[u8]) -> Option<ScheduleFault
 fn unknown_word(rt: HostRuntime) {
     let fault = fault_of(&rt, rt.alloc(), b"hello 0\ntake 0\nraed 0 1");
     assert!(rt; fault == Some(ScheduleFault::Word { line: 3 }));
-    let printed = format!(in rt.alloc(); "{}", ScheduleFault::Word { line: 3 });
-    assert!(rt; printed.expect(&rt, "memory").as_str() == "schedule line 3: Word");
+}
+
+#[test]
+fn schedule_fault_texts(rt: HostRuntime) -> Result<(), Fail> {
+    for (fault, text) in [
+        (
+            ScheduleFault::NotText { line: 1 },
+            "schedule line 1: NotText",
+        ),
+        (ScheduleFault::Word { line: 3 }, "schedule line 3: Word"),
+        (ScheduleFault::Count { line: 1 }, "schedule line 1: Count"),
+        (ScheduleFault::Number { line: 1 }, "schedule line 1: Number"),
+        (ScheduleFault::Range { line: 1 }, "schedule line 1: Range"),
+        (
+            ScheduleFault::Long { line: 1_000_001 },
+            "schedule line 1000001: Long",
+        ),
+        (ScheduleFault::Memory, "memory"),
+    ] {
+        let printed = format!(in rt.alloc(); "{fault}")?;
+        assert!(rt; printed.as_str() == text, "{text}");
+    }
+    Ok(())
+}
+
+#[test]
+fn client_fault_texts(rt: HostRuntime) -> Result<(), Fail> {
+    for (fault, text) in [
+        (ClientFault::NotWelcome, "1 NotWelcome"),
+        (ClientFault::NoTransaction, "2 NoTransaction"),
+        (ClientFault::TransactionOpen, "3 TransactionOpen"),
+        (ClientFault::Committing, "4 Committing"),
+        (ClientFault::Waiting, "5 Waiting"),
+        (ClientFault::PageRange, "6 PageRange"),
+        (ClientFault::NotRead, "7 NotRead"),
+        (ClientFault::NotHere, "8 NotHere"),
+        (ClientFault::NotWritable, "9 NotWritable"),
+        (ClientFault::WrongLength, "10 WrongLength"),
+        (ClientFault::PoolFull, "11 PoolFull"),
+        (ClientFault::Exhausted, "12 Exhausted"),
+    ] {
+        let printed = format!(in rt.alloc(); "{fault}")?;
+        assert!(rt; printed.as_str() == text, "{text}");
+    }
+    Ok(())
 }
 
 #[test]

@@ -81,14 +81,17 @@ impl World {
         ensures ok { IfOk result (λ a. Steps self.old event a self.new) }
         ensures stopped { OnErr result (self.new.stopped ≡ true) }
         ensures kept { OnErr result (self.new.transcript ≡ self.old.transcript) }
-        ensures packets { OnErr result ((sent : List (List ℕ)) × (self.new.net.packets ≡ self.old.net.packets ++ sent)) }
+        ensures packets { OnErr result (self.new.net.packets ≡ self.old.net.packets) }
+        ensures limits { self.new.limits ≡ self.old.limits }
         ensures stays { self.old.stopped ≡ true → IsErr result }
     {
+        let sent_before = self.net.packet_count();
         self.advance(event)?;
         let answer = last_answer(self.alloc, self.transcript.entries());
         if answer.is_err() {
             self.stopped = true;
             self.transcript.forget_last();
+            self.net.keep_packets(sent_before);
         }
         answer
     }
@@ -125,6 +128,7 @@ impl World {
         ensures stopped { OnErr result (self.new.stopped ≡ true) }
         ensures kept { OnErr result (self.new.transcript ≡ self.old.transcript) }
         ensures packets { OnErr result (self.new.net.packets ≡ self.old.net.packets) }
+        ensures limits { self.new.limits ≡ self.old.limits }
         ensures stays { self.old.stopped ≡ true → IsErr result }
     {
         callback_read();

@@ -1,16 +1,19 @@
 //! Worked schedules, event by event: the word and the packets that each is answered.
 
 use crate::answer::{Answer, Word};
+use crate::client_fault::ClientFault;
 use crate::event::{Call, Event};
+use crate::text::read_schedule;
 use crate::transcript::{Verdict, check_serial};
 use crate::world::World;
-use Said::{Asked, Nothing, Other, Taken, Zeros};
+use Said::{Asked, NoClient, NoPacket, Nothing, Other, Refused, Taken, Zeros};
 use Step::{Begin, Hello, Peek, Read, Take};
 use cb_commit::Store;
 use cb_frame::Kind;
 use cb_page::{ClientNo, Limits, PageNo};
 use std::alloc::{AllocError, Global};
 use std::process::Abort;
+use std::test::Fail;
 
 /// An event: a call of a client, which may name a page, or a packet that is taken.
 #[derive(Clone, Copy)]
@@ -30,6 +33,9 @@ enum Said {
     Zeros,
     Nothing,
     Taken,
+    NoPacket,
+    NoClient,
+    Refused(ClientFault),
     Other,
 }
 
@@ -70,6 +76,9 @@ fn word_said(answer: &Answer) -> Said {
         Word::Bytes(page) if page.as_slice() == [0; 16].as_slice() => Zeros,
         Word::Nothing => Nothing,
         Word::Taken => Taken,
+        Word::NoPacket => NoPacket,
+        Word::NoClient => NoClient,
+        Word::Refused(fault) => Refused(*fault),
         _ => Other,
     }
 }
@@ -173,6 +182,40 @@ fn two_readers(rt: HostRuntime) {
     assert!(rt; first == again);
     // the lowest byte of its grant
     assert_eq!(rt; first.get(27), Some(&2));
+}
+
+#[test]
+fn refused_events(rt: HostRuntime) {
+    let Ok(mut world) = world(rt.alloc(), 1) else {
+        assert!(rt; false, "no memory");
+        return;
+    };
+    plays(
+        &rt,
+        &mut world,
+        &[
+            (Hello(1), NoClient, None),
+            (Take(0), NoPacket, None),
+            (Begin(0), Refused(ClientFault::NotWelcome), None),
+            (Read(0, 9), Refused(ClientFault::NotWelcome), None),
+            (Peek(0, 9), Nothing, None),
+        ],
+    );
+}
+
+/// The first run as a list, from its text.
+#[test]
+fn first_run_at_once(rt: HostRuntime) -> Result<(), Fail> {
+    let text = b"hello 0\ntake 0\ntake 1\nbegin 0\nread 0 5\ntake 2\ntake 3\nread 0 5\n";
+    let world = world(rt.alloc(), 1)?;
+    let events = read_schedule(rt.alloc(), world.limits(), text).expect(&rt, "a schedule");
+    let told = world.play(events.as_slice()).expect(&rt, "memory");
+    assert_eq!(rt; told.entries().len(), FIRST_RUN.len());
+    for (entry, (_, word, packet)) in told.entries().iter().zip(&FIRST_RUN) {
+        assert!(rt; word_said(&entry.answer) == *word);
+        assert!(rt; sent(&entry.answer) == *packet);
+    }
+    Ok(())
 }
 
 /// The first run as a list; where memory is refused, what was told is its first events, and the world is stopped.

@@ -100,14 +100,10 @@ fn answered(alloc: Global, client: &mut Client, step: Step) -> Seen {
     }
 }
 
-/// A client with eight pages of sixteen bytes and two slots answers these steps so.
-fn plays(rt: &impl Abort, alloc: Global, steps: &[(Step, Seen)]) {
-    let Ok(limits) = Limits::new(2, 8, 16, 2, 1, 1) else {
-        return;
-    };
-    let Ok(mut client) = Client::new(alloc, &limits) else {
-        return;
-    };
+/// A client with eight pages of sixteen bytes and so many slots answers these steps so.
+fn plays(rt: &impl Abort, alloc: Global, slots: u64, steps: &[(Step, Seen)]) {
+    let limits = Limits::new(2, 8, 16, slots, 1, 1).expect(rt, "limits in range");
+    let mut client = Client::new(alloc, &limits).expect(rt, "memory");
     client.hello();
     for (n, (step, want)) in steps.iter().enumerate() {
         let got = answered(alloc, &mut client, *step);
@@ -120,6 +116,7 @@ fn refused_calls(rt: HostRuntime) {
     plays(
         &rt,
         rt.alloc(),
+        2,
         &[
             (Read(9), Refused(ClientFault::NotWelcome)),
             (Begin, Refused(ClientFault::NotWelcome)),
@@ -142,6 +139,7 @@ fn grants_not_asked_for(rt: HostRuntime) {
     plays(
         &rt,
         rt.alloc(),
+        2,
         &[
             (Welcome, Nothing),
             (Granted(0, 3, 0, 7), GivenBack),
@@ -168,6 +166,7 @@ fn bare_page_filled_by_its_own_version(rt: HostRuntime) {
     plays(
         &rt,
         rt.alloc(),
+        2,
         &[
             (Welcome, Nothing),
             (Begin, Began(1)),
@@ -190,6 +189,38 @@ fn bare_page_filled_by_its_own_version(rt: HostRuntime) {
             (Peek(1), Nothing),
             (Peek(2), Bytes(2)),
             (Read(5), Bytes(9)),
+        ],
+    );
+}
+
+/// Am has pages 1 and 0. A read of page 0 makes page 1 the oldest, so page 1 goes for page 2.
+#[test]
+fn read_decides_which_page_goes(rt: HostRuntime) {
+    plays(
+        &rt,
+        rt.alloc(),
+        3,
+        &[
+            (Welcome, Nothing),
+            (Begin, Began(1)),
+            (Read(0), Asked(1)),
+            (Granted(0, 1, 0, 10), Nothing),
+            (Read(1), Asked(1)),
+            (Granted(1, 2, 0, 11), Nothing),
+            (Read(2), Asked(1)),
+            (Granted(2, 3, 0, 12), Nothing),
+            // page 0 goes, then page 1, then page 2
+            (Read(3), Asked(1)),
+            (Granted(3, 4, 0, 13), Nothing),
+            (Read(0), Asked(1)),
+            (Granted(0, 1, 0, 10), Nothing),
+            (Read(1), Asked(1)),
+            (Granted(1, 2, 0, 11), Nothing),
+            (Read(0), Bytes(10)),
+            (Read(2), Asked(1)),
+            (Granted(2, 3, 0, 12), Nothing),
+            (Peek(0), Bytes(10)),
+            (Peek(1), Nothing),
         ],
     );
 }
