@@ -7,10 +7,11 @@ use Rattle.cb_frame.specs.Spelling.{spelling}
 use Rattle.cb_frame.specs.Kinds.{kind_of_body}
 use Rattle.cb_frame.specs.declared.frame.Frame.{Frame}
 use Rattle.cb_frame.specs.declared.frame.Body.TheVariants as body
+use Rattle.cb_frame.specs.declared.frame.ShortBody.{ShortBody}
 use Rattle.cb_frame.specs.declared.frame.ShortBody.TheVariants as short
 use Rattle.cb_schedule.specs.declared.answer.Sent.{Sent}
 use Rattle.cb_schedule.specs.declared.answer.Word.TheVariants as word
-use Rattle.cb_schedule.specs.declared.net.Granting.{Granting}
+use Rattle.cb_schedule.specs.declared.packet.Granting.{Granting}
 use Rattle.cb_schedule.specs.declared.client.ReadAnswer.{ReadAnswer}
 use Rattle.cb_schedule.specs.declared.client.ReadAnswer.TheVariants as read
 use Rattle.cb_schedule.specs.ClientState.{bytes_in}
@@ -68,6 +69,12 @@ pub record Says (n : NetState) (c i : ℕ) (bodies : List Body) (sent : List Sen
   pub after : m ≡ record { limits = n.limits; server = n.server; clients = n.clients; packets = n.packets ++ packets }
   pub spelled : AllSpell n.limits packets (messages_said c i bodies)
   pub numbered : numbered_from (length n.packets) (messages_said c i bodies) ≡ map sent_of sent
+
+-- The addressee answers such a frame by a packet, for which memory may be refused.
+abbrev pub IsAnswered : ShortBody → Type 0
+IsAnswered short.Hello = Unit {0}
+IsAnswered (short.AskRead txn page) = Unit {0}
+IsAnswered other = ⊥
 
 -- the frame of a page that the server granted
 abbrev pub granting_frame : Granting → Frame

@@ -17,7 +17,7 @@ ghost use Rattle.cb_protocol.specs.Messages.{AskRead, GiveBack, Granted, Hello, 
 ghost use Rattle.cb_protocol.specs.ServerMessages.{is_exhausted};
 ghost use Rattle.cb_schedule.specs.ServerState.{server_of, bodies_of, Replies, ReplyFits, TakesMessage};
 ghost use Rattle.cb_protocol.specs.Answers.{AnsweredOk};
-ghost use Rattle.cb_schedule.specs.NetMoves.{FoundFrame, Finds, Says, granting_frame, AnswersRead, Becomes, Carries, IsNet, asking_frame, sent_as, sent_net_of};
+ghost use Rattle.cb_schedule.specs.NetMoves.{FoundFrame, Finds, Says, granting_frame, AnswersRead, Becomes, Carries, IsAnswered, IsNet, asking_frame, sent_as, sent_net_of};
 ghost use Rattle.cb_schedule.specs.Wire.{message_of, body_of, IsSentSoFar};
 ghost use Rattle.cb_schedule.specs.WorldState.{NetState, ShowsNet, opening_of, client_at, with_client, with_server};
 
@@ -25,7 +25,7 @@ use crate::answer::{Answer, Sent, SentPackets, Word};
 use crate::client::{Client, ReadAnswer};
 use crate::client_fault::ClientFault;
 use crate::event::{Call, Event};
-use crate::packet::Packet;
+use crate::packet::{Granting, Packet};
 use crate::server::{Server, ServerFault, ServerReply};
 use cb_commit::Store;
 use cb_frame::{Body, Frame, FrameFault, ShortBody, ShortFrame, decode, encode};
@@ -115,6 +115,7 @@ impl Net {
         self.send(alloc, &frame)
     }
 
+    /// What holds of every net.
     fn sound(&self)
         ensures { IsNet self.now }
     {
@@ -129,6 +130,7 @@ impl Net {
         self.limits.has_client(client.get())
     }
 
+    /// The client of this number begins a transaction.
     fn begin_at(&mut self, client: ClientNo) -> Result<TxnNo, ClientFault>
         requires { client < self.old.limits.clients }
         ensures called { Begins (client_at self.old client) result (client_at self.new client) }
@@ -138,6 +140,7 @@ impl Net {
         caller.begin()
     }
 
+    /// The client of this number reads a page.
     fn read_at(&mut self, client: ClientNo, page: PageNo) -> Result<ReadAnswer, ClientFault>
         requires { client < self.old.limits.clients }
         ensures called { Reads (client_at self.old client) page result (client_at self.new client) }
@@ -149,6 +152,7 @@ impl Net {
         caller.read(page)
     }
 
+    /// The client of this number takes a Welcome.
     fn welcome_at(&mut self, client: ClientNo)
         requires { client < self.old.limits.clients }
         ensures taken { Takes (client_at self.old client) Welcome [] (client_at self.new client) }
@@ -158,6 +162,7 @@ impl Net {
         taker.take_welcome();
     }
 
+    /// The client of this number greets the server.
     fn hello_at(&self, client: ClientNo)
         requires { client < self.now.limits.clients }
         ensures { Calls (client_at self.now client) CallHello AnsweredOk (Hello ∷ []) (client_at self.now client) [] }
@@ -166,6 +171,7 @@ impl Net {
         caller.hello();
     }
 
+    /// The client of this number shows its bytes of a page.
     fn peek_at(&self, client: ClientNo, page: PageNo) -> Option<&[u8]>
         requires { client < self.now.limits.clients }
         ensures bytes { option_copied result ≡ copy_of (client_at self.now client).pool page }
@@ -241,6 +247,7 @@ impl Net {
         }
     }
 
+    /// What a read found is answered, and its ask sent.
     fn answer_read(
         &mut self,
         alloc: Global,
@@ -260,6 +267,7 @@ impl Net {
         }
     }
 
+    /// A copy of the bytes that a read found.
     fn answer_bytes(
         &self,
         alloc: Global,
@@ -279,6 +287,7 @@ impl Net {
         }
     }
 
+    /// Sends the ask of a read.
     fn answer_asked(
         &mut self,
         alloc: Global,
@@ -339,6 +348,7 @@ impl Net {
         }
     }
 
+    /// Whether the client of this number gives the grant back.
     fn replies_at(&self, client: ClientNo, page: PageNo, grant: GrantNo) -> bool
         requires client { client < self.now.limits.clients }
         requires page { page < self.now.limits.pages }
@@ -348,6 +358,7 @@ impl Net {
         taker.reply_to_granted(page, grant)
     }
 
+    /// The client of this number takes a grant.
     fn grant_at(
         &mut self,
         client: ClientNo,
@@ -425,6 +436,7 @@ impl Net {
         requires { FoundFrame self.old packet (record { client = client; incarnation = incarnation; body = Body.Short (ShortBody.AskRead txn page) }) }
         ensures ok { IfOk result (λ a. Becomes self.old (TakePacket packet) a self.new) }
         ensures err { OnErr result (self.new.packets ≡ self.old.packets) }
+        ensures left { OnErr result (is_exhausted (server_of self.old.server) client incarnation (AskRead txn page) ≡ false) }
     {
         self.sound();
         match self.ask_reply(client, incarnation, txn, page) {
@@ -487,6 +499,7 @@ impl Net {
         requires { FoundFrame self.old packet (granting_frame frame) }
         ensures ok { IfOk result (λ a. Becomes self.old (TakePacket packet) a self.new) }
         ensures err { OnErr result (self.new.packets ≡ self.old.packets) }
+        ensures first { OnErr result (frame.incarnation ≡ 1) }
     {
         self.sound();
         let Granting {
@@ -554,6 +567,7 @@ impl Net {
         requires { FoundFrame self.old packet (record { client = client; incarnation = incarnation; body = Body.Short short }) }
         ensures ok { IfOk result (λ a. Becomes self.old (TakePacket packet) a self.new) }
         ensures err { OnErr result (self.new.packets ≡ self.old.packets) }
+        ensures memory { OnErr result (IsAnswered short) }
     {
         match short {
             ShortBody::Hello => self.take_hello(alloc, packet, client, incarnation),
@@ -610,6 +624,7 @@ impl Net {
         }
     }
 
+    /// What the server answers a Hello.
     fn hello_reply(&self, client: ClientNo, incarnation: Incarnation) -> ServerReply
         requires { client < self.now.limits.clients }
         ensures reply { Replies self.now.server client incarnation Hello result }
@@ -618,6 +633,7 @@ impl Net {
         self.server.reply_to_hello(client, incarnation)
     }
 
+    /// What the server answers an ask to read.
     fn ask_reply(
         &self,
         client: ClientNo,
@@ -635,6 +651,7 @@ impl Net {
         self.server.reply_to_ask(client, incarnation, txn, page)
     }
 
+    /// The server takes a Hello, once it is answered.
     fn serve_hello(&mut self, client: ClientNo, incarnation: Incarnation)
         requires { client < self.old.limits.clients }
         ensures taken { TakesMessage self.old.server client incarnation Hello self.new.server }
@@ -643,6 +660,7 @@ impl Net {
         self.server.take_hello(client, incarnation);
     }
 
+    /// The server takes an ask to read, once it is answered.
     fn serve_ask(&mut self, client: ClientNo, incarnation: Incarnation, txn: TxnNo, page: PageNo)
         requires client { client < self.old.limits.clients }
         requires page { page < self.old.limits.pages }
@@ -653,6 +671,7 @@ impl Net {
         self.server.take_ask(client, incarnation, txn, page);
     }
 
+    /// The server takes a copy back; it answers nothing.
     fn serve_give_back(
         &mut self,
         client: ClientNo,
@@ -714,6 +733,7 @@ impl Net {
         self.send(alloc, &frame)
     }
 
+    /// The frame of a page of the store.
     fn granted_frame(
         &self,
         alloc: Global,
@@ -757,17 +777,6 @@ fn new_clients(alloc: Global, limits: &Limits) -> Result<Vec<Client>, AllocError
     Ok(clients)
 }
 
-/// A page that the server granted, on its way.
-#[derive(Drop)]
-struct Granting {
-    client: ClientNo,
-    incarnation: Incarnation,
-    page: PageNo,
-    grant: GrantNo,
-    version: Version,
-    bytes: Page,
-}
-
 /// The frame that is spelled.
 fn frame_in(alloc: Global, limits: &Limits, bytes: &[u8]) -> Result<Frame, AllocError>
     requires { (f : Frame) × IsFrame limits.now f bytes.now }
@@ -779,3 +788,6 @@ fn frame_in(alloc: Global, limits: &Limits, bytes: &[u8]) -> Result<Frame, Alloc
         Err(_) => unreachable!(),
     }
 }
+
+#[cfg(test)]
+mod tests;

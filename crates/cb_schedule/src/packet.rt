@@ -1,6 +1,7 @@
-//! A packet.
+//! A packet, and what one brings.
 ghost use Rattle.std.specs.Prelude.{◌≡◌};
 
+use cb_page::{ClientNo, GrantNo, Incarnation, Page, PageNo, Version};
 use std::marker::Model;
 
 /// A packet that was sent: the bytes of a frame.
@@ -29,4 +30,15 @@ impl Packet {
     {
         self.bytes.as_slice()
     }
+}
+
+/// A page that the server granted, on its way.
+#[derive(Drop)]
+pub(crate) struct Granting {
+    pub client: ClientNo,
+    pub incarnation: Incarnation,
+    pub page: PageNo,
+    pub grant: GrantNo,
+    pub version: Version,
+    pub bytes: Page,
 }

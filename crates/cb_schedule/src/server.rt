@@ -208,6 +208,7 @@ impl Server {
             && (session.txn < txn.get() || session.ended < txn.get())
     }
 
+    /// The grant that an ask is answered: that of the row, else the next.
     fn ask_reply(
         &self,
         client: ClientNo,
@@ -250,6 +251,7 @@ impl Server {
         }
     }
 
+    /// A Hello of an earlier incarnation is not welcomed.
     fn hello_reply(&self, client: ClientNo, incarnation: Incarnation) -> ServerReply
         requires { client < length self.now.sessions }
         ensures { result ≡ hello_reply self.now client incarnation }
@@ -261,6 +263,7 @@ impl Server {
         }
     }
 
+    /// A greater incarnation becomes the current one, with no transaction.
     fn welcome(&mut self, client: ClientNo, incarnation: Incarnation)
         requires { client < length self.old.sessions }
         ensures { self.new ≡ welcomed self.old client incarnation }
@@ -270,6 +273,7 @@ impl Server {
         }
     }
 
+    /// Takes away the row that has just this grant.
     fn give_back(
         &mut self,
         client: ClientNo,
@@ -294,6 +298,7 @@ impl Server {
         &self.store
     }
 
+    /// What holds of every server.
     fn sound(&self)
         ensures { IsServer self.now }
     {
