@@ -100,10 +100,14 @@ fn answered(alloc: Global, client: &mut Client, step: Step) -> Seen {
     }
 }
 
-/// A client with eight pages of sixteen bytes and so many slots answers these steps so.
-fn plays(rt: &impl Abort, alloc: Global, slots: u64, steps: &[(Step, Seen)]) {
-    let limits = Limits::new(2, 8, 16, slots, 1, 1).expect(rt, "limits in range");
-    let mut client = Client::new(alloc, &limits).expect(rt, "memory");
+/// Eight pages of sixteen bytes, and a pool of this size.
+fn limits(rt: &impl Abort, slots: u64, kin: u64, kout: u64) -> Limits {
+    Limits::new(2, 8, 16, slots, kin, kout).expect(rt, "limits in range")
+}
+
+/// A new client answers these steps so.
+fn plays(rt: &impl Abort, alloc: Global, limits: &Limits, steps: &[(Step, Seen)]) {
+    let mut client = Client::new(alloc, limits).expect(rt, "memory");
     client.hello();
     for (n, (step, want)) in steps.iter().enumerate() {
         let got = answered(alloc, &mut client, *step);
@@ -116,7 +120,7 @@ fn refused_calls(rt: HostRuntime) {
     plays(
         &rt,
         rt.alloc(),
-        2,
+        &limits(&rt, 2, 1, 1),
         &[
             (Read(9), Refused(ClientFault::NotWelcome)),
             (Begin, Refused(ClientFault::NotWelcome)),
@@ -139,7 +143,7 @@ fn grants_not_asked_for(rt: HostRuntime) {
     plays(
         &rt,
         rt.alloc(),
-        2,
+        &limits(&rt, 2, 1, 1),
         &[
             (Welcome, Nothing),
             (Granted(0, 3, 0, 7), GivenBack),
@@ -166,7 +170,7 @@ fn bare_page_filled_by_its_own_version(rt: HostRuntime) {
     plays(
         &rt,
         rt.alloc(),
-        2,
+        &limits(&rt, 2, 1, 1),
         &[
             (Welcome, Nothing),
             (Begin, Began(1)),
@@ -193,13 +197,13 @@ fn bare_page_filled_by_its_own_version(rt: HostRuntime) {
     );
 }
 
-/// Am has pages 1 and 0. A read of page 0 makes page 1 the oldest, so page 1 goes for page 2.
+/// Each page goes that 2Q lets go at the limits' Kin and Kout, of which a read of a held page is a reference.
 #[test]
-fn read_decides_which_page_goes(rt: HostRuntime) {
+fn pages_go_by_2q(rt: HostRuntime) {
     plays(
         &rt,
         rt.alloc(),
-        3,
+        &limits(&rt, 4, 2, 2),
         &[
             (Welcome, Nothing),
             (Begin, Began(1)),
@@ -209,18 +213,30 @@ fn read_decides_which_page_goes(rt: HostRuntime) {
             (Granted(1, 2, 0, 11), Nothing),
             (Read(2), Asked(1)),
             (Granted(2, 3, 0, 12), Nothing),
-            // page 0 goes, then page 1, then page 2
             (Read(3), Asked(1)),
             (Granted(3, 4, 0, 13), Nothing),
-            (Read(0), Asked(1)),
-            (Granted(0, 1, 0, 10), Nothing),
+            // pages 0, 1 and 2 go, and page 0 from A1out too
+            (Read(4), Asked(1)),
+            (Granted(4, 5, 0, 14), Nothing),
+            (Read(5), Asked(1)),
+            (Granted(5, 6, 0, 15), Nothing),
+            (Read(6), Asked(1)),
+            (Granted(6, 7, 0, 16), Nothing),
+            // pages 1 and 2 come to Am for pages 3 and 4
             (Read(1), Asked(1)),
             (Granted(1, 2, 0, 11), Nothing),
-            (Read(0), Bytes(10)),
             (Read(2), Asked(1)),
             (Granted(2, 3, 0, 12), Nothing),
-            (Peek(0), Bytes(10)),
-            (Peek(1), Nothing),
+            // page 2 is the oldest of Am, and goes; then page 5 of A1in
+            (Read(1), Bytes(11)),
+            (Read(0), Asked(1)),
+            (Granted(0, 1, 0, 10), Nothing),
+            (Read(7), Asked(1)),
+            (Granted(7, 8, 0, 17), Nothing),
+            (Peek(1), Bytes(11)),
+            (Peek(2), Nothing),
+            (Peek(5), Nothing),
+            (Peek(6), Bytes(16)),
         ],
     );
 }
