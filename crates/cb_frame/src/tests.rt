@@ -225,6 +225,23 @@ fn every_kind_comes_back(rt: HostRuntime) -> Result<(), Fail> {
     Ok(())
 }
 
+#[test]
+fn texts_of_frame_faults(rt: HostRuntime) -> Result<(), Fail> {
+    for (fault, text) in [
+        (FrameFault::Short, "1 Short"),
+        (FrameFault::Version, "2 Version"),
+        (FrameFault::Kind, "3 Kind"),
+        (FrameFault::Length, "4 Length"),
+        (FrameFault::Range, "5 Range"),
+        (FrameFault::Order, "6 Order"),
+        (FrameFault::Memory, "7 Memory"),
+    ] {
+        let printed = format!(in rt.alloc(); "{fault}")?;
+        assert_eq!(rt; printed.as_str(), text);
+    }
+    Ok(())
+}
+
 // Run with each allocation refused in turn: what isn't refused is as ever.
 #[test]
 fn refused_growths(rt: HostRuntime) -> Result<(), Fail> {

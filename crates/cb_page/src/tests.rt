@@ -1,4 +1,4 @@
-use crate::{LimitFault, Limits, PageNo, PageSet};
+use crate::{LimitFault, Limits, Page, PageNo, PageSet};
 use std::test::Fail;
 
 #[test]
@@ -51,4 +51,44 @@ fn page_set_walk(rt: HostRuntime) -> Result<(), Fail> {
     set.clear();
     assert!(rt; set.next(0).is_none());
     Ok(())
+}
+
+#[test]
+fn texts_of_limit_faults(rt: HostRuntime) -> Result<(), Fail> {
+    for (fault, text) in [
+        (LimitFault::Clients, "1 Clients"),
+        (LimitFault::Pages, "2 Pages"),
+        (LimitFault::PageSize, "3 PageSize"),
+        (LimitFault::Slots, "4 Slots"),
+        (LimitFault::Kin, "5 Kin"),
+        (LimitFault::Kout, "6 Kout"),
+    ] {
+        let printed = format!(in rt.alloc(); "{fault}")?;
+        assert_eq!(rt; printed.as_str(), text);
+    }
+    Ok(())
+}
+
+#[test]
+fn bytes_of_pages(rt: HostRuntime) -> Result<(), Fail> {
+    let zeros = Page::zeros(rt.alloc(), 16)?;
+    assert_eq!(rt; zeros.as_slice(), [0; 16].as_slice());
+    let copy = Page::copy_of(rt.alloc(), [7, 8, 9].as_slice())?;
+    assert_eq!(rt; copy.as_slice(), [7, 8, 9].as_slice());
+    Ok(())
+}
+
+/// With the Nth growth refused: what isn't refused is as ever.
+#[test]
+fn refused_growths(rt: HostRuntime) {
+    if let Ok(zeros) = Page::zeros(rt.alloc(), 16) {
+        assert_eq!(rt; zeros.as_slice(), [0; 16].as_slice());
+    }
+    if let Ok(copy) = Page::copy_of(rt.alloc(), [7, 8, 9].as_slice()) {
+        assert_eq!(rt; copy.as_slice(), [7, 8, 9].as_slice());
+    }
+    if let Ok(set) = PageSet::new(rt.alloc(), 200) {
+        assert_eq!(rt; set.pages(), 200);
+        assert!(rt; set.next(0).is_none());
+    }
 }

@@ -11,6 +11,7 @@ use cb_page::{Limits, Page, PageNo};
 use cb_twoq::{Chooser, TwoQ};
 use std::alloc::{AllocError, Global};
 use std::process::Abort;
+use std::test::Fail;
 
 /// A caller of the pool. It hits a page and, once that loan is over, peeks at it: it still knows all that it knew of
 /// the pool, so that both loans are known to be as long.
@@ -175,6 +176,24 @@ const ON_AM: [(Step, Seen); 7] = [
     (Put(1, 7), Gone(3)),
     (Put(2, 7), Gone(4)),
 ];
+
+#[test]
+fn texts_of_pool_faults(rt: HostRuntime) -> Result<(), Fail> {
+    for (fault, text) in [(PoolFault::Full, "1 Full"), (PoolFault::Memory, "2 Memory")] {
+        let printed = format!(in rt.alloc(); "{fault}")?;
+        assert_eq!(rt; printed.as_str(), text);
+    }
+    Ok(())
+}
+
+/// A pool is refused only where memory is; the tests below also run where it is.
+#[test]
+fn pool_is_made(rt: HostRuntime) -> Result<(), Fail> {
+    let limits = Limits::new(1, 8, 16, 4, 1, 4)?;
+    let pool = pool_of::<TwoQ>(rt.alloc(), &limits)?;
+    assert!(rt; pool.room());
+    Ok(())
+}
 
 #[test]
 fn hit_decides_what_is_let_go(rt: HostRuntime) {
