@@ -8,7 +8,7 @@ use Rattle.cb_frame.specs.declared.frame.Body.{Body}
 use Rattle.cb_frame.specs.declared.frame.Body.TheVariants as body
 use Rattle.cb_frame.specs.declared.writes.Write.{Write}
 use Rattle.cb_frame.specs.Grammar.{WriteFits, page_of, IsRising, BodyFitsSome, WritesFitSome}
-use Rattle.cb_frame.specs.Spelling.{write_spelling}
+use Rattle.cb_frame.specs.Spelling.{word, page_spelling, write_spelling, body_spelling}
 use Rattle.cb_frame.proofs.Again.{few_rise, length-writes}
 
 each_small : (l : Bounds) (ws : List Write) → AreInRange l → AllByRecursion (WriteFits l) ws → AllByRecursion (λ w. length w.bytes < 2 ^ 16) ws
@@ -47,3 +47,8 @@ pub commit_pages : (b : Body) (txn : ℕ) (ws : List Write) → BodyFitsSome b �
 commit_pages b txn ws h is =
     let k : BodyFitsSome (body.Commit txn ws) = subst BodyFitsSome is h in
     pages_small k.0 ws k.1 k.2.1
+
+-- the body of a frame that grants a page
+pub granted_length : (page grant version : ℕ) (bytes : List ℕ) → length (body_spelling (body.Granted page grant version bytes)) ≡ 22 + length bytes
+unfolding word page_spelling body_spelling
+granted_length page grant version bytes = omega arith

@@ -1,13 +1,14 @@
 //! From a frame to its bytes.
-ghost use Rattle.std.specs.Prelude.{◌≡◌, ◌<◌, ◌≤◌, ◌*◌, ◌^◌, ◌∷◌, ◌++◌, length, OnOk, IfOk};
+ghost use Rattle.std.specs.Prelude.{◌≡◌, ◌+◌, ◌<◌, ◌≤◌, ◌*◌, ◌^◌, ◌∷◌, ◌++◌, length, OnOk, IfOk};
 ghost use Rattle.std.specs.Int.{w16, w32, w64};
 ghost use Rattle.std.specs.List.{flat_map, All};
 ghost use Rattle.cb_frame.specs.Grammar.{FitsSome, BodyFitsSome, WritesFitSome};
+ghost use Rattle.cb_frame.specs.declared.frame.Body.TheVariants.{Granted};
 ghost use Rattle.cb_frame.specs.Kinds.{code_of, kind_of_body};
 ghost use Rattle.cb_frame.specs.Spelling.{word, spelling, body_spelling, short_spelling, write_spelling, page_spelling};
 
-use crate::{Body, Frame, ShortBody, Write};
-use cb_page::{GrantNo, Page, PageNo};
+use crate::{Body, Frame, Kind, ShortBody, Write};
+use cb_page::{ClientNo, GrantNo, Incarnation, PageNo, Version};
 use std::alloc::{AllocError, Global};
 
 /// The length of a frame's header.
@@ -21,12 +22,41 @@ pub fn encode(alloc: Global, frame: &Frame) -> Result<Vec<u8>, AllocError>
 {
     let size = body_size(&frame.body);
     let mut out = Vec::with_capacity(alloc, HEADER + size)?;
-    out.push(1)?;
-    out.push(frame.kind().code())?;
-    put_u16(&mut out, frame.client.get())?;
-    put_u64(&mut out, frame.incarnation.get())?;
-    put_u32(&mut out, size as u32)?;
+    put_header(
+        &mut out,
+        frame.kind(),
+        frame.client,
+        frame.incarnation,
+        size as u32,
+    )?;
     put_body(&mut out, &frame.body)?;
+    Ok(out)
+}
+
+/// The bytes of a frame that grants a page, whose own bytes are lent: what [`encode`] writes, with no copy of the page before it.
+///
+/// It is refused only where memory is; it takes what the bytes need, at once.
+#[tactic(auto, using(std::proofs::Common::append_assoc, crate::proofs::Sizes::granted_length), unfolding(crate::specs::Spelling::spelling))]
+pub fn encode_granted(
+    alloc: Global,
+    client: ClientNo,
+    incarnation: Incarnation,
+    page: PageNo,
+    grant: GrantNo,
+    version: Version,
+    bytes: &[u8],
+) -> Result<Vec<u8>, AllocError>
+    requires { length bytes.now ≤ 4096 }
+    ensures { IfOk result (λ v. v.items ≡ spelling (record {
+      client = client;
+      incarnation = incarnation;
+      body = Granted page grant version bytes.now;
+    })) }
+{
+    let size = granted_size(bytes);
+    let mut out = Vec::with_capacity(alloc, HEADER + size)?;
+    put_header(&mut out, Kind::Granted, client, incarnation, size as u32)?;
+    put_granted(&mut out, page, grant, version, bytes)?;
     Ok(out)
 }
 
@@ -40,8 +70,16 @@ fn body_size(body: &Body) -> usize
     match body {
         Body::Short(body) => short_size(*body),
         Body::Commit { writes, .. } => 10 + writes_size(writes.as_slice()),
-        Body::Granted { bytes, .. } => 22 + bytes.len(),
+        Body::Granted { bytes, .. } => granted_size(bytes.as_slice()),
     }
+}
+
+/// The length of the body of a frame that grants a page.
+fn granted_size(bytes: &[u8]) -> usize
+    requires { length bytes.now ≤ 4096 }
+    ensures { result ≡ 22 + length bytes.now }
+{
+    22 + bytes.len()
 }
 
 #[tactic(auto, unfolding(crate::specs::Spelling::word, crate::specs::Spelling::short_spelling))]
@@ -88,12 +126,44 @@ fn put_body(out: &mut Vec<u8>, body: &Body) -> Result<(), AllocError>
             version,
             bytes,
         } => {
-            put_page_grant(out, *page, *grant)?;
-            put_u64(out, version.get())?;
-            put_page(out, bytes)?;
+            put_granted(out, *page, *grant, *version, bytes.as_slice())?;
         }
     }
     Ok(())
+}
+
+#[tactic(auto, using(std::proofs::Common::append_assoc), unfolding(crate::specs::Spelling::body_spelling))]
+fn put_granted(
+    out: &mut Vec<u8>,
+    page: PageNo,
+    grant: GrantNo,
+    version: Version,
+    bytes: &[u8],
+) -> Result<(), AllocError>
+    requires { length bytes.now < 2 ^ 16 }
+    ensures { OnOk result (out.new.items ≡ out.old.items ++ body_spelling (Granted page grant version bytes.now)) }
+{
+    put_page_grant(out, page, grant)?;
+    put_u64(out, version.get())?;
+    put_page(out, bytes)
+}
+
+/// The header of a frame, whose body has this length.
+#[tactic(auto, using(std::proofs::Common::append_assoc))]
+fn put_header(
+    out: &mut Vec<u8>,
+    kind: Kind,
+    client: ClientNo,
+    incarnation: Incarnation,
+    size: u32,
+) -> Result<(), AllocError>
+    ensures { OnOk result (out.new.items ≡ out.old.items ++ 1 ∷ code_of kind ∷ (word w16 client ++ (word w64 incarnation ++ word w32 size))) }
+{
+    out.push(1)?;
+    out.push(kind.code())?;
+    put_u16(out, client.get())?;
+    put_u64(out, incarnation.get())?;
+    put_u32(out, size)
 }
 
 #[tactic(auto, using(std::proofs::Common::append_assoc), unfolding(crate::specs::Spelling::short_spelling))]
@@ -139,16 +209,16 @@ fn put_write(out: &mut Vec<u8>, write: &Write) -> Result<(), AllocError>
     ensures { OnOk result (out.new.items ≡ out.old.items ++ write_spelling write.now) }
 {
     put_page_grant(out, write.page, write.grant)?;
-    put_page(out, &write.bytes)
+    put_page(out, write.bytes.as_slice())
 }
 
 #[tactic(auto, using(std::proofs::Common::append_assoc), unfolding(crate::specs::Spelling::page_spelling))]
-fn put_page(out: &mut Vec<u8>, page: &Page) -> Result<(), AllocError>
-    requires { length page.now < 2 ^ 16 }
-    ensures { OnOk result (out.new.items ≡ out.old.items ++ page_spelling page.now) }
+fn put_page(out: &mut Vec<u8>, bytes: &[u8]) -> Result<(), AllocError>
+    requires { length bytes.now < 2 ^ 16 }
+    ensures { OnOk result (out.new.items ≡ out.old.items ++ page_spelling bytes.now) }
 {
-    put_u16(out, page.len() as u16)?;
-    out.extend_from_slice(page.as_slice())
+    put_u16(out, bytes.len() as u16)?;
+    out.extend_from_slice(bytes)
 }
 
 #[tactic(auto, using(std::proofs::Common::append_assoc))]

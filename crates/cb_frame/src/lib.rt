@@ -14,7 +14,7 @@ mod kind;
 mod writes;
 
 pub use decoding::{decode, one_spelling};
-pub use encoding::encode;
+pub use encoding::{encode, encode_granted};
 pub use fault::FrameFault;
 pub use frame::{Body, Frame, ShortBody, ShortFrame};
 pub use kind::Kind;

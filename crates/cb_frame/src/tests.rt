@@ -1,6 +1,9 @@
 ghost use Rattle.std.specs.Prelude.{◌<◌};
 
-use crate::{Body, Frame, FrameFault, Kind, ShortBody, ShortFrame, Write, Writes, decode, encode};
+use crate::{
+    Body, Frame, FrameFault, Kind, ShortBody, ShortFrame, Write, Writes, decode, encode,
+    encode_granted,
+};
 use cb_page::{ClientNo, CommitNo, GrantNo, Incarnation, Limits, Page, PageNo, TxnNo, Version};
 use std::alloc::{AllocError, Global};
 use std::test::Fail;
@@ -145,6 +148,26 @@ fn granted_bytes(rt: HostRuntime) -> Result<(), Fail> {
     Ok(())
 }
 
+// The same frame, whose page bytes are lent.
+fn granted_lent(alloc: Global) -> Result<Vec<u8>, AllocError> {
+    encode_granted(
+        alloc,
+        ClientNo::new(0),
+        Incarnation::new(1),
+        PageNo::new(5),
+        GrantNo::new(1),
+        Version::new(0),
+        [0; 16].as_slice(),
+    )
+}
+
+#[test]
+fn granted_bytes_lent(rt: HostRuntime) -> Result<(), Fail> {
+    let bytes = granted_lent(rt.alloc())?;
+    assert_eq!(rt; bytes.as_slice(), GRANTED.as_slice());
+    Ok(())
+}
+
 #[test]
 fn commit_frame_faults(rt: HostRuntime) -> Result<(), Fail> {
     let alloc = rt.alloc();
@@ -255,6 +278,9 @@ fn refused_growths(rt: HostRuntime) -> Result<(), Fail> {
             }
         }
         Err(fault) => assert!(rt; fault == FrameFault::Memory),
+    }
+    if let Ok(bytes) = granted_lent(rt.alloc()) {
+        assert_eq!(rt; bytes.as_slice(), GRANTED.as_slice());
     }
     if let Ok(bytes) = commit_bytes(rt.alloc(), 70, 2, [5, 6].as_slice()) {
         match decode(rt.alloc(), &limits, bytes.as_slice()) {
