@@ -2,7 +2,7 @@
 use Rattle.std.specs.Prelude.{◌≡◌, ℕ, List, [], ◌∷◌, ◌++◌, length, map, Option, Some, None, slice_get}
 use Rattle.std.specs.List.{All}
 use Rattle.cb_page.specs.Bounds.{Bounds, AreInRange}
-use Rattle.cb_commit.specs.Stores.{IsOf}
+use Rattle.cb_commit.specs.Stores.{StoreState, IsOf, version_at, bytes_at}
 use Rattle.cb_frame.specs.Spelling.{spelling}
 use Rattle.cb_frame.specs.Kinds.{kind_of_body}
 use Rattle.cb_frame.specs.declared.frame.Frame.{Frame}
@@ -47,6 +47,10 @@ sent_net_of n f = record { limits = n.limits; server = n.server; clients = n.cli
 -- a client's ask to read a page
 abbrev pub asking_frame : ℕ → ℕ → ℕ → Frame
 asking_frame c t p = record { client = c; incarnation = 1; body = body.Short (short.AskRead t p) }
+
+-- the frame by which the server grants a page of the store
+abbrev pub page_frame : StoreState → ℕ → ℕ → ℕ → ℕ → Frame
+page_frame s c i p g = record { client = c; incarnation = i; body = body.Granted p g (version_at s p) (bytes_at s p) }
 
 -- a read is answered by the bytes in the pool, or asks the server for them
 abbrev pub AnswersRead : NetState → ℕ → ℕ → ReadAnswer → Answer → NetState → Type 0

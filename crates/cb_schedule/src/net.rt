@@ -1,6 +1,6 @@
 //! The net: the server, the clients at their first incarnation, and every packet that was ever sent.
 ghost use Rattle.std.specs.Prelude.{◌≡◌, ℕ, ◌+◌, ◌<◌, ◌≤◌, Bool, true, false, List, [], ◌∷◌, ◌++◌, length, take, replicate, slice_get, slice_set, option_copied, Some, None, IfOk, IfErr, IsSome, OnOk, OnErr, ◌↔◌};
-ghost use Rattle.cb_commit.specs.Stores.{IsOf, version_at, bytes_at};
+ghost use Rattle.cb_commit.specs.Stores.{IsOf};
 ghost use Rattle.cb_frame.specs.Grammar.{Fits, IsFrame};
 ghost use Rattle.cb_frame.specs.Kinds.{kind_of_body};
 ghost use Rattle.cb_frame.specs.Spelling.{spelling};
@@ -17,7 +17,7 @@ ghost use Rattle.cb_protocol.specs.Messages.{AskRead, GiveBack, Granted, Hello, 
 ghost use Rattle.cb_protocol.specs.ServerMessages.{is_exhausted};
 ghost use Rattle.cb_schedule.specs.ServerState.{server_of, bodies_of, Replies, ReplyFits, TakesMessage};
 ghost use Rattle.cb_protocol.specs.Answers.{AnsweredOk};
-ghost use Rattle.cb_schedule.specs.NetMoves.{FoundFrame, Finds, Says, granting_frame, AnswersRead, Becomes, Carries, IsAnswered, IsNet, asking_frame, sent_as, sent_net_of};
+ghost use Rattle.cb_schedule.specs.NetMoves.{FoundFrame, Finds, Says, granting_frame, AnswersRead, Becomes, Carries, IsAnswered, IsNet, IsPacket, asking_frame, page_frame, sent_as, sent_net_of};
 ghost use Rattle.cb_schedule.specs.Wire.{message_of, body_of, IsSentSoFar};
 ghost use Rattle.cb_schedule.specs.WorldState.{NetState, ShowsNet, opening_of, client_at, with_client, with_server};
 
@@ -28,7 +28,7 @@ use crate::event::{Call, Event};
 use crate::packet::{Granting, Packet};
 use crate::server::{Server, ServerFault, ServerReply};
 use cb_commit::Store;
-use cb_frame::{Body, Frame, FrameFault, ShortBody, ShortFrame, decode, encode};
+use cb_frame::{Body, Frame, FrameFault, Kind, ShortBody, decode, encode, encode_granted};
 use cb_page::{ClientNo, GrantNo, Incarnation, Limits, Page, PageNo, TxnNo, Version};
 use std::alloc::{AllocError, Global};
 use std::marker::Model;
@@ -73,6 +73,30 @@ impl Net {
         })
     }
 
+    /// Sends the bytes of a frame of that kind, to or from that client.
+    fn send_bytes(
+        &mut self,
+        alloc: Global,
+        kind: Kind,
+        client: ClientNo,
+        bytes: Vec<u8>,
+    ) -> Result<SentPackets, AllocError>
+        requires { IsPacket self.old.limits bytes.items }
+        ensures ok { OnOk result (self.new ≡ record self.old { packets = self.old.packets ++ bytes.items ∷ [] }) }
+        ensures sent { IfOk result (λ s. s ≡ record { number = length self.old.packets; kind = kind; client = client } ∷ []) }
+        ensures err { OnErr result (self.new ≡ self.old) }
+    {
+        let sent = Sent {
+            number: self.packets.len() as u64,
+            kind,
+            client,
+        };
+        let sent = SentPackets::one(alloc, sent)?;
+        let packet = Packet::new(bytes);
+        self.packets.push(packet)?;
+        Ok(sent)
+    }
+
     /// Sends a frame.
     fn send(&mut self, alloc: Global, frame: &Frame) -> Result<SentPackets, AllocError>
         requires fits { Fits self.old.limits frame.now }
@@ -81,16 +105,9 @@ impl Net {
         ensures sent { IfOk result (λ s. s ≡ record { number = length self.old.packets; kind = kind_of_body frame.now.body; client = frame.now.client } ∷ []) }
         ensures err { OnErr result (self.new ≡ self.old) }
     {
-        let sent = Sent {
-            number: self.packets.len() as u64,
-            kind: frame.kind(),
-            client: frame.client,
-        };
-        let sent = SentPackets::one(alloc, sent)?;
         let _known = self.limits.pages();
-        let packet = Packet::new(encode(alloc, frame)?);
-        self.packets.push(packet)?;
-        Ok(sent)
+        let bytes = encode(alloc, frame)?;
+        self.send_bytes(alloc, frame.kind(), frame.client, bytes)
     }
 
     /// Sends a frame without page bytes.
@@ -729,39 +746,37 @@ impl Net {
         ensures ok { IfOk result (λ sent. Says self.old client incarnation (bodies_of self.old.server.store (ServerReply.Granted page grant)) sent self.new) }
         ensures err { OnErr result (self.new ≡ self.old) }
     {
-        let frame = self.granted_frame(alloc, client, incarnation, page, grant)?;
-        self.send(alloc, &frame)
+        let bytes = self.granted_bytes(alloc, client, incarnation, page, grant)?;
+        self.send_bytes(alloc, Kind::Granted, client, bytes)
     }
 
-    /// The frame of a page of the store.
-    fn granted_frame(
+    /// The bytes of the frame of a page of the store: the page is copied into them alone.
+    fn granted_bytes(
         &self,
         alloc: Global,
         client: ClientNo,
         incarnation: Incarnation,
         page: PageNo,
         grant: GrantNo,
-    ) -> Result<Frame, AllocError>
+    ) -> Result<Vec<u8>, AllocError>
         requires client { client < self.now.limits.clients }
         requires page { page < self.now.limits.pages }
-        ensures frame { IfOk result (λ f. f ≡ record { client = client; incarnation = incarnation; body = Body.Granted page grant (version_at self.now.server.store page) (bytes_at self.now.server.store page) }) }
-        ensures fits { IfOk result (λ f. Fits self.now.limits f) }
+        ensures bytes { IfOk result (λ bytes. bytes.items ≡ spelling (page_frame self.now.server.store client incarnation page grant)) }
+        ensures fits { Fits self.now.limits (page_frame self.now.server.store client incarnation page grant) }
     {
         let _named = (incarnation.get(), grant.get());
         let store = self.server.store();
         let version = store.version(page);
         let _known = version.get();
-        let bytes = Page::copy_of(alloc, store.bytes(page))?;
-        Ok(Frame {
+        encode_granted(
+            alloc,
             client,
             incarnation,
-            body: Body::Granted {
-                page,
-                grant,
-                version,
-                bytes,
-            },
-        })
+            page,
+            grant,
+            version,
+            store.bytes(page),
+        )
     }
 }
 
