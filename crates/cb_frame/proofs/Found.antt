@@ -1,5 +1,5 @@
 -- What is read fits and is spelled so.
-use Rattle.std.proofs.Common.{◌≡◌, ℕ, zero, suc, ◌+◌, ◌-◌, ◌*◌, ◌%◌, ◌<◌, ◌≤◌, ◌&&◌, ◌==◌, true, not, nat_lt, nat_le, List, [], ◌∷◌, ◌++◌, length, take, drop, Option, Some, None, refl, sym, ap, subst, ◌∙◌, append_assoc, arith}
+use Rattle.std.proofs.Common.{◌≡◌, ℕ, zero, suc, ◌+◌, ◌-◌, ◌*◌, ◌%◌, ◌<◌, ◌≤◌, ◌&&◌, ◌==◌, Bool, true, false, not, nat_lt, nat_le, List, [], ◌∷◌, ◌++◌, length, take, drop, Option, Some, None, refl, sym, ap, subst, ◌∙◌, append_assoc, arith}
 use Rattle.std.specs.Prelude.{slice_index, unwrap_or}
 use Rattle.std.specs.Int.{w16, w32, w64, to_be_bytes}
 use Rattle.std.specs.List.{flat_map, list_all, AllByRecursion}
@@ -19,7 +19,7 @@ use Rattle.cb_page.specs.Numbers.{IsNumber}
 use Rattle.cb_frame.specs.Grammar.{WriteFits, RisesFrom, ShortFits, BodyFits, Fits, IsFrame}
 use Rattle.cb_frame.specs.Kinds.{kind_of_body, code_of}
 use Rattle.cb_frame.specs.Spelling.{word, page_spelling, write_spelling, short_spelling, body_spelling, spelling}
-use Rattle.cb_frame.specs.Checks.{number, kind_of, count_in, can_be_length, sizes_fit, parts_fit, write_in, writes_at, short_at, is_short, commit_at, granted_at, body_at, is_number, is_write, short_numbers_fit, numbers_fit, rises_from, pages_rise, body_length, body_bytes, is_sender, frame_at, causes_by_kind, causes, frame_in_front}
+use Rattle.cb_frame.specs.Checks.{number, kind_of, count_in, can_be_length, sizes_fit, parts_fit, write_in, writes_at, short_at, is_short, commit_at, granted_at, body_at, is_number, is_write, short_numbers_fit, numbers_fit, rises_from, pages_rise, body_length, body_bytes, is_sender, frame_at, causes_by_kind, causes, is_late, frame_in_front}
 use Rattle.cb_frame.proofs.Fields.{IsBytes, IsBytes-drop, IsBytes-take, wide16, wide32, wide64, number_found, none_first, not_false}
 
 -- nothing is left past the end
@@ -335,3 +335,9 @@ frame_found l bytes fits e =
 pub used_found : (l : Bounds) (bytes : List ℕ) → first_fault (causes l bytes) ≡ None → 16 + body_length bytes ≤ length bytes
 unfolding word page_spelling write_spelling body_spelling
 used_found l bytes e = let c = checked l bytes e in c.1.whole
+
+-- numbers and an order are looked at last
+pub late_causes : (range order : Bool) → is_late (first_fault ((range, fault.Range) ∷ (order, fault.Order) ∷ [])) ≡ true
+late_causes true order = refl
+late_causes false true = refl
+late_causes false false = refl

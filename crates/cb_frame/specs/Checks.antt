@@ -81,6 +81,11 @@ is_short kind.Commit = false
 is_short kind.Granted = false
 is_short _ = true
 
+-- whether a frame of the kind that a code stands for has page bytes; memory is taken for them alone
+abbrev pub has_pages : Option Kind → Bool
+has_pages None = false
+has_pages (Some k) = not (is_short k)
+
 abbrev pub commit_at : ℕ → List ℕ → Body
 commit_at page_size b =
     body.Commit (number w64 0 b) (writes_at page_size (count_in page_size (length b)) (drop 10 b))
@@ -201,6 +206,13 @@ causes l bytes =
     (nat_lt (length bytes) 16, fault.Short)
     ∷ (not (slice_index bytes 0 == 1), fault.Version)
     ∷ causes_by_kind l bytes (kind_of (slice_index bytes 1))
+
+-- what may be wrong with bytes for which memory is taken
+abbrev pub is_late : Option FrameFault → Bool
+is_late None = true
+is_late (Some fault.Range) = true
+is_late (Some fault.Order) = true
+is_late _ = false
 
 -- ---- what a reader gives
 

@@ -1,5 +1,5 @@
 //! From bytes to the frame in front of them.
-ghost use Rattle.std.specs.Prelude.{◌≡◌, ◌≢◌, ℕ, ◌<◌, ◌≤◌, ◌+◌, ◌++◌, List, length, take, true, not, ◌∷◌, [], IfOk, IfErr, MatchResult};
+ghost use Rattle.std.specs.Prelude.{◌≡◌, ◌≢◌, ℕ, Err, false, slice_index, ◌<◌, ◌≤◌, ◌+◌, ◌++◌, List, length, take, true, not, ◌∷◌, [], IfOk, IfErr, MatchResult};
 ghost use Rattle.cb_page.specs.Bounds.{Bounds, AreInRange};
 ghost use Rattle.cb_page.specs.Faults.{first_fault};
 ghost use Rattle.cb_page.specs.Numbers.{IsNumber};
@@ -7,7 +7,7 @@ ghost use Rattle.cb_frame.specs.Grammar.{Fits, IsFrame};
 ghost use Rattle.cb_frame.specs.Spelling.{spelling};
 ghost use Rattle.cb_frame.specs.declared.frame.Frame.{Frame};
 ghost use Rattle.cb_frame.specs.declared.fault.FrameFault.TheVariants as fault;
-ghost use Rattle.cb_frame.specs.Checks.{kind_of, can_be_length, parts_fit, is_sender, body_length, frame_at, frame_in_front, content_causes, causes, Gives};
+ghost use Rattle.cb_frame.specs.Checks.{kind_of, is_short, has_pages, is_late, can_be_length, parts_fit, is_sender, body_length, frame_at, frame_in_front, content_causes, causes, Gives};
 
 mod bodies;
 mod lengths;
@@ -36,6 +36,10 @@ pub fn decode(alloc: Global, limits: &Limits, bytes: &[u8]) -> Result<(Frame, us
         MatchResult result (λ r. r ≡ (f, length (spelling f))) (λ e. e ≡ fault.Memory) }
     // Any other fault is the first whose cause stands.
     ensures fault { IfErr result (λ e. e ≢ fault.Memory → first_fault (causes limits.now bytes.now) ≡ Some e) }
+    // Memory is answered only where the kind is one whose frames have page bytes,
+    ensures memory { has_pages (kind_of (slice_index bytes.now 1)) ≡ false → result ≢ Err fault.Memory }
+    // and never in place of Short, Version, Kind or Length.
+    ensures late { result ≡ Err fault.Memory → is_late (first_fault (causes limits.now bytes.now)) ≡ true }
 {
     let _known = limits.page_size();
     read(alloc, limits, bytes)
@@ -50,10 +54,12 @@ pub fn one_spelling()
 
 /// The frame at the front, or the first fault.
 fn read(alloc: Global, limits: &Limits, bytes: &[u8]) -> Result<(Frame, usize), FrameFault>
-    ensures { Gives
+    ensures frame { Gives
         (first_fault (causes limits.now bytes.now))
         (frame_in_front limits.now bytes.now, 16 + body_length bytes.now)
         result }
+    ensures memory { has_pages (kind_of (slice_index bytes.now 1)) ≡ false → result ≢ Err fault.Memory }
+    ensures late { result ≡ Err fault.Memory → is_late (first_fault (causes limits.now bytes.now)) ≡ true }
 {
     if bytes.len() < 16 {
         return Err(FrameFault::Short);
@@ -98,6 +104,7 @@ fn kind_of(code: u8) -> Option<Kind>
 }
 
 /// A frame of a kind and a length that can be.
+#[tactic(auto, using(crate::proofs::Found::late_causes))]
 fn frame_of(
     alloc: Global,
     limits: &Limits,
@@ -108,10 +115,12 @@ fn frame_of(
     requires len_is { len ≡ body_length bytes.now }
     requires whole { 16 + len ≤ length bytes.now }
     requires len { can_be_length limits.now kind len ≡ true }
-    ensures { Gives
+    ensures frame { Gives
         (first_fault (content_causes limits.now kind bytes.now))
         (frame_at limits.now kind bytes.now)
         result }
+    ensures memory { is_short kind ≡ true → result ≢ Err fault.Memory }
+    ensures late { result ≡ Err fault.Memory → is_late (first_fault (content_causes limits.now kind bytes.now)) ≡ true }
 {
     let content = &bytes[16..16 + len];
     if !parts_fit(limits, kind, content) {

@@ -195,22 +195,20 @@ fn pool_is_made(rt: HostRuntime) -> Result<(), Fail> {
     Ok(())
 }
 
+/// A hit, and an install of a page that is here, are references, and so save page 1; no other call is one.
 #[test]
-fn hit_decides_what_is_let_go(rt: HostRuntime) {
-    play_on::<TwoQ>(
-        &rt,
-        rt.alloc(),
-        3,
-        &ON_AM,
-        &[(Peek(1), Byte(7)), (Put(6, 7), Gone(1))],
-    );
-    play_on::<TwoQ>(
-        &rt,
-        rt.alloc(),
-        3,
-        &ON_AM,
-        &[(Hit(1), Byte(7)), (Put(6, 7), Gone(2))],
-    );
+fn references_decide_what_is_let_go(rt: HostRuntime) {
+    for (steps, gone) in [
+        ([(Peek(1), Byte(7)), (Room, Yes)], 1),
+        ([(Write(1, 8), Yes), (Peek(1), Byte(8))], 1),
+        ([(Fix(1), Nothing), (UnfixAll, Nothing)], 1),
+        ([(Hit(1), Byte(7)), (Room, Yes)], 2),
+        ([(Put(1, 8), Nothing), (Peek(1), Byte(8))], 2),
+    ] {
+        let [first, second] = steps;
+        let last = (Put(6, 7), Gone(gone));
+        play_on::<TwoQ>(&rt, rt.alloc(), 3, &ON_AM, &[first, second, last]);
+    }
 }
 
 #[test]

@@ -1,5 +1,5 @@
 //! Bodies of a kind and a length that can be.
-ghost use Rattle.std.specs.Prelude.{◌≡◌, ◌≤◌, ◌+◌, ◌*◌, length, true, not, ◌∷◌, [], map};
+ghost use Rattle.std.specs.Prelude.{◌≡◌, ◌≢◌, Err, ◌≤◌, ◌+◌, ◌*◌, length, true, not, ◌∷◌, [], map};
 ghost use Rattle.std.specs.List.{list_all};
 ghost use Rattle.cb_page.specs.Faults.{first_fault};
 ghost use Rattle.cb_frame.specs.Grammar.{page_of};
@@ -15,10 +15,11 @@ use std::alloc::Global;
 #[tactic(auto, unfolding(crate::specs::Checks::can_be_length, crate::specs::Checks::body_at, crate::specs::Checks::numbers_fit))]
 pub fn body_of(alloc: Global, limits: &Limits, kind: Kind, body: &[u8]) -> Result<Body, FrameFault>
     requires { can_be_length limits.now kind (length body.now) ≡ true }
-    ensures { Gives
+    ensures body { Gives
         (first_fault ((not (numbers_fit limits.now (body_at limits.now kind body.now)), fault.Range) ∷ []))
         (body_at limits.now kind body.now)
         result }
+    ensures memory { is_short kind ≡ true → result ≢ Err fault.Memory }
 {
     match kind {
         Kind::Commit => commit_of(alloc, limits, body),

@@ -5,10 +5,10 @@ use Rattle.cb_frame.proofs.Again.{is_found, is_only}
 use Rattle.cb_frame.proofs.decoding.decode.Goals as goal
 
 pub returns-clause-found : goal.returns-clause-found
-returns-clause-found c = is_found c.args.limits.now c.args.bytes.now c.read.result (λ i. omega (arith, c.type_inv.bytes i)) c.read.ensures
+returns-clause-found c = is_found c.args.limits.now c.args.bytes.now c.read.result (λ i. omega (arith, c.type_inv.bytes i)) c.read.ensures.frame
 
 pub returns-clause-only : goal.returns-clause-only
 returns-clause-only c f rest fits e =
     let l = c.args.limits.now in
     is_only l f rest c.read.result c.page_size-known.ensures.in_range fits
-    (subst (λ (bytes : List ℕ). Gives (first_fault (causes l bytes)) (frame_in_front l bytes, 16 + body_length bytes) c.read.result) e c.read.ensures)
+    (subst (λ (bytes : List ℕ). Gives (first_fault (causes l bytes)) (frame_in_front l bytes, 16 + body_length bytes) c.read.result) e c.read.ensures.frame)
