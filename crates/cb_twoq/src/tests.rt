@@ -97,6 +97,18 @@ fn forget_and_full(rt: HostRuntime) -> Result<(), Fail> {
     Ok(())
 }
 
+#[test]
+fn texts_of_choose_faults(rt: HostRuntime) -> Result<(), Fail> {
+    for (fault, text) in [
+        (ChooseFault::Full, "1 Full"),
+        (ChooseFault::Memory, "2 Memory"),
+    ] {
+        let printed = format!(in rt.alloc(); "{fault}")?;
+        assert_eq!(rt; printed.as_str(), text);
+    }
+    Ok(())
+}
+
 /// Refers to a page twice, and says whether the second reference let nothing go: by the law, whatever the type.
 fn second_lets_none_go<Q: Chooser>(q: &mut Q, page: PageNo, fixed: &PageSet) -> bool
     ensures { result ≡ true }
