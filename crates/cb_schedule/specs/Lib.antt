@@ -13,3 +13,4 @@ pub mod WorldState
 pub mod NetMoves
 pub mod Transcripts
 pub mod Plays
+pub mod FaultTexts
