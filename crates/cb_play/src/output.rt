@@ -1,22 +1,20 @@
 //! What `play` prints.
-ghost use Rattle.std.specs.Prelude.{OnOk};
+ghost use Rattle.std.specs.Prelude.{◌≡◌, ◌==◌, OnOk};
+ghost use Rattle.std.specs.List.{flat_map, list_all};
 ghost use Rattle.std.specs.Io.KnownBytes.{Appends};
-ghost use Rattle.cb_play.specs.Output.{last_lines};
+ghost use Rattle.cb_play.specs.Output.{bytes_text, last_lines, line, lines_from, only_byte, packet_text, two_digits, word_text};
 
 use cb_page::Page;
-use cb_schedule::{Entry, SentPackets, Word};
+use cb_schedule::{Answer, Entry, SentPackets, Word};
 use std::io;
 use std::io::Write;
 
 /// Prints a line for each event: its place from 1, its answer, and each packet sent as `number:kind:client`.
-pub fn put_entries<O: Write>(out: &mut O, entries: &[Entry]) -> io::Result<()> {
-    let mut place: u64 = 0;
-    for entry in entries {
-        place = place.saturating_add(1);
-        write!(out, "{place} ")?;
-        put_word(out, &entry.answer.word)?;
-        put_sent(out, &entry.answer.sent)?;
-        out.write_all(b"\n")?;
+pub fn put_entries<O: Write>(out: &mut O, entries: &[Entry]) -> io::Result<()>
+    ensures { OnOk result (Appends (O.contents out.old) (O.contents out.new) (lines_from 1 entries.now)) }
+{
+    for (index, entry) in entries.iter().enumerate() {
+        put_line(out, index + 1, &entry.answer)?;
     }
     Ok(())
 }
@@ -29,7 +27,18 @@ pub fn put_verdict<O: Write>(out: &mut O, commits: usize, serial: bool) -> io::R
     write!(out, "commits {commits}\nserial: {serial}\n")
 }
 
-fn put_word<O: Write>(out: &mut O, word: &Word) -> io::Result<()> {
+fn put_line<O: Write>(out: &mut O, place: usize, answer: &Answer) -> io::Result<()>
+    ensures { OnOk result (Appends (O.contents out.old) (O.contents out.new) (line place answer.now)) }
+{
+    write!(out, "{place} ")?;
+    put_word(out, &answer.word)?;
+    put_sent(out, &answer.sent)?;
+    out.write_all(b"\n")
+}
+
+fn put_word<O: Write>(out: &mut O, word: &Word) -> io::Result<()>
+    ensures { OnOk result (Appends (O.contents out.old) (O.contents out.new) (word_text word.now)) }
+{
     match word {
         Word::Ok => out.write_all(b"ok"),
         Word::Bytes(page) => put_bytes(out, page),
@@ -48,7 +57,9 @@ fn put_word<O: Write>(out: &mut O, word: &Word) -> io::Result<()> {
     }
 }
 
-fn put_sent<O: Write>(out: &mut O, sent: &SentPackets) -> io::Result<()> {
+fn put_sent<O: Write>(out: &mut O, sent: &SentPackets) -> io::Result<()>
+    ensures { OnOk result (Appends (O.contents out.old) (O.contents out.new) (flat_map packet_text sent.now)) }
+{
     for packet in sent.as_slice() {
         let number = packet.number;
         let kind = packet.kind;
@@ -59,25 +70,52 @@ fn put_sent<O: Write>(out: &mut O, sent: &SentPackets) -> io::Result<()> {
 }
 
 /// The byte that all the bytes are, if they are all one.
-fn only_byte(bytes: &[u8]) -> Option<u8> {
-    let first = *bytes.first()?;
-    for byte in bytes {
-        if *byte != first {
-            return None;
-        }
+#[tactic(auto, unfolding(crate::specs::Output::only_byte))]
+fn only_byte(bytes: &[u8]) -> Option<u8>
+    ensures { result ≡ only_byte bytes.now }
+{
+    match bytes {
+        [first, rest @ ..] if are_all(rest, *first) => Some(*first),
+        _ => None,
     }
-    Some(first)
+}
+
+/// Whether each byte is this one.
+fn are_all(bytes: &[u8], byte: u8) -> bool
+    ensures { result ≡ list_all (λ other. other == byte) bytes.now }
+{
+    bytes.iter().all(|other| *other == byte)
 }
 
 /// A page's bytes as two hexadecimal digits each; of a page of one byte throughout, that byte alone.
-fn put_bytes<O: Write>(out: &mut O, page: &Page) -> io::Result<()> {
+fn put_bytes<O: Write>(out: &mut O, page: &Page) -> io::Result<()>
+    ensures { OnOk result (Appends (O.contents out.old) (O.contents out.new) (bytes_text page.now)) }
+{
     let bytes = page.as_slice();
-    if let Some(byte) = only_byte(bytes) {
-        return write!(out, "bytes all {byte:02x}");
+    match only_byte(bytes) {
+        Some(byte) => {
+            out.write_all(b"bytes all ")?;
+            put_byte(out, byte)
+        }
+        None => {
+            out.write_all(b"bytes ")?;
+            put_each_byte(out, bytes)
+        }
     }
-    out.write_all(b"bytes ")?;
+}
+
+fn put_each_byte<O: Write>(out: &mut O, bytes: &[u8]) -> io::Result<()>
+    ensures { OnOk result (Appends (O.contents out.old) (O.contents out.new) (flat_map two_digits bytes.now)) }
+{
     for byte in bytes {
-        write!(out, "{byte:02x}")?;
+        put_byte(out, *byte)?;
     }
     Ok(())
+}
+
+#[tactic(auto, using(std::proofs::lemmas::Fmt::hex_byte), unfolding(crate::specs::Output::two_digits))]
+fn put_byte<O: Write>(out: &mut O, byte: u8) -> io::Result<()>
+    ensures { OnOk result (Appends (O.contents out.old) (O.contents out.new) (two_digits byte)) }
+{
+    write!(out, "{byte:02x}")
 }
