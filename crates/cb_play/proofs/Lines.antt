@@ -1,5 +1,5 @@
 -- The lines of events, one more at the end.
-use Rattle.std.proofs.Common.{◌≡◌, ℕ, zero, suc, ◌+◌, ◌<◌, List, [], ◌∷◌, ◌++◌, length, take, get_or, add-one, append_assoc, append-nil, arith}
+use Rattle.std.proofs.Common.{◌≡◌, ℕ, zero, suc, ◌+◌, ◌<◌, List, [], ◌∷◌, ◌++◌, length, take, get_or, append_assoc, append-nil, arith}
 use Rattle.cb_play.specs.Output.{line, lines_from}
 use Rattle.cb_schedule.specs.declared.answer.Entry.{Entry}
 

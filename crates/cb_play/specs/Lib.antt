@@ -1,3 +1,3 @@
 pub mod Settings
-pub mod Statuses
 pub mod Output
+pub mod Runs

@@ -1,5 +1,19 @@
--- The settings that a configuration may leave out.
-use Rattle.std.specs.Prelude.{ℕ, ◌/◌, max}
+-- Which texts are configurations, the settings that they mean, and the fault of any other text. This project's rules.
+use Rattle.std.specs.Prelude.{◌≡◌, ◌≢◌, ◌⊎◌, ℕ, ◌^◌, ◌/◌, max, pos, Bool, not, ◌&&◌, nat_lt, List, [], ◌∷◌, ◌++◌, map, codes, Option, Some, None, is_some, is_none, unwrap_or, Result, Ok, Err, if◌then◌else◌, string_bytes}
+use Rattle.std.specs.List.{list_any}
+use Rattle.std.specs.Option.{option_and_then}
+use Rattle.std.specs.Str.{bytes_eq, IsUtf8}
+use Rattle.toml.specs.Data.{Data, integer, Members, no_members, member, get_member}
+use Rattle.toml.specs.Parse.{parse_document}
+use Rattle.cb_page.specs.Bounds.{Bounds}
+use Rattle.cb_page.specs.Faults.{first_fault}
+use Rattle.cb_page.specs.Limits.{limit_causes, limit_text}
+use Rattle.cb_page.specs.declared.limits.LimitFault.{LimitFault}
+use Rattle.cb_play.specs.declared.config.Config.{Config}
+use Rattle.cb_play.specs.declared.config.ConfigFault.{ConfigFault}
+use Rattle.cb_play.specs.declared.config.ConfigFault.TheVariants as fault
+use Rattle.cb_play.specs.declared.config.Key.{Key}
+use Rattle.cb_play.specs.declared.config.Key.TheVariants as key
 
 -- As the article on 2Q suggests (VLDB 1994): a quarter of the slots for A1in, and at least one page.
 abbrev pub default_kin : ℕ → ℕ
@@ -8,3 +22,135 @@ default_kin slots = max (slots / 4) 1
 -- As the article on 2Q suggests (VLDB 1994): identifiers for half of the slots in A1out, and at least one.
 abbrev pub default_kout : ℕ → ℕ
 default_kout slots = max (slots / 2) 1
+
+-- a setting's key, as a configuration spells it
+abbrev pub key_name : Key → List ℕ
+key_name key.Clients = codes "clients"
+key_name key.Pages = codes "pages"
+key_name key.PageSize = codes "page_size"
+key_name key.Slots = codes "slots"
+key_name key.Kin = codes "kin"
+key_name key.Kout = codes "kout"
+key_name key.Jobs = codes "jobs"
+
+abbrev pub all_keys : List Key
+all_keys = key.Clients ∷ key.Pages ∷ key.PageSize ∷ key.Slots ∷ key.Kin ∷ key.Kout ∷ key.Jobs ∷ []
+
+-- whether some setting has this key
+unfoldable pub is_known : List ℕ → Bool
+is_known name = list_any (λ known. bytes_eq (key_name known) name) all_keys
+
+-- a whole number is one from 0 to 2 ^ 62 - 1
+abbrev pub whole_number : Data → Option ℕ
+whole_number (integer (pos n)) = if nat_lt n (2 ^ 62) then Some n else None
+whole_number other = None
+
+-- what a table has at a key
+unfoldable pub value_at : Members → Key → Option Data
+value_at table key = get_member (key_name key) table
+
+-- the number that it has there
+unfoldable pub number_at : Members → Key → Option ℕ
+number_at table key = option_and_then whole_number (value_at table key)
+
+-- what is wrong, each behind the test of its cause: a key that no setting has, in the order of the table, which is that of
+-- the keys' bytes
+unfoldable pub unknown_causes : Members → List (Bool × List ℕ)
+unknown_causes no_members = []
+unknown_causes (member name value rest) = (not (is_known name), codes "unknown " ++ name) ∷ unknown_causes rest
+
+-- a value that is no whole number
+unfoldable pub optional_causes : Members → Key → List (Bool × List ℕ)
+optional_causes table key =
+    (is_some (value_at table key) && is_none (number_at table key), key_name key ++ codes " is not a whole number") ∷ []
+
+-- a key that isn't there, or a value that is no whole number
+unfoldable pub required_causes : Members → Key → List (Bool × List ℕ)
+required_causes table key = (is_none (value_at table key), codes "missing " ++ key_name key) ∷ optional_causes table key
+
+-- the number of a required setting
+unfoldable pub required_number : Members → Key → ℕ
+required_number table key = unwrap_or (number_at table key) 0
+
+abbrev pub kin_of : Members → ℕ
+kin_of table = unwrap_or (number_at table key.Kin) (default_kin (required_number table key.Slots))
+
+abbrev pub kout_of : Members → ℕ
+kout_of table = unwrap_or (number_at table key.Kout) (default_kout (required_number table key.Slots))
+
+abbrev pub jobs_of : Members → ℕ
+jobs_of table = unwrap_or (number_at table key.Jobs) 0
+
+-- the limits that a table means
+abbrev pub bounds_of : Members → Bounds
+bounds_of table = record {
+  clients = required_number table key.Clients;
+  pages = required_number table key.Pages;
+  page_size = required_number table key.PageSize;
+  slots = required_number table key.Slots;
+  kin = kin_of table;
+  kout = kout_of table;
+}
+
+-- numbers that are no limits of a store
+abbrev pub limit_cause : Bool × LimitFault → Bool × List ℕ
+limit_cause cause = (cause.0, codes "limit " ++ limit_text cause.1)
+
+unfoldable pub bounds_causes : Bounds → List (Bool × List ℕ)
+bounds_causes b = map limit_cause (limit_causes b.clients b.pages b.page_size b.slots b.kin b.kout)
+
+-- what is wrong with a table, in the order of the checks
+abbrev pub table_causes : Members → List (Bool × List ℕ)
+table_causes table =
+    unknown_causes table
+    ++ (required_causes table key.Clients
+    ++ (required_causes table key.Pages
+    ++ (required_causes table key.PageSize
+    ++ (required_causes table key.Slots
+    ++ (optional_causes table key.Kin
+    ++ (optional_causes table key.Kout
+    ++ (optional_causes table key.Jobs
+    ++ (bounds_causes (bounds_of table)
+    ++ (nat_lt 100000 (jobs_of table), codes "jobs") ∷ []))))))))
+
+-- a fault as it is printed
+abbrev pub config_text : ConfigFault → List ℕ
+config_text fault.Text = codes "text"
+config_text (fault.Unknown name) = codes "unknown " ++ string_bytes name
+config_text (fault.Missing key) = codes "missing " ++ key_name key
+config_text (fault.NotWhole key) = key_name key ++ codes " is not a whole number"
+config_text (fault.Limit limit) = codes "limit " ++ limit_text limit
+config_text fault.Jobs = codes "jobs"
+config_text fault.Memory = codes "memory"
+
+-- The text is this table in TOML.
+pub record IsTable (text : List ℕ) (table : Members) : Type 0 where
+  pub utf8 : IsUtf8 text
+  pub parsed : parse_document text ≡ Some table
+
+-- The text is a configuration with these settings: a table with which nothing is wrong.
+pub record IsConfig (text : List ℕ) (config : Config) : Type 0 where
+  pub table : Members
+  pub is_table : IsTable text table
+  pub faultless : first_fault (table_causes table) ≡ None
+  pub limits : config.limits ≡ bounds_of table
+  pub jobs : config.jobs ≡ jobs_of table
+
+-- The fault is the first that is wrong. Want of memory says nothing of it.
+abbrev pub IsFirst : Option (List ℕ) → ConfigFault → Type 0
+IsFirst first e = e ≢ fault.Memory → first ≡ Some (config_text e)
+
+-- What is wrong with a text: it is no table in TOML, or else the first that is wrong with its table.
+abbrev pub IsWrong : List ℕ → List ℕ → Type 0
+IsWrong text what =
+    ((what ≡ codes "text") × (IsUtf8 text → parse_document text ≡ None))
+    ⊎ ((table : Members) × IsTable text table × (first_fault (table_causes table) ≡ Some what))
+
+-- The fault says what is wrong with the text. Want of memory says nothing of it.
+abbrev pub RefusesConfig : List ℕ → ConfigFault → Type 0
+RefusesConfig text e = e ≢ fault.Memory → IsWrong text (config_text e)
+
+-- what a reader of a part of a table answers: its value where nothing is wrong with that part, else the first that is
+abbrev pub Gives : {X : Type 0} → Option (List ℕ) → X → Result X ConfigFault → Type 0
+Gives first value (Ok x) = (first ≡ None) × (x ≡ value)
+Gives first value (Err e) = IsFirst first e

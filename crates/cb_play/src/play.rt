@@ -1,15 +1,21 @@
 //! Plays a schedule over a store of zeros.
-ghost use Rattle.std.specs.Prelude.{◌≡◌, IfOk};
-ghost use Rattle.cb_play.specs.Statuses.{IsPlayStatus, IsReadStatus};
+ghost use Rattle.std.specs.Prelude.{◌≡◌, ◌≢◌, ℕ, Some, List, [], ◌∷◌, ◌++◌, length, codes, IfOk, IfErr, OnOk, if◌then◌else◌};
+ghost use Rattle.std.specs.Io.KnownBytes.{Appends};
+ghost use Rattle.std.specs.List.{AllByRecursion};
+ghost use Rattle.cb_schedule.specs.ProtocolEvents.{IsPlayed};
+ghost use Rattle.cb_play.specs.Output.{last_lines, lines_from};
+ghost use Rattle.cb_play.specs.Runs.{BecomesOfConfig, BecomesOfSchedule, Ends, IsPlay, IsPlayOf, IsReadStatus, IsRefusal, IsRun, read_text};
+ghost use Rattle.cb_play.specs.declared.play.ReadFault.TheVariants as fault;
 
 use crate::config::{ConfigFault, read_config};
 use crate::output::{put_entries, put_verdict};
 use cb_commit::Store;
+use cb_page::Limits;
 use cb_schedule::{Event, ScheduleFault, Transcript, Verdict, World, check_serial, read_schedule};
 use std::alloc::{AllocError, Global};
-use std::io;
+use std::error::Error;
 use std::io::Write;
-use thiserror::Error;
+use std::{fmt, io};
 
 /// Everything was done, and the serial check said yes.
 pub const DONE: u8 = 0;
@@ -21,17 +27,30 @@ pub const WRONG_INPUT: u8 = 2;
 pub const NO_MEMORY: u8 = 4;
 
 /// Why a schedule isn't played. The text is the program's line of it.
-#[derive(Debug, Drop, Error)]
+#[derive(Debug, Drop)]
 pub enum ReadFault {
-    #[error("config: {0}")]
     Config(ConfigFault),
-    #[error("{0}")]
     Schedule(ScheduleFault),
-    #[error("memory")]
     Memory,
 }
 
+impl fmt::Display for ReadFault {
+    ghost output = { λ fault. Some (read_text fault) };
+
+    fn fmt<W: fmt::Write>(&self, f: &mut fmt::Formatter<W>) -> fmt::Result {
+        match self {
+            ReadFault::Config(fault) => write!(f, "config: {fault}"),
+            ReadFault::Schedule(fault) => write!(f, "{fault}"),
+            ReadFault::Memory => write!(f, "memory"),
+        }
+    }
+}
+
+impl Error for ReadFault {}
+
 impl From<ConfigFault> for ReadFault {
+    ghost from_gives = { BecomesOfConfig };
+
     fn from(fault: ConfigFault) -> ReadFault {
         match fault {
             ConfigFault::Memory => ReadFault::Memory,
@@ -41,6 +60,8 @@ impl From<ConfigFault> for ReadFault {
 }
 
 impl From<ScheduleFault> for ReadFault {
+    ghost from_gives = { BecomesOfSchedule };
+
     fn from(fault: ScheduleFault) -> ReadFault {
         match fault {
             ScheduleFault::Memory => ReadFault::Memory,
@@ -50,6 +71,8 @@ impl From<ScheduleFault> for ReadFault {
 }
 
 impl From<AllocError> for ReadFault {
+    ghost from_gives = { λ _ e. e ≡ fault.Memory };
+
     fn from(_error: AllocError) -> ReadFault {
         ReadFault::Memory
     }
@@ -79,63 +102,104 @@ pub fn play_to<O: Write, E: Write>(
     out: &mut O,
     err: &mut E,
 ) -> io::Result<u8>
-    ensures { IfOk result IsPlayStatus }
+    ensures { IfOk result (λ status. (printed : List ℕ) × (said : List ℕ)
+        × Appends (O.contents out.old) (O.contents out.new) printed
+        × Appends (E.contents err.old) (E.contents err.new) said
+        × IsRun config.now schedule.now status printed said) }
 {
-    match transcript_of(alloc, config, schedule) {
-        Ok(Played::All(transcript)) => print_all(alloc, &transcript, out, err),
-        Ok(Played::Part(transcript)) => print_part(&transcript, out, err),
-        Err(fault) => {
-            writeln!(err, "{fault}")?;
-            Ok(fault.status())
-        }
+    match read_and_play(alloc, config, schedule) {
+        Ok(Play::Whole(transcript)) => print_whole(alloc, &transcript, out, err),
+        Ok(Play::Part(transcript)) => print_part(&transcript, out, err),
+        Err(fault) => print_fault(&fault, err),
     }
 }
 
 /// How far a schedule was played.
 #[derive(Debug, Drop)]
-enum Played {
+enum Play {
     /// To its end.
-    All(Transcript),
+    Whole(Transcript),
     /// To where memory was refused.
     Part(Transcript),
 }
 
-fn transcript_of(alloc: Global, config: &[u8], schedule: &[u8]) -> Result<Played, ReadFault> {
+/// Reads the configuration, then the schedule, and plays it.
+fn read_and_play(alloc: Global, config: &[u8], schedule: &[u8]) -> Result<Play, ReadFault>
+    ensures ok { IfOk result (IsPlay config.now schedule.now) }
+    ensures fault { IfErr result (λ e. e ≢ fault.Memory → IsRefusal config.now schedule.now (read_text e)) }
+{
     let config = read_config(alloc, config)?;
     let events = read_schedule(alloc, &config.limits, schedule)?;
-    let store = Store::zeros(alloc, &config.limits)?;
-    let world = World::new(alloc, &config.limits, store)?;
-    match world.play(events.as_slice()) {
-        Ok(transcript) => Ok(Played::All(transcript)),
-        Err(fault) => Ok(Played::Part(fault.transcript)),
+    Ok(play_from_zeros(alloc, &config.limits, events.as_slice())?)
+}
+
+/// Plays events over a store of zeros.
+fn play_from_zeros(alloc: Global, limits: &Limits, events: &[Event]) -> Result<Play, AllocError>
+    requires { AllByRecursion IsPlayed events.now }
+    ensures { IfOk result (IsPlayOf limits.now events.now) }
+{
+    let store = Store::zeros(alloc, limits)?;
+    let world = World::new(alloc, limits, store)?;
+    match world.play(events) {
+        Ok(transcript) => Ok(Play::Whole(transcript)),
+        Err(fault) => Ok(Play::Part(fault.transcript)),
     }
 }
 
-fn print_all<O: Write, E: Write>(
+/// Prints all of a transcript, with the serial check of it.
+fn print_whole<O: Write, E: Write>(
     alloc: Global,
     transcript: &Transcript,
     out: &mut O,
     err: &mut E,
 ) -> io::Result<u8>
-    ensures { IfOk result IsPlayStatus }
+    ensures commits { OnOk result (transcript.now.commits ≡ []) }
+    ensures prints { IfOk result (λ status. (printed : List ℕ) × (said : List ℕ)
+        × Appends (O.contents out.old) (O.contents out.new) printed
+        × Appends (E.contents err.old) (E.contents err.new) said
+        × Ends transcript.now status printed said) }
 {
-    let Ok(verdict) = check_serial(alloc, transcript) else {
-        return print_part(transcript, out, err);
-    };
-    put_entries(out, transcript.entries())?;
-    let serial = matches!(verdict, Verdict::Serial);
-    put_verdict(out, transcript.commits().len(), serial)?;
-    Ok(if serial { DONE } else { NOT_SERIAL })
+    transcript.commits();
+    match check_serial(alloc, transcript) {
+        Ok(Verdict::Serial) => {
+            print_checked(transcript, true, out)?;
+            Ok(DONE)
+        }
+        Ok(Verdict::Not { .. }) => {
+            print_checked(transcript, false, out)?;
+            Ok(NOT_SERIAL)
+        }
+        Err(_) => print_part(transcript, out, err),
+    }
 }
 
+fn print_checked<O: Write>(transcript: &Transcript, serial: bool, out: &mut O) -> io::Result<()>
+    ensures { OnOk result (Appends (O.contents out.old) (O.contents out.new)
+        (lines_from 1 transcript.now.entries ++ last_lines (length transcript.now.commits) serial)) }
+{
+    put_entries(out, transcript.entries())?;
+    put_verdict(out, transcript.commits().len(), serial)
+}
+
+/// Prints what was told before memory was refused.
 fn print_part<O: Write, E: Write>(
     transcript: &Transcript,
     out: &mut O,
     err: &mut E,
 ) -> io::Result<u8>
-    ensures { IfOk result (λ status. status ≡ 4) }
+    ensures status { IfOk result (λ status. status ≡ 4) }
+    ensures printed { OnOk result (Appends (O.contents out.old) (O.contents out.new) (lines_from 1 transcript.now.entries)) }
+    ensures said { OnOk result (Appends (E.contents err.old) (E.contents err.new) (codes "memory\n")) }
 {
     put_entries(out, transcript.entries())?;
     writeln!(err, "memory")?;
     Ok(NO_MEMORY)
+}
+
+fn print_fault<E: Write>(fault: &ReadFault, err: &mut E) -> io::Result<u8>
+    ensures status { IfOk result (IsReadStatus fault.now) }
+    ensures said { OnOk result (Appends (E.contents err.old) (E.contents err.new) (read_text fault.now ++ codes "\n")) }
+{
+    writeln!(err, "{fault}")?;
+    Ok(fault.status())
 }
