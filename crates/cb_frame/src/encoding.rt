@@ -36,7 +36,7 @@ pub fn encode(alloc: Global, frame: &Frame) -> Result<Vec<u8>, AllocError>
 /// The bytes of a frame that grants a page, whose own bytes are lent: what [`encode`] writes, with no copy of the page before it.
 ///
 /// It is refused only where memory is; it takes what the bytes need, at once.
-#[tactic(auto, using(std::proofs::Common::append_assoc, crate::proofs::Sizes::granted_length), unfolding(crate::specs::Spelling::spelling))]
+#[tactic(auto, using(crate::proofs::Sizes::granted_length, std::proofs::Common::append_assoc), unfolding(crate::specs::Spelling::spelling))]
 pub fn encode_granted(
     alloc: Global,
     client: ClientNo,
@@ -157,7 +157,8 @@ fn put_header(
     incarnation: Incarnation,
     size: u32,
 ) -> Result<(), AllocError>
-    ensures { OnOk result (out.new.items ≡ out.old.items ++ 1 ∷ code_of kind ∷ (word w16 client ++ (word w64 incarnation ++ word w32 size))) }
+    ensures { OnOk result (out.new.items ≡ out.old.items
+        ++ 1 ∷ code_of kind ∷ (word w16 client ++ (word w64 incarnation ++ word w32 size))) }
 {
     out.push(1)?;
     out.push(kind.code())?;

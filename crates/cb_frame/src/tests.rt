@@ -269,6 +269,13 @@ fn texts_of_frame_faults(rt: HostRuntime) -> Result<(), Fail> {
 #[test]
 fn refused_growths(rt: HostRuntime) -> Result<(), Fail> {
     let limits = small_limits()?;
+    let mut writes = Writes::from_vec(Vec::new(rt.alloc()));
+    if let Ok(bytes) = Page::zeros(rt.alloc(), 16) {
+        let page = PageNo::new(1);
+        let grant = GrantNo::new(1);
+        let pushed = writes.push(Write { page, grant, bytes });
+        assert_eq!(rt; writes.len(), usize::from(pushed.is_ok()));
+    }
     match decode(rt.alloc(), &limits, GRANTED.as_slice()) {
         Ok((frame, used)) => {
             assert_eq!(rt; used, 54);
