@@ -1,5 +1,5 @@
 -- The faults of proposed limits.
-use Rattle.std.specs.Prelude.{ℕ, ◌%◌, ◌-◌, Bool, not, ◌||◌, ◌==◌, nat_lt, List, [], ◌∷◌, codes}
+use Rattle.std.specs.Prelude.{ℕ, ◌%◌, ◌-◌, Bool, not, ◌||◌, ◌==◌, nat_lt, List, [], ◌∷◌}
 use Rattle.cb_page.specs.declared.limits.LimitFault.{LimitFault}
 use Rattle.cb_page.specs.declared.limits.LimitFault.TheVariants.{Clients, Pages, PageSize, Slots, Kin, Kout}
 
@@ -15,12 +15,3 @@ limit_causes clients pages page_size slots kin kout =
     ∷ (is_outside 1 (slots - 1) kin, Kin)
     ∷ (is_outside 1 4096 kout, Kout)
     ∷ []
-
--- a fault as it is printed: its number and its name
-abbrev pub limit_text : LimitFault → List ℕ
-limit_text Clients = codes "1 Clients"
-limit_text Pages = codes "2 Pages"
-limit_text PageSize = codes "3 PageSize"
-limit_text Slots = codes "4 Slots"
-limit_text Kin = codes "5 Kin"
-limit_text Kout = codes "6 Kout"

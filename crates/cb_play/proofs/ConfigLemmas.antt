@@ -5,9 +5,8 @@ use Rattle.std.specs.Map.{keys_of}
 use Rattle.toml.specs.View.{members_view}
 use Rattle.toml.specs.declared.value.Value.{Value}
 use Rattle.cb_page.specs.Faults.{first_fault}
-use Rattle.cb_page.specs.Limits.{limit_text}
 use Rattle.cb_page.specs.declared.limits.LimitFault.{LimitFault}
-use Rattle.cb_play.specs.Settings.{IsFirst, bounds_causes, bounds_of, is_known, jobs_of, limit_cause, optional_causes, required_causes, table_causes, unknown_causes}
+use Rattle.cb_play.specs.Settings.{IsFirst, bounds_causes, bounds_of, is_known, jobs_of, limit_cause, limit_text, optional_causes, required_causes, table_causes, unknown_causes}
 use Rattle.toml.specs.Data.{Members}
 use Rattle.cb_play.specs.declared.config.Key.TheVariants as key
 use Rattle.cb_play.specs.declared.config.ConfigFault.{ConfigFault}

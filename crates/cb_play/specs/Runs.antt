@@ -1,9 +1,9 @@
 -- What a run of the program is: which events are played, what is printed of them, and the status. This project's rules.
-use Rattle.std.specs.Prelude.{◌≡◌, ◌≢◌, ◌⊎◌, ℕ, true, false, List, [], ◌++◌, length, take, codes}
+use Rattle.std.specs.Prelude.{◌≡◌, ◌≢◌, ◌⊎◌, ℕ, true, false, Option, List, [], ◌++◌, length, take, codes}
+use Rattle.std.specs.Io.KnownBytes.{Appends}
 use Rattle.cb_commit.specs.Stores.{zeros}
 use Rattle.cb_page.specs.Bounds.{Bounds}
 use Rattle.cb_protocol.specs.World.{new_world}
-use Rattle.cb_schedule.specs.FaultTexts.{schedule_text}
 use Rattle.cb_schedule.specs.Plays.{Played}
 use Rattle.cb_schedule.specs.ProtocolLimits.{limits_of}
 use Rattle.cb_schedule.specs.ScheduleText as text
@@ -54,11 +54,9 @@ abbrev pub IsPlay : List ℕ → List ℕ → Play → Type 0
 IsPlay config_bytes schedule_bytes (play.Whole transcript) = Tells config_bytes schedule_bytes (λ events. events) transcript.entries
 IsPlay config_bytes schedule_bytes (play.Part transcript) = (n : ℕ) × Tells config_bytes schedule_bytes (take n) transcript.entries
 
--- a fault as it is printed
-abbrev pub read_text : ReadFault → List ℕ
-read_text (fault.Config e) = codes "config: " ++ config_text e
-read_text (fault.Schedule e) = schedule_text e
-read_text fault.Memory = codes "memory"
+-- done; the serial check said no; wrong words, configuration or schedule; memory
+abbrev pub IsStatus : ℕ → Type 0
+IsStatus status = (status ≡ 0) ⊎ (status ≡ 1) ⊎ (status ≡ 2) ⊎ (status ≡ 4)
 
 -- the status of a fault
 abbrev pub IsReadStatus : ReadFault → ℕ → Type 0
@@ -72,26 +70,31 @@ BecomesOfConfig e becomes = (e ≡ config.Memory → becomes ≡ fault.Memory) �
 abbrev pub BecomesOfSchedule : ScheduleFault → ReadFault → Type 0
 BecomesOfSchedule e becomes = (e ≡ schedule.Memory → becomes ≡ fault.Memory) × (e ≢ schedule.Memory → becomes ≡ fault.Schedule e)
 
--- The line says what is wrong with the configuration, or, where nothing is, with the schedule.
-abbrev pub IsRefusal : List ℕ → List ℕ → List ℕ → Type 0
-IsRefusal config_bytes schedule_bytes line =
-    ((what : List ℕ) × IsWrong config_bytes what × (line ≡ codes "config: " ++ what))
-    ⊎ ((settings : Config) × (e : ScheduleFault) × IsConfig config_bytes settings × (e ≢ schedule.Memory)
-    × text.Refuses settings.limits schedule_bytes e × (line ≡ schedule_text e))
+-- The fault is what is wrong with the configuration, or, where nothing is, with the schedule.
+abbrev pub IsRefusal : List ℕ → List ℕ → ReadFault → Type 0
+IsRefusal config_bytes schedule_bytes refusal =
+    ((e : ConfigFault) × (refusal ≡ fault.Config e) × IsWrong config_bytes (config_text e))
+    ⊎ ((settings : Config) × (e : ScheduleFault) × (refusal ≡ fault.Schedule e) × IsConfig config_bytes settings
+    × (e ≢ schedule.Memory) × text.Refuses settings.limits schedule_bytes e)
 
 -- A transcript is printed to the end, and the status is 0 exactly where it is serial; or memory ran out for the check.
-abbrev pub Ends : TranscriptState → ℕ → List ℕ → List ℕ → Type 0
-Ends t status printed said =
-    ((status ≡ 0) × IsSerialOverAny t × (printed ≡ lines_from 1 t.entries ++ last_lines (length t.commits) true) × (said ≡ []))
-    ⊎ ((status ≡ 1) × (¬ IsSerialOverAny t) × (printed ≡ lines_from 1 t.entries ++ last_lines (length t.commits) false) × (said ≡ []))
-    ⊎ ((status ≡ 4) × (printed ≡ lines_from 1 t.entries) × (said ≡ codes "memory\n"))
+abbrev pub Ends : TranscriptState → ℕ → List ℕ → Type 0
+Ends t status printed =
+    ((status ≡ 0) × IsSerialOverAny t × (printed ≡ lines_from 1 t.entries ++ last_lines (length t.commits) true))
+    ⊎ ((status ≡ 1) × (¬ IsSerialOverAny t) × (printed ≡ lines_from 1 t.entries ++ last_lines (length t.commits) false))
+    ⊎ ((status ≡ 4) × (printed ≡ lines_from 1 t.entries))
 
--- What a run prints on the standard output and says on the standard error, with its status: every event is played, and none
--- is a commit yet; or memory ran out behind the first events; or a text is refused; or memory ran out before any event.
-abbrev pub IsRun : List ℕ → List ℕ → ℕ → List ℕ → List ℕ → Type 0
-IsRun config_bytes schedule_bytes status printed said =
-    ((t : TranscriptState) × Tells config_bytes schedule_bytes (λ events. events) t.entries × (t.commits ≡ []) × Ends t status printed said)
-    ⊎ ((told : List Entry) × (n : ℕ) × Tells config_bytes schedule_bytes (take n) told
-    × (status ≡ 4) × (printed ≡ lines_from 1 told) × (said ≡ codes "memory\n"))
-    ⊎ ((line : List ℕ) × IsRefusal config_bytes schedule_bytes line × (status ≡ 2) × (printed ≡ []) × (said ≡ line ++ codes "\n"))
-    ⊎ ((status ≡ 4) × (printed ≡ []) × (said ≡ codes "memory\n"))
+-- What a run prints on the standard output, with its status: every event is played, and none is a commit yet; or memory
+-- ran out behind the first events; or a text is refused; or memory ran out before any event.
+abbrev pub IsRun : List ℕ → List ℕ → ℕ → List ℕ → Type 0
+IsRun config_bytes schedule_bytes status printed =
+    ((t : TranscriptState) × Tells config_bytes schedule_bytes (λ events. events) t.entries × (t.commits ≡ []) × Ends t status printed)
+    ⊎ ((told : List Entry) × (n : ℕ) × Tells config_bytes schedule_bytes (take n) told × (status ≡ 4) × (printed ≡ lines_from 1 told))
+    ⊎ ((refusal : ReadFault) × IsRefusal config_bytes schedule_bytes refusal × (status ≡ 2) × (printed ≡ []))
+    ⊎ ((status ≡ 4) × (printed ≡ []))
+
+-- What is said on the standard error, of which the old and the new bytes are given: nothing where the events were played, that
+-- memory ran out where it did. The line of a refusal is its fault's text.
+abbrev pub IsSaid : ℕ → Option (List ℕ) → Option (List ℕ) → Type 0
+IsSaid status old new =
+    (status ≡ 0 → Appends old new []) × (status ≡ 1 → Appends old new []) × (status ≡ 4 → Appends old new (codes "memory\n"))

@@ -7,8 +7,9 @@ use Rattle.toml.specs.Data.{Data, integer, Members, no_members, member, get_memb
 use Rattle.toml.specs.Parse.{parse_document}
 use Rattle.cb_page.specs.Bounds.{Bounds}
 use Rattle.cb_page.specs.Faults.{first_fault}
-use Rattle.cb_page.specs.Limits.{limit_causes, limit_text}
+use Rattle.cb_page.specs.Limits.{limit_causes}
 use Rattle.cb_page.specs.declared.limits.LimitFault.{LimitFault}
+use Rattle.cb_page.specs.declared.limits.LimitFault.TheVariants as limit
 use Rattle.cb_play.specs.declared.config.Config.{Config}
 use Rattle.cb_play.specs.declared.config.ConfigFault.{ConfigFault}
 use Rattle.cb_play.specs.declared.config.ConfigFault.TheVariants as fault
@@ -92,6 +93,15 @@ bounds_of table = record {
   kout = kout_of table;
 }
 
+-- a fault of the limits, by its number and name
+abbrev pub limit_text : LimitFault → List ℕ
+limit_text limit.Clients = codes "1 Clients"
+limit_text limit.Pages = codes "2 Pages"
+limit_text limit.PageSize = codes "3 PageSize"
+limit_text limit.Slots = codes "4 Slots"
+limit_text limit.Kin = codes "5 Kin"
+limit_text limit.Kout = codes "6 Kout"
+
 -- numbers that are no limits of a store
 abbrev pub limit_cause : Bool × LimitFault → Bool × List ℕ
 limit_cause cause = (cause.0, codes "limit " ++ limit_text cause.1)
@@ -113,13 +123,13 @@ table_causes table =
     ++ (bounds_causes (bounds_of table)
     ++ (nat_lt 100000 (jobs_of table), codes "jobs") ∷ []))))))))
 
--- a fault as it is printed
+-- what a fault says is wrong
 abbrev pub config_text : ConfigFault → List ℕ
 config_text fault.Text = codes "text"
 config_text (fault.Unknown name) = codes "unknown " ++ string_bytes name
 config_text (fault.Missing key) = codes "missing " ++ key_name key
 config_text (fault.NotWhole key) = key_name key ++ codes " is not a whole number"
-config_text (fault.Limit limit) = codes "limit " ++ limit_text limit
+config_text (fault.Limit e) = codes "limit " ++ limit_text e
 config_text fault.Jobs = codes "jobs"
 config_text fault.Memory = codes "memory"
 

@@ -10,8 +10,8 @@ ghost use Rattle.cb_play.specs.declared.config.ConfigFault.TheVariants as fault;
 
 use cb_page::{LimitFault, Limits};
 use std::alloc::{AllocError, AllocFailed, Global};
-use std::error::Error;
 use std::fmt;
+use thiserror::Error;
 use toml::{Table, Value};
 
 /// A setting, in the order in which they are checked.
@@ -64,41 +64,30 @@ const KEYS: [Key; 7] = [
 ];
 
 /// What is wrong with a configuration, in the order of the checks; the first is answered.
-#[derive(Debug, Drop)]
+#[derive(Debug, Drop, Error)]
 pub enum ConfigFault {
     /// Not TOML, or not UTF-8.
+    #[error("text")]
     Text,
     /// No setting has this key, the first of such keys in the order of their bytes.
+    #[error("unknown {0}")]
     Unknown(String),
     /// A required key isn't there.
+    #[error("missing {0}")]
     Missing(Key),
     /// A value is no number from 0 to 2^62 - 1.
+    #[error("{0} is not a whole number")]
     NotWhole(Key),
     /// The numbers are no limits of a store.
+    #[error("limit {0}")]
     Limit(LimitFault),
     /// There are more than 100,000 jobs.
+    #[error("jobs")]
     Jobs,
     /// There is no memory to read the text.
+    #[error("memory")]
     Memory,
 }
-
-impl fmt::Display for ConfigFault {
-    ghost output = { λ fault. Some (config_text fault) };
-
-    fn fmt<W: fmt::Write>(&self, f: &mut fmt::Formatter<W>) -> fmt::Result {
-        match self {
-            ConfigFault::Text => write!(f, "text"),
-            ConfigFault::Unknown(key) => write!(f, "unknown {key}"),
-            ConfigFault::Missing(key) => write!(f, "missing {key}"),
-            ConfigFault::NotWhole(key) => write!(f, "{key} is not a whole number"),
-            ConfigFault::Limit(fault) => write!(f, "limit {fault}"),
-            ConfigFault::Jobs => write!(f, "jobs"),
-            ConfigFault::Memory => write!(f, "memory"),
-        }
-    }
-}
-
-impl Error for ConfigFault {}
 
 impl From<AllocError> for ConfigFault {
     ghost from_gives = { λ _ e. e ≡ fault.Memory };

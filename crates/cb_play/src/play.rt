@@ -1,10 +1,10 @@
 //! Plays a schedule over a store of zeros.
-ghost use Rattle.std.specs.Prelude.{◌≡◌, ◌≢◌, ℕ, Some, List, [], ◌∷◌, ◌++◌, length, codes, IfOk, IfErr, OnOk, if◌then◌else◌};
+ghost use Rattle.std.specs.Prelude.{◌≡◌, ◌≢◌, ℕ, List, [], ◌++◌, length, codes, IfOk, IfErr, OnOk};
 ghost use Rattle.std.specs.Io.KnownBytes.{Appends};
 ghost use Rattle.std.specs.List.{AllByRecursion};
 ghost use Rattle.cb_schedule.specs.ProtocolEvents.{IsPlayed};
 ghost use Rattle.cb_play.specs.Output.{last_lines, lines_from};
-ghost use Rattle.cb_play.specs.Runs.{BecomesOfConfig, BecomesOfSchedule, Ends, IsPlay, IsPlayOf, IsReadStatus, IsRefusal, IsRun, read_text};
+ghost use Rattle.cb_play.specs.Runs.{BecomesOfConfig, BecomesOfSchedule, Ends, IsPlay, IsPlayOf, IsReadStatus, IsRefusal, IsRun, IsSaid, IsStatus};
 ghost use Rattle.cb_play.specs.declared.play.ReadFault.TheVariants as fault;
 
 use crate::config::{ConfigFault, read_config};
@@ -13,9 +13,9 @@ use cb_commit::Store;
 use cb_page::Limits;
 use cb_schedule::{Event, ScheduleFault, Transcript, Verdict, World, check_serial, read_schedule};
 use std::alloc::{AllocError, Global};
-use std::error::Error;
+use std::io;
 use std::io::Write;
-use std::{fmt, io};
+use thiserror::Error;
 
 /// Everything was done, and the serial check said yes.
 pub const DONE: u8 = 0;
@@ -27,26 +27,15 @@ pub const WRONG_INPUT: u8 = 2;
 pub const NO_MEMORY: u8 = 4;
 
 /// Why a schedule isn't played. The text is the program's line of it.
-#[derive(Debug, Drop)]
+#[derive(Debug, Drop, Error)]
 pub enum ReadFault {
+    #[error("config: {0}")]
     Config(ConfigFault),
+    #[error("{0}")]
     Schedule(ScheduleFault),
+    #[error("memory")]
     Memory,
 }
-
-impl fmt::Display for ReadFault {
-    ghost output = { λ fault. Some (read_text fault) };
-
-    fn fmt<W: fmt::Write>(&self, f: &mut fmt::Formatter<W>) -> fmt::Result {
-        match self {
-            ReadFault::Config(fault) => write!(f, "config: {fault}"),
-            ReadFault::Schedule(fault) => write!(f, "{fault}"),
-            ReadFault::Memory => write!(f, "memory"),
-        }
-    }
-}
-
-impl Error for ReadFault {}
 
 impl From<ConfigFault> for ReadFault {
     ghost from_gives = { BecomesOfConfig };
@@ -78,17 +67,6 @@ impl From<AllocError> for ReadFault {
     }
 }
 
-impl ReadFault {
-    fn status(&self) -> u8
-        ensures { IsReadStatus self.now result }
-    {
-        match self {
-            ReadFault::Config(_) | ReadFault::Schedule(_) => WRONG_INPUT,
-            ReadFault::Memory => NO_MEMORY,
-        }
-    }
-}
-
 /// Plays the schedule over a store of zeros with the configuration's limits, and prints what became of each event, the number
 /// of commits, and whether they are serial.
 ///
@@ -102,10 +80,10 @@ pub fn play_to<O: Write, E: Write>(
     out: &mut O,
     err: &mut E,
 ) -> io::Result<u8>
-    ensures { IfOk result (λ status. (printed : List ℕ) × (said : List ℕ)
-        × Appends (O.contents out.old) (O.contents out.new) printed
-        × Appends (E.contents err.old) (E.contents err.new) said
-        × IsRun config.now schedule.now status printed said) }
+    ensures status { IfOk result IsStatus }
+    ensures run { IfOk result (λ status. (printed : List ℕ) × Appends (O.contents out.old) (O.contents out.new) printed
+        × IsRun config.now schedule.now status printed) }
+    ensures said { IfOk result (λ status. IsSaid status (E.contents err.old) (E.contents err.new)) }
 {
     match read_and_play(alloc, config, schedule) {
         Ok(Play::Whole(transcript)) => print_whole(alloc, &transcript, out, err),
@@ -126,7 +104,7 @@ enum Play {
 /// Reads the configuration, then the schedule, and plays it.
 fn read_and_play(alloc: Global, config: &[u8], schedule: &[u8]) -> Result<Play, ReadFault>
     ensures ok { IfOk result (IsPlay config.now schedule.now) }
-    ensures fault { IfErr result (λ e. e ≢ fault.Memory → IsRefusal config.now schedule.now (read_text e)) }
+    ensures fault { IfErr result (λ e. e ≢ fault.Memory → IsRefusal config.now schedule.now e) }
 {
     let config = read_config(alloc, config)?;
     let events = read_schedule(alloc, &config.limits, schedule)?;
@@ -153,11 +131,11 @@ fn print_whole<O: Write, E: Write>(
     out: &mut O,
     err: &mut E,
 ) -> io::Result<u8>
+    ensures status { IfOk result IsStatus }
     ensures commits { OnOk result (transcript.now.commits ≡ []) }
-    ensures prints { IfOk result (λ status. (printed : List ℕ) × (said : List ℕ)
-        × Appends (O.contents out.old) (O.contents out.new) printed
-        × Appends (E.contents err.old) (E.contents err.new) said
-        × Ends transcript.now status printed said) }
+    ensures prints { IfOk result (λ status. (printed : List ℕ) × Appends (O.contents out.old) (O.contents out.new) printed
+        × Ends transcript.now status printed) }
+    ensures said { IfOk result (λ status. IsSaid status (E.contents err.old) (E.contents err.new)) }
 {
     transcript.commits();
     match check_serial(alloc, transcript) {
@@ -192,14 +170,28 @@ fn print_part<O: Write, E: Write>(
     ensures said { OnOk result (Appends (E.contents err.old) (E.contents err.new) (codes "memory\n")) }
 {
     put_entries(out, transcript.entries())?;
+    say_no_memory(err)
+}
+
+/// Says that memory was refused.
+fn say_no_memory<E: Write>(err: &mut E) -> io::Result<u8>
+    ensures status { IfOk result (λ status. status ≡ 4) }
+    ensures said { OnOk result (Appends (E.contents err.old) (E.contents err.new) (codes "memory\n")) }
+{
     writeln!(err, "memory")?;
     Ok(NO_MEMORY)
 }
 
+/// Says what a text was refused for, or that memory was.
 fn print_fault<E: Write>(fault: &ReadFault, err: &mut E) -> io::Result<u8>
     ensures status { IfOk result (IsReadStatus fault.now) }
-    ensures said { OnOk result (Appends (E.contents err.old) (E.contents err.new) (read_text fault.now ++ codes "\n")) }
+    ensures said { IfOk result (λ status. IsSaid status (E.contents err.old) (E.contents err.new)) }
 {
-    writeln!(err, "{fault}")?;
-    Ok(fault.status())
+    match fault {
+        ReadFault::Memory => say_no_memory(err),
+        refusal => {
+            writeln!(err, "{refusal}")?;
+            Ok(WRONG_INPUT)
+        }
+    }
 }

@@ -1,6 +1,6 @@
 //! What the program does with the words of its command line: all but its standard streams.
-ghost use Rattle.std.specs.Prelude.{◌≡◌, IfOk};
-ghost use Rattle.cb_play.specs.Statuses.{IsPlayStatus};
+ghost use Rattle.std.specs.Prelude.{IfOk};
+ghost use Rattle.cb_play.specs.Runs.{IsStatus};
 
 use crate::arguments::{Request, request_of};
 use crate::play::{DONE, WRONG_INPUT, play_to};
@@ -18,7 +18,7 @@ pub fn run<O: Write, E: Write>(
     out: &mut O,
     err: &mut E,
 ) -> io::Result<u8>
-    ensures { IfOk result IsPlayStatus }
+    ensures { IfOk result IsStatus }
 {
     match request_of(rt.alloc(), words) {
         Ok(Request::Play { config, schedule }) => play_files(rt, config, schedule, out, err),
@@ -44,7 +44,7 @@ fn play_files<O: Write, E: Write>(
     out: &mut O,
     err: &mut E,
 ) -> io::Result<u8>
-    ensures { IfOk result IsPlayStatus }
+    ensures { IfOk result IsStatus }
 {
     let Some(config) = read_file(rt, config, err)? else {
         return Ok(WRONG_INPUT);
