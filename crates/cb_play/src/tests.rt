@@ -1,7 +1,11 @@
 use crate::arguments::{Request, request_of};
 use crate::exit_code;
+use crate::output::put_entries;
 use crate::play::play_to;
 use crate::program::run;
+use cb_frame::Kind;
+use cb_page::{ClientNo, CommitNo, Limits, Page};
+use cb_schedule::{Answer, ClientFault, Entry, Event, Sent, SentPackets, Word};
 use std::alloc::Global;
 use std::process::ExitCode;
 use std::test::Fail;
@@ -162,6 +166,75 @@ fn config_accepted(rt: HostRuntime) -> Result<(), Fail> {
             "at {config}"
         );
     }
+    Ok(())
+}
+
+/// The lines of entries with these words, each sending one packet.
+fn lines_of(alloc: Global, client: ClientNo, words: Vec<Word>) -> Result<Vec<u8>, Fail> {
+    let mut entries = Vec::new(alloc);
+    for word in words {
+        let sent = SentPackets::one(
+            alloc,
+            Sent {
+                number: 1000,
+                kind: Kind::Granted,
+                client,
+            },
+        )?;
+        entries.push(Entry {
+            event: Event::Flush,
+            answer: Answer { word, sent },
+        })?;
+    }
+    let mut out = Vec::new(alloc);
+    put_entries(&mut out, entries.as_slice())?;
+    Ok(out)
+}
+
+/// Every word of an answer has its text; a page of unlike bytes has two digits a byte, also below 16.
+#[test]
+fn words(rt: HostRuntime) -> Result<(), Fail> {
+    let limits = Limits::new(3, 8, 16, 4, 1, 2)?;
+    let client = ClientNo::in_store(&limits, 2).ok_or("no client")?;
+    let number = CommitNo::checked(4_611_686_018_427_387_903).ok_or("no commit number")?;
+    let words = vec![in rt.alloc();
+        Word::Ok,
+        Word::Bytes(Page::copy_of(rt.alloc(), b"\x00\x0f\x10\xff")?),
+        Word::Bytes(Page::copy_of(rt.alloc(), b"\x0a\x0a\x0a")?),
+        Word::Bytes(Page::copy_of(rt.alloc(), b"\x0a\x0a\x0b")?),
+        Word::Asked,
+        Word::Permitted,
+        Word::Nothing,
+        Word::Flushed(number),
+        Word::Taken,
+        Word::NoPacket,
+        Word::Refused(ClientFault::WrongLength),
+        Word::ServerExhausted,
+        Word::NoClient,
+    ]?;
+    let text =
+        "1 ok 1000:Granted:2\n2 bytes 000f10ff 1000:Granted:2\n3 bytes all 0a 1000:Granted:2\n\
+        4 bytes 0a0a0b 1000:Granted:2\n5 asked 1000:Granted:2\n6 permitted 1000:Granted:2\n\
+        7 none 1000:Granted:2\n8 flushed 4611686018427387903 1000:Granted:2\n\
+        9 taken 1000:Granted:2\n10 nopacket 1000:Granted:2\n\
+        11 refused 10 WrongLength 1000:Granted:2\n12 refused 1 Exhausted 1000:Granted:2\n\
+        13 noclient 1000:Granted:2\n";
+    let printed = lines_of(rt.alloc(), client, words)?;
+    assert!(rt; printed.as_slice() == text.as_bytes());
+    Ok(())
+}
+
+/// What the first clients are refused, and a packet that was not sent yet.
+#[test]
+fn refused_run(rt: HostRuntime) -> Result<(), Fail> {
+    let schedule =
+        b"begin 0\ntake 7\nhello 0\ntake 0\ntake 1\nread 0 1\npeek 0 1\nbegin 0\nbegin 0\n";
+    let printed = run_play(rt.alloc(), FIRST.as_bytes(), schedule)?;
+    let out = "1 refused 1 NotWelcome\n2 nopacket\n3 ok 0:Hello:0\n4 taken 1:Welcome:0\n5 taken\n\
+        6 refused 2 NoTransaction\n7 none\n8 ok\n9 refused 3 TransactionOpen\n\
+        commits 0\nserial: yes\n";
+    assert!(rt; printed.out.as_slice() == out.as_bytes());
+    assert!(rt; printed.err.is_empty() && printed.status == 0);
     Ok(())
 }
 
