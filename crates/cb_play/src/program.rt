@@ -52,13 +52,7 @@ fn play_files<O: Write, E: Write>(
     let Some(schedule) = read_file(rt, schedule, err)? else {
         return Ok(WRONG_INPUT);
     };
-    play_to(
-        rt.alloc(),
-        config.as_slice(),
-        schedule.as_slice(),
-        out,
-        err,
-    )
+    play_to(rt.alloc(), config.as_slice(), schedule.as_slice(), out, err)
 }
 
 /// The bytes of a file. Where it can't be read that is said, and there are none; it fails where memory is refused.

@@ -340,31 +340,36 @@ fn command_lines(rt: HostRuntime) -> Result<(), Fail> {
     Ok(())
 }
 
-/// What the program prints for these words, behind its name.
-fn run_words(rt: &HostRuntime, words: &[&str]) -> Result<Printed, Fail> {
-    let mut line = Vec::new(rt.alloc());
-    line.push(String::from_str(rt.alloc(), "cb_play")?)?;
-    for word in words {
-        line.push(String::from_str(rt.alloc(), word)?)?;
+/// What the program prints for the words of a command line.
+fn run_line(rt: &HostRuntime, line: &str) -> Result<Printed, Fail> {
+    let mut words = Vec::new(rt.alloc());
+    for word in line.split_ascii_whitespace() {
+        words.push(String::from_str(rt.alloc(), word)?)?;
     }
     let mut out = Vec::new(rt.alloc());
     let mut err = Vec::new(rt.alloc());
-    let status = run(rt, line.as_slice(), &mut out, &mut err)?;
+    let status = run(rt, words.as_slice(), &mut out, &mut err)?;
     Ok(Printed { status, out, err })
 }
 
 /// Files that can't be read are named, the configuration first; both are read before either is checked.
 #[test]
 fn unreadable_files(rt: HostRuntime) -> Result<(), Fail> {
-    for (config, schedule, line) in [
-        ("no.toml", "no.schedule", "cannot read no.toml\n"),
-        ("no.toml", "/dev/null", "cannot read no.toml\n"),
-        ("/dev/null", "no.schedule", "cannot read no.schedule\n"),
-        ("/dev/null", "/dev/null", "config: missing clients\n"),
+    for (line, said) in [
+        ("cb_play play no.toml no.schedule", "cannot read no.toml\n"),
+        ("cb_play play no.toml /dev/null", "cannot read no.toml\n"),
+        (
+            "cb_play play /dev/null no.schedule",
+            "cannot read no.schedule\n",
+        ),
+        (
+            "cb_play play /dev/null /dev/null",
+            "config: missing clients\n",
+        ),
     ] {
-        let printed = run_words(&rt, ["play", config, schedule].as_slice())?;
-        assert!(rt; printed.err.as_slice() == line.as_bytes(), "at {line}");
-        assert!(rt; printed.out.is_empty() && printed.status == 2, "at {line}");
+        let printed = run_line(&rt, line)?;
+        assert!(rt; printed.err.as_slice() == said.as_bytes(), "{line}");
+        assert!(rt; printed.out.is_empty() && printed.status == 2, "{line}");
     }
     Ok(())
 }
@@ -372,14 +377,18 @@ fn unreadable_files(rt: HostRuntime) -> Result<(), Fail> {
 /// Help that was asked for goes to the standard output with status 0; wrong words, and none, to the standard error with 2.
 #[test]
 fn help_and_wrong_words(rt: HostRuntime) -> Result<(), Fail> {
-    for words in [["--help"].as_slice(), ["play", "--help"].as_slice()] {
-        let printed = run_words(&rt, words)?;
-        assert!(rt; printed.status == 0 && printed.err.is_empty());
-        assert!(rt; printed.out.as_slice().ends_with(b"  4  no memory\n"));
+    for line in ["cb_play --help", "cb_play play --help"] {
+        let printed = run_line(&rt, line)?;
+        assert!(rt; printed.status == 0 && printed.err.is_empty(), "{line}");
+        assert!(rt;
+            printed.out.as_slice().ends_with(b"  4  no memory\n"),
+            "{line}"
+        );
     }
-    for words in [[].as_slice(), ["play"].as_slice(), ["pray"].as_slice()] {
-        let printed = run_words(&rt, words)?;
-        assert!(rt; printed.status == 2 && printed.out.is_empty() && !printed.err.is_empty());
+    for line in ["cb_play", "cb_play play", "cb_play pray"] {
+        let printed = run_line(&rt, line)?;
+        assert!(rt; printed.status == 2 && printed.out.is_empty(), "{line}");
+        assert!(rt; !printed.err.is_empty(), "{line}");
     }
     Ok(())
 }
