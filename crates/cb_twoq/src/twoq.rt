@@ -1,4 +1,4 @@
-ghost use Rattle.std.specs.Prelude.{◌≡◌, ◌≢◌, ◌≤◌, ◌↔◌, length, true, Some, None, IfOk, OnErr};
+ghost use Rattle.std.specs.Prelude.{◌≡◌, ◌≢◌, ◌≤◌, ◌↔◌, [], length, true, Some, None, IfOk, OnErr};
 ghost use Rattle.cb_twoq.specs.Pages.{has};
 ghost use Rattle.cb_twoq.specs.Queues.{TwoQState, empty, reference, forget, members_of};
 ghost use Rattle.cb_twoq.specs.Law.{Chooses, IsFull, Forgets};
@@ -71,7 +71,11 @@ impl Chooser for TwoQ {
 
     ghost slots = { λ q. q.slots };
 
-    fn make(alloc: Global, limits: &Limits) -> Result<TwoQ, AllocError> {
+    fn make(alloc: Global, limits: &Limits) -> Result<TwoQ, AllocError>
+        ensures two_q { IfOk result (λ q. q ≡ empty limits.now.slots limits.now.kin limits.now.kout) }
+        ensures members { IfOk result (λ q. members_of q ≡ []) }
+        ensures slots { IfOk result (λ q. q.slots ≡ limits.now.slots) }
+    {
         TwoQ::new(alloc, limits.slots(), limits.kin(), limits.kout())
     }
 
