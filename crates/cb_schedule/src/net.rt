@@ -1,10 +1,9 @@
 //! The net: the server, the clients at their first incarnation, and every packet that was ever sent.
 ghost use Rattle.std.specs.Prelude.{◌≡◌, ℕ, ◌+◌, ◌<◌, ◌≤◌, Bool, true, false, List, [], ◌∷◌, ◌++◌, length, take, replicate, slice_get, slice_set, option_copied, Some, None, IfOk, IfErr, IsSome, OnOk, OnErr, ◌↔◌};
 ghost use Rattle.cb_commit.specs.Stores.{IsOf};
-ghost use Rattle.cb_frame.specs.Grammar.{Fits, IsFrame};
+ghost use Rattle.cb_frame.specs.Grammar.{Fits};
 ghost use Rattle.cb_frame.specs.Kinds.{kind_of_body};
 ghost use Rattle.cb_frame.specs.Spelling.{spelling};
-ghost use Rattle.cb_frame.specs.declared.frame.Frame.{Frame};
 ghost use Rattle.cb_pool.specs.PoolState.{copy_of};
 ghost use Rattle.cb_protocol.specs.ClientCalls.{CallHello, CallBegin, CallRead, CallPeek, peek_word};
 ghost use Rattle.cb_protocol.specs.World.{ClientCalls, TakePacket, new_world};
@@ -25,10 +24,10 @@ use crate::answer::{Answer, Sent, SentPackets, Word};
 use crate::client::{Client, ReadAnswer};
 use crate::client_fault::ClientFault;
 use crate::event::{Call, Event};
-use crate::packet::{Granting, Packet};
+use crate::packet::{Granting, Packet, frame_in};
 use crate::server::{Server, ServerFault, ServerReply};
 use cb_commit::Store;
-use cb_frame::{Body, Frame, FrameFault, Kind, ShortBody, decode, encode, encode_granted};
+use cb_frame::{Body, Frame, Kind, ShortBody, encode, encode_granted};
 use cb_page::{ClientNo, GrantNo, Incarnation, Limits, Page, PageNo, TxnNo, Version};
 use std::alloc::{AllocError, Global};
 use std::marker::Model;
@@ -790,18 +789,6 @@ fn new_clients(alloc: Global, limits: &Limits) -> Result<Vec<Client>, AllocError
         clients.push(client)?;
     }
     Ok(clients)
-}
-
-/// The frame that is spelled.
-fn frame_in(alloc: Global, limits: &Limits, bytes: &[u8]) -> Result<Frame, AllocError>
-    requires { (f : Frame) × IsFrame limits.now f bytes.now }
-    ensures { (f : Frame) → IsFrame limits.now f bytes.now → IfOk result (λ r. r ≡ f) }
-{
-    match decode(alloc, limits, bytes) {
-        Ok((frame, _)) => Ok(frame),
-        Err(FrameFault::Memory) => Err(AllocError),
-        Err(_) => unreachable!(),
-    }
 }
 
 #[cfg(test)]

@@ -1,7 +1,11 @@
 //! A packet, and what one brings.
-ghost use Rattle.std.specs.Prelude.{◌≡◌};
+ghost use Rattle.std.specs.Prelude.{◌≡◌, IfOk};
+ghost use Rattle.cb_frame.specs.Grammar.{IsFrame};
+ghost use Rattle.cb_frame.specs.declared.frame.Frame.{Frame};
 
-use cb_page::{ClientNo, GrantNo, Incarnation, Page, PageNo, Version};
+use cb_frame::{Frame, FrameFault, decode};
+use cb_page::{ClientNo, GrantNo, Incarnation, Limits, Page, PageNo, Version};
+use std::alloc::{AllocError, Global};
 use std::marker::Model;
 
 /// A packet that was sent: the bytes of a frame.
@@ -41,4 +45,16 @@ pub(crate) struct Granting {
     pub grant: GrantNo,
     pub version: Version,
     pub bytes: Page,
+}
+
+/// The frame that is spelled.
+pub(crate) fn frame_in(alloc: Global, limits: &Limits, bytes: &[u8]) -> Result<Frame, AllocError>
+    requires { (f : Frame) × IsFrame limits.now f bytes.now }
+    ensures { (f : Frame) → IsFrame limits.now f bytes.now → IfOk result (λ r. r ≡ f) }
+{
+    match decode(alloc, limits, bytes) {
+        Ok((frame, _)) => Ok(frame),
+        Err(FrameFault::Memory) => Err(AllocError),
+        Err(_) => unreachable!(),
+    }
 }
