@@ -94,7 +94,7 @@ IsRun config_bytes schedule_bytes status printed =
     ⊎ ((status ≡ 4) × (printed ≡ []))
 
 -- What is said on the standard error, of which the old and the new bytes are given: nothing where the events were played, that
--- memory ran out where it did. The line of a refusal is its fault's text.
+-- memory ran out where it did. Of a refusal's line this says nothing.
 abbrev pub IsSaid : ℕ → Option (List ℕ) → Option (List ℕ) → Type 0
 IsSaid status old new =
     (status ≡ 0 → Appends old new []) × (status ≡ 1 → Appends old new []) × (status ≡ 4 → Appends old new (codes "memory\n"))

@@ -70,7 +70,7 @@ impl From<AllocError> for ReadFault {
 /// Plays the schedule over a store of zeros with the configuration's limits, and prints what became of each event, the number
 /// of commits, and whether they are serial.
 ///
-/// The answer is the program's status. The configuration is checked first, then the schedule; a fault is one line on `err`, and
+/// The answer is the program's status. The configuration is checked first, then the schedule; a fault is said on `err`, and
 /// then nothing is on `out`. Where memory is refused in the play, the lines so far are printed and the last two are not.
 /// It fails only where a writer does.
 pub fn play_to<O: Write, E: Write>(
