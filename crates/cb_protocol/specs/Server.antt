@@ -1,6 +1,6 @@
 -- The server: sessions, store, queues of asks, in-use marks, commits, and each step that it makes.
-use Rattle.std.specs.Prelude.{ℕ, ◌+◌, Bool, true, false, ◌&&◌, ◌||◌, if◌then◌else◌, ◌==◌, List, [], ◌∷◌, ◌++◌, Option, Some, None}
-use Rattle.cb_protocol.specs.Basics.{update}
+use Rattle.std.specs.Prelude.{ℕ, ◌+◌, nat_lt, Bool, true, false, ◌&&◌, ◌||◌, if◌then◌else◌, ◌==◌, List, [], ◌∷◌, ◌++◌, Option, Some, None}
+use Rattle.cb_protocol.specs.Basics.{is_exactly, update}
 use Rattle.cb_protocol.specs.Messages.{Body, PageWrite}
 use Rattle.cb_protocol.specs.Session.{Admit, ApplyCommit, BeginTransaction, DropTransaction, GrantRow, Session, SessionChange, Store, has_live_txn, session_after, store_after}
 
@@ -139,6 +139,20 @@ abbrev pub has_ask : ℕ → List WaitingAsk → Bool
 has_ask c [] = false
 has_ask c (a ∷ q) = (a.client == c) || has_ask c q
 
--- client c's permission for the page is of its live transaction, so not merely kept
+-- the client's permission for the page is of its live transaction, so not merely kept
 abbrev pub is_live_permission : Server → ℕ → ℕ → Bool
-is_live_permission s c p = has_live_txn (s.session c) && (s.store.tag p == (s.session c).txn)
+is_live_permission server client page =
+    has_live_txn (server.session client)
+    && (server.store.tag page == (server.session client).txn)
+
+-- the client's row of the page has this grant
+abbrev pub has_row : Server → ℕ → ℕ → ℕ → Bool
+has_row server client page grant = is_exactly ((server.session client).row page) grant
+
+-- the client is the page's write holder
+abbrev pub is_write_holder : Server → ℕ → ℕ → Bool
+is_write_holder server client page = is_exactly (server.store.holder page) client
+
+-- that transaction of the client has not ended
+abbrev pub has_not_ended : Server → ℕ → ℕ → Bool
+has_not_ended server client txn = nat_lt (server.session client).ended txn
