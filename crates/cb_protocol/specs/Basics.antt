@@ -1,12 +1,14 @@
--- Words that every other file uses. Where a definition of this crate names no source, it is this project's rule.
+-- Words that every other file uses. Where a definition of this crate names no source, it is this
+-- project's rule.
 use Rattle.std.specs.Prelude.{◌≡◌, ℕ, Bool, true, false, if◌then◌else◌, ◌==◌, ◌⊎◌, List, [], ◌∷◌, Option, Some, None}
 
 -- the bytes of a page
 abbrev pub Bytes : Type 0
 Bytes = List ℕ
 
--- What client, server and network agree on. Clients and pages are numbered from 0; `slots`: pages that a client's pool can hold;
--- `keep_write`: a client keeps its write permissions after a commit (Callback-All), else they end with the transaction (Callback-Read) (TODS 1997).
+-- What client, server and network agree on. Clients and pages are numbered from 0; `slots`: pages
+-- that a client's pool can hold; `keep_write`: a client keeps its write permissions after a commit
+-- (Callback-All), else they end with the transaction (Callback-Read) (TODS 1997).
 pub record Limits : Type 0 where
   pub clients : ℕ
   pub pages : ℕ

@@ -8,7 +8,8 @@ use Rattle.cb_protocol.specs.Server.{AppliedCommit, Send, Server, ServerStep, Se
 abbrev pub can_flush : Server → ℕ → Bool
 can_flush s n = nat_lt s.flushed n && nat_le n s.store.last_commit
 
--- a Done for each commit above m up to n, in order, to its client at its incarnation; the commits come the newest first
+-- a Done for each commit above m up to n, in order, to its client at its incarnation; the commits
+-- come the newest first
 abbrev pub dones_between : List AppliedCommit → ℕ → ℕ → List ServerStep
 dones_between [] m n = []
 dones_between (x ∷ xs) m n = dones_between xs m n ++ (if nat_lt m x.number && nat_le x.number n then Send x.client x.incarnation (Done x.txn x.number) ∷ [] else [])

@@ -1,5 +1,6 @@
--- The messages between clients and server (TODS 1997; grants, incarnations and resending are this project's rule).
--- A grant is a number that the server gives to one copy of one page at one client; the messages about the copy name it.
+-- The messages between clients and server (TODS 1997; grants, incarnations and resending are this
+-- project's rule). A grant is a number that the server gives to one copy of one page at one client;
+-- the messages about the copy name it.
 use Rattle.std.specs.Prelude.{ℕ, Bool, true, false, if◌then◌else◌, ◌==◌, List, [], ◌∷◌, Option, Some, None}
 use Rattle.cb_protocol.specs.Basics.{Bytes}
 
@@ -14,7 +15,8 @@ abbrev pub write_of_page : List PageWrite → ℕ → Option PageWrite
 write_of_page [] p = None
 write_of_page (x ∷ xs) p = if x.page == p then Some x else write_of_page xs p
 
--- What a message says. The first eight go from a client to the server, the others from the server to a client.
+-- What a message says. The first eight go from a client to the server, the others from the server
+-- to a client.
 pub data Body : Type 0 where
   Hello : Body  -- an incarnation of the client begins
   AskRead : (txn page : ℕ) → Body  -- asks for a copy of the page

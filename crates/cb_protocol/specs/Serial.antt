@@ -1,8 +1,10 @@
--- Serial page stores and serial histories (textbook: serializability). Nothing here knows grants, copies or messages.
+-- Serial page stores and serial histories (textbook: serializability). Nothing here knows grants,
+-- copies or messages.
 use Rattle.std.specs.Prelude.{◌≡◌, ℕ, if◌then◌else◌, ◌==◌, List, [], ◌∷◌, map, reverse, ⊤}
 use Rattle.cb_protocol.specs.Basics.{Bytes, IsIn, update}
 
--- an operation of a transaction: a read that was answered with these bytes, or a write of them (textbook)
+-- an operation of a transaction: a read that was answered with these bytes, or a write of them
+-- (textbook)
 pub data Operation : Type 0 where
   Saw : (page : ℕ) → (bytes : Bytes) → Operation
   Put : (page : ℕ) → (bytes : Bytes) → Operation
@@ -42,12 +44,14 @@ pub record PerformedOperation : Type 0 where
   pub txn : ℕ
   pub operation : Operation
 
--- the operations of transaction x of client c's incarnation i; here and in the list the newest comes first
+-- the operations of transaction x of client c's incarnation i; here and in the list the newest
+-- comes first
 abbrev pub transaction_operations : List PerformedOperation → ℕ → ℕ → ℕ → List Operation
 transaction_operations [] c i x = []
 transaction_operations (l ∷ ls) c i x = if l.client == c then (if l.incarnation == i then (if l.txn == x then l.operation ∷ transaction_operations ls c i x else transaction_operations ls c i x) else transaction_operations ls c i x) else transaction_operations ls c i x
 
--- the operations of these transactions, one after another, the oldest first; the names come the newest first
+-- the operations of these transactions, one after another, the oldest first; the names come the
+-- newest first
 abbrev pub committed_operations : List TransactionName → List PerformedOperation → List (List Operation)
 committed_operations ns ls = reverse (map (λ n. reverse (transaction_operations ls n.client n.incarnation n.txn)) ns)
 

@@ -1,4 +1,5 @@
--- The operations of a transcript: what reads and writes were answered, in which transaction. A plain filter, which knows no grants and no messages.
+-- The operations of a transcript: what reads and writes were answered, in which transaction. A
+-- plain filter, which knows no grants and no messages.
 use Rattle.std.specs.Prelude.{ℕ, ◌+◌, if◌then◌else◌, ◌==◌, List, [], ◌∷◌}
 use Rattle.cb_protocol.specs.Answers.{AnswerWord, AnsweredBytes, AnsweredOk}
 use Rattle.cb_protocol.specs.ClientCalls.{Call, CallBegin, CallRead, CallWrite}

@@ -1,5 +1,6 @@
--- Which client waits for which: the waits-for graph, whose cycles are deadlocks (textbook: Bernstein, Hadzilacos and Goodman, Concurrency
--- Control and Recovery in Database Systems, chapter 3). First as a relation and a path in it, then as a test.
+-- Which client waits for which: the waits-for graph, whose cycles are deadlocks (textbook:
+-- Bernstein, Hadzilacos and Goodman, Concurrency Control and Recovery in Database Systems, chapter
+-- 3). First as a relation and a path in it, then as a test.
 use Rattle.std.specs.Prelude.{◌≡◌, ◌≢◌, ◌⊎◌, ◌<◌, ℕ, Bool, true, false, not, ◌&&◌, ◌||◌, ◌==◌, List, [], ◌∷◌, Some, None, zero, suc}
 use Rattle.cb_protocol.specs.Basics.{is_exactly, is_none}
 use Rattle.cb_protocol.specs.Server.{Server, WaitingAsk, has_ask, is_live_permission}
@@ -19,8 +20,9 @@ abbrev pub FirstAsk : (WaitingAsk → ℕ → Type 0) → ℕ → ℕ → List W
 FirstAsk Holds c d [] = ⊥
 FirstAsk Holds c d (a ∷ q) = (a.client ≡ c) × Holds a d
 
--- d holds up the ask a, the first for page p: d has write permission; or a asks to write, and d uses the page (TODS 1997: a copy called back
--- counts from its InUse on). A permission that is merely kept counts only where d uses the page (this project's rule).
+-- d holds up the ask a, the first for page p: d has write permission; or a asks to write, and d
+-- uses the page (TODS 1997: a copy called back counts from its InUse on). A permission that is
+-- merely kept counts only where d uses the page (this project's rule).
 abbrev pub HoldsUp : Server → ℕ → WaitingAsk → ℕ → Type 0
 HoldsUp s p a d = ((s.store.holder p ≡ Some d) × ((is_live_permission s d p ≡ true) ⊎ (s.in_use d p ≡ true))) ⊎ ((a.write_grant ≢ None) × (s.in_use d p ≡ true))
 
@@ -70,7 +72,8 @@ waits_for_below s c d (suc n) = waits_for_below s c d n || is_behind (s.queue n)
 abbrev pub waits_for : Server → ℕ → ℕ → Bool
 waits_for s c d = not (c == d) && waits_for_below s c d s.pages
 
--- there is a path from c to d whose inner clients are below n (textbook: Warshall's theorem on Boolean matrices)
+-- there is a path from c to d whose inner clients are below n (textbook: Warshall's theorem on
+-- Boolean matrices)
 abbrev pub has_path_through : (ℕ → ℕ → Bool) → ℕ → ℕ → ℕ → Bool
 has_path_through r zero c d = r c d
 has_path_through r (suc n) c d = has_path_through r n c d || (has_path_through r n c n && has_path_through r n n d)

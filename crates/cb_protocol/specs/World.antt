@@ -1,4 +1,5 @@
--- The world: a server, its clients, every packet that was ever sent, and what each event makes of it.
+-- The world: a server, its clients, every packet that was ever sent, and what each event makes of
+-- it.
 use Rattle.std.specs.Prelude.{◌≡◌, ℕ, ◌+◌, nat_lt, nat_le, length, if◌then◌else◌, ◌==◌, List, [], ◌∷◌, ◌++◌, Option, Some, None, zero, suc, ⊤}
 use Rattle.cb_protocol.specs.Answers.{AnswerWord, AnsweredOk, Exhausted, Flushed, NoClient, NoPacket, Nothing, Refused, ServerExhausted, Taken}
 use Rattle.cb_protocol.specs.Basics.{Bytes, Limits, max_number, update}
@@ -12,8 +13,9 @@ use Rattle.cb_protocol.specs.Server.{DeadlockTest, Send, Server, ServerStep, new
 use Rattle.cb_protocol.specs.ServerMessages.{is_exhausted, server_take}
 use Rattle.cb_protocol.specs.Session.{Store}
 
--- An event: a call of a client; a packet is taken by its addressee, any number of times and in any order; a client restarts; the server sends again;
--- commits are on disk, up to the last one or up to a given one.
+-- An event: a call of a client; a packet is taken by its addressee, any number of times and in any
+-- order; a client restarts; the server sends again; commits are on disk, up to the last one or up
+-- to a given one.
 pub data Event : Type 0 where
   ClientCalls : (client : ℕ) → Call → Event
   TakePacket : (packet : ℕ) → Event
@@ -103,8 +105,8 @@ server_does w e word ds = answer_with w e word (messages_sent ds) (record w { se
 abbrev pub answer_only : World → Event → AnswerWord → StepResult
 answer_only w e word = answer_with w e word [] w
 
--- A packet is taken by its addressee; one of another incarnation than the client's is ignored. `let_go`: the page that the client's pool lets go,
--- should it take in a page.
+-- A packet is taken by its addressee; one of another incarnation than the client's is ignored.
+-- `let_go`: the page that the client's pool lets go, should it take in a page.
 abbrev pub deliver : Limits → DeadlockTest → World → Event → Message → Option ℕ → StepResult
 deliver L cycle w e f let_go =
     if to_server f.body
@@ -128,7 +130,8 @@ restart_client w e c =
 abbrev pub flush_up_to : World → Event → ℕ → StepResult
 flush_up_to w e n = if can_flush w.server n then server_does w e (Flushed n) (server_flush w.server n) else answer_only w e Nothing
 
--- What a world answers to an event, and becomes by it. Proofs open it by the case lemmas of proofs/Cases.
+-- What a world answers to an event, and becomes by it. Proofs open it by the case lemmas of
+-- proofs/Cases.
 unfoldable pub step : Limits → DeadlockTest → World → Event → Option ℕ → StepResult
 step L cycle w (ClientCalls c x) let_go =
     if nat_lt c L.clients then client_does L w (ClientCalls c x) c (client_call L (w.client c) x).word (client_call L (w.client c) x).steps else answer_only w (ClientCalls c x) NoClient
