@@ -23,3 +23,6 @@ pub mod Deadlock
 pub mod ClientAlone
 pub mod StepsLeave
 pub mod Ranges
+pub mod AskLaws
+pub mod CommitLaws
+pub mod HelloLaws
