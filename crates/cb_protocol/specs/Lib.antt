@@ -26,3 +26,4 @@ pub mod Ranges
 pub mod AskLaws
 pub mod CommitLaws
 pub mod HelloLaws
+pub mod Numbers

@@ -6,6 +6,7 @@
 
 pub mod alone;
 pub mod deadlock;
+pub mod numbers;
 pub mod server;
 
 ghost use Rattle.cb_protocol.specs.Laws.{CommittedAlwaysSerial, CopiesAlwaysAgree, CopiesAlwaysBacked, DirectoryAlwaysKept, DonesAlwaysNameCommits, DonesAlwaysOnDisk, EachCommitsOnce, RulesHoldUnderAnyMessages, WholePromise, WriterAlwaysAlone};
