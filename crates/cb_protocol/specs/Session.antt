@@ -1,6 +1,6 @@
 -- What the server has for one client and for all, and each change that is about one client.
 use Rattle.std.specs.Prelude.{ℕ, ◌+◌, ◌-◌, nat_lt, Bool, if◌then◌else◌, ◌==◌, List, Option, Some, None}
-use Rattle.cb_protocol.specs.Basics.{Bytes, update}
+use Rattle.cb_protocol.specs.Basics.{Bytes, same_transaction, update}
 use Rattle.cb_protocol.specs.Messages.{PageWrite, write_of_page}
 
 -- What the server knows of one client. The row of a page is the directory's entry: that client has
@@ -27,11 +27,8 @@ pub record Store : Type 0 where
 abbrev pub set_commit_number : (ℕ → ℕ → ℕ → Option ℕ) → (client incarnation txn number : ℕ)
     → ℕ → ℕ → ℕ → Option ℕ
 set_commit_number numbers client incarnation txn number at_client at_incarnation at_txn =
-    if at_client == client then (
-    if at_incarnation == incarnation
-    then (if at_txn == txn then Some number else numbers at_client at_incarnation at_txn)
+    if same_transaction at_client at_incarnation at_txn client incarnation txn then Some number
     else numbers at_client at_incarnation at_txn
-    ) else numbers at_client at_incarnation at_txn
 
 -- a client is write holder of no page any more; of one page
 abbrev pub without_holder : (ℕ → Option ℕ) → (client : ℕ) → ℕ → Option ℕ
