@@ -79,8 +79,7 @@ add_downgrade_sent tag (ask ∷ queue) =
 -- the in-use marks with that of a client on a page set or taken off; without those of a client
 abbrev pub set_in_use : (ℕ → ℕ → Bool) → ℕ → ℕ → Bool → ℕ → ℕ → Bool
 set_in_use marks client page marked at_client at_page =
-    if at_client == client then (if at_page == page then marked else marks at_client at_page)
-    else marks at_client at_page
+    if (at_client == client) && (at_page == page) then marked else marks at_client at_page
 
 abbrev pub without_marks : (ℕ → ℕ → Bool) → ℕ → ℕ → ℕ → Bool
 without_marks marks client at_client at_page =
