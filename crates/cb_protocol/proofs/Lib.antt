@@ -49,6 +49,7 @@ pub mod ServerRangesKept
 -- numbers, room and marks of the server
 pub mod GrantNumbers
 pub mod MessagesSent
+pub mod MarksKept
 -- computed schedules
 pub mod ScheduleText
 pub mod WorkedSchedules

@@ -24,3 +24,4 @@ pub mod ClientAlone
 pub mod StepsLeave
 pub mod Ranges
 pub mod Numbers
+pub mod Marks
