@@ -50,6 +50,7 @@ pub mod ServerRangesKept
 pub mod GrantNumbers
 pub mod MessagesSent
 pub mod MarksKept
+pub mod Permissions
 -- computed schedules
 pub mod ScheduleText
 pub mod WorkedSchedules

@@ -5,11 +5,11 @@ use Rattle.cb_protocol.specs.Basics.{is_exactly}
 use Rattle.cb_protocol.specs.Deadlock.{AfterInput, InputInRange, Opened, ReachedServer}
 use Rattle.cb_protocol.specs.Marks.{Comes, GivesBack, HasLiveTxn, HasRow, MarksLive, MarksSetAndTaken, SameLiveTxn, SaysInUse}
 use Rattle.cb_protocol.specs.Messages.{AbortNow, AskRead, AskWrite, Body, Callback, Commit, Done, Downgrade, Downgraded, Drop, GiveBack, Granted, Hello, InUse, MayWrite, Welcome}
-use Rattle.cb_protocol.specs.Server.{ChangeSession, ForgetTransaction, MarkInUse, Send, Server, ServerStep, UnmarkInUse, server_after}
+use Rattle.cb_protocol.specs.Server.{DeadlockTest, ChangeSession, ForgetTransaction, MarkInUse, Send, Server, ServerStep, UnmarkInUse, server_after}
 use Rattle.cb_protocol.specs.ServerMessages.{admit_incarnation, begin_transaction, commit_allowed, direct_answer, named_txn, repeat_done, server_take, take_current}
 use Rattle.cb_protocol.specs.Session.{Admit, ApplyCommit, BeginTransaction, DropTransaction, EndPermission, RemoveRow}
 use Rattle.cb_protocol.specs.Settling.{send_to, settle_pages}
-use Rattle.cb_protocol.specs.StepsLeave.{Leaves}
+use Rattle.cb_protocol.specs.StepsKeep.{KeepsClient}
 use Rattle.cb_protocol.specs.WaitsFor.{on_cycle}
 use Rattle.cb_protocol.proofs.Cases.{serves_current, serves_hello_again, serves_new_hello, serves_no_old_hello, serves_no_other_incarnation}
 use Rattle.cb_protocol.proofs.LivePermissions.{AnyMessage, right_input}
@@ -38,7 +38,7 @@ record AnswerMarks (k a : Server) (c : ℕ) (b : Body) : Type 0 where
   rows : (p g : ℕ) → (Returns k c b p → ⊥) → (k.session c).row p ≡ Some g → (a.session c).row p ≡ Some g
 
 -- an answer that leaves all that its client has
-answer_leaves : (k a : Server) (c : ℕ) (b : Body) → Leaves k a c → ((p : ℕ) → Marks k c b p → ⊥) → ((p : ℕ) → Returns k c b p → ⊥) → AnswerMarks k a c b
+answer_leaves : (k a : Server) (c : ℕ) (b : Body) → KeepsClient k a c → ((p : ℕ) → Marks k c b p → ⊥) → ((p : ℕ) → Returns k c b p → ⊥) → AnswerMarks k a c b
 answer_leaves k a c b l m r = record {
   current = l.incarnation;
   txn = l.begun;
@@ -134,7 +134,7 @@ answer_in_use k c t p g e l = record {
 answer_none : (k : Server) (c : ℕ) (b : Body) → ((p : ℕ) → Marks k c b p → ⊥) → ((p : ℕ) → Returns k c b p → ⊥) → AnswerMarks k k c b
 answer_none k c b m r = answer_gentle k c b [] tt m r
 
-answer_marks : (cycle : Server → ℕ → Bool) (k : Server) (c : ℕ) (b : Body) → (k.session c).txn ≤ (k.session c).ended + 1 → AnswerMarks k (server_after k (direct_answer cycle k c b)) c b
+answer_marks : (cycle : DeadlockTest) (k : Server) (c : ℕ) (b : Body) → (k.session c).txn ≤ (k.session c).ended + 1 → AnswerMarks k (server_after k (direct_answer cycle k c b)) c b
 answer_marks cycle k c (AskRead t p) e = answer_gentle k c (AskRead t p) _ (gentle_live c k c t _ (gentle_ask_read c cycle k c p ((k.session c).row p))) (no_marks c (AskRead t p) (λ x y z f. cc) k) (no_returns c (AskRead t p) (λ y z f. cc) k)
 answer_marks cycle k c (AskWrite t p g) e = answer_gentle k c (AskWrite t p g) _ (gentle_live c k c t _ (gentle_ask_write c cycle k c p g)) (no_marks c (AskWrite t p g) (λ x y z f. cc) k) (no_returns c (AskWrite t p g) (λ y z f. cc) k)
 answer_marks cycle k c (GiveBack p g) e = go (is_exactly ((k.session c).row p) g) refl
@@ -253,7 +253,7 @@ record StepMarks (s t : Server) (i : Input) (d : ℕ) : Type 0 where
   live : LiveAt t d
 
 -- a step that leaves all that client d has, and is of no message of it that counts
-step_leaves : (s t : Server) (i : Input) (d : ℕ) → Leaves s t d → LiveAt s d → ((b : Body) → Comes s i d b → ⊥) → StepMarks s t i d
+step_leaves : (s t : Server) (i : Input) (d : ℕ) → KeepsClient s t d → LiveAt s d → ((b : Body) → Comes s i d b → ⊥) → StepMarks s t i d
 step_leaves s t i d l h n = record {
   come = λ p e. inr (sym (l.mark p) ∙ e, (l.incarnation, l.begun, lives p (sym (l.mark p) ∙ e)), λ x. n (GiveBack p x.0) x.1);
   back = λ p x. elim x [ inl y ↦ absurd (n (InUse y.0 p y.1.0) y.1.1) | inr y ↦ l.mark p ∙ y.0 ];
@@ -324,7 +324,7 @@ begins_marks s c b o = go (nat_lt (s.session c).txn (named_txn b)) refl
     }
 
 -- a message of the current incarnation
-current_marks : (cycle : Server → ℕ → Bool) (s : Server) (c : ℕ) (b : Body) → Orderly AnyMessage s → LiveAt s c → StepMarks s (server_after s (take_current cycle s c b)) (MessageComes c (s.session c).current b) c
+current_marks : (cycle : DeadlockTest) (s : Server) (c : ℕ) (b : Body) → Orderly AnyMessage s → LiveAt s c → StepMarks s (server_after s (take_current cycle s c b)) (MessageComes c (s.session c).current b) c
 current_marks cycle s c b o h = subst (λ (z : Server). StepMarks s z i c) (sym whole) (record { come = come; back = back; live = live })
   where
     i : Input
@@ -348,7 +348,7 @@ current_marks cycle s c b o h = subst (λ (z : Server). StepMarks s z i c) (sym 
     m : AnswerMarks k a c b
     m = answer_marks cycle k c b u.step
 
-    l : Leaves a t c
+    l : KeepsClient a t c
     l = leaves_all a c (settle_pages cycle a a.pages) (gentle_settles c cycle a a.pages)
 
     of_body : (d : Body) → Comes s i c d → b ≡ d
@@ -389,7 +389,7 @@ current_marks cycle s c b o h = subst (λ (z : Server). StepMarks s z i c) (sym 
     ]
 
 -- a greater Hello
-admitted_marks : (cycle : Server → ℕ → Bool) (s : Server) (c i : ℕ) → (s.session c).current < i → StepMarks s (server_after s (admit_incarnation cycle s c i)) (MessageComes c i Hello) c
+admitted_marks : (cycle : DeadlockTest) (s : Server) (c i : ℕ) → (s.session c).current < i → StepMarks s (server_after s (admit_incarnation cycle s c i)) (MessageComes c i Hello) c
 admitted_marks cycle s c i l = record {
   come = λ p e. absurd (let z = gone p in cc);
   back = λ p x. elim x [ inl y ↦ absurd (no_in_use p y) | inr y ↦ absurd (let z = y.1.0 in let w = admitted in omega arith) ];
@@ -405,7 +405,7 @@ admitted_marks cycle s c i l = record {
     t : Server
     t = server_after s (admit_incarnation cycle s c i)
 
-    k : Leaves a t c
+    k : KeepsClient a t c
     k = leaves_all a c (settle_pages cycle a a.pages) (gentle_settles c cycle a a.pages)
 
     gone : (p : ℕ) → t.in_use c p ≡ false
