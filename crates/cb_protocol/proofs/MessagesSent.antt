@@ -9,7 +9,7 @@ use Rattle.cb_protocol.specs.Numbers.{SettlingSendsAtMost, StepSendsAtMost, copi
 use Rattle.cb_protocol.specs.Server.{DeadlockTest, ChangeSession, Doom, EnterQueue, ForgetTransaction, LeaveQueue, MarkCalledBack, MarkInUse, MarkDowngradeSent, RemoveAsk, Send, Server, ServerStep, SetFlushed, UnmarkInUse, WaitingAsk, after_first, after_server_step, server_after, without_client}
 use Rattle.cb_protocol.specs.ServerMessages.{begin_transaction, commit_allowed, direct_answer, enter_queue, has_waiting_ask, is_empty, named_txn, new_ask, read_asks_below, read_asks_in, repeat_done, server_take, take_ask_read, take_ask_write, take_current}
 use Rattle.cb_protocol.specs.Session.{Admit, ApplyCommit, BeginTransaction, DropTransaction, EndPermission, PermitWrite, RemoveRow}
-use Rattle.cb_protocol.specs.Settling.{Decided, Decision, Settled, call_back_once, decide, decide_read, decide_write, decision_steps, doom_client, downgrade_once, grant_row, is_listed, keeps_permission, no_other_holder, nobody, permit_write, send_callback, send_callbacks, send_downgrade, send_downgrades, settle_page, settle_pages, send_to, sole_row, wait_or_doom}
+use Rattle.cb_protocol.specs.Settling.{Decided, Decision, Settled, call_back_once, decide, decide_read, decide_write, decision_steps, doom_client, downgrade_once, grant_row, keeps_permission, no_other_holder, nobody, permit_write, send_callback, send_callbacks, send_downgrade, send_downgrades, settle_page, settle_pages, send_to, sole_row, wait_or_doom}
 use Rattle.cb_protocol.specs.WaitsFor.{AsksInRange, HasAsk, on_cycle}
 use Rattle.cb_protocol.specs.World.{messages_sent}
 use Rattle.cb_protocol.proofs.CyclePaths.{below_or_not}
@@ -159,7 +159,7 @@ spends_decide w count cycle s p (a ∷ q) f e = kind_of a.write_grant refl
     back = send_callbacks s nobody p a.client s.clients
 
     told : Stays p s (server_after s (down ++ MarkDowngradeSent p (s.store.tag p) ∷ [])) a q
-    told = stays_noted s p a (record a { downgrades_sent = s.store.tag p ∷ a.downgrades_sent }) q down (MarkDowngradeSent p (s.store.tag p)) (sends_downgrades s nobody p a.client (s.store.holder p)) (rw e refl) refl refl
+    told = stays_noted s p a (record a { downgrade_sent = Some (s.store.tag p) }) q down (MarkDowngradeSent p (s.store.tag p)) (sends_downgrades s nobody p a.client (s.store.holder p)) (rw e refl) refl refl
 
     called : Stays p s (server_after s (back ++ MarkCalledBack p ∷ [])) a q
     called = stays_noted s p a (record a { called_back = true }) q back (MarkCalledBack p) (sends_callbacks s nobody p a.client s.clients) (rw e refl) refl refl
@@ -174,7 +174,7 @@ spends_decide w count cycle s p (a ∷ q) f e = kind_of a.write_grant refl
 
     reads : a.write_grant ≡ None → (u : Bool) → DecisionSpends w count p s (if u then Decided (grant_row s p a.client) else wait_or_doom cycle s a.client (downgrade_once s p a))
     reads g true = spends_leave w s (server_after s (grant_row s p a.client)) p a q (count (grant_row s p a.client)) e refl refl (rw g (f.grants s p a.client))
-    reads g false = let ds = downgrade_once s p a in spends_refuses w count cycle s p a q ds f.append e (brought (s.store.keep_write && keeps_permission s p a.client (s.store.holder p) && not (is_listed (s.store.tag p) a.downgrades_sent))) (rw g (f.downs s (server_after s ds) p a.client a))
+    reads g false = let ds = downgrade_once s p a in spends_refuses w count cycle s p a q ds f.append e (brought (s.store.keep_write && keeps_permission s p a.client (s.store.holder p) && not (is_exactly a.downgrade_sent (s.store.tag p)))) (rw g (f.downs s (server_after s ds) p a.client a))
 
     writes : (g : ℕ) → a.write_grant ≡ Some g → (u : Bool) → DecisionSpends w count p s (if u then Decided (permit_write s p a.client g) else wait_or_doom cycle s a.client (call_back_once s p a))
     writes g h true = spends_leave w s (server_after s (permit_write s p a.client g)) p a q (count (permit_write s p a.client g)) e refl refl (rw h (f.permits s p a.client g))
@@ -250,7 +250,7 @@ messages_counted clients = record {
   grants = λ s p c. omega arith;
   permits = λ s p c g. omega arith;
   calls = λ s k p c g a e. calls s p a e a.called_back;
-  downs = λ s k p c a. downs s p a (s.store.keep_write && keeps_permission s p a.client (s.store.holder p) && not (is_listed (s.store.tag p) a.downgrades_sent));
+  downs = λ s k p c a. downs s p a (s.store.keep_write && keeps_permission s p a.client (s.store.holder p) && not (is_exactly a.downgrade_sent (s.store.tag p)));
 }
   where
     calls : (s : Server) (p : ℕ) (a : WaitingAsk) → s.clients ≡ clients → (r : Bool) → sends (if r then [] else send_callbacks s nobody p a.client s.clients ++ MarkCalledBack p ∷ []) + 1 ≤ clients + 1
@@ -301,7 +301,7 @@ copies_counted clients = record {
   grants = λ s p c. omega arith;
   permits = λ s p c g. omega arith;
   calls = λ s k p c g a e. calls s p a a.called_back;
-  downs = λ s k p c a. downs s p a (s.store.keep_write && keeps_permission s p a.client (s.store.holder p) && not (is_listed (s.store.tag p) a.downgrades_sent));
+  downs = λ s k p c a. downs s p a (s.store.keep_write && keeps_permission s p a.client (s.store.holder p) && not (is_exactly a.downgrade_sent (s.store.tag p)));
 }
   where
     calls : (s : Server) (p : ℕ) (a : WaitingAsk) → (r : Bool) → copies_sent (if r then [] else send_callbacks s nobody p a.client s.clients ++ MarkCalledBack p ∷ []) + 0 ≤ 0

@@ -9,7 +9,7 @@ pub record WaitingAsk : Type 0 where
   pub client : ℕ
   pub write_grant : Option ℕ  -- none: it asks to read; else to write, by that grant
   pub called_back : Bool  -- the Callbacks for it were sent
-  pub downgrades_sent : List ℕ  -- the tags of the permissions for which a Downgrade was sent for it
+  pub downgrade_sent : Option ℕ  -- the tag of the last permission for which a Downgrade was sent for it
 
 -- a commit that was applied
 pub record AppliedCommit : Type 0 where
@@ -65,9 +65,9 @@ abbrev pub set_called_back : List WaitingAsk → List WaitingAsk
 set_called_back [] = []
 set_called_back (a ∷ q) = record a { called_back = true } ∷ q
 
-abbrev pub add_downgrade_sent : ℕ → List WaitingAsk → List WaitingAsk
-add_downgrade_sent t [] = []
-add_downgrade_sent t (a ∷ q) = record a { downgrades_sent = t ∷ a.downgrades_sent } ∷ q
+abbrev pub set_downgrade_sent : ℕ → List WaitingAsk → List WaitingAsk
+set_downgrade_sent t [] = []
+set_downgrade_sent t (a ∷ q) = record a { downgrade_sent = Some t } ∷ q
 
 -- the in-use marks with one set or taken off; without those of client c
 abbrev pub set_in_use : (ℕ → ℕ → Bool) → ℕ → ℕ → Bool → ℕ → ℕ → Bool
@@ -105,7 +105,7 @@ after_server_step s (Send c i b) = s
 after_server_step s (EnterQueue p a) = record s { queue = update s.queue p (s.queue p ++ a ∷ []) }
 after_server_step s (LeaveQueue p) = record s { queue = update s.queue p (after_first (s.queue p)) }
 after_server_step s (MarkCalledBack p) = record s { queue = update s.queue p (set_called_back (s.queue p)) }
-after_server_step s (MarkDowngradeSent p t) = record s { queue = update s.queue p (add_downgrade_sent t (s.queue p)) }
+after_server_step s (MarkDowngradeSent p t) = record s { queue = update s.queue p (set_downgrade_sent t (s.queue p)) }
 after_server_step s (MarkInUse c p) = record s { in_use = set_in_use s.in_use c p true }
 after_server_step s (UnmarkInUse c p) = record s { in_use = set_in_use s.in_use c p false }
 after_server_step s (RemoveAsk c) = record s { queue = λ p. without_client c (s.queue p) }

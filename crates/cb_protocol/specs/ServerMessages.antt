@@ -29,7 +29,7 @@ has_waiting_ask s c (suc n) = has_waiting_ask s c n || has_ask c (s.queue n)
 
 -- an ask as it enters
 abbrev pub new_ask : ℕ → Option ℕ → WaitingAsk
-new_ask c w = record { client = c; write_grant = w; called_back = false; downgrades_sent = [] }
+new_ask c w = record { client = c; write_grant = w; called_back = false; downgrade_sent = None }
 
 -- AskRead: a client with a row gets that row's grant again, with the present bytes; one whose ask waits gets nothing; else the ask enters.
 abbrev pub take_ask_read : DeadlockTest → Server → ℕ → ℕ → Option ℕ → List ServerStep

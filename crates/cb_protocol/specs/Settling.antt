@@ -79,18 +79,19 @@ permit_write s p c g = ChangeSession c (PermitWrite p g) ∷ send_to s c (MayWri
 abbrev pub grant_row : Server → ℕ → ℕ → List ServerStep
 grant_row s p c = ChangeSession c (GrantRow p s.next_grant) ∷ send_granted s c p s.next_grant ∷ LeaveQueue p ∷ []
 
--- t is in the list
-abbrev pub is_listed : ℕ → List ℕ → Bool
-is_listed t [] = false
-is_listed t (x ∷ xs) = (x == t) || is_listed t xs
-
 -- Callbacks to every other row, once for each ask
 abbrev pub call_back_once : Server → ℕ → WaitingAsk → List ServerStep
 call_back_once s p a = if a.called_back then [] else send_callbacks s nobody p a.client s.clients ++ MarkCalledBack p ∷ []
 
--- A Downgrade to a client that merely keeps its permission, once for each ask and tag
+-- A Downgrade to a client that merely keeps its permission, once for each ask and tag: the tags of
+-- an ask only rise, so the last one tells.
 abbrev pub downgrade_once : Server → ℕ → WaitingAsk → List ServerStep
-downgrade_once s p a = if s.store.keep_write && keeps_permission s p a.client (s.store.holder p) && not (is_listed (s.store.tag p) a.downgrades_sent) then send_downgrades s nobody p a.client (s.store.holder p) ++ MarkDowngradeSent p (s.store.tag p) ∷ [] else []
+downgrade_once s p a =
+    if s.store.keep_write && keeps_permission s p a.client (s.store.holder p)
+    && not (is_exactly a.downgrade_sent (s.store.tag p))
+    then send_downgrades s nobody p a.client (s.store.holder p)
+    ++ MarkDowngradeSent p (s.store.tag p) ∷ []
+    else []
 
 -- A first write ask: permitted where no other client is write holder and the only row of the page is the asker's; else the other rows are called back.
 abbrev pub decide_write : DeadlockTest → Server → ℕ → WaitingAsk → ℕ → Decision
