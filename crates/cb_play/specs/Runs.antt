@@ -5,14 +5,15 @@ use Rattle.cb_commit.specs.Stores.{zeros}
 use Rattle.cb_page.specs.Bounds.{Bounds}
 use Rattle.cb_protocol.specs.World.{new_world}
 use Rattle.cb_schedule.specs.Plays.{Played}
-use Rattle.cb_schedule.specs.ProtocolLimits.{limits_of}
-use Rattle.cb_schedule.specs.ScheduleText as text
-use Rattle.cb_schedule.specs.Transcripts.{IsSerialOverAny, TranscriptState}
-use Rattle.cb_schedule.specs.WorldState.{Shows, WorldState, opening_of}
-use Rattle.cb_schedule.specs.declared.answer.Entry.{Entry}
-use Rattle.cb_schedule.specs.declared.event.Event.{Event}
-use Rattle.cb_schedule.specs.declared.text.ScheduleFault.{ScheduleFault}
-use Rattle.cb_schedule.specs.declared.text.ScheduleFault.TheVariants as schedule
+use Rattle.cb_first_client.specs.ProtocolLimits.{limits_of}
+use Rattle.cb_event.specs.ScheduleText as text
+use Rattle.cb_transcript.specs.Transcripts.{IsSerialOverAny, TranscriptState}
+use Rattle.cb_first_net.specs.NetState.{opening_of}
+use Rattle.cb_schedule.specs.WorldState.{Shows, WorldState}
+use Rattle.cb_transcript.specs.declared.answer.Entry.{Entry}
+use Rattle.cb_event.specs.declared.event.Event.{Event}
+use Rattle.cb_event.specs.declared.text.ScheduleFault.{ScheduleFault}
+use Rattle.cb_event.specs.declared.text.ScheduleFault.TheVariants as schedule
 use Rattle.cb_play.specs.Output.{last_lines, lines_from}
 use Rattle.cb_play.specs.Settings.{IsConfig, IsWrong, config_text}
 use Rattle.cb_play.specs.declared.config.Config.{Config}

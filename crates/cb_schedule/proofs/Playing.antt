@@ -5,12 +5,12 @@ use Rattle.std.specs.List.{AllByRecursion}
 use Rattle.std.proofs.lemmas.List.{append-nil, map-append}
 use Rattle.cb_page.specs.Bounds.{Bounds}
 use Rattle.cb_schedule.specs.Plays.{Played, Stands, Steps}
-use Rattle.cb_schedule.specs.ProtocolEvents.{event_of, answer_of}
-use Rattle.cb_schedule.specs.ProtocolLimits.{limits_of}
+use Rattle.cb_transcript.specs.ProtocolEvents.{event_of, answer_of}
+use Rattle.cb_first_client.specs.ProtocolLimits.{limits_of}
 use Rattle.cb_schedule.specs.WorldState.{WorldState, Shows, opened}
-use Rattle.cb_schedule.specs.declared.event.Event.{Event}
-use Rattle.cb_schedule.specs.declared.answer.Answer.{Answer}
-use Rattle.cb_schedule.specs.declared.answer.Entry.{Entry}
+use Rattle.cb_event.specs.declared.event.Event.{Event}
+use Rattle.cb_transcript.specs.declared.answer.Answer.{Answer}
+use Rattle.cb_transcript.specs.declared.answer.Entry.{Entry}
 use Rattle.cb_schedule.proofs.Worlds.{after_more, plays_more, promise_of, promises_more, reached_more}
 use Rattle.cb_protocol.specs.Headline.{SoundOpening}
 use Rattle.cb_protocol.specs.Laws.{ReachedWorld, WholePromise}

@@ -1,24 +1,25 @@
 -- A world of the protocol, event by event: it stays reached from the opening store, which stays what it was.
-use Rattle.std.proofs.Common.{◌≡◌, ℕ, ◌+◌, Bool, true, false, List, [], ◌∷◌, ◌++◌, length, map, refl, ap, sym, ◌∙◌, subst, suc, ◌≤◌, nat_lt, arith}
+use Rattle.std.proofs.Common.{◌≡◌, ℕ, ◌+◌, Bool, true, false, List, [], ◌∷◌, ◌++◌, length, map, refl, ap, sym, ◌∙◌, subst, suc, ◌≤◌, nat_lt, take, Result, Ok, Err, OnErr, arith}
 use Rattle.std.specs.Prelude.{reverse}
 use Rattle.std.specs.List.{AllByRecursion}
-use Rattle.std.proofs.lemmas.List.{get_or_past, map-append, reverse-append}
+use Rattle.std.proofs.lemmas.List.{get_or_past, take_at, map-append, reverse-append}
 use Rattle.std.proofs.lemmas.List.Elements.{All-get_or}
 use Rattle.std.proofs.lemmas.Bool.Decides.{nat_tests}
 use Rattle.cb_page.specs.Bounds.{Bounds}
 use Rattle.cb_commit.specs.Stores.{IsSound, IsStored, StoreState, no_page, version_at}
-use Rattle.cb_schedule.specs.NetMoves as net
+use Rattle.cb_first_net.specs.NetMoves as net
 use Rattle.cb_schedule.specs.Plays.{IsSpelled, IsWorld, Stands, Steps}
-use Rattle.cb_schedule.specs.ProtocolEvents.{event_of, answer_of, word_of, sent_of, entry_of, transcript_of}
-use Rattle.cb_schedule.specs.ProtocolLimits.{limits_of}
-use Rattle.cb_schedule.specs.ServerState.{ServerState, server_of}
-use Rattle.cb_schedule.specs.Wire.{AllSpell}
-use Rattle.cb_schedule.specs.WorldState.{NetState, WorldState, Shows, ShowsNet, opened, opening_of}
-use Rattle.cb_schedule.specs.declared.event.Event.{Event}
-use Rattle.cb_schedule.specs.declared.answer.Answer.{Answer}
-use Rattle.cb_schedule.specs.declared.answer.Sent.{Sent}
-use Rattle.cb_schedule.specs.declared.answer.Entry.{Entry}
-use Rattle.cb_schedule.proofs.Nets.{spell_length}
+use Rattle.cb_transcript.specs.ProtocolEvents.{event_of, answer_of, word_of, sent_of, entry_of, transcript_of}
+use Rattle.cb_first_client.specs.ProtocolLimits.{limits_of}
+use Rattle.cb_first_server.specs.ServerState.{ServerState, server_of}
+use Rattle.cb_first_net.specs.Wire.{AllSpell}
+use Rattle.cb_first_net.specs.NetState.{NetState, ShowsNet, opening_of}
+use Rattle.cb_schedule.specs.WorldState.{IsShown, WorldState, Shows, opened}
+use Rattle.cb_event.specs.declared.event.Event.{Event}
+use Rattle.cb_transcript.specs.declared.answer.Answer.{Answer}
+use Rattle.cb_transcript.specs.declared.answer.Sent.{Sent}
+use Rattle.cb_transcript.specs.declared.answer.Entry.{Entry}
+use Rattle.cb_first_net.proofs.Nets.{spell_length}
 use Rattle.cb_schedule.proofs.SameFrames.{packets_more, all_spelled}
 use Rattle.cb_protocol.specs.AnyMessages.{Ledger}
 use Rattle.cb_protocol.specs.Basics.{Limits}
@@ -106,6 +107,17 @@ packets_added n m e a u b sh =
     let fs = by.1 in
     let more = packets_more n.limits n.packets m.packets u.packets fs sh.packets (subst (λ (l : Bounds). AllSpell l m.packets (u.packets ++ fs)) b.limits by.6.packets) in
     (more.0, more.1, more.2 ∙ sym (as_many (length n.packets) fs) ∙ ap length by.5 ∙ sent_length a.sent)
+
+-- Where only the packets from before an event stay, they are those of before.
+pub packets_taken_back : (n m : NetState) (e : protocol.Event) (a : Answer) → IsShown n → net.Becomes n e a m
+    → take (length n.packets) m.packets ≡ n.packets
+packets_taken_back n m e a shown b =
+    let added = packets_added n m e a shown.0 b shown.1 in
+    ap (λ (ps : List (List ℕ)). take (length n.packets) ps) added.1 ∙ take_at n.packets added.0 (length n.packets) refl
+
+pub on_err : {A E : Type 0} (r : Result A E) (P : Type 0) → P → OnErr r P
+on_err (Ok a) P p = tt
+on_err (Err e) P p = p
 
 -- A running world plays an event.
 pub steps : (w v : WorldState) (e : Event) (a : Answer) → WholePromise → Stands w → w.stopped ≡ false → v.stopped ≡ false → v.limits ≡ w.limits

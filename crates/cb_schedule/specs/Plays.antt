@@ -4,12 +4,12 @@ use Rattle.std.specs.List.{AllByRecursion}
 use Rattle.cb_page.specs.Bounds.{Bounds}
 use Rattle.cb_frame.specs.Grammar.{IsFrame}
 use Rattle.cb_frame.specs.declared.frame.Frame.{Frame}
-use Rattle.cb_schedule.specs.ProtocolEvents.{event_of, answer_of}
-use Rattle.cb_schedule.specs.ProtocolLimits.{limits_of}
+use Rattle.cb_transcript.specs.ProtocolEvents.{event_of, answer_of}
+use Rattle.cb_first_client.specs.ProtocolLimits.{limits_of}
 use Rattle.cb_schedule.specs.WorldState.{WorldState, Shows, opened}
-use Rattle.cb_schedule.specs.declared.event.Event.{Event}
-use Rattle.cb_schedule.specs.declared.answer.Answer.{Answer}
-use Rattle.cb_schedule.specs.declared.answer.Entry.{Entry}
+use Rattle.cb_event.specs.declared.event.Event.{Event}
+use Rattle.cb_transcript.specs.declared.answer.Answer.{Answer}
+use Rattle.cb_transcript.specs.declared.answer.Entry.{Entry}
 use Rattle.cb_protocol.specs.Headline.{Promise, Promises, SoundOpening}
 use Rattle.cb_protocol.specs.Laws.{ReachedWorld}
 use Rattle.cb_protocol.specs.WaitsFor.{on_cycle}

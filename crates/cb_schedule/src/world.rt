@@ -5,19 +5,21 @@ ghost use Rattle.cb_commit.specs.Stores.{IsOf};
 ghost use Rattle.cb_protocol.specs.Headline.{Promise};
 ghost use Rattle.cb_protocol.specs.World.{new_world};
 ghost use Rattle.cb_schedule.specs.Plays.{IsSpelled, Played, Stands, Steps};
-ghost use Rattle.cb_schedule.specs.ProtocolEvents.{IsPlayed};
-ghost use Rattle.cb_schedule.specs.ProtocolLimits.{limits_of};
-ghost use Rattle.cb_schedule.specs.WorldState.{Shows, opened, opening_of};
-ghost use Rattle.cb_schedule.specs.declared.answer.Answer.{Answer as AnswerState};
-ghost use Rattle.cb_schedule.specs.declared.answer.Entry.{Entry as EntryState};
+ghost use Rattle.cb_event.specs.Events.{IsPlayed};
+ghost use Rattle.cb_first_net.specs.NetMoves.{Becomes};
+ghost use Rattle.cb_transcript.specs.ProtocolEvents.{event_of};
+ghost use Rattle.cb_first_client.specs.ProtocolLimits.{limits_of};
+ghost use Rattle.cb_first_net.specs.NetState.{opening_of};
+ghost use Rattle.cb_schedule.specs.WorldState.{IsShown, Shows, opened};
+ghost use Rattle.cb_transcript.specs.declared.answer.Answer.{Answer as AnswerState};
+ghost use Rattle.cb_transcript.specs.declared.answer.Entry.{Entry as EntryState};
 
-use crate::answer::{Answer, Entry};
-use crate::event::Event;
-use crate::net::Net;
-use crate::transcript::Transcript;
 use cb_commit::Store;
+use cb_event::Event;
+use cb_first_net::Net;
 use cb_page::Limits;
 use cb_protocol::callback_read;
+use cb_transcript::{Answer, Entry, Transcript};
 use std::alloc::{AllocError, Global};
 use std::marker::Model;
 
@@ -136,7 +138,7 @@ impl World {
             return Err(AllocError);
         }
         self.stopped = true;
-        self.transcript.tell(self.alloc, &mut self.net, event)?;
+        tell(self.alloc, &mut self.net, &mut self.transcript, event)?;
         self.stopped = false;
         Ok(())
     }
@@ -187,6 +189,29 @@ impl World {
     {
         self.transcript
     }
+}
+
+/// Plays one event at the net and tells it. Where memory is refused nothing is told, and no packet is sent; the net may have
+/// changed otherwise.
+fn tell(
+    alloc: Global,
+    net: &mut Net,
+    transcript: &mut Transcript,
+    event: Event,
+) -> Result<(), AllocError>
+    requires played { IsPlayed event }
+    requires shown { IsShown net.old }
+    ensures ok { IfOk result (λ _. (a : AnswerState) × Becomes net.old (event_of event) a net.new × (transcript.new.entries ≡ transcript.old.entries ++ record { event = event; answer = a } ∷ [])) }
+    ensures kept { OnErr result (transcript.new ≡ transcript.old) }
+    ensures packets { OnErr result (net.new.packets ≡ net.old.packets) }
+{
+    let sent_before = net.packet_count();
+    let answer = net.event(alloc, &event)?;
+    let told = transcript.tell(event, answer);
+    if told.is_err() {
+        net.keep_packets(sent_before);
+    }
+    told
 }
 
 /// A copy of the last answer.

@@ -1,9 +1,10 @@
 use Rattle.std.proofs.Common.{refl, false, subst, sym, ap}
 use Rattle.cb_protocol.specs.Headline.{Promise}
 use Rattle.cb_protocol.specs.World.{Opening, new_world}
-use Rattle.cb_schedule.specs.ProtocolLimits.{limits_of}
-use Rattle.cb_schedule.specs.Transcripts.{TranscriptState}
-use Rattle.cb_schedule.specs.WorldState.{WorldState, opening_of}
+use Rattle.cb_first_client.specs.ProtocolLimits.{limits_of}
+use Rattle.cb_transcript.specs.Transcripts.{TranscriptState}
+use Rattle.cb_first_net.specs.NetState.{opening_of}
+use Rattle.cb_schedule.specs.WorldState.{WorldState}
 use Rattle.cb_schedule.proofs.Worlds.{first_promise, sound_opening, spelled_packets, stands_at_first}
 use Rattle.cb_schedule.proofs.world.World.new.Goals as goal
 

@@ -1,7 +1,7 @@
 use Rattle.std.proofs.Common.{◌≡◌, length, take, ap, subst, ◌∙◌, List, arith}
 use Rattle.std.proofs.lemmas.List.{take_more}
 use Rattle.std.proofs.Math.Seq.{take-length}
-use Rattle.cb_schedule.specs.declared.event.Event.{Event}
+use Rattle.cb_event.specs.declared.event.Event.{Event}
 use Rattle.cb_schedule.specs.Plays.{Played}
 use Rattle.cb_schedule.proofs.Playing.{played_none, played_more, played_end}
 use Rattle.cb_schedule.proofs.world.World.play.Goals as goal
