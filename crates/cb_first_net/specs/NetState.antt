@@ -38,7 +38,7 @@ with_server net state = record {
 
 -- The protocol's world has this server, these clients and these packets. What its clients'
 -- transactions have done so far, their operations, no code keeps.
-pub record ShowsNet (net : NetState) (world : protocol.World) : Type 0 where
+pub record RepresentsNet (net : NetState) (world : protocol.World) : Type 0 where
   pub server : world.server ≡ server_of net.server
   pub clients : (c : ℕ)
       → world.client c ≡ client_of (client_at net c) (world.client c).cache.operations

@@ -9,7 +9,7 @@ use Rattle.cb_first_client.specs.ProtocolLimits.{limits_of}
 use Rattle.cb_event.specs.ScheduleText as text
 use Rattle.cb_transcript.specs.Transcripts.{IsSerialOverAny, TranscriptState}
 use Rattle.cb_first_net.specs.NetState.{opening_of}
-use Rattle.cb_schedule.specs.WorldState.{Shows, WorldState}
+use Rattle.cb_schedule.specs.WorldState.{Represents, WorldState}
 use Rattle.cb_transcript.specs.declared.answer.Entry.{Entry}
 use Rattle.cb_event.specs.declared.event.Event.{Event}
 use Rattle.cb_event.specs.declared.text.ScheduleFault.{ScheduleFault}
@@ -29,7 +29,7 @@ pub record IsOpening (bounds : Bounds) (world : WorldState) : Type 0 where
   pub limits : world.limits ≡ bounds
   pub transcript : world.transcript ≡ []
   pub packets : world.net.packets ≡ []
-  pub shows : Shows world (new_world (limits_of bounds) (opening_of (zeros bounds)))
+  pub shows : Represents world (new_world (limits_of bounds) (opening_of (zeros bounds)))
 
 -- From there these events are played, and that is told of them.
 pub record PlaysFromZeros (limits : Bounds) (events : List Event) (told : List Entry) : Type 0 where

@@ -21,5 +21,6 @@ pub mod Headline
 pub mod Laws
 pub mod Deadlock
 pub mod ClientAlone
-pub mod StepsLeave
+pub mod StepsKeep
 pub mod Ranges
+pub mod Numbers

@@ -1,7 +1,7 @@
 -- A world as its callers see it, and the protocol's world that it is.
 use Rattle.std.specs.Prelude.{◌≡◌, Bool, List}
 use Rattle.cb_page.specs.Bounds.{Bounds}
-use Rattle.cb_first_net.specs.NetState.{NetState, ShowsNet, opening_of}
+use Rattle.cb_first_net.specs.NetState.{NetState, RepresentsNet, opening_of}
 use Rattle.cb_transcript.specs.ProtocolEvents.{transcript_of}
 use Rattle.cb_transcript.specs.declared.answer.Entry.{Entry}
 use Rattle.cb_protocol.specs.World as protocol
@@ -14,13 +14,13 @@ pub record WorldState : Type 0 where
   pub stopped : Bool
 
 -- The protocol's world that a world is: its net, and its transcript.
-pub record Shows (v : WorldState) (w : protocol.World) : Type 0 where
-  pub net : ShowsNet v.net w
+pub record Represents (v : WorldState) (w : protocol.World) : Type 0 where
+  pub net : RepresentsNet v.net w
   pub transcript : w.transcript ≡ transcript_of v.transcript
 
 -- the net is that of some world of the protocol
-abbrev pub IsShown : NetState → Type 0
-IsShown net = (world : protocol.World) × ShowsNet net world
+abbrev pub IsRepresented : NetState → Type 0
+IsRepresented net = (world : protocol.World) × RepresentsNet net world
 
 -- The opening store of the world, as the protocol has it. It is the server's: nothing is committed yet.
 abbrev pub opened : WorldState → protocol.Opening
