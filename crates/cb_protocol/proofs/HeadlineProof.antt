@@ -1,6 +1,7 @@
 -- Every world that is reached keeps the promise.
 use Rattle.std.proofs.Common.{Bool, List, None, Option, Some, [], ap, arith, false, if◌then◌else◌, inl, inr, nat_le, nat_lt, refl, subst, suc, sym, true, zero, ℕ, ◌+◌, ◌<◌, ◌==◌, ◌∙◌, ◌∷◌, ◌≡◌, ◌≢◌}
 use Rattle.cb_protocol.proofs.ClientSteps.{client_machine_steps}
+use Rattle.cb_protocol.proofs.DoneOnDisk.{again_from_disk, flushed_to_disk, taken_from_disk}
 use Rattle.cb_protocol.proofs.ClientCalls.{calls_fit, calls_may, takes_fit}
 use Rattle.cb_protocol.proofs.MachineSteps.{present_good, present_now}
 use Rattle.cb_protocol.proofs.HistoryKept.{history_operations}
@@ -68,7 +69,7 @@ deliver_step L cycle o v w n f let_go m i u = go (to_server f.body) (is_exhauste
         else if q then client_does L v (TakePacket n) f.client Taken (client_take L (v.client f.client) f.body let_go) else answer_only v (TakePacket n) Taken).world
     go true true q e = (w, only_step L o v w (TakePacket n) ServerExhausted m refl (λ d. refl) (λ d. refl))
     go true false q e = let ds = server_take cycle v.server f.client f.incarnation f.body in
-        (run (server_machine_steps ds) w, server_step L o v w (TakePacket n) Taken ds m (right_server_take (SentBy v) cycle v.server f.client f.incarnation f.body m.orderly (rw m.clients (m.addressed f i)) i) refl (λ d. refl) (λ d. refl))
+        (run (server_machine_steps ds) w, server_step L o v w (TakePacket n) Taken ds m (right_server_take (SentBy v) cycle v.server f.client f.incarnation f.body m.orderly (rw m.clients (m.addressed f i)) i) (taken_from_disk cycle v.server f.client f.incarnation f.body) refl (λ d. refl) (λ d. refl))
     go false r true e = let k = v.client f.client in (
       run (client_machine_steps f.client (client_take L k f.body let_go)) w,
       client_step L o v w f.client (TakePacket n) Taken (client_take L k f.body let_go) m (m.addressed f i)
@@ -102,11 +103,11 @@ flush_step : (L : Limits) (o : Opening) (v : World) (w : Machine) (e : Event) (n
     → ((word : AnswerWord) (d : ℕ) → transaction_at (record { event = e; word = word } ∷ v.transcript) d ≡ transaction_at v.transcript d)
     → ((word : AnswerWord) (d : ℕ) → incarnation_at (record { event = e; word = word } ∷ v.transcript) d ≡ incarnation_at v.transcript d)
     → Reached L o (flush_up_to v e n).world
-flush_step L o v w e n m ln bg rs = go (can_flush v.server n)
+flush_step L o v w e n m ln bg rs = go (can_flush v.server n) refl
   where
-    go : (r : Bool) → Reached L o (if r then server_does v e (Flushed n) (server_flush v.server n) else answer_only v e Nothing).world
-    go true = (run (server_machine_steps (server_flush v.server n)) w, server_step L o v w e (Flushed n) (server_flush v.server n) m (right_flushes (SentBy v) v.server n m.orderly) (ln (Flushed n)) (bg (Flushed n)) (rs (Flushed n)))
-    go false = (w, only_step L o v w e Nothing m (ln Nothing) (bg Nothing) (rs Nothing))
+    go : (r : Bool) → can_flush v.server n ≡ r → Reached L o (if r then server_does v e (Flushed n) (server_flush v.server n) else answer_only v e Nothing).world
+    go true f = (run (server_machine_steps (server_flush v.server n)) w, server_step L o v w e (Flushed n) (server_flush v.server n) m (right_flushes (SentBy v) v.server n m.orderly) (flushed_to_disk v.server n f) (ln (Flushed n)) (bg (Flushed n)) (rs (Flushed n)))
+    go false f = (w, only_step L o v w e Nothing m (ln Nothing) (bg Nothing) (rs Nothing))
 
 no_client : (L : Limits) (o : Opening) (v : World) (w : Machine) (c : ℕ) (x : Call) → Mirrors L o v w → Reached L o (answer_only v (ClientCalls c x) NoClient).world
 no_client L o v w c x m = (w, only_step L o v w (ClientCalls c x) NoClient m (quiet x) (silent_begun x) (λ d. refl))
@@ -151,7 +152,7 @@ any_step L cycle o v w (Restart c) let_go m u = go (nat_lt c L.clients)
     go true = restarts_step L o v w c m
     go false = (w, only_step L o v w (Restart c) NoClient m refl (λ d. refl) (λ d. refl))
 any_step L cycle o v w ServerAgain let_go m u =
-    (run (server_machine_steps (server_again v.server)) w, server_step L o v w ServerAgain AnsweredOk (server_again v.server) m (right_again (SentBy v) v.server m.orderly) refl (λ d. refl) (λ d. refl))
+    (run (server_machine_steps (server_again v.server)) w, server_step L o v w ServerAgain AnsweredOk (server_again v.server) m (right_again (SentBy v) v.server m.orderly) (again_from_disk v.server) refl (λ d. refl) (λ d. refl))
 any_step L cycle o v w FlushAll let_go m u = flush_step L o v w FlushAll v.server.store.last_commit m (λ x. refl) (λ x d. refl) (λ x d. refl)
 any_step L cycle o v w (FlushTo n) let_go m u = flush_step L o v w (FlushTo n) n m (λ x. refl) (λ x d. refl) (λ x d. refl)
 
@@ -200,6 +201,8 @@ backed L o v w m = record {
 pub promised : (L : Limits) (o : Opening) (v : World) → Reached L o v → Promise o v
 promised L o v r = record {
   backed = backed L o v r.0 r.1;
+  directory = record { sole = λ p c d g x y. sym (r.1.orderly.sole p d g c y x); distinct = r.1.books.distinct };
+  disk = r.1.disk;
   ledger = record { numbered = r.1.books.numbered; bytes = r.1.books.bytes; version = r.1.books.version; once = r.1.books.once };
   dones = λ c i t n x. r.1.books.known c i t n (r.1.dones c i t n x);
   once = r.1.books.once;

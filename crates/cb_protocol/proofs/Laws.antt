@@ -4,7 +4,7 @@ use Rattle.cb_protocol.specs.Basics.{Limits}
 use Rattle.cb_protocol.specs.Server.{DeadlockTest}
 use Rattle.cb_protocol.proofs.HeadlineProof.{headline}
 use Rattle.cb_protocol.specs.Headline.{Promise, Promises, SoundOpening}
-use Rattle.cb_protocol.specs.Laws.{Always, ReachedWorld, CommittedAlwaysSerial, CopiesAlwaysAgree, CopiesAlwaysBacked, DonesAlwaysNameCommits, EachCommitsOnce, OfEachWorld, WriterAlwaysAlone}
+use Rattle.cb_protocol.specs.Laws.{Always, ReachedWorld, CommittedAlwaysSerial, CopiesAlwaysAgree, CopiesAlwaysBacked, DirectoryAlwaysKept, DonesAlwaysNameCommits, DonesAlwaysOnDisk, EachCommitsOnce, OfEachWorld, WriterAlwaysAlone}
 use Rattle.cb_protocol.specs.World.{Answer, Becomes, Event, Moment, Opening, Plays, World, new_world, world_after}
 
 each_world : (o : Opening) (P : World → Type 0) → ((w : World) → Promise o w → P w) → (w : World) (ms : List Moment) → Promise o w → Promises o ms → OfEachWorld P w ms
@@ -28,6 +28,12 @@ commits_once = always _ (λ o w p. p.once)
 
 pub dones_name_commits : DonesAlwaysNameCommits
 dones_name_commits = always _ (λ o w p. p.dones)
+
+pub dones_on_disk : DonesAlwaysOnDisk
+dones_on_disk = always _ (λ o w p. p.disk)
+
+pub directory_kept : DirectoryAlwaysKept
+directory_kept = always _ (λ o w p. p.directory)
 
 pub copies_backed : CopiesAlwaysBacked
 copies_backed = always _ (λ o w p. p.backed)

@@ -8,17 +8,17 @@ use Rattle.cb_protocol.specs.Server.{DeadlockTest, MarkCalledBack, ServerStep, S
 use Rattle.cb_protocol.specs.Session.{GrantRow, PermitWrite, Store, session_after, store_after}
 use Rattle.cb_protocol.specs.Settling.{Decided, Settled, Decision, downgrade_once, send_callback, send_callbacks, call_back_once, decide, decide_read, decide_write, decision_steps, doom_client, send_downgrade, send_downgrades, grant_row, keeps_permission, is_listed, no_other_holder, nobody, permit_write, wait_or_doom, settle_page, settle_pages, sole_row}
 
-no_other_is : (s : Store) (p c : ℕ) → no_other_holder (s.holder p) c ≡ true → NoOther s c p
+pub no_other_is : (s : Store) (p c : ℕ) → no_other_holder (s.holder p) c ≡ true → NoOther s c p
 no_other_is s p c h = grind arith
 
-sole_is : (s : Server) (p c n : ℕ) → sole_row s p c n ≡ true → (d : ℕ) → d < n → d ≢ c → (s.session d).row p ≡ None
+pub sole_is : (s : Server) (p c n : ℕ) → sole_row s p c n ≡ true → (d : ℕ) → d < n → d ≢ c → (s.session d).row p ≡ None
 sole_is s p c zero h d l ne = absurd (omega arith)
 sole_is s p c (suc n) h d l ne = grind (arith, sole_is s p c n)
 
 pub is_some_is : (r : Option ℕ) (g : ℕ) → is_exactly r g ≡ true → r ≡ Some g
 is_some_is r g e = grind arith
 
-is_none_is : (r : Option ℕ) → is_none r ≡ true → r ≡ None
+pub is_none_is : (r : Option ℕ) → is_none r ≡ true → r ≡ None
 is_none_is r e = grind arith
 
 -- messages that change nothing

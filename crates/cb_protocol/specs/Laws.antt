@@ -1,9 +1,9 @@
 -- The laws, each as a statement of its own: of every world that is reached, along every list of events, with or without kept write permission,
 -- and whoever is doomed (`cycle` is any test).
-use Rattle.std.specs.Prelude.{◌≡◌, List, [], ◌∷◌}
-use Rattle.cb_protocol.specs.AnyMessages.{RulesAlwaysHold, committed_names}
+use Rattle.std.specs.Prelude.{◌≡◌, ℕ, Bool, List, [], ◌∷◌}
+use Rattle.cb_protocol.specs.AnyMessages.{DirectoryRule, RulesAlwaysHold, committed_names}
 use Rattle.cb_protocol.specs.Basics.{Limits}
-use Rattle.cb_protocol.specs.Headline.{BackedByServer, CommittedIsSerial, CopiesAgree, DonesNameCommits, Headline, SoundOpening, WriterAlone}
+use Rattle.cb_protocol.specs.Headline.{BackedByServer, CommittedIsSerial, CopiesAgree, DonesNameCommits, DonesOnDisk, Headline, SoundOpening, WriterAlone}
 use Rattle.cb_protocol.specs.Serial.{EachOnce}
 use Rattle.cb_protocol.specs.Server.{DeadlockTest}
 use Rattle.cb_protocol.specs.World.{Moment, Opening, Plays, World, new_world, world_after}
@@ -40,6 +40,14 @@ EachCommitsOnce = Always (λ o w. EachOnce (committed_names w.server.commits))
 -- each Done names a commit and its number
 abbrev pub DonesAlwaysNameCommits : Type 0
 DonesAlwaysNameCommits = Always (λ o w. DonesNameCommits w)
+
+-- each Done is of a commit that is on disk
+abbrev pub DonesAlwaysOnDisk : Type 0
+DonesAlwaysOnDisk = Always (λ o w. DonesOnDisk w)
+
+-- who may write a page is alone with it in the directory, and grants are distinct
+abbrev pub DirectoryAlwaysKept : Type 0
+DirectoryAlwaysKept = Always (λ o w. DirectoryRule w.server)
 
 -- what a client holds, the server has in its rows
 abbrev pub CopiesAlwaysBacked : Type 0

@@ -23,4 +23,7 @@ pub mod Deadlock
 pub mod ClientAlone
 pub mod StepsKeep
 pub mod Ranges
+pub mod AskLaws
+pub mod CommitLaws
+pub mod HelloLaws
 pub mod Numbers
