@@ -1,6 +1,21 @@
--- The table of commands: the first word of a line, what stands behind it, and the event that they make.
--- This project's rule. A new command is one line in each definition here.
-use Rattle.std.specs.Prelude.{ℕ, Bool, true, ◌&&◌, nat_lt, List, [], ◌∷◌, Option, Some, None, if◌then◌else◌, codes, slice_index}
+-- The table of commands: the first word of a line, what stands behind it, and the event that they
+-- make. This project's rule. A new command is one line in each definition here.
+use Rattle.std.specs.Prelude.{
+  ℕ,
+  Bool,
+  true,
+  ◌&&◌,
+  nat_lt,
+  List,
+  [],
+  ◌∷◌,
+  Option,
+  Some,
+  None,
+  if◌then◌else◌,
+  codes,
+  slice_index,
+}
 use Rattle.std.specs.Str.{bytes_eq}
 use Rattle.cb_page.specs.Bounds.{Bounds}
 use Rattle.cb_event.specs.declared.command.Command.{Command}
@@ -35,8 +50,10 @@ arguments_of command.Take = Packet ∷ []
 abbrev pub event_of : Command → List ℕ → Event
 event_of command.Hello numbers = event.Call (slice_index numbers 0) call.Hello
 event_of command.Begin numbers = event.Call (slice_index numbers 0) call.Begin
-event_of command.Read numbers = event.Call (slice_index numbers 0) (call.Read (slice_index numbers 1))
-event_of command.Peek numbers = event.Call (slice_index numbers 0) (call.Peek (slice_index numbers 1))
+event_of command.Read numbers =
+    event.Call (slice_index numbers 0) (call.Read (slice_index numbers 1))
+event_of command.Peek numbers =
+    event.Call (slice_index numbers 0) (call.Peek (slice_index numbers 1))
 event_of command.Take numbers = event.Take (slice_index numbers 0)
 
 -- whether there is such a client or page
@@ -49,4 +66,5 @@ is_in_range limits Packet n = true
 abbrev pub are_in_range : Bounds → List Argument → List ℕ → Bool
 are_in_range limits [] numbers = true
 are_in_range limits (wanted ∷ more) [] = true
-are_in_range limits (wanted ∷ more) (n ∷ numbers) = is_in_range limits wanted n && are_in_range limits more numbers
+are_in_range limits (wanted ∷ more) (n ∷ numbers) =
+    is_in_range limits wanted n && are_in_range limits more numbers

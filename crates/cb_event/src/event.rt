@@ -1,4 +1,4 @@
-ghost use Rattle.std.specs.Prelude.{◌≡◌, ◌↔◌, IfOk, IsTrue, OnErr};
+ghost use Rattle.std.specs.Prelude.{◌≡◌, ◌↔◌, IfOk, IsOk, IsTrue, OnErr};
 ghost use Rattle.cb_event.specs.Events.{IsPlayed};
 ghost use Rattle.cb_event.specs.Events.{HasBytes, CallsWithBytes};
 
@@ -93,4 +93,23 @@ impl Event {
             Event::FlushTo { number } => Event::FlushTo { number: *number },
         })
     }
+}
+
+/// The law of copies: a copy is the same event, and one without page bytes needs no memory.
+fn law(
+    alloc: Global,
+    client: ClientNo,
+    page: PageNo,
+    packet: u64,
+) -> Result<(Event, Event), AllocError>
+    ensures copies { IfOk result (λ both.
+        both ≡ (Event.Call client (Call.Want page), Event.Take packet)) }
+    ensures succeeds { IsOk result }
+{
+    let want = Event::Call {
+        client,
+        call: Call::Want { page },
+    };
+    let take = Event::Take { packet };
+    Ok((want.copy(alloc)?, take.copy(alloc)?))
 }

@@ -1,12 +1,43 @@
 //! Reads the text of a schedule.
-ghost use Rattle.std.specs.Prelude.{◌≡◌, ◌≢◌, ℕ, ◌==◌, true, false, Some, None, [], ◌∷◌, ◌++◌, length, map, slice_index, nat_lt, List, IfOk, IfErr, OnOk, IsSome, MatchResult};
+ghost use Rattle.std.specs.Prelude.{
+  ◌≡◌,
+  ◌≢◌,
+  ℕ,
+  ◌==◌,
+  true,
+  false,
+  Some,
+  None,
+  [],
+  ◌∷◌,
+  ◌++◌,
+  length,
+  map,
+  slice_index,
+  nat_lt,
+  List,
+  IfOk,
+  IfErr,
+  OnOk,
+  IsSome,
+  MatchResult,
+};
 ghost use Rattle.std.specs.List.{All};
 ghost use Rattle.std.specs.Option.{option_to_list};
 ghost use Rattle.cb_event.specs.Events.{IsPlayed};
 ghost use Rattle.cb_page.specs.Faults.{first_fault};
 ghost use Rattle.cb_event.specs.Commands.{Client, Page, arguments_of, event_of};
 ghost use Rattle.cb_pieces.specs.Pieces.{words_of, is_number, number_of};
-ghost use Rattle.cb_event.specs.ScheduleText.{Gives, is_comment, argument_causes, line_causes, causes_behind, event_of_line, IsSchedule, Refuses};
+ghost use Rattle.cb_event.specs.ScheduleText.{
+  Gives,
+  is_comment,
+  argument_causes,
+  line_causes,
+  causes_behind,
+  event_of_line,
+  IsSchedule,
+  Refuses,
+};
 ghost use Rattle.cb_event.specs.declared.event.Event.{Event};
 ghost use Rattle.cb_event.specs.declared.text.ScheduleFault.TheVariants.{Memory};
 
@@ -62,7 +93,8 @@ impl<T: Drop> From<AllocFailed<T>> for ScheduleFault {
 /// The one word of a line.
 fn one_word(line: u64, words: &[u8]) -> Result<&[u8], ScheduleFault>
     ensures ok { IfOk result (λ word. words_of words.now ≡ word.now ∷ []) }
-    ensures fault { IfErr result (λ e. (e ≡ ScheduleFault.Count line) × ((length (words_of words.now) == 1) ≡ false)) }
+    ensures fault { IfErr result (λ e. (e ≡ ScheduleFault.Count line)
+        × ((length (words_of words.now) == 1) ≡ false)) }
 {
     let Some((word, rest)) = split_word(words) else {
         return Err(ScheduleFault::Count { line });
@@ -76,7 +108,8 @@ fn one_word(line: u64, words: &[u8]) -> Result<&[u8], ScheduleFault>
 /// The two words of a line.
 fn two_words(line: u64, words: &[u8]) -> Result<(&[u8], &[u8]), ScheduleFault>
     ensures ok { IfOk result (λ both. words_of words.now ≡ both.0.now ∷ both.1.now ∷ []) }
-    ensures fault { IfErr result (λ e. (e ≡ ScheduleFault.Count line) × ((length (words_of words.now) == 2) ≡ false)) }
+    ensures fault { IfErr result (λ e. (e ≡ ScheduleFault.Count line)
+        × ((length (words_of words.now) == 2) ≡ false)) }
 {
     let Some((first, rest)) = split_word(words) else {
         return Err(ScheduleFault::Count { line });
@@ -93,15 +126,18 @@ fn two_words(line: u64, words: &[u8]) -> Result<(&[u8], &[u8]), ScheduleFault>
 /// The number that a word spells.
 fn spelled_number(line: u64, word: &[u8]) -> Result<u64, ScheduleFault>
     ensures ok { IfOk result (λ n. (is_number word.now ≡ true) × (n ≡ number_of word.now)) }
-    ensures fault { IfErr result (λ e. (e ≡ ScheduleFault.Number line) × (is_number word.now ≡ false)) }
+    ensures fault { IfErr result (λ e. (e ≡ ScheduleFault.Number line)
+        × (is_number word.now ≡ false)) }
 {
     number_of(word).ok_or(ScheduleFault::Number { line })
 }
 
 /// The client of this number.
 fn client_of(limits: &Limits, line: u64, number: u64) -> Result<ClientNo, ScheduleFault>
-    ensures ok { IfOk result (λ client. (client ≡ number) × (nat_lt number limits.now.clients ≡ true)) }
-    ensures fault { IfErr result (λ e. (e ≡ ScheduleFault.Range line) × (nat_lt number limits.now.clients ≡ false)) }
+    ensures ok { IfOk result (λ client. (client ≡ number)
+        × (nat_lt number limits.now.clients ≡ true)) }
+    ensures fault { IfErr result (λ e. (e ≡ ScheduleFault.Range line)
+        × (nat_lt number limits.now.clients ≡ false)) }
 {
     ClientNo::in_store(limits, number).ok_or(ScheduleFault::Range { line })
 }
@@ -109,7 +145,8 @@ fn client_of(limits: &Limits, line: u64, number: u64) -> Result<ClientNo, Schedu
 /// The page of this number.
 fn page_of(limits: &Limits, line: u64, number: u64) -> Result<PageNo, ScheduleFault>
     ensures ok { IfOk result (λ page. (page ≡ number) × (nat_lt number limits.now.pages ≡ true)) }
-    ensures fault { IfErr result (λ e. (e ≡ ScheduleFault.Range line) × (nat_lt number limits.now.pages ≡ false)) }
+    ensures fault { IfErr result (λ e. (e ≡ ScheduleFault.Range line)
+        × (nat_lt number limits.now.pages ≡ false)) }
 {
     PageNo::in_store(limits, number).ok_or(ScheduleFault::Range { line })
 }
@@ -132,8 +169,10 @@ fn client_and_page(
     words: &[u8],
 ) -> Result<(ClientNo, PageNo), ScheduleFault>
     ensures { Gives
-        (first_fault (argument_causes limits.now line (Client ∷ Page ∷ []) (words_of words.now)))
-        (slice_index (map number_of (words_of words.now)) 0, slice_index (map number_of (words_of words.now)) 1)
+        (first_fault (argument_causes limits.now line (Client ∷ Page ∷ []) (words_of words.now))) (
+          slice_index (map number_of (words_of words.now)) 0,
+          slice_index (map number_of (words_of words.now)) 1,
+        )
         result }
 {
     let (first, second) = two_words(line, words)?;
@@ -188,7 +227,8 @@ fn command_event(
 
 /// The event of a line, if it has one.
 fn line_event(limits: &Limits, line: u64, bytes: &[u8]) -> Result<Option<Event>, ScheduleFault>
-    ensures { Gives (first_fault (line_causes limits.now line bytes.now)) (event_of_line bytes.now) result }
+    ensures { Gives (first_fault (line_causes limits.now line bytes.now)) (event_of_line bytes.now)
+        result }
 {
     if !is_text(bytes) {
         return Err(ScheduleFault::NotText { line });
@@ -222,8 +262,10 @@ fn add_line(
     bytes: &[u8],
     events: &mut Vec<Event>,
 ) -> Result<(), ScheduleFault>
-    ensures ok { OnOk result (first_fault (causes_behind limits.now line (length events.old.items) bytes.now) ≡ None) }
-    ensures added { OnOk result (events.new.items ≡ events.old.items ++ option_to_list (event_of_line bytes.now)) }
+    ensures ok { OnOk result
+        (first_fault (causes_behind limits.now line (length events.old.items) bytes.now) ≡ None) }
+    ensures added { OnOk result (events.new.items ≡ events.old.items
+        ++ option_to_list (event_of_line bytes.now)) }
     ensures fault { IfErr result (λ e. e ≢ ScheduleFault.Memory →
         first_fault (causes_behind limits.now line (length events.old.items) bytes.now) ≡ Some e) }
     ensures memory { IfErr result (λ e. e ≡ ScheduleFault.Memory →
@@ -240,8 +282,9 @@ fn add_line(
     Ok(())
 }
 
-/// Reads a schedule: its events, in order. A text that is none is refused by its first faulty line's
-/// lowest fault. `Memory` comes only where there was no room for an event that has no fault before it.
+/// Reads a schedule: its events, in order. A text that is none is refused by its first faulty
+/// line's lowest fault. `Memory` comes only where there was no room for an event that has no fault
+/// before it.
 pub fn read_schedule(
     alloc: Global,
     limits: &Limits,

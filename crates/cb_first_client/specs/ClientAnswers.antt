@@ -33,28 +33,45 @@ fault_of fault.Exhausted = table.Exhausted
 
 -- the fault, if any, that the table refuses the call with
 pub record IsFault (v : ClientState) (call : Call) (found : Option ClientFault) : Type 0 where
-  pub by_table : (operations : List Operation) → option_map fault_of found ≡ call_fault (limits_of v.limits) (client_of v operations) call
+  pub by_table : (operations : List Operation)
+      → option_map fault_of found ≡ call_fault (limits_of v.limits) (client_of v operations) call
 
--- To this call the client answers that word, says those messages and becomes the new one, all as the table says, whatever
--- operations its transaction has had. The call adds the operations performed, the newest first.
-pub record Calls (old : ClientState) (call : Call) (answered : table.AnswerWord) (bodies : List Body) (new : ClientState) (performed : List Operation) : Type 0 where
-  pub word : (operations : List Operation) → (client_call (limits_of old.limits) (client_of old operations) call).word ≡ answered
-  pub said : (operations : List Operation) → bodies_said (client_call (limits_of old.limits) (client_of old operations) call).steps ≡ bodies
-  pub after : (operations : List Operation) → client_after false (client_of old operations) (client_call (limits_of old.limits) (client_of old operations) call).steps ≡ client_of new (performed ++ operations)
+-- To this call the client answers that word, says those messages and becomes the new one, all as
+-- the table says, whatever operations its transaction has had. The call adds the operations
+-- performed, the newest first.
+pub record Calls (old : ClientState) (call : Call) (answered : table.AnswerWord)
+    (bodies : List Body) (new : ClientState) (performed : List Operation) : Type 0 where
+  pub word : (operations : List Operation)
+      → (client_call (limits_of old.limits) (client_of old operations) call).word ≡ answered
+  pub said : (operations : List Operation)
+      → bodies_said (client_call (limits_of old.limits) (client_of old operations) call).steps
+      ≡ bodies
+  pub after : (operations : List Operation)
+      → client_after false (client_of old operations)
+      (client_call (limits_of old.limits) (client_of old operations) call).steps
+      ≡ client_of new (performed ++ operations)
   pub limits : new.limits ≡ old.limits
 
 -- the call is refused, and nothing changes
-pub record Refuses (old : ClientState) (call : Call) (refusal : ClientFault) (new : ClientState) : Type 0 where
+pub record Refuses (old : ClientState) (call : Call) (refusal : ClientFault)
+    (new : ClientState) : Type 0 where
   pub unchanged : new ≡ old
   pub by_table : Calls old call (table.Refused (fault_of refusal)) [] new []
 
--- To this message the client says those messages and becomes the new one, all as the table says, at some page that its pool
--- may let go, whatever operations its transaction has had.
-pub record Takes (old : ClientState) (message : Body) (bodies : List Body) (new : ClientState) : Type 0 where
+-- To this message the client says those messages and becomes the new one, all as the table says, at
+-- some page that its pool may let go, whatever operations its transaction has had.
+pub record Takes (old : ClientState) (message : Body) (bodies : List Body)
+    (new : ClientState) : Type 0 where
   pub let_go : Option ℕ
-  pub allowed : (operations : List Operation) → ChoiceAllowed (limits_of old.limits) (client_of old operations) message let_go
-  pub said : (operations : List Operation) → bodies_said (client_take (limits_of old.limits) (client_of old operations) message let_go) ≡ bodies
-  pub after : (operations : List Operation) → client_after false (client_of old operations) (client_take (limits_of old.limits) (client_of old operations) message let_go) ≡ client_of new operations
+  pub allowed : (operations : List Operation)
+      → ChoiceAllowed (limits_of old.limits) (client_of old operations) message let_go
+  pub said : (operations : List Operation)
+      → bodies_said (client_take (limits_of old.limits) (client_of old operations) message let_go)
+      ≡ bodies
+  pub after : (operations : List Operation)
+      → client_after false (client_of old operations)
+      (client_take (limits_of old.limits) (client_of old operations) message let_go)
+      ≡ client_of new operations
   pub limits : new.limits ≡ old.limits
 
 -- a transaction begins, with the number answered
@@ -62,12 +79,15 @@ abbrev pub Begins : ClientState → Result ℕ ClientFault → ClientState → T
 Begins old (Ok txn) new = (txn ≡ new.txn) × Calls old CallBegin table.AnsweredOk [] new []
 Begins old (Err refusal) new = Refuses old CallBegin refusal new
 
--- a page is read: its bytes are in the pool, or they are asked for in the name of the transaction answered
+-- a page is read: its bytes are in the pool, or they are asked for in the name of the transaction
+-- answered
 abbrev pub Reads : ClientState → ℕ → Result ReadAnswer ClientFault → ClientState → Type 0
 Reads old page (Ok answer.Bytes) new =
     (copy_of new.pool page ≡ Some (bytes_in new page))
-    × Calls old (CallRead page) (table.AnsweredBytes (bytes_in new page)) [] new (Saw page (bytes_in new page) ∷ [])
-Reads old page (Ok (answer.Asked txn)) new = Calls old (CallRead page) table.Asked (AskRead txn page ∷ []) new []
+    × Calls old (CallRead page) (table.AnsweredBytes (bytes_in new page)) [] new
+    (Saw page (bytes_in new page) ∷ [])
+Reads old page (Ok (answer.Asked txn)) new =
+    Calls old (CallRead page) table.Asked (AskRead txn page ∷ []) new []
 Reads old page (Err refusal) new = Refuses old (CallRead page) refusal new
 
 -- the transaction in whose name a page is asked for has a number that one can have

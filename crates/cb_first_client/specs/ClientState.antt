@@ -1,5 +1,27 @@
 -- The client of the world as its callers see it, and the protocol's client that it is.
-use Rattle.std.specs.Prelude.{◌≡◌, ℕ, ◌<◌, ◌≤◌, ◌^◌, Bool, true, false, if◌then◌else◌, List, length, replicate, Option, Some, None, IfSome, slice_index_or, slice_set, unwrap_or, max, []}
+use Rattle.std.specs.Prelude.{
+  ◌≡◌,
+  ℕ,
+  ◌<◌,
+  ◌≤◌,
+  ◌^◌,
+  Bool,
+  true,
+  false,
+  if◌then◌else◌,
+  List,
+  length,
+  replicate,
+  Option,
+  Some,
+  None,
+  IfSome,
+  slice_index_or,
+  slice_set,
+  unwrap_or,
+  max,
+  [],
+}
 use Rattle.std.specs.Option.{is_some}
 use Rattle.cb_page.specs.Bounds.{Bounds, AreInRange}
 use Rattle.cb_page.specs.Flags.{has}
@@ -11,8 +33,8 @@ use Rattle.cb_protocol.specs.Serial.{Operation}
 use Rattle.cb_protocol.specs.Cache.{Cache, Idle, Open, TransactionState}
 use Rattle.cb_protocol.specs.Client.{Ask, Client, NoAsk, NoneEnded, ReadAsk}
 
--- Whether the Welcome came, the last transaction and whether it is open, the page that an ask is out for, what is known of
--- each page, and the bytes in the pool.
+-- Whether the Welcome came, the last transaction and whether it is open, the page that an ask is
+-- out for, what is known of each page, and the bytes in the pool.
 pub record ClientState : Type 0 where
   pub limits : Bounds
   pub welcomed : Bool
@@ -57,8 +79,8 @@ abbrev pub ask_of : Option ℕ → Ask
 ask_of None = NoAsk
 ask_of (Some page) = ReadAsk page
 
--- The protocol's cache that the client has. The operations are a history variable that no code keeps. Nobody asks to write
--- yet, and no transaction has ended.
+-- The protocol's cache that the client has. The operations are a history variable that no code
+-- keeps. Nobody asks to write yet, and no transaction has ended.
 abbrev pub cache_of : ClientState → List Operation → Cache
 cache_of v operations = record {
   welcomed = v.welcomed;
@@ -99,14 +121,16 @@ pub record IsPoolOf (b : Bounds) (pool : PoolState) : Type 0 where
   pub fixed : length pool.fixed ≡ b.pages
   pub nothing_fixed : (p : ℕ) → has pool.fixed p ≡ false
 
--- A page with bytes in the pool is held, and a page that is held is locked: no transaction has ended since its grant came.
--- An ask is out only while a transaction is open, for a page that there is.
+-- A page with bytes in the pool is held, and a page that is held is locked: no transaction has
+-- ended since its grant came. An ask is out only while a transaction is open, for a page that there
+-- is.
 pub record IsClient (v : ClientState) : Type 0 where
   pub limits : AreInRange v.limits
   pub copies : length v.copies ≡ v.limits.pages
   pub pool : IsPoolOf v.limits v.pool
   pub held : (p : ℕ) → is_some (copy_of v.pool p) ≡ true → is_some (copy_at v.copies p).held ≡ true
-  pub locked : (p : ℕ) → is_some (copy_at v.copies p).held ≡ true → (copy_at v.copies p).locked ≡ true
+  pub locked : (p : ℕ) → is_some (copy_at v.copies p).held ≡ true
+      → (copy_at v.copies p).locked ≡ true
   pub asking : IfSome v.asking (λ p. (v.is_open ≡ true) × (p < v.limits.pages))
   pub begun : v.is_open ≡ true → 1 ≤ v.txn
   pub greatest : v.txn < 2 ^ 62
@@ -124,13 +148,16 @@ new_copy held = record { seen = held.grant; held = Some held; locked = true }
 
 -- a grant of the page is seen
 abbrev pub seen_page : ClientState → ℕ → ℕ → ClientState
-seen_page v page grant = record v { copies = slice_set v.copies page (seen_copy (copy_at v.copies page) grant) }
+seen_page v page grant =
+    record v { copies = slice_set v.copies page (seen_copy (copy_at v.copies page) grant) }
 
 -- the transaction reads the page
 abbrev pub locked_page : ClientState → ℕ → ClientState
-locked_page v page = record v { copies = slice_set v.copies page (locked_copy (copy_at v.copies page)) }
+locked_page v page =
+    record v { copies = slice_set v.copies page (locked_copy (copy_at v.copies page)) }
 
--- The bytes of a page come into the pool, which lets a page go or none; nothing is asked for any more.
+-- The bytes of a page come into the pool, which lets a page go or none; nothing is asked for any
+-- more.
 abbrev pub with_page : ClientState → ℕ → PageCopy → Bytes → Option ℕ → ClientState
 with_page v page copy bytes victim = record v {
   asking = None;

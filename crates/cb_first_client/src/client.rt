@@ -1,10 +1,66 @@
-//! The client of the world: one incarnation of a client, with its copies of pages and its transaction.
-ghost use Rattle.std.specs.Prelude.{◌≡◌, ℕ, ◌+◌, ◌<◌, ◌≤◌, ◌^◌, Bool, true, false, List, [], ◌∷◌, length, replicate, slice_set, Some, None, IfOk, IfErr, OnOk, OnErr, IsErr, IsNone};
-ghost use Rattle.cb_first_client.specs.ClientState.{ClientState, IsClient, copy_at, no_copy, fresh, client_of, locked_page, new_copy, seen_page, with_page};
-ghost use Rattle.cb_first_client.specs.ClientAnswers.{NamesNumber, IsFault, Calls, Begins, Reads, Takes};
-ghost use Rattle.cb_first_client.specs.ClientGrants.{RepliesTo, asks_for, brings_bytes, gives_back, case_of, replies};
+//! The client of the world: one incarnation of a client, with its copies of pages and its
+//! transaction.
+ghost use Rattle.std.specs.Prelude.{
+  ◌≡◌,
+  ℕ,
+  ◌+◌,
+  ◌<◌,
+  ◌≤◌,
+  ◌^◌,
+  Bool,
+  true,
+  false,
+  List,
+  [],
+  ◌∷◌,
+  length,
+  replicate,
+  slice_set,
+  Some,
+  None,
+  IfOk,
+  IfErr,
+  OnOk,
+  OnErr,
+  IsErr,
+  IsNone,
+};
+ghost use Rattle.cb_first_client.specs.ClientState.{
+  ClientState,
+  IsClient,
+  copy_at,
+  no_copy,
+  fresh,
+  client_of,
+  locked_page,
+  new_copy,
+  seen_page,
+  with_page,
+};
+ghost use Rattle.cb_first_client.specs.ClientAnswers.{
+  NamesNumber,
+  IsFault,
+  Calls,
+  Begins,
+  Reads,
+  Takes,
+};
+ghost use Rattle.cb_first_client.specs.ClientGrants.{
+  RepliesTo,
+  asks_for,
+  brings_bytes,
+  gives_back,
+  case_of,
+  replies,
+};
 ghost use Rattle.cb_protocol.specs.Answers.{AnsweredOk};
-ghost use Rattle.cb_protocol.specs.ClientCalls.{CallBegin, CallHello, CallPeek, CallRead, peek_word};
+ghost use Rattle.cb_protocol.specs.ClientCalls.{
+  CallBegin,
+  CallHello,
+  CallPeek,
+  CallRead,
+  peek_word,
+};
 ghost use Rattle.cb_protocol.specs.Messages.{Granted, Hello, Welcome};
 ghost use Rattle.std.specs.Option.{is_some, option_copied};
 ghost use Rattle.cb_pool.specs.PoolState.{MayGo, copy_of};
@@ -161,8 +217,8 @@ impl Client {
         );
     }
 
-    /// Takes the bytes of a page into the pool, with what is known of it from now on, and answers the page let go. No
-    /// ask is out any more.
+    /// Takes the bytes of a page into the pool, with what is known of it from now on, and answers
+    /// the page let go. No ask is out any more.
     fn bring_in(
         &mut self,
         page: PageNo,
@@ -173,7 +229,8 @@ impl Client {
         requires size { length bytes ≡ self.old.limits.page_size }
         requires held { is_some copy.held ≡ true }
         requires locked { copy.locked ≡ true }
-        ensures ok { IfOk result (λ victim. MayGo self.old.pool page victim × (self.new ≡ with_page self.old page copy bytes victim)) }
+        ensures ok { IfOk result (λ victim. MayGo self.old.pool page victim
+            × (self.new ≡ with_page self.old page copy bytes victim)) }
         ensures err { OnErr result (self.new ≡ self.old) }
     {
         match self.pool.install(page, bytes) {
@@ -220,7 +277,8 @@ impl Client {
     /// Whether the pool could take in any page.
     #[tactic(auto, using(crate::proofs::PoolRoom::room_is))]
     fn has_room(&self) -> bool
-        ensures { (operations : List Operation) → result ≡ has_room (limits_of self.now.limits) (client_of self.now operations) }
+        ensures { (operations : List Operation)
+            → result ≡ has_room (limits_of self.now.limits) (client_of self.now operations) }
     {
         let _limits = &self.limits;
         self.pool.room()
@@ -284,11 +342,12 @@ impl Client {
         ensures { Calls self.now CallHello AnsweredOk (Hello ∷ []) self.now [] }
     {}
 
-    /// The bytes of the client's copy of a page, also while no transaction is open. `None` where there is no copy with
-    /// bytes, or no such page.
+    /// The bytes of the client's copy of a page, also while no transaction is open. `None` where
+    /// there is no copy with bytes, or no such page.
     pub fn peek(&self, page: PageNo) -> Option<&[u8]>
         ensures bytes { option_copied result ≡ copy_of self.now.pool page }
-        ensures by_table { Calls self.now (CallPeek page) (peek_word (option_copied result)) [] self.now [] }
+        ensures by_table { Calls self.now (CallPeek page) (peek_word (option_copied result)) []
+            self.now [] }
     {
         self.pool.peek(page)
     }
@@ -365,7 +424,8 @@ impl Client {
         requires page { page < self.old.limits.pages }
         requires size { length bytes ≡ self.old.limits.page_size }
         requires held { is_some (copy_at self.old.copies page).held ≡ true }
-        ensures ok { IfOk result (λ victim. MayGo self.old.pool page victim × (self.new ≡ with_page self.old page (copy_at self.old.copies page) bytes victim)) }
+        ensures ok { IfOk result (λ victim. MayGo self.old.pool page victim
+            × (self.new ≡ with_page self.old page (copy_at self.old.copies page) bytes victim)) }
         ensures err { OnErr result (self.new ≡ self.old) }
     {
         let copy = self.copies.at(page);
@@ -381,7 +441,8 @@ impl Client {
     ) -> Result<Option<PageNo>, AllocError>
         requires page { page < self.old.limits.pages }
         requires size { length bytes ≡ self.old.limits.page_size }
-        ensures ok { IfOk result (λ victim. MayGo self.old.pool page victim × (self.new ≡ with_page self.old page (new_copy held) bytes victim)) }
+        ensures ok { IfOk result (λ victim. MayGo self.old.pool page victim
+            × (self.new ≡ with_page self.old page (new_copy held) bytes victim)) }
         ensures err { OnErr result (self.new ≡ self.old) }
     {
         let copy = PageCopy {
@@ -402,7 +463,9 @@ impl Client {
     ) -> Result<(), AllocError>
         requires page { page < self.old.limits.pages }
         requires size { length bytes ≡ self.old.limits.page_size }
-        ensures ok { OnOk result (Takes self.old (Granted page grant version bytes) (replies (gives_back self.old page grant) page grant) self.new) }
+        ensures ok { OnOk result
+            (Takes self.old (Granted page grant version bytes)
+            (replies (gives_back self.old page grant) page grant) self.new) }
         ensures err { OnErr result (self.new ≡ self.old) }
         ensures memory { IsErr result → brings_bytes (case_of self.old page grant version) ≡ true }
     {

@@ -4,8 +4,8 @@ ghost use Rattle.cb_first_client.specs.FaultTexts.{refusal_text};
 use std::error::Error;
 use std::fmt;
 
-/// Why a call of a client is refused; nothing changes then. The text is the fault's number and name; where several
-/// causes stand, the lowest number is answered.
+/// Why a call of a client is refused; nothing changes then. The text is the fault's number and
+/// name; where several causes stand, the lowest number is answered.
 #[derive(Clone, Copy, Debug, PartialEq, Eq)]
 pub enum ClientFault {
     /// The server's Welcome has not come.

@@ -13,7 +13,8 @@ pub(crate) struct Held {
     pub version: Version,
 }
 
-/// What a client knows of a page. The bytes of a copy are in the pool; the grant is bare where they are not.
+/// What a client knows of a page. The bytes of a copy are in the pool; the grant is bare where they
+/// are not.
 #[derive(Clone, Copy, Debug)]
 pub(crate) struct PageCopy {
     /// The greatest grant that ever came for the page, 0 before the first.

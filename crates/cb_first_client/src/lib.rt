@@ -1,5 +1,5 @@
-//! The client of the first path: it greets the server, begins transactions and reads pages. It has neither writes nor
-//! commits, and goes when the whole client comes.
+//! The client of the first path: it greets the server, begins transactions and reads pages. It has
+//! neither writes nor commits, and goes when the whole client comes.
 #![tactic(auto)]
 
 mod client;

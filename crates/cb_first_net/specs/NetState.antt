@@ -47,4 +47,5 @@ pub record RepresentsNet (net : NetState) (world : protocol.World) : Type 0 wher
 
 -- the protocol's opening of a store
 abbrev pub opening_of : StoreState → protocol.Opening
-opening_of store = record { bytes = bytes_at store; version = version_at store; number = store.number }
+opening_of store =
+    record { bytes = bytes_at store; version = version_at store; number = store.number }

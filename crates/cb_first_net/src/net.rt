@@ -1,11 +1,45 @@
-//! The net: the server, the clients at their first incarnation, and every packet that was ever sent.
-ghost use Rattle.std.specs.Prelude.{◌≡◌, ℕ, ◌+◌, ◌<◌, ◌≤◌, Bool, true, false, List, [], ◌∷◌, ◌++◌, length, take, replicate, slice_get, slice_set, option_copied, Some, None, IfOk, IfErr, IsSome, OnOk, OnErr, ◌↔◌};
+//! The net: the server, the clients at their first incarnation, and every packet that was ever
+//! sent.
+ghost use Rattle.std.specs.Prelude.{
+  ◌≡◌,
+  ℕ,
+  ◌+◌,
+  ◌<◌,
+  ◌≤◌,
+  Bool,
+  true,
+  false,
+  List,
+  [],
+  ◌∷◌,
+  ◌++◌,
+  length,
+  take,
+  replicate,
+  slice_get,
+  slice_set,
+  option_copied,
+  Some,
+  None,
+  IfOk,
+  IfErr,
+  IsSome,
+  OnOk,
+  OnErr,
+  ◌↔◌,
+};
 ghost use Rattle.cb_commit.specs.Stores.{IsOf};
 ghost use Rattle.cb_frame.specs.Grammar.{Fits};
 ghost use Rattle.cb_frame.specs.Kinds.{kind_of_body};
 ghost use Rattle.cb_frame.specs.Spelling.{spelling};
 ghost use Rattle.cb_pool.specs.PoolState.{copy_of};
-ghost use Rattle.cb_protocol.specs.ClientCalls.{CallHello, CallBegin, CallRead, CallPeek, peek_word};
+ghost use Rattle.cb_protocol.specs.ClientCalls.{
+  CallHello,
+  CallBegin,
+  CallRead,
+  CallPeek,
+  peek_word,
+};
 ghost use Rattle.cb_protocol.specs.World.{ClientCalls, TakePacket, new_world};
 ghost use Rattle.cb_first_client.specs.ClientAnswers.{Begins, Calls, NamesNumber, Reads, Takes};
 ghost use Rattle.cb_first_client.specs.ClientState.{bytes_in, fresh};
@@ -15,11 +49,39 @@ ghost use Rattle.cb_first_client.specs.ProtocolLimits.{limits_of};
 ghost use Rattle.cb_first_client.specs.ClientGrants.{gives_back, replies};
 ghost use Rattle.cb_protocol.specs.Messages.{AskRead, GiveBack, Granted, Hello, Welcome};
 ghost use Rattle.cb_protocol.specs.ServerMessages.{is_exhausted};
-ghost use Rattle.cb_first_server.specs.ServerState.{server_of, bodies_of, Replies, ReplyFits, TakesMessage};
+ghost use Rattle.cb_first_server.specs.ServerState.{
+  server_of,
+  bodies_of,
+  Replies,
+  ReplyFits,
+  TakesMessage,
+};
 ghost use Rattle.cb_protocol.specs.Answers.{AnsweredOk};
-ghost use Rattle.cb_first_net.specs.NetMoves.{FoundFrame, FrameOfPacket, Says, granting_frame, AnswersRead, NetBecomes, Carries, IsAnswered, IsNet, IsPacket, asking_frame, page_frame, sent_as, sent_net_of};
+ghost use Rattle.cb_first_net.specs.NetMoves.{
+  FoundFrame,
+  FrameOfPacket,
+  Says,
+  granting_frame,
+  AnswersRead,
+  NetBecomes,
+  Carries,
+  IsAnswered,
+  IsNet,
+  IsPacket,
+  asking_frame,
+  page_frame,
+  sent_as,
+  sent_net_of,
+};
 ghost use Rattle.cb_first_net.specs.Wire.{message_of, body_of, IsSentSoFar};
-ghost use Rattle.cb_first_net.specs.NetState.{NetState, RepresentsNet, opening_of, client_at, with_client, with_server};
+ghost use Rattle.cb_first_net.specs.NetState.{
+  NetState,
+  RepresentsNet,
+  opening_of,
+  client_at,
+  with_client,
+  with_server,
+};
 
 use crate::packet::{Granting, Packet, frame_in};
 use cb_commit::Store;
@@ -47,9 +109,19 @@ impl Model for Net {
 
     ghost Value = { NetState };
 
-    ghost view = { λ n. record { limits = n.limits; server = n.server; clients = n.clients.items; packets = n.packets.items } };
+    ghost view = { λ n. record {
+      limits = n.limits;
+      server = n.server;
+      clients = n.clients.items;
+      packets = n.packets.items;
+    } };
 
-    ghost invariant = { λ n. IsNet (record { limits = n.limits; server = n.server; clients = n.clients.items; packets = n.packets.items }) };
+    ghost invariant = { λ n. IsNet (record {
+      limits = n.limits;
+      server = n.server;
+      clients = n.clients.items;
+      packets = n.packets.items;
+    }) };
 }
 
 impl Net {
@@ -59,7 +131,8 @@ impl Net {
         ensures limits { IfOk result (λ n. n.limits ≡ limits.now) }
         ensures packets { IfOk result (λ n. n.packets ≡ []) }
         ensures store { IfOk result (λ n. n.server.store ≡ store) }
-        ensures opening { IfOk result (λ n. RepresentsNet n (new_world (limits_of limits.now) (opening_of store))) }
+        ensures opening { IfOk result
+            (λ n. RepresentsNet n (new_world (limits_of limits.now) (opening_of store))) }
     {
         let _in_range = limits.clients();
         let clients = new_clients(alloc, limits)?;
@@ -81,8 +154,10 @@ impl Net {
         bytes: Vec<u8>,
     ) -> Result<SentPackets, AllocError>
         requires { IsPacket self.old.limits bytes.items }
-        ensures ok { OnOk result (self.new ≡ record self.old { packets = self.old.packets ++ bytes.items ∷ [] }) }
-        ensures sent { IfOk result (λ s. s ≡ record { number = length self.old.packets; kind = kind; client = client } ∷ []) }
+        ensures ok { OnOk result (self.new
+            ≡ record self.old { packets = self.old.packets ++ bytes.items ∷ [] }) }
+        ensures sent { IfOk result (λ s. s
+            ≡ record { number = length self.old.packets; kind = kind; client = client } ∷ []) }
         ensures err { OnErr result (self.new ≡ self.old) }
     {
         let sent = Sent {
@@ -100,8 +175,14 @@ impl Net {
     fn send(&mut self, alloc: Global, frame: &Frame) -> Result<SentPackets, AllocError>
         requires fits { Fits self.old.limits frame.now }
         requires so_far { IsSentSoFar (body_of frame.now.body) }
-        ensures ok { OnOk result (self.new ≡ record self.old { packets = self.old.packets ++ spelling frame.now ∷ [] }) }
-        ensures sent { IfOk result (λ s. s ≡ record { number = length self.old.packets; kind = kind_of_body frame.now.body; client = frame.now.client } ∷ []) }
+        ensures ok { OnOk result (self.new
+            ≡ record self.old { packets = self.old.packets ++ spelling frame.now ∷ [] }) }
+        ensures sent { IfOk result (λ s. s
+            ≡ record {
+              number = length self.old.packets;
+              kind = kind_of_body frame.now.body;
+              client = frame.now.client;
+            } ∷ []) }
         ensures err { OnErr result (self.new ≡ self.old) }
     {
         let _known = self.limits.pages();
@@ -117,10 +198,27 @@ impl Net {
         incarnation: Incarnation,
         body: ShortBody,
     ) -> Result<SentPackets, AllocError>
-        requires fits { Fits self.old.limits (record { client = client; incarnation = incarnation; body = Body.Short body }) }
+        requires fits { Fits self.old.limits (record {
+          client = client;
+          incarnation = incarnation;
+          body = Body.Short body;
+        }) }
         requires so_far { IsSentSoFar (body_of (Body.Short body)) }
-        ensures ok { OnOk result (self.new ≡ record self.old { packets = self.old.packets ++ spelling (record { client = client; incarnation = incarnation; body = Body.Short body }) ∷ [] }) }
-        ensures sent { IfOk result (λ s. s ≡ record { number = length self.old.packets; kind = kind_of_body (Body.Short body); client = client } ∷ []) }
+        ensures ok { OnOk result (self.new
+            ≡ record self.old {
+              packets = self.old.packets
+                  ++ spelling (record {
+                    client = client;
+                    incarnation = incarnation;
+                    body = Body.Short body;
+                  }) ∷ [];
+            }) }
+        ensures sent { IfOk result (λ s. s
+            ≡ record {
+              number = length self.old.packets;
+              kind = kind_of_body (Body.Short body);
+              client = client;
+            } ∷ []) }
         ensures err { OnErr result (self.new ≡ self.old) }
     {
         let frame = Frame {
@@ -181,7 +279,8 @@ impl Net {
     /// The client of this number greets the server.
     fn hello_at(&self, client: ClientNo)
         requires { client < self.now.limits.clients }
-        ensures { Calls (client_at self.now client) CallHello AnsweredOk (Hello ∷ []) (client_at self.now client) [] }
+        ensures { Calls (client_at self.now client) CallHello AnsweredOk (Hello ∷ [])
+            (client_at self.now client) [] }
     {
         let caller = &self.clients[client.index()];
         caller.hello();
@@ -191,7 +290,8 @@ impl Net {
     fn peek_at(&self, client: ClientNo, page: PageNo) -> Option<&[u8]>
         requires { client < self.now.limits.clients }
         ensures bytes { option_copied result ≡ copy_of (client_at self.now client).pool page }
-        ensures called { Calls (client_at self.now client) (CallPeek page) (peek_word (option_copied result)) [] (client_at self.now client) [] }
+        ensures called { Calls (client_at self.now client) (CallPeek page)
+            (peek_word (option_copied result)) [] (client_at self.now client) [] }
     {
         let caller = &self.clients[client.index()];
         caller.peek(page)
@@ -200,7 +300,8 @@ impl Net {
     /// A client says Hello.
     fn hello(&mut self, alloc: Global, client: ClientNo) -> Result<Answer, AllocError>
         requires { client < self.old.limits.clients }
-        ensures ok { IfOk result (λ a. NetBecomes self.old (ClientCalls client CallHello) a self.new) }
+        ensures ok { IfOk result
+            (λ a. NetBecomes self.old (ClientCalls client CallHello) a self.new) }
         ensures err { OnErr result (self.new.packets ≡ self.old.packets) }
     {
         self.sound();
@@ -228,7 +329,8 @@ impl Net {
     /// A client peeks at a page.
     fn peek(&self, alloc: Global, client: ClientNo, page: PageNo) -> Result<Answer, AllocError>
         requires { client < self.now.limits.clients }
-        ensures { IfOk result (λ a. NetBecomes self.now (ClientCalls client (CallPeek page)) a self.now) }
+        ensures { IfOk result
+            (λ a. NetBecomes self.now (ClientCalls client (CallPeek page)) a self.now) }
     {
         self.sound();
         match self.peek_at(client, page) {
@@ -243,7 +345,8 @@ impl Net {
     /// A client reads a page.
     fn read(&mut self, alloc: Global, client: ClientNo, page: PageNo) -> Result<Answer, AllocError>
         requires { client < self.old.limits.clients }
-        ensures ok { IfOk result (λ a. NetBecomes self.old (ClientCalls client (CallRead page)) a self.new) }
+        ensures ok { IfOk result
+            (λ a. NetBecomes self.old (ClientCalls client (CallRead page)) a self.new) }
         ensures err { OnErr result (self.new.packets ≡ self.old.packets) }
     {
         self.sound();
@@ -263,7 +366,8 @@ impl Net {
     ) -> Result<Answer, AllocError>
         requires client { client < self.old.limits.clients }
         requires page { page < self.old.limits.pages }
-        requires here { (found ≡ ReadAnswer.Bytes) → IsSome (copy_of (client_at self.old client).pool page) }
+        requires here { (found ≡ ReadAnswer.Bytes)
+            → IsSome (copy_of (client_at self.old client).pool page) }
         ensures ok { IfOk result (λ a. AnswersRead self.old client page found a self.new) }
         ensures err { OnErr result (self.new.packets ≡ self.old.packets) }
     {
@@ -282,7 +386,8 @@ impl Net {
     ) -> Result<Answer, AllocError>
         requires client { client < self.now.limits.clients }
         requires here { IsSome (copy_of (client_at self.now client).pool page) }
-        ensures { IfOk result (λ a. a ≡ record { word = Word.Bytes (bytes_in (client_at self.now client) page); sent = [] }) }
+        ensures { IfOk result (λ a. a
+            ≡ record { word = Word.Bytes (bytes_in (client_at self.now client) page); sent = [] }) }
     {
         match self.peek_at(client, page) {
             Some(bytes) => {
@@ -303,7 +408,11 @@ impl Net {
     ) -> Result<Answer, AllocError>
         requires client { client < self.old.limits.clients }
         requires page { page < self.old.limits.pages }
-        ensures sent { IfOk result (λ a. a ≡ record { word = Word.Asked; sent = sent_as self.old (asking_frame client txn page) ∷ [] }) }
+        ensures sent { IfOk result (λ a. a
+            ≡ record {
+              word = Word.Asked;
+              sent = sent_as self.old (asking_frame client txn page) ∷ [];
+            }) }
         ensures ok { OnOk result (self.new ≡ sent_net_of self.old (asking_frame client txn page)) }
         ensures err { OnErr result (self.new.packets ≡ self.old.packets) }
     {
@@ -376,8 +485,12 @@ impl Net {
         requires client { client < self.old.limits.clients }
         requires page { page < self.old.limits.pages }
         requires size { length bytes ≡ self.old.limits.page_size }
-        ensures taken { OnOk result (Takes (client_at self.old client) (Granted page grant version bytes) (replies (gives_back (client_at self.old client) page grant) page grant) (client_at self.new client)) }
-        ensures rest { OnOk result (self.new ≡ with_client self.old client (client_at self.new client)) }
+        ensures taken { OnOk result
+            (Takes (client_at self.old client) (Granted page grant version bytes)
+            (replies (gives_back (client_at self.old client) page grant) page grant)
+            (client_at self.new client)) }
+        ensures rest { OnOk result (self.new
+            ≡ with_client self.old client (client_at self.new client)) }
         ensures err { OnErr result (self.new ≡ self.old) }
     {
         let taker = &mut self.clients[client.index()];
@@ -395,7 +508,8 @@ impl Net {
     ) -> Result<SentPackets, AllocError>
         requires client { client < self.old.limits.clients }
         requires page { page < self.old.limits.pages }
-        ensures ok { IfOk result (λ sent. Says self.old client 1 (replies back page grant) sent self.new) }
+        ensures ok { IfOk result
+            (λ sent. Says self.old client 1 (replies back page grant) sent self.new) }
         ensures err { OnErr result (self.new ≡ self.old) }
     {
         let _named = grant.get();
@@ -415,7 +529,11 @@ impl Net {
         client: ClientNo,
         incarnation: Incarnation,
     ) -> Result<Answer, AllocError>
-        requires { FoundFrame self.old packet (record { client = client; incarnation = incarnation; body = Body.Short ShortBody.Hello }) }
+        requires { FoundFrame self.old packet (record {
+          client = client;
+          incarnation = incarnation;
+          body = Body.Short ShortBody.Hello;
+        }) }
         ensures ok { IfOk result (λ a. NetBecomes self.old (TakePacket packet) a self.new) }
         ensures err { OnErr result (self.new.packets ≡ self.old.packets) }
     {
@@ -439,10 +557,16 @@ impl Net {
         txn: TxnNo,
         page: PageNo,
     ) -> Result<Answer, AllocError>
-        requires { FoundFrame self.old packet (record { client = client; incarnation = incarnation; body = Body.Short (ShortBody.AskRead txn page) }) }
+        requires { FoundFrame self.old packet (record {
+          client = client;
+          incarnation = incarnation;
+          body = Body.Short (ShortBody.AskRead txn page);
+        }) }
         ensures ok { IfOk result (λ a. NetBecomes self.old (TakePacket packet) a self.new) }
         ensures err { OnErr result (self.new.packets ≡ self.old.packets) }
-        ensures left { OnErr result (is_exhausted (server_of self.old.server) client incarnation (AskRead txn page) ≡ false) }
+        ensures left { OnErr result
+            (is_exhausted (server_of self.old.server) client incarnation (AskRead txn page)
+            ≡ false) }
     {
         self.sound();
         match self.ask_reply(client, incarnation, txn, page) {
@@ -468,7 +592,11 @@ impl Net {
         page: PageNo,
         grant: GrantNo,
     ) -> Answer
-        requires { FoundFrame self.old packet (record { client = client; incarnation = incarnation; body = Body.Short (ShortBody.GiveBack page grant) }) }
+        requires { FoundFrame self.old packet (record {
+          client = client;
+          incarnation = incarnation;
+          body = Body.Short (ShortBody.GiveBack page grant);
+        }) }
         ensures { NetBecomes self.old (TakePacket packet) result self.new }
     {
         self.sound();
@@ -484,7 +612,11 @@ impl Net {
         client: ClientNo,
         incarnation: Incarnation,
     ) -> Answer
-        requires { FoundFrame self.old packet (record { client = client; incarnation = incarnation; body = Body.Short ShortBody.Welcome }) }
+        requires { FoundFrame self.old packet (record {
+          client = client;
+          incarnation = incarnation;
+          body = Body.Short ShortBody.Welcome;
+        }) }
         ensures { NetBecomes self.old (TakePacket packet) result self.new }
     {
         self.sound();
@@ -570,7 +702,11 @@ impl Net {
         incarnation: Incarnation,
         short: ShortBody,
     ) -> Result<Answer, AllocError>
-        requires { FoundFrame self.old packet (record { client = client; incarnation = incarnation; body = Body.Short short }) }
+        requires { FoundFrame self.old packet (record {
+          client = client;
+          incarnation = incarnation;
+          body = Body.Short short;
+        }) }
         ensures ok { IfOk result (λ a. NetBecomes self.old (TakePacket packet) a self.new) }
         ensures err { OnErr result (self.new.packets ≡ self.old.packets) }
         ensures memory { OnErr result (IsAnswered short) }
@@ -602,7 +738,8 @@ impl Net {
     /// A client is called.
     fn call(&mut self, alloc: Global, client: ClientNo, call: &Call) -> Result<Answer, AllocError>
         requires { IsPlayed (Event.Call client call.now) }
-        ensures ok { IfOk result (λ a. NetBecomes self.old (ClientCalls client (call_of call.now)) a self.new) }
+        ensures ok { IfOk result
+            (λ a. NetBecomes self.old (ClientCalls client (call_of call.now)) a self.new) }
         ensures err { OnErr result (self.new.packets ≡ self.old.packets) }
     {
         if !self.has_client(client) {
@@ -650,8 +787,12 @@ impl Net {
         requires client { client < self.now.limits.clients }
         requires page { page < self.now.limits.pages }
         ensures ok { IfOk result (Replies self.now.server client incarnation (AskRead txn page)) }
-        ensures left { OnOk result (is_exhausted (server_of self.now.server) client incarnation (AskRead txn page) ≡ false) }
-        ensures fault { OnErr result (is_exhausted (server_of self.now.server) client incarnation (AskRead txn page) ≡ true) }
+        ensures left { OnOk result
+            (is_exhausted (server_of self.now.server) client incarnation (AskRead txn page)
+            ≡ false) }
+        ensures fault { OnErr result
+            (is_exhausted (server_of self.now.server) client incarnation (AskRead txn page)
+            ≡ true) }
         ensures page { IfOk result (ReplyFits self.now.limits.pages) }
     {
         self.server.reply_to_ask(client, incarnation, txn, page)
@@ -670,8 +811,10 @@ impl Net {
     fn serve_ask(&mut self, client: ClientNo, incarnation: Incarnation, txn: TxnNo, page: PageNo)
         requires client { client < self.old.limits.clients }
         requires page { page < self.old.limits.pages }
-        requires left { is_exhausted (server_of self.old.server) client incarnation (AskRead txn page) ≡ false }
-        ensures taken { TakesMessage self.old.server client incarnation (AskRead txn page) self.new.server }
+        requires left { is_exhausted (server_of self.old.server) client incarnation
+            (AskRead txn page) ≡ false }
+        ensures taken { TakesMessage self.old.server client incarnation (AskRead txn page)
+            self.new.server }
         ensures rest { self.new ≡ with_server self.old self.new.server }
     {
         self.server.take_ask(client, incarnation, txn, page);
@@ -687,8 +830,10 @@ impl Net {
     )
         requires client { client < self.old.limits.clients }
         requires page { page < self.old.limits.pages }
-        ensures silent { Replies self.old.server client incarnation (GiveBack page grant) ServerReply.Nothing }
-        ensures taken { TakesMessage self.old.server client incarnation (GiveBack page grant) self.new.server }
+        ensures silent { Replies self.old.server client incarnation (GiveBack page grant)
+            ServerReply.Nothing }
+        ensures taken { TakesMessage self.old.server client incarnation (GiveBack page grant)
+            self.new.server }
         ensures rest { self.new ≡ with_server self.old self.new.server }
     {
         self.server.take_give_back(client, incarnation, page, grant);
@@ -704,7 +849,9 @@ impl Net {
     ) -> Result<SentPackets, AllocError>
         requires client { client < self.old.limits.clients }
         requires page { ReplyFits self.old.limits.pages reply }
-        ensures ok { IfOk result (λ sent. Says self.old client incarnation (bodies_of self.old.server.store reply) sent self.new) }
+        ensures ok { IfOk result
+            (λ sent. Says self.old client incarnation (bodies_of self.old.server.store reply) sent
+            self.new) }
         ensures err { OnErr result (self.new ≡ self.old) }
     {
         let _named = incarnation.get();
@@ -732,7 +879,9 @@ impl Net {
     ) -> Result<SentPackets, AllocError>
         requires client { client < self.old.limits.clients }
         requires page { page < self.old.limits.pages }
-        ensures ok { IfOk result (λ sent. Says self.old client incarnation (bodies_of self.old.server.store (ServerReply.Granted page grant)) sent self.new) }
+        ensures ok { IfOk result
+            (λ sent. Says self.old client incarnation
+            (bodies_of self.old.server.store (ServerReply.Granted page grant)) sent self.new) }
         ensures err { OnErr result (self.new ≡ self.old) }
     {
         let bytes = self.granted_bytes(alloc, client, incarnation, page, grant)?;
@@ -750,8 +899,10 @@ impl Net {
     ) -> Result<Vec<u8>, AllocError>
         requires client { client < self.now.limits.clients }
         requires page { page < self.now.limits.pages }
-        ensures bytes { IfOk result (λ bytes. bytes.items ≡ spelling (page_frame self.now.server.store client incarnation page grant)) }
-        ensures fits { Fits self.now.limits (page_frame self.now.server.store client incarnation page grant) }
+        ensures bytes { IfOk result (λ bytes. bytes.items
+            ≡ spelling (page_frame self.now.server.store client incarnation page grant)) }
+        ensures fits { Fits self.now.limits
+            (page_frame self.now.server.store client incarnation page grant) }
     {
         let _named = (incarnation.get(), grant.get());
         let store = self.server.store();
@@ -771,7 +922,8 @@ impl Net {
 
 /// The clients of these limits, each at the start of its first incarnation.
 fn new_clients(alloc: Global, limits: &Limits) -> Result<Vec<Client>, AllocError>
-    ensures { IfOk result (λ clients. clients.items ≡ replicate limits.now.clients (fresh limits.now)) }
+    ensures { IfOk result (λ clients. clients.items
+        ≡ replicate limits.now.clients (fresh limits.now)) }
 {
     let mut clients = Vec::new(alloc);
     for _ in 0..limits.clients() {

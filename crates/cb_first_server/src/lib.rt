@@ -1,5 +1,5 @@
-//! The server of the first path: it takes Hello, AskRead and GiveBack, and grants whatever is asked. It goes when the whole
-//! server comes.
+//! The server of the first path: it takes Hello, AskRead and GiveBack, and grants whatever is
+//! asked. It goes when the whole server comes.
 #![tactic(auto)]
 
 mod server;

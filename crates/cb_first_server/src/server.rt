@@ -1,8 +1,50 @@
-ghost use Rattle.std.specs.Prelude.{◌≡◌, ℕ, ◌+◌, ◌<◌, ◌≤◌, ◌^◌, true, false, List, length, replicate, slice_set, slice_index_or, None, IfSome, OnOk, OnErr, IfOk, IfErr, IsErr, ◌↔◌};
+ghost use Rattle.std.specs.Prelude.{
+  ◌≡◌,
+  ℕ,
+  ◌+◌,
+  ◌<◌,
+  ◌≤◌,
+  ◌^◌,
+  true,
+  false,
+  List,
+  length,
+  replicate,
+  slice_set,
+  slice_index_or,
+  None,
+  IfSome,
+  OnOk,
+  OnErr,
+  IfOk,
+  IfErr,
+  IsErr,
+  ◌↔◌,
+};
 ghost use Rattle.cb_protocol.specs.Messages.{AskRead, GiveBack, Hello};
 ghost use Rattle.cb_protocol.specs.ServerMessages.{is_exhausted};
 ghost use Rattle.cb_commit.specs.Stores.{IsOf};
-ghost use Rattle.cb_first_server.specs.ServerState.{new_state, server_of, Replies, ReplyFits, TakesMessage, session_at, renumbered, with_row, row_at, begun, granted, would_live, lacks_grant, ask_reply, asked, hello_reply, welcomed, given_back, IsServer};
+ghost use Rattle.cb_first_server.specs.ServerState.{
+  new_state,
+  server_of,
+  Replies,
+  ReplyFits,
+  TakesMessage,
+  session_at,
+  renumbered,
+  with_row,
+  row_at,
+  begun,
+  granted,
+  would_live,
+  lacks_grant,
+  ask_reply,
+  asked,
+  hello_reply,
+  welcomed,
+  given_back,
+  IsServer,
+};
 
 use cb_commit::Store;
 use cb_page::{ClientNo, GrantNo, Incarnation, Limits, PageNo, TxnNo};
@@ -103,9 +145,17 @@ impl Model for Server {
 
     ghost Value = { ServerState };
 
-    ghost view = { λ s. record { store = s.store; next_grant = s.next_grant; sessions = s.sessions.items } };
+    ghost view = { λ s. record {
+      store = s.store;
+      next_grant = s.next_grant;
+      sessions = s.sessions.items;
+    } };
 
-    ghost invariant = { λ s. IsServer (record { store = s.store; next_grant = s.next_grant; sessions = s.sessions.items }) };
+    ghost invariant = { λ s. IsServer (record {
+      store = s.store;
+      next_grant = s.next_grant;
+      sessions = s.sessions.items;
+    }) };
 }
 
 impl Server {
@@ -138,7 +188,11 @@ impl Server {
         requires client { client < length self.old.sessions }
         requires later { (session_at self.old.sessions client).incarnation ≤ incarnation }
         requires greatest { incarnation < 2 ^ 62 }
-        ensures { self.new ≡ record self.old { sessions = slice_set self.old.sessions client (renumbered (session_at self.old.sessions client) incarnation txn ended) } }
+        ensures { self.new
+            ≡ record self.old {
+              sessions = slice_set self.old.sessions client
+                  (renumbered (session_at self.old.sessions client) incarnation txn ended);
+            } }
     {
         let session = &mut self.sessions[client.index()];
         session.incarnation = incarnation;
@@ -150,8 +204,13 @@ impl Server {
     fn put_row(&mut self, client: ClientNo, page: PageNo, row: Option<Row>)
         requires client { client < length self.old.sessions }
         requires page { page < length self.old.store.pages }
-        requires past { IfSome row (λ r. r.incarnation ≤ (session_at self.old.sessions client).incarnation) }
-        ensures { self.new ≡ record self.old { sessions = slice_set self.old.sessions client (with_row (session_at self.old.sessions client) page row) } }
+        requires past { IfSome row
+            (λ r. r.incarnation ≤ (session_at self.old.sessions client).incarnation) }
+        ensures { self.new
+            ≡ record self.old {
+              sessions = slice_set self.old.sessions client
+                  (with_row (session_at self.old.sessions client) page row);
+            } }
     {
         let session = &mut self.sessions[client.index()];
         session.rows.put(page, row);
@@ -318,8 +377,10 @@ impl Server {
         requires client { client < length self.now.sessions }
         requires page { page < length self.now.store.pages }
         ensures ok { IfOk result (Replies self.now client incarnation (AskRead txn page)) }
-        ensures left { OnOk result (is_exhausted (server_of self.now) client incarnation (AskRead txn page) ≡ false) }
-        ensures fault { OnErr result (is_exhausted (server_of self.now) client incarnation (AskRead txn page) ≡ true) }
+        ensures left { OnOk result
+            (is_exhausted (server_of self.now) client incarnation (AskRead txn page) ≡ false) }
+        ensures fault { OnErr result
+            (is_exhausted (server_of self.now) client incarnation (AskRead txn page) ≡ true) }
         ensures page { IfOk result (ReplyFits (length self.now.store.pages)) }
     {
         self.sound();
@@ -331,7 +392,8 @@ impl Server {
     pub fn take_ask(&mut self, client: ClientNo, incarnation: Incarnation, txn: TxnNo, page: PageNo)
         requires client { client < length self.old.sessions }
         requires page { page < length self.old.store.pages }
-        requires left { is_exhausted (server_of self.old) client incarnation (AskRead txn page) ≡ false }
+        requires left { is_exhausted (server_of self.old) client incarnation (AskRead txn page)
+            ≡ false }
         ensures { TakesMessage self.old client incarnation (AskRead txn page) self.new }
     {
         self.sound();
@@ -368,7 +430,8 @@ impl Server {
     )
         requires client { client < length self.old.sessions }
         requires page { page < length self.old.store.pages }
-        ensures silent { Replies self.old client incarnation (GiveBack page grant) ServerReply.Nothing }
+        ensures silent { Replies self.old client incarnation (GiveBack page grant)
+            ServerReply.Nothing }
         ensures after { TakesMessage self.old client incarnation (GiveBack page grant) self.new }
     {
         self.sound();

@@ -1,12 +1,25 @@
 -- The pieces of a schedule's text: lines, words and numbers. This project's rules.
-use Rattle.std.specs.Prelude.{ℕ, ◌^◌, Bool, not, ◌&&◌, ◌||◌, ◌==◌, nat_le, nat_lt, List, length, filter}
+use Rattle.std.specs.Prelude.{
+  ℕ,
+  ◌^◌,
+  Bool,
+  not,
+  ◌&&◌,
+  ◌||◌,
+  ◌==◌,
+  nat_le,
+  nat_lt,
+  List,
+  length,
+  filter,
+}
 use Rattle.std.specs.List.{slice_split, list_all}
 use Rattle.std.specs.Str.{all_ascii_digits}
 use Rattle.std.specs.Str.Lines.{lines}
 use Rattle.std.specs.Str.Parse.{digits_value}
 
--- The lines of a text end with a line feed, which the last may lack: behind a line feed at the end there
--- is no further line. A carriage return directly before a line feed is dropped.
+-- The lines of a text end with a line feed, which the last may lack: behind a line feed at the end
+-- there is no further line. A carriage return directly before a line feed is dropped.
 unfoldable pub lines_of : List ℕ → List (List ℕ)
 lines_of text = lines text
 

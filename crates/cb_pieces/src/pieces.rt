@@ -1,8 +1,31 @@
 //! The pieces of a schedule's text: lines, words, numbers.
-ghost use Rattle.std.specs.Prelude.{◌≡◌, ℕ, ◌<◌, ◌≤◌, ◌+◌, ◌==◌, [], ◌∷◌, not, length, MatchOption, Some, None, if◌then◌else◌};
+ghost use Rattle.std.specs.Prelude.{
+  ◌≡◌,
+  ℕ,
+  ◌<◌,
+  ◌≤◌,
+  ◌+◌,
+  ◌==◌,
+  [],
+  ◌∷◌,
+  not,
+  length,
+  MatchOption,
+  Some,
+  None,
+  if◌then◌else◌,
+};
 ghost use Rattle.std.specs.List.{position};
 ghost use Rattle.std.specs.Str.Lines.{strip_carriage_return};
-ghost use Rattle.cb_pieces.specs.Pieces.{lines_of, words_of, is_blank, is_text, is_text_byte, number_of, is_number};
+ghost use Rattle.cb_pieces.specs.Pieces.{
+  lines_of,
+  words_of,
+  is_blank,
+  is_text,
+  is_text_byte,
+  number_of,
+  is_number,
+};
 
 /// The greatest number that a schedule may name.
 const GREATEST: u64 = (1 << 62) - 1;
@@ -11,7 +34,8 @@ const GREATEST: u64 = (1 << 62) - 1;
 pub fn split_line(text: &[u8]) -> Option<(&[u8], &[u8])>
     ensures { MatchOption result
         (lines_of text.now ≡ [])
-        (λ r. (lines_of text.now ≡ r.0.now ∷ lines_of r.1.now) × (length r.1.now < length text.now)) }
+        (λ r. (lines_of text.now ≡ r.0.now ∷ lines_of r.1.now)
+        × (length r.1.now < length text.now)) }
 {
     if text.is_empty() {
         return None;

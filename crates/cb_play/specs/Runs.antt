@@ -7,7 +7,7 @@ use Rattle.cb_protocol.specs.World.{new_world}
 use Rattle.cb_schedule.specs.Plays.{Played}
 use Rattle.cb_first_client.specs.ProtocolLimits.{limits_of}
 use Rattle.cb_event.specs.ScheduleText as text
-use Rattle.cb_transcript.specs.Transcripts.{IsSerialOverAny, TranscriptState}
+use Rattle.cb_transcript.specs.Transcripts.{IsSerialOnOpening, TranscriptState}
 use Rattle.cb_first_net.specs.NetState.{opening_of}
 use Rattle.cb_schedule.specs.WorldState.{Represents, WorldState}
 use Rattle.cb_transcript.specs.declared.answer.Entry.{Entry}
@@ -81,8 +81,8 @@ IsRefusal config_bytes schedule_bytes refusal =
 -- A transcript is printed to the end, and the status is 0 exactly where it is serial; or memory ran out for the check.
 abbrev pub Ends : TranscriptState → ℕ → List ℕ → Type 0
 Ends t status printed =
-    ((status ≡ 0) × IsSerialOverAny t × (printed ≡ lines_from 1 t.entries ++ last_lines (length t.commits) true))
-    ⊎ ((status ≡ 1) × (¬ IsSerialOverAny t) × (printed ≡ lines_from 1 t.entries ++ last_lines (length t.commits) false))
+    ((status ≡ 0) × IsSerialOnOpening t × (printed ≡ lines_from 1 t.entries ++ last_lines (length t.commits) true))
+    ⊎ ((status ≡ 1) × (¬ IsSerialOnOpening t) × (printed ≡ lines_from 1 t.entries ++ last_lines (length t.commits) false))
     ⊎ ((status ≡ 4) × (printed ≡ lines_from 1 t.entries))
 
 -- What a run prints on the standard output, with its status: every event is played, and none is a commit yet; or memory

@@ -1,15 +1,18 @@
 -- A world as its callers see it, and the protocol's world that it is.
 use Rattle.std.specs.Prelude.{◌≡◌, Bool, List}
 use Rattle.cb_page.specs.Bounds.{Bounds}
+use Rattle.cb_commit.specs.Stores.{StoreState}
 use Rattle.cb_first_net.specs.NetState.{NetState, RepresentsNet, opening_of}
 use Rattle.cb_transcript.specs.ProtocolEvents.{transcript_of}
 use Rattle.cb_transcript.specs.declared.answer.Entry.{Entry}
 use Rattle.cb_protocol.specs.World as protocol
 
--- the limits, the net, every event so far with its answer, and whether want of memory stopped the world
+-- the limits, the net, the store before any event, every event so far with its answer, and whether
+-- want of memory stopped the world
 pub record WorldState : Type 0 where
   pub limits : Bounds
   pub net : NetState
+  pub opening : StoreState
   pub transcript : List Entry
   pub stopped : Bool
 
@@ -22,6 +25,6 @@ pub record Represents (v : WorldState) (w : protocol.World) : Type 0 where
 abbrev pub IsRepresented : NetState → Type 0
 IsRepresented net = (world : protocol.World) × RepresentsNet net world
 
--- The opening store of the world, as the protocol has it. It is the server's: nothing is committed yet.
+-- the opening store of the world, as the protocol has it
 abbrev pub opened : WorldState → protocol.Opening
-opened v = opening_of v.net.server.store
+opened v = opening_of v.opening

@@ -6,8 +6,8 @@ use cb_first_client::{Client, ClientFault, ReadAnswer};
 use cb_page::{GrantNo, Limits, Page, PageNo, Version};
 use std::alloc::Global;
 
-/// A call of a client, or a message that it takes. A grant has a page, a number, a version and the byte of which its
-/// bytes are made.
+/// A call of a client, or a message that it takes. A grant has a page, a number, a version and the
+/// byte of which its bytes are made.
 #[derive(Clone, Copy)]
 enum Step {
     Welcome,
@@ -17,7 +17,8 @@ enum Step {
     Granted(u32, u64, u64, u8),
 }
 
-/// What is answered: the transaction begun or asked for, the first of the bytes, whether a grant is given back.
+/// What is answered: the transaction begun or asked for, the first of the bytes, whether a grant is
+/// given back.
 #[derive(Clone, Copy, Debug, PartialEq, Eq)]
 enum Seen {
     Nothing,
@@ -98,7 +99,8 @@ fn answered(alloc: Global, client: &mut Client, step: Step) -> Seen {
     }
 }
 
-/// Whether a new client of eight pages of sixteen bytes and a pool of this size answers these steps so.
+/// Whether a new client of eight pages of sixteen bytes and a pool of this size answers these steps
+/// so.
 fn plays(alloc: Global, slots: u64, kin: u64, kout: u64, rows: &[(Step, Seen)]) -> bool {
     let Ok(limits) = Limits::new(2, 8, 16, slots, kin, kout) else {
         return false;
@@ -223,7 +225,8 @@ static PAGES_GO_BY_2Q: [(Step, Seen); 29] = [
     (Peek(6), Bytes(16)),
 ];
 
-/// Each page goes that 2Q lets go at the limits' Kin and Kout, of which a read of a held page is a reference.
+/// Each page goes that 2Q lets go at the limits' Kin and Kout, of which a read of a held page is a
+/// reference.
 #[test]
 fn pages_go_by_2q(rt: HostRuntime) {
     assert!(rt; plays(rt.alloc(), 4, 2, 2, &PAGES_GO_BY_2Q));

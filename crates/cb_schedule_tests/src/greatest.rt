@@ -36,7 +36,8 @@ fn put_greetings(alloc: Global, text: &mut String) -> Option<()> {
     Some(())
 }
 
-/// Reads of pages from the last one down, each by the next client: it asks, is granted the page and reads it.
+/// Reads of pages from the last one down, each by the next client: it asks, is granted the page and
+/// reads it.
 fn put_reads(alloc: Global, text: &mut String, reads: u32) -> Option<()> {
     for place in 0..reads {
         let place = u64::from(place);
@@ -112,7 +113,8 @@ fn five_thousand_events_at_once(rt: HostRuntime) {
     assert!(rt; are_read(&transcript));
 }
 
-/// Whether a write of a page of the greatest size, an answer that shows one and a packet are copied.
+/// Whether a write of a page of the greatest size, an answer that shows one and a packet are
+/// copied.
 fn are_copied(alloc: Global) -> Option<()> {
     let bytes = [7; 4096];
     let write = Call::Write {

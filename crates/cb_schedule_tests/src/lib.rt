@@ -1,4 +1,5 @@
-//! Tests of the public calls of schedules, worlds and transcripts, and of the first path's client and net.
+//! Tests of the public calls of schedules, worlds and transcripts, and of the first path's client
+//! and net.
 #![tactic(auto)]
 
 #[cfg(test)]

@@ -5,7 +5,8 @@ use cb_page::Limits;
 use cb_schedule::{Answer, Event, Verdict, Word, World, check_serial, read_schedule};
 use std::alloc::Global;
 
-/// A line of a schedule, and what it is answered: the word, and each packet sent as `number:kind:client`.
+/// A line of a schedule, and what it is answered: the word, and each packet sent as
+/// `number:kind:client`.
 type Row = (&'static str, &'static str);
 
 /// A world of that many clients over eight pages of sixteen bytes and four slots.
@@ -168,7 +169,8 @@ fn first_run_at_once(rt: HostRuntime) {
     }
 }
 
-/// The first run, event by event; where memory is refused, what was told is its first events, and the world is stopped.
+/// The first run, event by event; where memory is refused, what was told is its first events, and
+/// the world is stopped.
 #[test]
 fn stopped_world(rt: HostRuntime) {
     let Some(mut world) = small_world(rt.alloc(), 1) else {

@@ -1,4 +1,4 @@
-ghost use Rattle.std.specs.Prelude.{◌≡◌, List, [], ◌∷◌, IfOk, OnErr};
+ghost use Rattle.std.specs.Prelude.{◌≡◌, List, [], ◌∷◌, Some, IfOk, IfSome, OnErr};
 ghost use Rattle.cb_transcript.specs.Answers.{IsBytes};
 
 use cb_event::Event;
@@ -151,4 +151,28 @@ impl Answer {
 pub struct Entry {
     pub event: Event,
     pub answer: Answer,
+}
+
+/// The law of packets sent: none are none, and a copy of one shows it.
+fn sent_law(alloc: Global, sent: Sent) -> Result<(usize, Option<Sent>), AllocError>
+    ensures { IfOk result (λ shown. shown ≡ (0, Some sent)) }
+{
+    let none = SentPackets::none(alloc);
+    let one = SentPackets::one(alloc, sent)?.copy(alloc)?;
+    let first = match one.as_slice() {
+        [first, ..] => Some(*first),
+        [] => None,
+    };
+    Ok((none.as_slice().len(), first))
+}
+
+/// The law of copies: a word without page bytes needs no memory, and an answer's copy is the same.
+fn copy_law(alloc: Global, number: CommitNo, answer: &Answer) -> (Option<Word>, Option<Answer>)
+    ensures word { result.0 ≡ Some (Word.Flushed number) }
+    ensures answer { IfSome result.1 (λ copy. copy ≡ answer.now) }
+{
+    (
+        Word::Flushed(number).copy(alloc).ok(),
+        answer.copy(alloc).ok(),
+    )
 }

@@ -15,7 +15,7 @@ pub returns-in_default-clause-fault : goal.returns-in_default-clause-fault
 returns-in_default-clause-fault c = λ ran. (
   c.loop-event.event-index,
   c.loop-event-test.true,
-  played_end c.args.self _ c.loop-event.self _ c.loop-event.invariant.played (c.into_transcript-in_default.ensures ∙ c.in_default.ensures.kept),
+  played_end c.args.self _ c.loop-event.self _ c.loop-event.invariant.played (c.into_transcript-in_default.ensures.entries ∙ c.in_default.ensures.kept),
 )
 
 pub loop-event-preserved : goal.loop-event-preserved
@@ -31,4 +31,4 @@ returns-clause-ok c =
     let events = c.args.events.now in
     let whole : c.loop-event.event-index ≡ length events = omega arith in
     subst (λ (es : List Event). Played c.args.self es c.into_transcript-2.result.entries) (ap (λ n. take n events) whole ∙ take-length events)
-    (played_end c.args.self _ c.loop-event.self _ c.loop-event.invariant.played c.into_transcript-2.ensures)
+    (played_end c.args.self _ c.loop-event.self _ c.loop-event.invariant.played c.into_transcript-2.ensures.entries)
