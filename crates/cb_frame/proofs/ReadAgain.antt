@@ -5,7 +5,12 @@ use Rattle.std.proofs.lemmas.Bool.{cases_lt}
 use Rattle.std.proofs.lemmas.List.{take-append-drop, drop-drop, length-take, length-take-le, length-drop, get_or-drop, get_or-take, get_or_past}
 use Rattle.std.proofs.lemmas.Nat.{be_bytes_2, be_bytes_4, be_bytes_8, from_be_bytes-to_be_bytes_2, from_be_bytes-to_be_bytes_4, from_be_bytes-to_be_bytes_8}
 use Rattle.cb_page.specs.Faults.{first_fault}
+use Rattle.cb_frame.specs.declared.version.FrameVersion.{FrameVersion}
+use Rattle.cb_frame.specs.declared.version.FrameVersion.TheVariants.{One, Two}
+use Rattle.std.specs.Prelude.{nat_le}
+use Rattle.std.proofs.lemmas.Bool.{leb-true}
 use Rattle.cb_frame.specs.Checks.{number}
+use Rattle.cb_frame.specs.Versions.{has_size, size_length, size_width}
 
 abbrev pub IsBytes : List ℕ → Type 0
 IsBytes bytes = (i : ℕ) → get_or bytes i 0 < 256
@@ -64,6 +69,21 @@ pub number-append : (w : Width) (front rest : List ℕ) (at : ℕ) → length fr
 unfolding number
 number-append w [] rest at e = ap (λ (n : ℕ). from_be_bytes w (take (byte_len w) (drop n rest))) (sym e)
 number-append w (x ∷ front) rest at e = ap (λ (n : ℕ). from_be_bytes w (take (byte_len w) (drop n (x ∷ front ++ rest)))) (sym e) ∙ number-append w front rest (length front) refl
+
+-- the size before a page's bytes, in each version
+pub length-size : (v : FrameVersion) (n : ℕ) → length (to_be_bytes (size_width v) n) ≡ size_length v
+length-size One n = refl
+length-size Two n = refl
+
+pub size_found : (v : FrameVersion) (at : ℕ) (bytes : List ℕ) → IsBytes bytes → at + size_length v ≤ length bytes
+    → drop at bytes ≡ to_be_bytes (size_width v) (number (size_width v) at bytes) ++ drop (at + size_length v) bytes
+size_found One at bytes fits room = number_found wide16 at bytes fits room
+size_found Two at bytes fits room = number_found wide32 at bytes fits room
+
+pub size_again : (v : FrameVersion) (n : ℕ) (rest : List ℕ) → has_size v n ≡ true → n ≤ 65536
+    → number (size_width v) 0 (to_be_bytes (size_width v) n ++ rest) ≡ n
+size_again One n rest has small = again16 n rest (let le = leb-true _ _ has in omega arith)
+size_again Two n rest has small = again32 n rest (omega arith)
 
 -- with no fault, no cause stands
 pub none_first : {F : Type 0} (b : Bool) (f : F) (causes : List (Bool × F)) → first_fault ((b, f) ∷ causes) ≡ None → (b ≡ false) × (first_fault causes ≡ None)
