@@ -1,6 +1,6 @@
 -- What a greater Hello leaves of its client at the server: nothing of the older incarnation. This
 -- project's rule.
-use Rattle.std.specs.Prelude.{◌≡◌, ◌≢◌, ◌<◌, ℕ, Bool, false, Some, None}
+use Rattle.std.specs.Prelude.{◌≡◌, ◌≢◌, ◌<◌, ℕ, false, Some, None}
 use Rattle.cb_protocol.specs.Basics.{IsIn}
 use Rattle.cb_protocol.specs.Messages.{Hello, Welcome}
 use Rattle.cb_protocol.specs.Server.{DeadlockTest, Server, server_after}
@@ -27,8 +27,4 @@ GreaterHelloStartsAnew = (cycle : DeadlockTest) (server : Server) (client incarn
     → (server.session client).current < incarnation
     → let steps = server_take cycle server client incarnation Hello in
     OnlyGreeted (server_after server steps) client incarnation
-    × IsIn (record {
-      client = client;
-      incarnation = incarnation;
-      body = Welcome;
-    }) (messages_sent steps)
+    × IsIn (record { client = client; incarnation = incarnation; body = Welcome }) (messages_sent steps)

@@ -9,7 +9,7 @@ pub record WaitingAsk : Type 0 where
   pub client : ℕ
   pub write_grant : Option ℕ  -- none: it asks to read; else to write, by that grant
   pub called_back : Bool  -- the Callbacks for it were sent
-  pub downgrades_sent : List ℕ  -- the tags of the permissions for which a Downgrade was sent for it
+  pub downgrade_sent : Option ℕ  -- the tag of the last permission for which a Downgrade was sent for it
 
 -- a commit that was applied
 pub record AppliedCommit : Type 0 where
@@ -71,10 +71,9 @@ abbrev pub set_called_back : List WaitingAsk → List WaitingAsk
 set_called_back [] = []
 set_called_back (ask ∷ queue) = record ask { called_back = true } ∷ queue
 
-abbrev pub add_downgrade_sent : ℕ → List WaitingAsk → List WaitingAsk
-add_downgrade_sent tag [] = []
-add_downgrade_sent tag (ask ∷ queue) =
-    record ask { downgrades_sent = tag ∷ ask.downgrades_sent } ∷ queue
+abbrev pub set_downgrade_sent : ℕ → List WaitingAsk → List WaitingAsk
+set_downgrade_sent tag [] = []
+set_downgrade_sent tag (ask ∷ queue) = record ask { downgrade_sent = Some tag } ∷ queue
 
 -- the in-use marks with that of a client on a page set or taken off; without those of a client
 abbrev pub set_in_use : (ℕ → ℕ → Bool) → ℕ → ℕ → Bool → ℕ → ℕ → Bool
@@ -128,7 +127,7 @@ after_server_step server (LeaveQueue page) =
 after_server_step server (MarkCalledBack page) =
     record server { queue = update server.queue page (set_called_back (server.queue page)) }
 after_server_step server (MarkDowngradeSent page tag) =
-    record server { queue = update server.queue page (add_downgrade_sent tag (server.queue page)) }
+    record server { queue = update server.queue page (set_downgrade_sent tag (server.queue page)) }
 after_server_step server (MarkInUse client page) =
     record server { in_use = set_in_use server.in_use client page true }
 after_server_step server (UnmarkInUse client page) =

@@ -40,7 +40,7 @@ new_ask client write_grant = record {
   client = client;
   write_grant = write_grant;
   called_back = false;
-  downgrades_sent = [];
+  downgrade_sent = None;
 }
 
 -- AskRead: a client with a row gets that row's grant again, with the present bytes; one whose ask

@@ -106,23 +106,19 @@ grant_row server page client =
     ChangeSession client (GrantRow page server.next_grant)
     ∷ send_granted server client page server.next_grant ∷ LeaveQueue page ∷ []
 
--- the tag is in the list
-abbrev pub is_listed : ℕ → List ℕ → Bool
-is_listed tag [] = false
-is_listed tag (first ∷ tags) = (first == tag) || is_listed tag tags
-
 -- Callbacks to every other row, once for each ask
 abbrev pub call_back_once : Server → ℕ → WaitingAsk → List ServerStep
 call_back_once server page ask =
     if ask.called_back then []
     else send_callbacks server nobody page ask.client server.clients ++ MarkCalledBack page ∷ []
 
--- A Downgrade to a client that merely keeps its permission, once for each ask and tag
+-- A Downgrade to a client that merely keeps its permission, once for each ask and tag: the tags of
+-- an ask only rise, so the last one tells.
 abbrev pub downgrade_once : Server → ℕ → WaitingAsk → List ServerStep
 downgrade_once server page ask =
     if server.store.keep_write
     && keeps_permission server page ask.client (server.store.holder page)
-    && not (is_listed (server.store.tag page) ask.downgrades_sent)
+    && not (is_exactly ask.downgrade_sent (server.store.tag page))
     then send_downgrades server nobody page ask.client (server.store.holder page)
     ++ MarkDowngradeSent page (server.store.tag page) ∷ []
     else []
