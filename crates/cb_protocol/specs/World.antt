@@ -138,10 +138,10 @@ step L cycle w ServerAgain let_go = server_does w ServerAgain AnsweredOk (server
 step L cycle w FlushAll let_go = flush_up_to w FlushAll w.server.store.last_commit
 step L cycle w (FlushTo n) let_go = flush_up_to w (FlushTo n) n
 
--- the law of the pool's choice, where a client takes a packet; at other events nothing is chosen
+-- the law of the pool's choice, where a client takes a packet of its incarnation; at other events nothing is chosen
 abbrev pub MessageChoiceAllowed : Limits → World → Option Message → Option ℕ → Type 0
 MessageChoiceAllowed L w None let_go = ⊤
-MessageChoiceAllowed L w (Some f) let_go = ChoiceAllowed L (w.client f.client) f.body let_go
+MessageChoiceAllowed L w (Some f) let_go = f.incarnation ≡ w.incarnation f.client → ChoiceAllowed L (w.client f.client) f.body let_go
 
 abbrev pub EventChoiceAllowed : Limits → World → Event → Option ℕ → Type 0
 EventChoiceAllowed L w (TakePacket n) let_go = MessageChoiceAllowed L w (packet_at w.packets n) let_go
