@@ -7,7 +7,7 @@ use Rattle.cb_protocol.proofs.SettlingRight.{is_some_is}
 use Rattle.cb_protocol.specs.Basics.{is_exactly}
 use Rattle.cb_protocol.specs.CommitLaws.{AppliedWhereItMay, IsApplied, MayBeApplied, WritesPermitted, server_after_commit, server_with}
 use Rattle.cb_protocol.specs.Messages.{AbortNow, Commit, Done, PageWrite}
-use Rattle.cb_protocol.specs.Server.{AppliedCommit, ChangeSession, ForgetTransaction, Server, ServerStep, server_after}
+use Rattle.cb_protocol.specs.Server.{AppliedCommit, ChangeSession, DeadlockTest, ForgetTransaction, Server, ServerStep, server_after}
 use Rattle.cb_protocol.specs.ServerMessages.{begin_transaction, commit_allowed, direct_answer, repeat_done, server_take, take_current}
 use Rattle.cb_protocol.specs.Session.{ApplyCommit, BeginTransaction, GrantRow, PermitWrite}
 use Rattle.cb_protocol.specs.Settling.{send_to, settle_pages}
@@ -70,14 +70,14 @@ record Passes (m : Server) (c t : ℕ) (ws : List PageWrite) : Type 0 where
   not_doomed : m.doomed c ≡ false
   permitted : WritesPermitted m c ws
 
-applies : (cycle : Server → ℕ → Bool) (m : Server) (c t : ℕ) (ws : List PageWrite) → Passes m c t ws
+applies : (cycle : DeadlockTest) (m : Server) (c t : ℕ) (ws : List PageWrite) → Passes m c t ws
     → direct_answer cycle m c (Commit t ws) ≡ ForgetTransaction c ∷ ChangeSession c (ApplyCommit t ws) ∷ []
 applies cycle m c t ws a = rw (below, a.not_doomed, allowed_by m c ws a.permitted) refl
   where
     below : nat_lt (m.session c).ended t ≡ true
     below = let l = a.lives in grind arith
 
-applies_none : (cycle : Server → ℕ → Bool) (m : Server) (c t : ℕ) (ws : List PageWrite) → (Passes m c t ws → ⊥)
+applies_none : (cycle : DeadlockTest) (m : Server) (c t : ℕ) (ws : List PageWrite) → (Passes m c t ws → ⊥)
     → (server_after m (direct_answer cycle m c (Commit t ws))).commits ≡ m.commits
 applies_none cycle m c t ws f = go (nat_lt (m.session c).ended t) refl (m.doomed c) refl (commit_allowed m c ws) refl (t == (m.session c).ended)
   where
@@ -101,7 +101,7 @@ applies_none cycle m c t ws f = go (nat_lt (m.session c).ended t) refl (m.doomed
     go false e u d v k true = again (m.outcome c)
     go false e u d v k false = refl
 
-current_is : (cycle : Server → ℕ → Bool) (s : Server) (c i t : ℕ) (ws : List PageWrite) → i ≡ (s.session c).current
+current_is : (cycle : DeadlockTest) (s : Server) (c i t : ℕ) (ws : List PageWrite) → i ≡ (s.session c).current
     → server_take cycle s c i (Commit t ws) ≡ take_current cycle s c (Commit t ws)
 unfolding server_take
 current_is cycle s c i t ws e = rw same refl
@@ -109,13 +109,13 @@ current_is cycle s c i t ws e = rw same refl
     same : (i == (s.session c).current) ≡ true
     same = grind arith
 
-after_current : (cycle : Server → ℕ → Bool) (s : Server) (c t : ℕ) (ws : List PageWrite)
+after_current : (cycle : DeadlockTest) (s : Server) (c t : ℕ) (ws : List PageWrite)
     → let m = server_with s c t in let a = server_after m (direct_answer cycle m c (Commit t ws)) in
     server_after s (take_current cycle s c (Commit t ws)) ≡ server_after a (settle_pages cycle a a.pages)
 after_current cycle s c t ws = let m = server_with s c t in let ds = direct_answer cycle m c (Commit t ws) in let a = server_after m ds in
     after_append s (begin_transaction s c t) (ds ++ settle_pages cycle a a.pages) ∙ after_append m ds (settle_pages cycle a a.pages)
 
-applied : (cycle : Server → ℕ → Bool) (s : Server) (c i t : ℕ) (ws : List PageWrite) → MayBeApplied s c i t ws
+applied : (cycle : DeadlockTest) (s : Server) (c i t : ℕ) (ws : List PageWrite) → MayBeApplied s c i t ws
     → IsApplied s (server_after_commit cycle s c i t ws) c i t ws
 applied cycle s c i t ws may = subst (λ (k : Server). IsApplied s k c i t ws) (sym path) settled
   where
@@ -155,7 +155,7 @@ applied cycle s c i t ws may = subst (λ (k : Server). IsApplied s k c i t ws) (
           (outcome ∙ ap (λ (n : ℕ). Some (n + 1)) same.last);
     }
 
-none_applied : (cycle : Server → ℕ → Bool) (s : Server) (c i t : ℕ) (ws : List PageWrite) → (MayBeApplied s c i t ws → ⊥)
+none_applied : (cycle : DeadlockTest) (s : Server) (c i t : ℕ) (ws : List PageWrite) → (MayBeApplied s c i t ws → ⊥)
     → (server_after_commit cycle s c i t ws).commits ≡ s.commits
 unfolding server_take
 none_applied cycle s c i t ws f = go (i == (s.session c).current) refl

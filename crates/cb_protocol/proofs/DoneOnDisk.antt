@@ -6,7 +6,7 @@ use Rattle.cb_protocol.specs.CommitLaws.{DonesUpTo, flushed_by}
 use Rattle.cb_protocol.specs.Flush.{can_flush, server_flush}
 use Rattle.cb_protocol.specs.Messages.{Body}
 use Rattle.cb_protocol.specs.Resend.{server_again}
-use Rattle.cb_protocol.specs.Server.{Server, ServerStep, after_server_step, server_after}
+use Rattle.cb_protocol.specs.Server.{DeadlockTest, Server, ServerStep, after_server_step, server_after}
 use Rattle.cb_protocol.specs.ServerMessages.{server_take}
 use Rattle.cb_protocol.specs.World.{messages_sent}
 
@@ -23,7 +23,7 @@ last_rises : (s : Server) (ds : List ServerStep) → s.store.last_commit ≤ (se
 last_rises s [] = omega arith
 last_rises s (d ∷ ds) = let a = last_after s d in let b = last_rises (after_server_step s d) ds in omega arith
 
-from_disk : (cycle : Server → ℕ → Bool) (s : Server) (i : Input) → s.flushed ≤ flushed_by s i
+from_disk : (cycle : DeadlockTest) (s : Server) (i : Input) → s.flushed ≤ flushed_by s i
     → (s.flushed ≤ s.store.last_commit → flushed_by s i ≤ s.store.last_commit) → FromDisk s (input_steps cycle s i)
 from_disk cycle s i up made = let a = done_from_disk cycle s i in let l = last_rises s (input_steps cycle s i) in let e = a.0 in record {
   rises = omega (arith, e, up);
@@ -31,7 +31,7 @@ from_disk cycle s i up made = let a = done_from_disk cycle s i in let l = last_r
   told = subst (λ (n : ℕ). DonesUpTo n (messages_sent (input_steps cycle s i))) (sym e) a.1;
 }
 
-pub taken_from_disk : (cycle : Server → ℕ → Bool) (s : Server) (c i : ℕ) (b : Body) → FromDisk s (server_take cycle s c i b)
+pub taken_from_disk : (cycle : DeadlockTest) (s : Server) (c i : ℕ) (b : Body) → FromDisk s (server_take cycle s c i b)
 taken_from_disk cycle s c i b = from_disk cycle s (MessageComes c i b) (omega arith) (λ l. l)
 
 nobody_waits : Server → ℕ → Bool

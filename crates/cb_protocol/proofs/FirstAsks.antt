@@ -7,7 +7,7 @@ use Rattle.cb_protocol.proofs.SettlingRight.{is_none_is, is_some_is, no_other_is
 use Rattle.cb_protocol.specs.AskLaws.{GrantIsSent, IsFirst, MayBeGranted, MayBePermitted, PermissionIsSent}
 use Rattle.cb_protocol.specs.Basics.{is_exactly, is_none}
 use Rattle.cb_protocol.specs.Messages.{Body, Done}
-use Rattle.cb_protocol.specs.Server.{ChangeSession, EnterQueue, ForgetTransaction, MarkCalledBack, MarkInUse, MarkTold, Send, Server, ServerStep, SetFlushed, UnmarkInUse, WaitingAsk, server_after}
+use Rattle.cb_protocol.specs.Server.{ChangeSession, DeadlockTest, EnterQueue, ForgetTransaction, MarkCalledBack, MarkInUse, MarkDowngradeSent, Send, Server, ServerStep, SetFlushed, UnmarkInUse, WaitingAsk, server_after}
 use Rattle.cb_protocol.specs.Session.{GrantRow, PermitWrite}
 use Rattle.cb_protocol.specs.Settling.{Decided, Settled, call_back_once, decide, decide_read, decide_write, decision_steps, doom_client, downgrade_once, grant_row, is_listed, keeps_permission, no_other_holder, nobody, permit_write, send_callbacks, send_downgrades, settle_pages, sole_row, wait_or_doom}
 
@@ -43,7 +43,7 @@ settles_lasting s (ChangeSession c (PermitWrite p g)) xs ys a = (a.0, a.1, permi
 settles_lasting s _ xs ys a = a
 
 -- an ask that can't be met now
-settles_refuse : (cycle : Server → ℕ → Bool) (s : Server) (c : ℕ) (ds : List ServerStep) → EachStep Settles s ds
+settles_refuse : (cycle : DeadlockTest) (s : Server) (c : ℕ) (ds : List ServerStep) → EachStep Settles s ds
     → EachStep Settles s (decision_steps (wait_or_doom cycle s c ds))
 settles_refuse cycle s c ds a = go (cycle (server_after s ds) c)
   where
@@ -61,18 +61,18 @@ settles_calls_back s p a = go a.called_back
         (each_callbacks Settles settles_lasting s nobody p a.client s.clients (λ d i g. tt)) (tt, tt)
 
 settles_brings_down : (s : Server) (p : ℕ) (a : WaitingAsk) → EachStep Settles s (downgrade_once s p a)
-settles_brings_down s p a = go (s.store.keep_write && keeps_permission s p a.client (s.store.holder p) && not (is_listed (s.store.tag p) a.told_tags))
+settles_brings_down s p a = go (s.store.keep_write && keeps_permission s p a.client (s.store.holder p) && not (is_listed (s.store.tag p) a.downgrades_sent))
   where
     ds : List ServerStep
     ds = send_downgrades s nobody p a.client (s.store.holder p)
 
-    go : (r : Bool) → EachStep Settles s (if r then send_downgrades s nobody p a.client (s.store.holder p) ++ MarkTold p (s.store.tag p) ∷ [] else [])
-    go true = each_after_sends Settles settles_lasting s (send_downgrades s nobody p a.client (s.store.holder p)) (MarkTold p (s.store.tag p) ∷ [])
+    go : (r : Bool) → EachStep Settles s (if r then send_downgrades s nobody p a.client (s.store.holder p) ++ MarkDowngradeSent p (s.store.tag p) ∷ [] else [])
+    go true = each_after_sends Settles settles_lasting s (send_downgrades s nobody p a.client (s.store.holder p)) (MarkDowngradeSent p (s.store.tag p) ∷ [])
         (after_sends s (send_downgrades s nobody p a.client (s.store.holder p)) (sends_downgrades s nobody p a.client (s.store.holder p)))
         (each_downgrades Settles s nobody p a.client (s.store.holder p) (λ d i g t. tt)) (tt, tt)
     go false = tt
 
-settles_decide : (cycle : Server → ℕ → Bool) (s : Server) (p : ℕ) (q : List WaitingAsk) → s.queue p ≡ q
+settles_decide : (cycle : DeadlockTest) (s : Server) (p : ℕ) (q : List WaitingAsk) → s.queue p ≡ q
     → EachStep Settles s (decision_steps (decide cycle s p q))
 settles_decide cycle s p [] e = tt
 settles_decide cycle s p (a ∷ q) e = kind_of a.write_grant refl
@@ -104,5 +104,5 @@ settles_decide cycle s p (a ∷ q) e = kind_of a.write_grant refl
     kind_of (Some g) k = writes g k (no_other_holder (s.store.holder p) a.client && is_exactly ((s.session a.client).row p) g && sole_row s p a.client s.clients) refl
 
 -- each step of settling
-pub settles : (cycle : Server → ℕ → Bool) (s : Server) (n : ℕ) → EachStep Settles s (settle_pages cycle s n)
+pub settles : (cycle : DeadlockTest) (s : Server) (n : ℕ) → EachStep Settles s (settle_pages cycle s n)
 settles cycle s n = each_settles cycle Settles settles_lasting (λ k. ⊤) (λ k d ds a i. tt) (λ k p i. settles_decide cycle k p (k.queue p) refl) s n tt

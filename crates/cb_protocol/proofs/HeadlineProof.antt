@@ -24,7 +24,7 @@ use Rattle.cb_protocol.specs.Basics.{Bytes, IsIn, Limits, max_number, update}
 use Rattle.cb_protocol.specs.Messages.{Message, GiveBack, to_server}
 use Rattle.cb_protocol.specs.Serial.{Operation, IsSerial, PerformedOperation, TransactionName, store_left, committed_operations}
 use Rattle.cb_protocol.specs.Headline.{BackedByServer, Headline, Promise, Promises, MayWritePage}
-use Rattle.cb_protocol.specs.Server.{Server}
+use Rattle.cb_protocol.specs.Server.{DeadlockTest}
 use Rattle.cb_protocol.specs.Session.{Session, Store}
 use Rattle.cb_protocol.specs.Flush.{can_flush, server_flush}
 use Rattle.cb_protocol.specs.Resend.{server_again}
@@ -48,7 +48,7 @@ call_step L o v w c x m l = let k = v.client c in let q = calls_marks L v.transc
       (calls_may L (SentBy v c (v.incarnation c)) k x (welcomed_apt L o v w c m) (m.ready c)) (calls_fit L (SentBy v c (v.incarnation c)) k x) q.performed q.mine q.others q.restarts,
 )
 
-deliver_step : (L : Limits) (cycle : Server → ℕ → Bool) (o : Opening) (v : World) (w : Machine) (n : ℕ) (f : Message) (let_go : Option ℕ) → Mirrors L o v w → IsIn f v.packets → (f.incarnation ≡ v.incarnation f.client → ChoiceAllowed L (v.client f.client) f.body let_go)
+deliver_step : (L : Limits) (cycle : DeadlockTest) (o : Opening) (v : World) (w : Machine) (n : ℕ) (f : Message) (let_go : Option ℕ) → Mirrors L o v w → IsIn f v.packets → (f.incarnation ≡ v.incarnation f.client → ChoiceAllowed L (v.client f.client) f.body let_go)
     → Reached L o (deliver L cycle v (TakePacket n) f let_go).world
 deliver_step L cycle o v w n f let_go m i u = go (to_server f.body) (is_exhausted v.server f.client f.incarnation f.body) (f.incarnation == v.incarnation f.client) refl
   where
@@ -85,7 +85,7 @@ nth_in [] n f e = absurd cc
 nth_in (g ∷ fs) zero f e = inl cc
 nth_in (g ∷ fs) (suc n) f e = inr (nth_in fs n f e)
 
-take_step : (L : Limits) (cycle : Server → ℕ → Bool) (o : Opening) (v : World) (w : Machine) (n : ℕ) (let_go : Option ℕ) (r : Option Message) → packet_at v.packets n ≡ r → Mirrors L o v w → MessageChoiceAllowed L v r let_go
+take_step : (L : Limits) (cycle : DeadlockTest) (o : Opening) (v : World) (w : Machine) (n : ℕ) (let_go : Option ℕ) (r : Option Message) → packet_at v.packets n ≡ r → Mirrors L o v w → MessageChoiceAllowed L v r let_go
     → Reached L o (take_packet L cycle v (TakePacket n) r let_go).world
 take_step L cycle o v w n let_go None e m u = (w, only_step L o v w (TakePacket n) NoPacket m refl (λ d. refl) (λ d. refl))
 take_step L cycle o v w n let_go (Some f) e m u = deliver_step L cycle o v w n f let_go m (nth_in v.packets n f e) u
@@ -135,7 +135,7 @@ no_client L o v w c x m = (w, only_step L o v w (ClientCalls c x) NoClient m (qu
     silent_begun (CallPeek p) d = refl
 
 -- each event
-pub any_step : (L : Limits) (cycle : Server → ℕ → Bool) (o : Opening) (v : World) (w : Machine) (e : Event) (let_go : Option ℕ) → Mirrors L o v w → EventChoiceAllowed L v e let_go → Reached L o (step L cycle v e let_go).world
+pub any_step : (L : Limits) (cycle : DeadlockTest) (o : Opening) (v : World) (w : Machine) (e : Event) (let_go : Option ℕ) → Mirrors L o v w → EventChoiceAllowed L v e let_go → Reached L o (step L cycle v e let_go).world
 unfolding step
 any_step L cycle o v w (ClientCalls c x) let_go m u = go (nat_lt c L.clients) refl
   where
@@ -156,7 +156,7 @@ any_step L cycle o v w ServerAgain let_go m u =
 any_step L cycle o v w FlushAll let_go m u = flush_step L o v w FlushAll v.server.store.last_commit m (λ x. refl) (λ x d. refl) (λ x d. refl)
 any_step L cycle o v w (FlushTo n) let_go m u = flush_step L o v w (FlushTo n) n m (λ x. refl) (λ x d. refl) (λ x d. refl)
 
-pub becomes_step : (L : Limits) (cycle : Server → ℕ → Bool) (o : Opening) (v : World) (e : Event) (a : Answer) (u : World) → Reached L o v → Becomes L cycle v e a u → Reached L o u
+pub becomes_step : (L : Limits) (cycle : DeadlockTest) (o : Opening) (v : World) (e : Event) (a : Answer) (u : World) → Reached L o v → Becomes L cycle v e a u → Reached L o u
 becomes_step L cycle o v e a u r b = subst (λ (x : StepResult). Reached L o x.world) b.2 (any_step L cycle o v r.0 e b.0 r.1 b.1)
 
 -- a client that holds a grant is of the server's current incarnation
@@ -232,9 +232,9 @@ promised L o v r = record {
     operations : history_operations (r.0).history ≡ committed_operations (committed_names v.server.commits) (transcript_operations v.transcript)
     operations = sym (told_operations r.0 m.recorded) ∙ (ap (λ (ns : List TransactionName). committed_operations ns (r.0).performed) m.names ∙ ap (λ (ls : List PerformedOperation). committed_operations (committed_names v.server.commits) ls) m.performed)
 
-all_promised : (L : Limits) (cycle : Server → ℕ → Bool) (o : Opening) (v : World) (ms : List Moment) → Reached L o v → Plays L cycle v ms → Promises o ms
+all_promised : (L : Limits) (cycle : DeadlockTest) (o : Opening) (v : World) (ms : List Moment) → Reached L o v → Plays L cycle v ms → Promises o ms
 all_promised L cycle o v [] r p = tt
 all_promised L cycle o v (m ∷ ms) r p = let q = becomes_step L cycle o v m.event m.answer m.world r p.0 in (promised L o m.world q, all_promised L cycle o m.world ms q p.1)
 
-pub headline : (L : Limits) (cycle : Server → ℕ → Bool) → Headline L cycle
+pub headline : (L : Limits) (cycle : DeadlockTest) → Headline L cycle
 headline L cycle o ms s p = let r : Reached L o (new_world L o) = (start L o, mirrors_start L o s) in (promised L o (new_world L o) r, all_promised L cycle o (new_world L o) ms r p)

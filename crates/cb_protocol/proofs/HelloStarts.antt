@@ -7,7 +7,7 @@ use Rattle.cb_protocol.proofs.SettlingClears.{after_sends, sends_callbacks, send
 use Rattle.cb_protocol.specs.Basics.{is_exactly, is_none, update}
 use Rattle.cb_protocol.specs.HelloLaws.{GreaterHelloStartsAnew, OnlyGreeted}
 use Rattle.cb_protocol.specs.Messages.{Welcome}
-use Rattle.cb_protocol.specs.Server.{ChangeSession, Doom, EnterQueue, ForgetTransaction, LeaveQueue, MarkCalledBack, MarkInUse, MarkTold, RemoveAsk, Send, Server, ServerStep, SetFlushed, UnmarkInUse, WaitingAsk, add_told, after_first, after_server_step, server_after, set_called_back, without_client}
+use Rattle.cb_protocol.specs.Server.{ChangeSession, DeadlockTest, Doom, EnterQueue, ForgetTransaction, LeaveQueue, MarkCalledBack, MarkInUse, MarkDowngradeSent, RemoveAsk, Send, Server, ServerStep, SetFlushed, UnmarkInUse, WaitingAsk, add_downgrade_sent, after_first, after_server_step, server_after, set_called_back, without_client}
 use Rattle.cb_protocol.specs.ServerMessages.{admit_incarnation, server_take}
 use Rattle.cb_protocol.specs.Session.{Admit, GrantRow, PermitWrite}
 use Rattle.cb_protocol.specs.Settling.{Decided, Settled, call_back_once, decide, decide_read, decide_write, decision_steps, doom_client, downgrade_once, grant_row, is_listed, keeps_permission, no_other_holder, nobody, permit_write, send_callbacks, send_downgrades, settle_pages, sole_row, wait_or_doom}
@@ -38,7 +38,7 @@ called_has : (c : ℕ) (q : List WaitingAsk) → HasAsk c (set_called_back q) �
 called_has c [] h = h
 called_has c (a ∷ q) h = h
 
-told_has : (t c : ℕ) (q : List WaitingAsk) → HasAsk c (add_told t q) → HasAsk c q
+told_has : (t c : ℕ) (q : List WaitingAsk) → HasAsk c (add_downgrade_sent t q) → HasAsk c q
 told_has t c [] h = h
 told_has t c (a ∷ q) h = h
 
@@ -110,7 +110,7 @@ greeted_kept c i s (Send d j b) ds a o = o
 greeted_kept c i s (EnterQueue p x) ds a o = absurd a
 greeted_kept c i s (LeaveQueue p) ds a o = greeted_queue s c i p (after_first (s.queue p)) (rest_has c (s.queue p)) o
 greeted_kept c i s (MarkCalledBack p) ds a o = greeted_queue s c i p (set_called_back (s.queue p)) (called_has c (s.queue p)) o
-greeted_kept c i s (MarkTold p t) ds a o = greeted_queue s c i p (add_told t (s.queue p)) (told_has t c (s.queue p)) o
+greeted_kept c i s (MarkDowngradeSent p t) ds a o = greeted_queue s c i p (add_downgrade_sent t (s.queue p)) (told_has t c (s.queue p)) o
 greeted_kept c i s (MarkInUse d p) ds a o = absurd a
 greeted_kept c i s (UnmarkInUse d p) ds a o = record {
   current = o.current;
@@ -169,7 +169,7 @@ greeted_kept c i s (SetFlushed n) ds a o = record {
 }
 
 -- settling gives nothing to a client without an ask
-spares_refuse : (c : ℕ) (cycle : Server → ℕ → Bool) (s : Server) (d : ℕ) (ds : List ServerStep) → d ≢ c → EachStep (Spares c) s ds
+spares_refuse : (c : ℕ) (cycle : DeadlockTest) (s : Server) (d : ℕ) (ds : List ServerStep) → d ≢ c → EachStep (Spares c) s ds
     → EachStep (Spares c) s (decision_steps (wait_or_doom cycle s d ds))
 spares_refuse c cycle s d ds n a = go (cycle (server_after s ds) d)
   where
@@ -187,15 +187,15 @@ spares_calls_back c s p a = go a.called_back
         (each_callbacks (Spares c) (spares_lasting c) s nobody p a.client s.clients (λ d i g. tt)) (tt, tt)
 
 spares_brings_down : (c : ℕ) (s : Server) (p : ℕ) (a : WaitingAsk) → EachStep (Spares c) s (downgrade_once s p a)
-spares_brings_down c s p a = go (s.store.keep_write && keeps_permission s p a.client (s.store.holder p) && not (is_listed (s.store.tag p) a.told_tags))
+spares_brings_down c s p a = go (s.store.keep_write && keeps_permission s p a.client (s.store.holder p) && not (is_listed (s.store.tag p) a.downgrades_sent))
   where
-    go : (r : Bool) → EachStep (Spares c) s (if r then send_downgrades s nobody p a.client (s.store.holder p) ++ MarkTold p (s.store.tag p) ∷ [] else [])
-    go true = each_after_sends (Spares c) (spares_lasting c) s (send_downgrades s nobody p a.client (s.store.holder p)) (MarkTold p (s.store.tag p) ∷ [])
+    go : (r : Bool) → EachStep (Spares c) s (if r then send_downgrades s nobody p a.client (s.store.holder p) ++ MarkDowngradeSent p (s.store.tag p) ∷ [] else [])
+    go true = each_after_sends (Spares c) (spares_lasting c) s (send_downgrades s nobody p a.client (s.store.holder p)) (MarkDowngradeSent p (s.store.tag p) ∷ [])
         (after_sends s (send_downgrades s nobody p a.client (s.store.holder p)) (sends_downgrades s nobody p a.client (s.store.holder p)))
         (each_downgrades (Spares c) s nobody p a.client (s.store.holder p) (λ d i g t. tt)) (tt, tt)
     go false = tt
 
-spares_decide : (c : ℕ) (cycle : Server → ℕ → Bool) (s : Server) (p : ℕ) (q : List WaitingAsk) → (HasAsk c q → ⊥)
+spares_decide : (c : ℕ) (cycle : DeadlockTest) (s : Server) (p : ℕ) (q : List WaitingAsk) → (HasAsk c q → ⊥)
     → EachStep (Spares c) s (decision_steps (decide cycle s p q))
 spares_decide c cycle s p [] f = tt
 spares_decide c cycle s p (a ∷ q) f = kind_of a.write_grant
@@ -215,7 +215,7 @@ spares_decide c cycle s p (a ∷ q) f = kind_of a.write_grant
     kind_of None = reads (no_other_holder (s.store.holder p) a.client && is_none ((s.session a.client).row p))
     kind_of (Some g) = writes g (no_other_holder (s.store.holder p) a.client && is_exactly ((s.session a.client).row p) g && sole_row s p a.client s.clients)
 
-settled_greeted : (cycle : Server → ℕ → Bool) (s : Server) (c i : ℕ) → OnlyGreeted s c i → OnlyGreeted (server_after s (settle_pages cycle s s.pages)) c i
+settled_greeted : (cycle : DeadlockTest) (s : Server) (c i : ℕ) → OnlyGreeted s c i → OnlyGreeted (server_after s (settle_pages cycle s s.pages)) c i
 settled_greeted cycle s c i o = kept_by_each (Spares c) (λ k. OnlyGreeted k c i) (greeted_kept c i) s (settle_pages cycle s s.pages)
     (each_settles cycle (Spares c) (spares_lasting c) (λ k. OnlyGreeted k c i) (greeted_kept c i) (λ k p j. spares_decide c cycle k p (k.queue p) (j.no_ask p)) s s.pages o) o
 

@@ -12,7 +12,7 @@ use Rattle.cb_protocol.specs.CommitLaws.{DoneFromDiskAlone, DonesUpTo, NoOtherAp
 use Rattle.cb_protocol.specs.Flush.{dones_between}
 use Rattle.cb_protocol.specs.Messages.{AbortNow, AskRead, AskWrite, Body, Commit, Done, Downgraded, Drop, GiveBack, Hello, InUse, MayWrite, Message, PageWrite, Welcome}
 use Rattle.cb_protocol.specs.Resend.{again_doomed, again_page, again_pages, server_again}
-use Rattle.cb_protocol.specs.Server.{is_live_permission, AppliedCommit, ChangeSession, EnterQueue, ForgetTransaction, MarkInUse, Send, Server, ServerStep, SetFlushed, UnmarkInUse, WaitingAsk, after_server_step, server_after}
+use Rattle.cb_protocol.specs.Server.{AppliedCommit, ChangeSession, DeadlockTest, EnterQueue, ForgetTransaction, MarkInUse, Send, Server, ServerStep, SetFlushed, UnmarkInUse, WaitingAsk, after_server_step, is_live_permission, server_after}
 use Rattle.cb_protocol.specs.ServerMessages.{admit_incarnation, begin_transaction, commit_allowed, direct_answer, enter_queue, has_waiting_ask, if_live, is_empty, named_txn, new_ask, repeat_done, server_take, take_ask_read, take_ask_write, take_current}
 use Rattle.cb_protocol.specs.Session.{Admit, ApplyCommit, BeginTransaction, DropTransaction, EndPermission, GrantRow, PermitWrite, RemoveRow, SessionChange}
 use Rattle.cb_protocol.specs.Settling.{doom_client, send_callback, send_callbacks, send_downgrade, send_downgrades, send_to, settle_pages}
@@ -49,18 +49,18 @@ serves_weaker b s (Send c i _) ds a = tt
 serves_weaker b s (SetFlushed n) ds a = absurd a
 serves_weaker b s _ ds a = tt
 
-serves_settling : (b : Body) (cycle : Server → ℕ → Bool) (s : Server) (n : ℕ) → EachStep (Serves b) s (settle_pages cycle s n)
+serves_settling : (b : Body) (cycle : DeadlockTest) (s : Server) (n : ℕ) → EachStep (Serves b) s (settle_pages cycle s n)
 serves_settling b cycle s n = each_weaker Settles (Serves b) (serves_weaker b) s (settle_pages cycle s n) (settles cycle s n)
 
 -- the direct answers
-serves_enters : (b : Body) (cycle : Server → ℕ → Bool) (s : Server) (p : ℕ) (a : WaitingAsk) → EachStep (Serves b) s (enter_queue cycle s p a)
+serves_enters : (b : Body) (cycle : DeadlockTest) (s : Server) (p : ℕ) (a : WaitingAsk) → EachStep (Serves b) s (enter_queue cycle s p a)
 serves_enters b cycle s p a = go (not (is_empty (s.queue p)) && cycle (after_server_step s (EnterQueue p a)) a.client)
   where
     go : (r : Bool) → EachStep (Serves b) s (if r then EnterQueue p a ∷ doom_client (after_server_step s (EnterQueue p a)) a.client else EnterQueue p a ∷ [])
     go true = (tt, (tt, (tt, (tt, tt))))
     go false = (tt, tt)
 
-serves_ask_read : (b : Body) (cycle : Server → ℕ → Bool) (s : Server) (c p : ℕ) (r : Option ℕ) → EachStep (Serves b) s (take_ask_read cycle s c p r)
+serves_ask_read : (b : Body) (cycle : DeadlockTest) (s : Server) (c p : ℕ) (r : Option ℕ) → EachStep (Serves b) s (take_ask_read cycle s c p r)
 serves_ask_read b cycle s c p (Some g) = (tt, tt)
 serves_ask_read b cycle s c p None = go (has_waiting_ask s c s.pages)
   where
@@ -68,7 +68,7 @@ serves_ask_read b cycle s c p None = go (has_waiting_ask s c s.pages)
     go true = tt
     go false = serves_enters b cycle s p (new_ask c None)
 
-serves_ask_write : (b : Body) (cycle : Server → ℕ → Bool) (s : Server) (c p g : ℕ) → EachStep (Serves b) s (take_ask_write cycle s c p g)
+serves_ask_write : (b : Body) (cycle : DeadlockTest) (s : Server) (c p g : ℕ) → EachStep (Serves b) s (take_ask_write cycle s c p g)
 serves_ask_write b cycle s c p g = go (is_exactly ((s.session c).row p) g) refl (is_exactly (s.store.holder p) c) refl (has_waiting_ask s c s.pages)
   where
     go : (r : Bool) → is_exactly ((s.session c).row p) g ≡ r → (u : Bool) → is_exactly (s.store.holder p) c ≡ u → (v : Bool)
@@ -97,7 +97,7 @@ serves_again b s c t (Some n) = go (nat_le n s.flushed) refl
     go true e = (up_to n s.flushed e, tt)
     go false e = tt
 
-serves_answers : (cycle : Server → ℕ → Bool) (s : Server) (c : ℕ) (b : Body) → EachStep (Serves b) s (direct_answer cycle s c b)
+serves_answers : (cycle : DeadlockTest) (s : Server) (c : ℕ) (b : Body) → EachStep (Serves b) s (direct_answer cycle s c b)
 serves_answers cycle s c (AskRead t p) = serves_live (AskRead t p) s c t _ (serves_ask_read (AskRead t p) cycle s c p ((s.session c).row p))
 serves_answers cycle s c (AskWrite t p g) = serves_live (AskWrite t p g) s c t _ (serves_ask_write (AskWrite t p g) cycle s c p g)
 serves_answers cycle s c (GiveBack p g) = go (is_exactly ((s.session c).row p) g)
@@ -137,7 +137,7 @@ serves_begins b s c t = go (nat_lt (s.session c).txn t)
     go true = (tt, (tt, tt))
     go false = tt
 
-serves_current : (cycle : Server → ℕ → Bool) (s : Server) (c i : ℕ) (b : Body) → EachStep (Serves b) s (if i == (s.session c).current then take_current cycle s c b else [])
+serves_current : (cycle : DeadlockTest) (s : Server) (c i : ℕ) (b : Body) → EachStep (Serves b) s (if i == (s.session c).current then take_current cycle s c b else [])
 serves_current cycle s c i b = go (i == (s.session c).current)
   where
     m : Server
@@ -151,7 +151,7 @@ serves_current cycle s c i b = go (i == (s.session c).current)
         (each_append (Serves b) (serves_lasting b) m (direct_answer cycle m c b) _ (serves_answers cycle m c b) (serves_settling b cycle a a.pages))
     go false = tt
 
-serves_hello : (cycle : Server → ℕ → Bool) (s : Server) (c i : ℕ) → EachStep (Serves Hello) s (server_take cycle s c i Hello)
+serves_hello : (cycle : DeadlockTest) (s : Server) (c i : ℕ) → EachStep (Serves Hello) s (server_take cycle s c i Hello)
 unfolding server_take
 serves_hello cycle s c i = go (nat_lt (s.session c).current i) (i == (s.session c).current)
   where
@@ -161,7 +161,7 @@ serves_hello cycle s c i = go (nat_lt (s.session c).current i) (i == (s.session 
     go false false = tt
 
 -- a message
-pub serves : (cycle : Server → ℕ → Bool) (s : Server) (c i : ℕ) (b : Body) → EachStep (Serves b) s (server_take cycle s c i b)
+pub serves : (cycle : DeadlockTest) (s : Server) (c i : ℕ) (b : Body) → EachStep (Serves b) s (server_take cycle s c i b)
 unfolding server_take
 serves cycle s c i Hello = serves_hello cycle s c i
 serves cycle s c i b = serves_current cycle s c i b
@@ -291,7 +291,7 @@ done_from_disk cycle s (ReachesDisk n) = (
 )
 
 -- grants and permissions among the steps of any input
-serves_input : (cycle : Server → ℕ → Bool) (s : Server) (i : Input) → ((b : Body) × EachStep (Serves b) s (input_steps cycle s i)) ⊎ ((n : ℕ) × (i ≡ ReachesDisk n))
+serves_input : (cycle : DeadlockTest) (s : Server) (i : Input) → ((b : Body) × EachStep (Serves b) s (input_steps cycle s i)) ⊎ ((n : ℕ) × (i ≡ ReachesDisk n))
 serves_input cycle s (MessageComes c i b) = inl (b, serves cycle s c i b)
 serves_input cycle s SendsAgain = inl (Hello, tells_serve Hello s (server_again s) (tells_again s.flushed s))
 serves_input cycle s (ReachesDisk n) = inr (n, refl)

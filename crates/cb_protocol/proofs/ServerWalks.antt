@@ -3,7 +3,7 @@ use Rattle.std.proofs.Common.{Bool, List, None, Option, Some, [], false, if◌th
 use Rattle.std.specs.Prelude.{⊤}
 use Rattle.cb_protocol.proofs.SettlingClears.{after_sends, sends_callbacks}
 use Rattle.cb_protocol.specs.Messages.{Callback, Downgrade}
-use Rattle.cb_protocol.specs.Server.{Send, Server, ServerStep, after_server_step, is_live_permission, server_after}
+use Rattle.cb_protocol.specs.Server.{DeadlockTest, Send, Server, ServerStep, after_server_step, is_live_permission, server_after}
 use Rattle.cb_protocol.specs.Settling.{Decided, Decision, Settled, decide, decision_steps, send_callback, send_callbacks, send_downgrade, send_downgrades, settle_page, settle_pages}
 
 -- what a step meets: at the server just before it, before the steps that come
@@ -74,7 +74,7 @@ each_downgrades P s skip p c (Some d) f = go (not (d == c) && not (is_live_permi
     go false r = tt
 
 -- Settling, where each decision about a page meets the rule, and what it needs is kept by it.
-pub each_settle : (cycle : Server → ℕ → Bool) (P : StepRule) → Lasting P → (I : Server → Type 0) → KeptUnder P I
+pub each_settle : (cycle : DeadlockTest) (P : StepRule) → Lasting P → (I : Server → Type 0) → KeptUnder P I
     → ((s : Server) (p : ℕ) → I s → EachStep P s (decision_steps (decide cycle s p (s.queue p))))
     → (n : ℕ) (s : Server) (p : ℕ) → I s → EachStep P s (settle_page cycle n s p)
 each_settle cycle P more I keep decides zero s p i = tt
@@ -86,7 +86,7 @@ each_settle cycle P more I keep decides (suc n) s p i =
     go f (Settled ds) a = a
     go f (Decided ds) a = each_append P more s ds _ a (f (server_after s ds) (kept_by_each P I keep s ds a i))
 
-pub each_settles : (cycle : Server → ℕ → Bool) (P : StepRule) → Lasting P → (I : Server → Type 0) → KeptUnder P I
+pub each_settles : (cycle : DeadlockTest) (P : StepRule) → Lasting P → (I : Server → Type 0) → KeptUnder P I
     → ((s : Server) (p : ℕ) → I s → EachStep P s (decision_steps (decide cycle s p (s.queue p))))
     → (s : Server) (n : ℕ) → I s → EachStep P s (settle_pages cycle s n)
 each_settles cycle P more I keep decides s zero i = tt

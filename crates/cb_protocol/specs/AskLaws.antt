@@ -3,7 +3,7 @@ use Rattle.std.specs.Prelude.{◌≡◌, ◌≢◌, ◌<◌, ◌⊎◌, ℕ, Boo
 use Rattle.cb_protocol.specs.AnyMessages.{Input, input_steps}
 use Rattle.cb_protocol.specs.Deadlock.{ReachedServer}
 use Rattle.cb_protocol.specs.Messages.{Granted, MayWrite}
-use Rattle.cb_protocol.specs.Server.{ChangeSession, Send, Server, ServerStep, WaitingAsk, server_after}
+use Rattle.cb_protocol.specs.Server.{ChangeSession, DeadlockTest, Send, Server, ServerStep, WaitingAsk, server_after}
 use Rattle.cb_protocol.specs.Session.{GrantRow, PermitWrite}
 
 -- the first ask for the page is that client's: to write by that grant, or to read
@@ -58,7 +58,7 @@ PermissionsInOrder server steps = (before after : List ServerStep) (client page 
 
 -- At any server, at every input, grants and permissions go to the first asks alone, and never too early.
 abbrev pub FirstAsksAreMet : Type 0
-FirstAsksAreMet = (cycle : Server → ℕ → Bool) (server : Server) (input : Input)
+FirstAsksAreMet = (cycle : DeadlockTest) (server : Server) (input : Input)
     → GrantsInOrder server (input_steps cycle server input)
     × PermissionsInOrder server (input_steps cycle server input)
 

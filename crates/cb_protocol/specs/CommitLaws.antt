@@ -3,7 +3,7 @@ use Rattle.std.specs.Prelude.{◌≡◌, ◌≢◌, ◌<◌, ◌≤◌, ◌+◌,
 use Rattle.cb_protocol.specs.AnyMessages.{Input, MessageComes, ReachesDisk, input_steps}
 use Rattle.cb_protocol.specs.Basics.{IsIn}
 use Rattle.cb_protocol.specs.Messages.{Commit, Done, Message, PageWrite}
-use Rattle.cb_protocol.specs.Server.{Server, server_after}
+use Rattle.cb_protocol.specs.Server.{DeadlockTest, Server, server_after}
 use Rattle.cb_protocol.specs.ServerMessages.{begin_transaction}
 use Rattle.cb_protocol.specs.World.{messages_sent}
 
@@ -20,7 +20,7 @@ flushed_by server _ = server.flushed
 
 -- At any server, at every input, Done is said only of commits that are on disk (this project's rule).
 abbrev pub DoneFromDiskAlone : Type 0
-DoneFromDiskAlone = (cycle : Server → ℕ → Bool) (server : Server) (input : Input)
+DoneFromDiskAlone = (cycle : DeadlockTest) (server : Server) (input : Input)
     → let steps = input_steps cycle server input in
     ((server_after server steps).flushed ≡ flushed_by server input)
     × DonesUpTo (flushed_by server input) (messages_sent steps)
@@ -56,20 +56,20 @@ pub record IsApplied (before after : Server) (client incarnation txn : ℕ) (wri
   pub outcome : after.outcome client ≡ Some (before.store.last_commit + 1)
 
 -- the server after that Commit came
-abbrev pub server_after_commit : (Server → ℕ → Bool) → Server → (client incarnation txn : ℕ) → List PageWrite → Server
+abbrev pub server_after_commit : DeadlockTest → Server → (client incarnation txn : ℕ) → List PageWrite → Server
 server_after_commit cycle server client incarnation txn writes =
     server_after server (input_steps cycle server (MessageComes client incarnation (Commit txn writes)))
 
 -- At any server a Commit is applied where it may be, and else no commit is.
 abbrev pub AppliedWhereItMay : Type 0
-AppliedWhereItMay = (cycle : Server → ℕ → Bool) (server : Server) (client incarnation txn : ℕ) (writes : List PageWrite)
+AppliedWhereItMay = (cycle : DeadlockTest) (server : Server) (client incarnation txn : ℕ) (writes : List PageWrite)
     → let after = server_after_commit cycle server client incarnation txn writes in
     (MayBeApplied server client incarnation txn writes → IsApplied server after client incarnation txn writes)
     × ((MayBeApplied server client incarnation txn writes → ⊥) → after.commits ≡ server.commits)
 
 -- No other input applies a commit.
 abbrev pub NoOtherApplies : Type 0
-NoOtherApplies = (cycle : Server → ℕ → Bool) (server : Server) (input : Input)
+NoOtherApplies = (cycle : DeadlockTest) (server : Server) (input : Input)
     → ((client incarnation txn : ℕ) (writes : List PageWrite)
     → input ≢ MessageComes client incarnation (Commit txn writes))
     → (server_after server (input_steps cycle server input)).commits ≡ server.commits

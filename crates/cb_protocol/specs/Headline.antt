@@ -5,7 +5,7 @@ use Rattle.cb_protocol.specs.Basics.{Bytes, IsIn, Limits}
 use Rattle.cb_protocol.specs.Cache.{Open}
 use Rattle.cb_protocol.specs.Messages.{Done, GiveBack}
 use Rattle.cb_protocol.specs.Serial.{EachOnce, IsSerial, committed_operations, store_left}
-use Rattle.cb_protocol.specs.Server.{Server}
+use Rattle.cb_protocol.specs.Server.{DeadlockTest}
 use Rattle.cb_protocol.specs.Transcript.{transcript_operations}
 use Rattle.cb_protocol.specs.World.{Moment, Opening, Plays, World, new_world}
 
@@ -76,5 +76,5 @@ abbrev pub SoundOpening : Opening → Type 0
 SoundOpening o = (p : ℕ) → o.version p ≤ o.number
 
 -- From the opening world, along every list of events, each world keeps the promise. `cycle`: whoever is doomed, by whatever test.
-abbrev pub Headline : Limits → (Server → ℕ → Bool) → Type 0
+abbrev pub Headline : Limits → DeadlockTest → Type 0
 Headline L cycle = (o : Opening) (ms : List Moment) → SoundOpening o → Plays L cycle (new_world L o) ms → Promise o (new_world L o) × Promises o ms

@@ -2,7 +2,7 @@
 use Rattle.std.specs.Prelude.{◌≡◌, ◌≢◌, ◌<◌, ℕ, Bool, false, Some, None}
 use Rattle.cb_protocol.specs.Basics.{IsIn}
 use Rattle.cb_protocol.specs.Messages.{Hello, Welcome}
-use Rattle.cb_protocol.specs.Server.{Server, server_after}
+use Rattle.cb_protocol.specs.Server.{DeadlockTest, Server, server_after}
 use Rattle.cb_protocol.specs.ServerMessages.{server_take}
 use Rattle.cb_protocol.specs.WaitsFor.{HasAsk}
 use Rattle.cb_protocol.specs.World.{messages_sent}
@@ -21,7 +21,7 @@ pub record OnlyGreeted (server : Server) (client incarnation : ℕ) : Type 0 whe
 
 -- At any server a Hello of a greater incarnation is welcomed, and leaves its client as one that only greeted.
 abbrev pub GreaterHelloStartsAnew : Type 0
-GreaterHelloStartsAnew = (cycle : Server → ℕ → Bool) (server : Server) (client incarnation : ℕ)
+GreaterHelloStartsAnew = (cycle : DeadlockTest) (server : Server) (client incarnation : ℕ)
     → (server.session client).current < incarnation
     → let steps = server_take cycle server client incarnation Hello in
     OnlyGreeted (server_after server steps) client incarnation
