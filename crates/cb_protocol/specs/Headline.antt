@@ -1,5 +1,5 @@
 -- What the protocol promises of every world that is reached.
-use Rattle.std.specs.Prelude.{◌≡◌, ◌≤◌, ℕ, Bool, false, true, List, [], ◌∷◌, Some, ⊤}
+use Rattle.std.specs.Prelude.{◌≡◌, ◌≤◌, ℕ, false, true, List, [], ◌∷◌, Some, ⊤}
 use Rattle.cb_protocol.specs.AnyMessages.{DirectoryRule, IsCommit, Ledger, committed_names}
 use Rattle.cb_protocol.specs.Basics.{Bytes, IsIn, Limits}
 use Rattle.cb_protocol.specs.Cache.{Open}

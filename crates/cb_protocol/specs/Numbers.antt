@@ -1,6 +1,6 @@
 -- What a step of the server can need: grant numbers for the rows that it gives, and room for the
 -- messages that it sends. With these laws code knows both before it begins. This project's rules.
-use Rattle.std.specs.Prelude.{◌≡◌, ◌≤◌, ◌<◌, ◌+◌, ◌*◌, ℕ, Bool, false, if◌then◌else◌, List, [], ◌∷◌, length, Option, zero, suc, ⊤}
+use Rattle.std.specs.Prelude.{◌≡◌, ◌≤◌, ◌<◌, ◌+◌, ◌*◌, ℕ, false, if◌then◌else◌, List, [], ◌∷◌, length, Option, zero, suc, ⊤}
 use Rattle.cb_protocol.specs.AnyMessages.{Input, MessageComes, input_steps}
 use Rattle.cb_protocol.specs.Basics.{IsIn, Limits, is_none, max_number}
 use Rattle.cb_protocol.specs.Deadlock.{InputInRange, ReachedServer}
