@@ -60,6 +60,7 @@ pub mod GrantNumbers
 pub mod MessagesSent
 pub mod MarksKept
 pub mod Permissions
+pub mod DowngradesSent
 -- computed schedules
 pub mod ScheduleText
 pub mod WorkedSchedules
