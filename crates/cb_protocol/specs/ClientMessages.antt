@@ -1,6 +1,6 @@
 -- What a client does at each message (TODS 1997; by the grant held and `seen`, the greatest grant
 -- that came, this project's rule).
-use Rattle.std.specs.Prelude.{◌≡◌, ℕ, ◌≤◌, nat_lt, Bool, false, not, ◌&&◌, if◌then◌else◌, ◌==◌, ◌≢◌, List, [], ◌∷◌, ◌++◌, Option, Some, None, ⊤}
+use Rattle.std.specs.Prelude.{◌≡◌, ◌<◌, ◌≤◌, ℕ, nat_lt, Bool, true, false, not, ◌&&◌, if◌then◌else◌, ◌==◌, ◌≢◌, List, [], ◌∷◌, ◌++◌, Option, Some, None, ⊤}
 use Rattle.cb_protocol.specs.Basics.{Bytes, Limits, is_exactly, is_none}
 use Rattle.cb_protocol.specs.Cache.{Fill, Install, Lock, MakeBare, TakeDone, TakePermission, TakeWelcome, YieldPermission, is_committing, is_open}
 use Rattle.cb_protocol.specs.Client.{Aborted, ChangeCache, Client, ClientStep, Committed, EndTransaction, MarkDue, MarkDueDowngrade, NoAsk, Say, SetAsk, asks_to_read, asks_to_write, is_fixed, pages_in_pool}
@@ -107,18 +107,26 @@ client_take limits client Welcome let_go = ChangeCache TakeWelcome ∷ []
 client_take limits client body let_go =
     if client.cache.welcomed then take_welcomed limits client body let_go else []
 
--- The law of the pool's choice: it lets go only a page that is there and not fixed, for a page that
--- was not, and only where it is full.
+-- a page's bytes come into the pool in these steps
+abbrev pub brings_page : List ClientStep → Bool
+brings_page [] = false
+brings_page (ChangeCache (Install page grant version bytes) ∷ steps) = true
+brings_page (ChangeCache (Fill page grant bytes) ∷ steps) = true
+brings_page (_ ∷ steps) = brings_page steps
+
+-- The law of the pool's choice, where a page comes in that was not there: nothing goes where there
+-- is room; where the pool is full one page goes, which is there and not fixed.
 abbrev pub MayLetGo : Limits → Client → (page : ℕ) → (let_go : Option ℕ) → Type 0
-MayLetGo limits client page None = ⊤
+MayLetGo limits client page None = pages_in_pool client limits.pages < limits.slots
 MayLetGo limits client page (Some gone) =
     (gone ≢ page) × (is_none (client.cache.content gone) ≡ false)
     × (is_fixed client gone ≡ false) × (limits.slots ≤ pages_in_pool client limits.pages)
 
--- it binds the choice at a Granted, the one message that can bring a page
+-- it binds the choice at a Granted that brings a page, the one message that can
 abbrev pub ChoiceAllowed : Limits → Client → Body → (let_go : Option ℕ) → Type 0
 ChoiceAllowed limits client (Granted page grant version bytes) let_go =
-    MayLetGo limits client page let_go
+    brings_page (client_take limits client (Granted page grant version bytes) let_go) ≡ true
+    → MayLetGo limits client page let_go
 ChoiceAllowed limits client _ let_go = ⊤
 
 -- the steps of a client at a message, with the pool's choice left open
