@@ -1,6 +1,7 @@
-ghost use Rattle.std.specs.Prelude.{◌≡◌, ◌<◌, ◌↔◌, [], length, replicate, slice_set, true, false, Some, None, IfOk, IfSome, OnErr, IsTrue};
+ghost use Rattle.std.specs.Prelude.{◌≡◌, ℕ, ◌<◌, ◌↔◌, [], length, replicate, slice_set, true, false, Some, None, IfOk, IfSome, OnErr, IsTrue};
 ghost use Rattle.std.specs.Borrow.{sem};
 ghost use Rattle.std.specs.Option.{is_none, is_some, option_copied};
+ghost use Rattle.cb_twoq.specs.Pages.{has};
 ghost use Rattle.cb_pool.specs.Lending.{pool_ends_as};
 ghost use Rattle.cb_pool.specs.PoolState.{PoolState, empty_pool, copy_of, HasRoom, let_go, MayGo, IsPool};
 ghost use Rattle.cb_pool.specs.Refusals.{fault_of};
@@ -81,6 +82,14 @@ impl<Q: Chooser> Pool<Q> {
             page_size: limits.page_size(),
             copies: Copies::new(alloc, limits.pages() as usize)?,
         })
+    }
+
+    /// Lends the chooser, whose members are the pages that are here.
+    pub fn chooser(&self) -> &Q
+        ensures members { (page : ℕ) → has (Q.members result.now) page ≡ is_some (copy_of self.now page) }
+        ensures slots { Q.slots result.now ≡ self.now.slots }
+    {
+        &self.chooser
     }
 
     /// Lends the bytes of a page, if it is here, with no reference to it.
