@@ -1,4 +1,5 @@
-//! A chooser that isn't 2Q, and promises the law alone: the unfixed page that came in first is let go.
+//! A chooser that isn't 2Q, and promises the law alone: the unfixed page that came in first is let
+//! go.
 
 ghost use Rattle.std.specs.Prelude.{◌≡◌, length};
 

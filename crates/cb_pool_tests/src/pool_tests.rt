@@ -1,5 +1,5 @@
-//! What no clause of the pool says: which calls are references, that each call succeeds, and what stands
-//! after a refused growth; and a caller that hits and peeks.
+//! What no clause of the pool says: which calls are references, that each call succeeds, and what
+//! stands after a refused growth; and a caller that hits and peeks.
 
 ghost use Rattle.std.specs.Prelude.{◌≡◌, ◌<◌, ◌≤◌, length, true, IfOk};
 ghost use Rattle.cb_pool.specs.PoolState.{empty_pool};
@@ -15,8 +15,8 @@ use std::alloc::{AllocError, Global};
 use std::process::Abort;
 use std::test::Fail;
 
-/// A caller of the pool. It hits a page and, once that loan is over, peeks at it: it still knows all that it
-/// knew of the pool, so that both loans are known to be as long.
+/// A caller of the pool. It hits a page and, once that loan is over, peeks at it: it still knows
+/// all that it knew of the pool, so that both loans are known to be as long.
 fn hit_then_peek<Q: Chooser>(pool: &mut Pool<Q>, page: PageNo) -> bool
     ensures kept { pool.new ≡ pool.old }
     ensures same { result ≡ true }
@@ -130,7 +130,8 @@ fn act<Q: Chooser>(alloc: Global, pool: &mut Pool<Q>, step: Step) -> Seen
 
 /// A pool of eight pages over an empty chooser, whatever the chooser.
 fn pool_of<Q: Chooser>(alloc: Global, limits: &Limits) -> Result<Pool<Q>, AllocError>
-    ensures { IfOk result (λ pool. pool ≡ empty_pool limits.now.slots limits.now.pages limits.now.page_size) }
+    ensures { IfOk result (λ pool.
+        pool ≡ empty_pool limits.now.slots limits.now.pages limits.now.page_size) }
 {
     Pool::new(alloc, Q::make(alloc, limits)?, limits)
 }
@@ -153,7 +154,8 @@ fn play<Q: Chooser>(rt: &impl Abort, alloc: Global, pool: &mut Pool<Q>, steps: &
     }
 }
 
-/// Makes calls in turn of a pool of so many slots: first those that bring it about, then those of the case.
+/// Makes calls in turn of a pool of so many slots: first those that bring it about, then those of
+/// the case.
 fn play_on<Q: Chooser>(
     rt: &impl Abort,
     alloc: Global,
@@ -168,7 +170,8 @@ fn play_on<Q: Chooser>(
     }
 }
 
-/// Pages 1 and 2 come back while they are remembered: they are on Am, 1 the older, and 5 is on A1in.
+/// Pages 1 and 2 come back while they are remembered: they are on Am, 1 the older, and 5 is on
+/// A1in.
 const ON_AM: [(Step, Seen); 7] = [
     (Put(1, 7), Nothing),
     (Put(2, 7), Nothing),
@@ -197,7 +200,8 @@ fn pool_is_made(rt: HostRuntime) -> Result<(), Fail> {
     Ok(())
 }
 
-/// A hit, and an install of a page that is here, are references, and so save page 1; no other call is one.
+/// A hit, and an install of a page that is here, are references, and so save page 1; no other call
+/// is one.
 #[test]
 fn references_decide_what_is_let_go(rt: HostRuntime) {
     for (steps, gone) in [
@@ -248,8 +252,8 @@ fn calls_of_a_pool(rt: HostRuntime) {
     );
 }
 
-/// What a step has to call the chooser for: an install refers, a hit does if the page is here, whether or not it
-/// is fixed and the pool is full, and a removal has the page forgotten.
+/// What a step has to call the chooser for: an install refers, a hit does if the page is here,
+/// whether or not it is fixed and the pool is full, and a removal has the page forgotten.
 fn called_by<Q: Chooser>(pool: &Pool<Q>, step: Step) -> Option<Called> {
     match step {
         Put(page, _) => Some(Called::Reference(PageNo::new(page % 8))),
@@ -296,7 +300,8 @@ fn play_drawn<Q: Chooser>(
     Ok(())
 }
 
-/// Three thousand drawn calls: the chooser that was handed in is called for those that have to, and for no other.
+/// Three thousand drawn calls: the chooser that was handed in is called for those that have to, and
+/// for no other.
 #[test]
 fn calls_of_the_chooser(rt: HostRuntime) -> Result<(), Fail> {
     let limits = Limits::new(1, 8, 16, 4, 1, 4)?;

@@ -202,7 +202,8 @@ fn alike(alloc: Global, indexed: &TwoQ, plain: &PlainTwoQ) -> Result<bool, Alloc
     )
 }
 
-/// Whether both forms answer a reference alike and have the same lists then, with no want of memory.
+/// Whether both forms answer a reference alike and have the same lists then, with no want of
+/// memory.
 fn answer_alike(
     alloc: Global,
     indexed: &mut TwoQ,
@@ -230,7 +231,8 @@ fn draw_others(draw: &mut Draw, fixed: &mut PageSet, indexed: &mut TwoQ, plain: 
     }
 }
 
-/// Ten thousand drawn references with drawn fixed pages: after each, both forms have the same lists.
+/// Ten thousand drawn references with drawn fixed pages: after each, both forms have the same
+/// lists.
 #[test]
 fn both_forms_alike(rt: HostRuntime) -> Result<(), Fail> {
     let mut draw = Draw::new(20);
@@ -249,7 +251,8 @@ fn both_forms_alike(rt: HostRuntime) -> Result<(), Fail> {
     Ok(())
 }
 
-/// Refers to a page twice, and says whether the second reference let nothing go: by the law, whatever the type.
+/// Refers to a page twice, and says whether the second reference let nothing go: by the law,
+/// whatever the type.
 fn second_lets_none_go<Q: Chooser>(chooser: &mut Q, page: PageNo, fixed: &PageSet) -> bool
     ensures { result ≡ true }
 {
@@ -289,7 +292,8 @@ fn law_at_each_chooser(rt: HostRuntime) -> Result<(), Fail> {
     Ok(())
 }
 
-/// Each page of the greatest store twice, half of them fixed in turn: how many references were answered.
+/// Each page of the greatest store twice, half of them fixed in turn: how many references were
+/// answered.
 fn answered_at_most<Q: TwoForms>(alloc: Global, limits: &Limits) -> Result<usize, AllocError> {
     let mut chooser = Q::make(alloc, limits)?;
     let mut references = Vec::new(alloc);
@@ -313,7 +317,8 @@ fn greatest_limits(rt: HostRuntime) -> Result<(), Fail> {
     Ok(())
 }
 
-/// Refers to a page, and once more where memory was wanted: whether the answer is right, and nothing changed before.
+/// Refers to a page, and once more where memory was wanted: whether the answer is right, and
+/// nothing changed before.
 fn goes_on(alloc: Global, chooser: &mut TwoQ, page: u32, fixed: &PageSet, goes: bool) -> bool {
     let before = chooser.lists(alloc);
     let page = PageNo::new(page % 16);
@@ -333,7 +338,8 @@ fn goes_on(alloc: Global, chooser: &mut TwoQ, page: u32, fixed: &PageSet, goes: 
     matches!(answer, Ok(gone) if gone.is_some() == goes)
 }
 
-/// With the Nth growth refused: what was refused is as before, and goes on as if nothing had been refused.
+/// With the Nth growth refused: what was refused is as before, and goes on as if nothing had been
+/// refused.
 #[test]
 fn refused_growths_change_nothing(rt: HostRuntime) {
     let Ok(fixed) = PageSet::new(rt.alloc(), 16) else {

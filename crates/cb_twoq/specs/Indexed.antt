@@ -15,6 +15,10 @@ newest_first pages = reverse pages.keys
 abbrev pub cached : {V : Type 0} → LruCache ℕ V → List ℕ
 cached cache = keys_of cache.entries
 
+-- a page that is on a list moves to its head
+abbrev pub renewed : ℕ → List ℕ → List ℕ
+renewed page pages = if has pages page then page ∷ without page pages else pages
+
 -- the lists that they keep
 abbrev pub queues_of : IndexedQueues → TwoQState
 queues_of queues = record {
@@ -29,7 +33,8 @@ queues_of queues = record {
 -- a page is put on Am if it was on A1out, which it leaves, else on A1in; nothing is let go yet
 abbrev pub place : ℕ → TwoQState → TwoQState
 place page queues =
-    if has queues.a1out page then record queues { am = page ∷ queues.am; a1out = without page queues.a1out }
+    if has queues.a1out page
+    then record queues { am = page ∷ queues.am; a1out = without page queues.a1out }
     else record queues { a1in = page ∷ queues.a1in }
 
 -- the slot's page is on its list

@@ -1,4 +1,5 @@
--- What a chooser may do: this project's rule, which holds for 2Q and for any other order of letting go.
+-- What a chooser may do: this project's rule, which holds for 2Q and for any other order of letting
+-- go.
 use Rattle.std.specs.Prelude.{◌≡◌, ◌≢◌, ℕ, ◌+◌, ◌<◌, ◌≤◌, Bool, true, false, List, length, Option, Some, None, ◌⊎◌}
 use Rattle.cb_page.specs.Flags as flags
 use Rattle.cb_twoq.specs.Pages.{has}
@@ -16,7 +17,8 @@ HasSlot slots old page new =
 
 -- A page let go was a member, isn't fixed and isn't the page referred to.
 -- It goes only where that page was no member and all slots were taken.
-pub record LetsGo (slots : ℕ) (fixed : List Bool) (old : List ℕ) (page gone : ℕ) (new : List ℕ) : Type 0 where
+pub record LetsGo (slots : ℕ) (fixed : List Bool) (old : List ℕ) (page gone : ℕ)
+    (new : List ℕ) : Type 0 where
   pub was_member : has old gone ≡ true
   pub not_fixed : flags.has fixed gone ≡ false
   pub other : gone ≢ page
@@ -30,9 +32,10 @@ abbrev pub Goes : ℕ → List Bool → List ℕ → ℕ → Option ℕ → List
 Goes slots fixed old page None new = HasSlot slots old page new
 Goes slots fixed old page (Some gone) new = LetsGo slots fixed old page gone new
 
--- After a reference the page is a member, and the only other change is that the page answered, if any,
--- is none any more.
-pub record Chooses (slots : ℕ) (fixed : List Bool) (old : List ℕ) (page : ℕ) (gone : Option ℕ) (new : List ℕ) : Type 0 where
+-- After a reference the page is a member, and the only other change is that the page answered, if
+-- any, is none any more.
+pub record Chooses (slots : ℕ) (fixed : List Bool) (old : List ℕ) (page : ℕ)
+    (gone : Option ℕ) (new : List ℕ) : Type 0 where
   pub member : has new page ≡ true
   pub others : KeepsOthers old new (Some page) gone
   pub goes : Goes slots fixed old page gone new

@@ -29,8 +29,8 @@ impl From<AllocError> for ChooseFault {
 
 /// Chooses which page leaves a pool for the page that comes in.
 ///
-/// The clauses are the whole law of a chooser: a pool, and all that stands on pools, holds for every
-/// type that keeps them, whatever pages it lets go. A type may promise more, as `TwoQ` does.
+/// The clauses are the whole law of a chooser: a pool, and all that stands on pools, holds for
+/// every type that keeps them, whatever pages it lets go. A type may promise more, as `TwoQ` does.
 pub trait Chooser: Drop {
     /// The pages in slots, each once.
     ghost members: { Self → List ℕ };

@@ -18,8 +18,8 @@ use std::marker::Model;
 
 /// 2Q, the full version, on three plain lists; fixed pages are passed over.
 ///
-/// In contracts a `PlainTwoQ` is its settings and its three lists, newest first. It takes all its memory
-/// in `new`: no later call needs a growth. Each reference passes over the lists.
+/// In contracts a `PlainTwoQ` is its settings and its three lists, newest first. It takes all its
+/// memory in `new`: no later call needs a growth. Each reference passes over the lists.
 #[derive(Debug, Drop)]
 pub struct PlainTwoQ {
     queues: PlainQueues,
@@ -36,8 +36,8 @@ impl Model for PlainTwoQ {
 }
 
 impl PlainTwoQ {
-    /// Empty lists, for so many slots; A1in may be reclaimed first while it is longer than `kin`, and
-    /// A1out has at most `kout` pages.
+    /// Empty lists, for so many slots; A1in may be reclaimed first while it is longer than `kin`,
+    /// and A1out has at most `kout` pages.
     pub fn new(
         alloc: Global,
         slots: usize,
@@ -72,7 +72,8 @@ impl Chooser for PlainTwoQ {
     ghost slots = { λ two_q. two_q.slots };
 
     fn make(alloc: Global, limits: &Limits) -> Result<PlainTwoQ, AllocError>
-        ensures two_q { IfOk result (λ two_q. two_q ≡ empty limits.now.slots limits.now.kin limits.now.kout) }
+        ensures two_q { IfOk result (λ two_q.
+            two_q ≡ empty limits.now.slots limits.now.kin limits.now.kout) }
         ensures members { IfOk result (λ two_q. members_of two_q ≡ []) }
         ensures slots { IfOk result (λ two_q. two_q.slots ≡ limits.now.slots) }
     {
@@ -80,12 +81,14 @@ impl Chooser for PlainTwoQ {
     }
 
     fn reference(&mut self, page: PageNo, fixed: &PageSet) -> Result<Option<PageNo>, ChooseFault>
-        ensures two_q { IfOk result (λ gone. reference page fixed.now self.old ≡ Some (gone, self.new)) }
-        ensures none { (result ≡ Err ChooseFault.Full) ↔ (reference page fixed.now self.old ≡ None) }
+        ensures two_q { IfOk result (λ gone.
+            reference page fixed.now self.old ≡ Some (gone, self.new)) }
+        ensures none { (result ≡ Err ChooseFault.Full)
+            ↔ (reference page fixed.now self.old ≡ None) }
         // all room was made by `new`
         ensures memory { result ≢ Err ChooseFault.Memory }
-        ensures ok { IfOk result (λ gone.
-            Chooses self.old.slots fixed.now (members_of self.old) page gone (members_of self.new)) }
+        ensures ok { IfOk result (λ gone. Chooses self.old.slots fixed.now
+            (members_of self.old) page gone (members_of self.new)) }
         ensures member { has (members_of self.old) page ≡ true → result ≡ Ok None }
         ensures full { (result ≡ Err ChooseFault.Full)
             ↔ IsFull self.old.slots fixed.now (members_of self.old) page }

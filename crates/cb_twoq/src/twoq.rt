@@ -31,9 +31,9 @@ pub struct Parts<'a> {
 
 /// 2Q, the full version, with look-ups by hash; fixed pages are passed over.
 ///
-/// In contracts a `TwoQ` is its settings and its three lists, newest first. A reference to a page in a
-/// slot passes over no list; any other shifts A1in and A1out once each at most, and takes the memory of
-/// one entry where the page goes to Am.
+/// In contracts a `TwoQ` is its settings and its three lists, newest first. A reference to a page
+/// in a slot passes over no list; any other shifts A1in and A1out once each at most, and takes the
+/// memory of one entry where the page goes to Am.
 #[derive(Debug, Drop)]
 pub struct TwoQ {
     queues: IndexedQueues,
@@ -53,8 +53,8 @@ impl Model for TwoQ {
 }
 
 impl TwoQ {
-    /// Empty lists, for so many slots; A1in may be reclaimed first while it is longer than `kin`, and
-    /// A1out has at most `kout` pages.
+    /// Empty lists, for so many slots; A1in may be reclaimed first while it is longer than `kin`,
+    /// and A1out has at most `kout` pages.
     pub fn new(alloc: Global, slots: usize, kin: usize, kout: usize) -> Result<TwoQ, AllocError>
         ensures { IfOk result (λ two_q. two_q ≡ empty slots kin kout) }
     {
@@ -97,7 +97,8 @@ impl Chooser for TwoQ {
     ghost slots = { λ two_q. two_q.slots };
 
     fn make(alloc: Global, limits: &Limits) -> Result<TwoQ, AllocError>
-        ensures two_q { IfOk result (λ two_q. two_q ≡ empty limits.now.slots limits.now.kin limits.now.kout) }
+        ensures two_q { IfOk result (λ two_q.
+            two_q ≡ empty limits.now.slots limits.now.kin limits.now.kout) }
         ensures members { IfOk result (λ two_q. members_of two_q ≡ []) }
         ensures slots { IfOk result (λ two_q. two_q.slots ≡ limits.now.slots) }
     {
@@ -105,10 +106,12 @@ impl Chooser for TwoQ {
     }
 
     fn reference(&mut self, page: PageNo, fixed: &PageSet) -> Result<Option<PageNo>, ChooseFault>
-        ensures two_q { IfOk result (λ gone. reference page fixed.now self.old ≡ Some (gone, self.new)) }
-        ensures none { (result ≡ Err ChooseFault.Full) ↔ (reference page fixed.now self.old ≡ None) }
-        ensures ok { IfOk result (λ gone.
-            Chooses self.old.slots fixed.now (members_of self.old) page gone (members_of self.new)) }
+        ensures two_q { IfOk result (λ gone.
+            reference page fixed.now self.old ≡ Some (gone, self.new)) }
+        ensures none { (result ≡ Err ChooseFault.Full)
+            ↔ (reference page fixed.now self.old ≡ None) }
+        ensures ok { IfOk result (λ gone. Chooses self.old.slots fixed.now
+            (members_of self.old) page gone (members_of self.new)) }
         ensures member { has (members_of self.old) page ≡ true → result ≡ Ok None }
         ensures full { (result ≡ Err ChooseFault.Full)
             ↔ IsFull self.old.slots fixed.now (members_of self.old) page }

@@ -1,10 +1,11 @@
-//! Steps on a set of pages, whose oldest page is first, and on a cache of pages, whose newest is first.
+//! Steps on a set of pages, whose oldest page is first, and on a cache of pages, whose newest is
+//! first.
 
-ghost use Rattle.std.specs.Prelude.{◌≡◌, ◌<◌, ◌≤◌, ◌+◌, ◌∷◌, length, take, reverse, false, true, if◌then◌else◌, IfOk, OnOk, OnErr, IsOk};
+ghost use Rattle.std.specs.Prelude.{◌≡◌, ◌<◌, ◌≤◌, ◌+◌, ◌∷◌, length, take, reverse, false, IfOk, OnOk, OnErr, IsOk};
 ghost use Rattle.indexmap.specs.IndexSet.{spare};
 ghost use Rattle.cb_twoq.specs.Pages.{has, without};
 ghost use Rattle.cb_twoq.specs.Queues.{oldest_unfixed};
-ghost use Rattle.cb_twoq.specs.Indexed.{newest_first, cached};
+ghost use Rattle.cb_twoq.specs.Indexed.{newest_first, cached, renewed};
 
 use cb_page::{PageNo, PageSet};
 use indexmap::IndexSet;
@@ -69,8 +70,7 @@ pub(crate) fn first_unfixed(pages: &[PageNo], fixed: &PageSet) -> Option<PageNo>
 /// Moves a page of a cache to its head, and says whether it is there.
 pub(crate) fn renew(cache: &mut LruCache<PageNo, ()>, page: PageNo) -> bool
     ensures there { result ≡ has (cached cache.old) page }
-    ensures pages { cached cache.new
-        ≡ (if has (cached cache.old) page then page ∷ without page (cached cache.old) else cached cache.old) }
+    ensures pages { cached cache.new ≡ renewed page (cached cache.old) }
     ensures cap { cache.new.cap ≡ cache.old.cap }
 {
     cache.promote(&page)
