@@ -13,6 +13,7 @@ pub mod HistoryKept
 pub mod SerialHistories
 pub mod TranscriptKept
 -- a client's tables make allowed steps
+pub mod PageComes
 pub mod ClientSteps
 pub mod ClientReady
 pub mod ClientTakes
