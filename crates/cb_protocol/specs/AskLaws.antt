@@ -1,4 +1,5 @@
--- Laws of asks at the server, whatever messages come: who is granted a page and when. This project's rules.
+-- Laws of asks at the server, whatever messages come: who is granted a page and when. This
+-- project's rules.
 use Rattle.std.specs.Prelude.{◌≡◌, ◌≢◌, ◌<◌, ◌⊎◌, ℕ, List, ◌∷◌, ◌++◌, Option, Some, None}
 use Rattle.cb_protocol.specs.AnyMessages.{Input, input_steps}
 use Rattle.cb_protocol.specs.Deadlock.{ReachedServer}
@@ -38,16 +39,16 @@ PermissionIsSent server steps client page grant = (more : List ServerStep) × (s
     Send client (server.session client).current
     (MayWrite (server.session client).txn page grant) ∷ more)
 
--- Each grant among the steps is a first read ask's, that may have it as things stand then. It has the next
--- number, and is sent at once.
+-- Each grant among the steps is a first read ask's, that may have it as things stand then. It has
+-- the next number, and is sent at once.
 abbrev pub GrantsInOrder : Server → List ServerStep → Type 0
 GrantsInOrder server steps = (before after : List ServerStep) (client page grant : ℕ)
     → steps ≡ before ++ ChangeSession client (GrantRow page grant) ∷ after
     → let there = server_after server before in IsFirst there page client None
     × MayBeGranted there page client × (grant ≡ there.next_grant) × GrantIsSent there after client page grant
 
--- Each write permission among the steps is a first write ask's, that may have it as things stand then; or its
--- client is the write holder already and is told again. It is sent at once.
+-- Each write permission among the steps is a first write ask's, that may have it as things stand
+-- then; or its client is the write holder already and is told again. It is sent at once.
 abbrev pub PermissionsInOrder : Server → List ServerStep → Type 0
 PermissionsInOrder server steps = (before after : List ServerStep) (client page grant : ℕ)
     → steps ≡ before ++ ChangeSession client (PermitWrite page grant) ∷ after
@@ -56,7 +57,8 @@ PermissionsInOrder server steps = (before after : List ServerStep) (client page 
     ⊎ ((there.store.holder page ≡ Some client) × ((there.session client).row page ≡ Some grant)))
     × PermissionIsSent there after client page grant
 
--- At any server, at every input, grants and permissions go to the first asks alone, and never too early.
+-- At any server, at every input, grants and permissions go to the first asks alone, and never too
+-- early.
 abbrev pub FirstAsksAreMet : Type 0
 FirstAsksAreMet = (cycle : DeadlockTest) (server : Server) (input : Input)
     → GrantsInOrder server (input_steps cycle server input)

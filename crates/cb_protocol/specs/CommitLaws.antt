@@ -1,4 +1,5 @@
--- Laws of commits at the server, whatever messages come: which are applied, and of which Done is said.
+-- Laws of commits at the server, whatever messages come: which are applied, and of which Done is
+-- said.
 use Rattle.std.specs.Prelude.{◌≡◌, ◌≢◌, ◌<◌, ◌≤◌, ◌+◌, ℕ, false, List, ◌∷◌, Some}
 use Rattle.cb_protocol.specs.AnyMessages.{Input, MessageComes, ReachesDisk, input_steps}
 use Rattle.cb_protocol.specs.Basics.{IsIn}
@@ -18,7 +19,8 @@ abbrev pub flushed_by : Server → Input → ℕ
 flushed_by server (ReachesDisk number) = number
 flushed_by server _ = server.flushed
 
--- At any server, at every input, Done is said only of commits that are on disk (this project's rule).
+-- At any server, at every input, Done is said only of commits that are on disk (this project's
+-- rule).
 abbrev pub DoneFromDiskAlone : Type 0
 DoneFromDiskAlone = (cycle : DeadlockTest) (server : Server) (input : Input)
     → let steps = input_steps cycle server input in
@@ -35,8 +37,8 @@ WritesPermitted server client writes = (write : PageWrite) → IsIn write writes
     → (server.store.holder write.page ≡ Some client)
     × ((server.session client).row write.page ≡ Some write.grant)
 
--- A commit that may be applied: of the current incarnation, of a transaction that neither ended nor is
--- doomed, of pages that it may write.
+-- A commit that may be applied: of the current incarnation, of a transaction that neither ended nor
+-- is doomed, of pages that it may write.
 pub record MayBeApplied (server : Server) (client incarnation txn : ℕ) (writes : List PageWrite) : Type 0 where
   pub current : incarnation ≡ (server.session client).current
   pub lives : ((server_with server client txn).session client).ended < txn
