@@ -5,14 +5,15 @@ use Rattle.cb_commit.specs.Stores.{zeros}
 use Rattle.cb_page.specs.Bounds.{Bounds}
 use Rattle.cb_protocol.specs.World.{new_world}
 use Rattle.cb_schedule.specs.Plays.{Played}
-use Rattle.cb_schedule.specs.ProtocolLimits.{limits_of}
-use Rattle.cb_schedule.specs.ScheduleText as text
-use Rattle.cb_schedule.specs.Transcripts.{IsSerialOverAny, TranscriptState}
-use Rattle.cb_schedule.specs.WorldState.{Shows, WorldState, opening_of}
-use Rattle.cb_schedule.specs.declared.answer.Entry.{Entry}
-use Rattle.cb_schedule.specs.declared.event.Event.{Event}
-use Rattle.cb_schedule.specs.declared.text.ScheduleFault.{ScheduleFault}
-use Rattle.cb_schedule.specs.declared.text.ScheduleFault.TheVariants as schedule
+use Rattle.cb_first_client.specs.ProtocolLimits.{limits_of}
+use Rattle.cb_event.specs.ScheduleText as text
+use Rattle.cb_transcript.specs.Transcripts.{IsSerialOnOpening, TranscriptState}
+use Rattle.cb_first_net.specs.NetState.{opening_of}
+use Rattle.cb_schedule.specs.WorldState.{Represents, WorldState}
+use Rattle.cb_transcript.specs.declared.answer.Entry.{Entry}
+use Rattle.cb_event.specs.declared.event.Event.{Event}
+use Rattle.cb_event.specs.declared.text.ScheduleFault.{ScheduleFault}
+use Rattle.cb_event.specs.declared.text.ScheduleFault.TheVariants as schedule
 use Rattle.cb_console.specs.Output.{last_lines, lines_from}
 use Rattle.cb_console.specs.Settings.{IsConfig, IsWrong, config_line, config_text}
 use Rattle.cb_console.specs.declared.config.Config.{Config}
@@ -28,36 +29,37 @@ pub record IsOpening (bounds : Bounds) (world : WorldState) : Type 0 where
   pub limits : world.limits ≡ bounds
   pub transcript : world.transcript ≡ []
   pub packets : world.net.packets ≡ []
-  pub shows : Shows world (new_world (limits_of bounds) (opening_of (zeros bounds)))
+  pub shows : Represents world (new_world (limits_of bounds) (opening_of (zeros bounds)))
 
--- From there these events are played, and that is told of them.
-pub record PlaysFromZeros (limits : Bounds) (events : List Event) (told : List Entry)
+-- From there these events are played, and the transcript tells of them, and of no other opening store.
+pub record PlaysFromZeros (bounds : Bounds) (events : List Event) (transcript : TranscriptState)
     : Type 0 where
   pub world : WorldState
-  pub opening : IsOpening limits world
-  pub played : Played world events told
+  pub is_opening : IsOpening bounds world
+  pub played : Played world events transcript.entries
+  pub opening : transcript.opening ≡ zeros bounds
 
--- The texts are a configuration and a schedule; of its events those chosen are played from zeros, and that is told.
+-- The texts are a configuration and a schedule; of its events those chosen are played from zeros.
 pub record Tells (config_bytes schedule_bytes : List ℕ) (chosen : List Event → List Event)
-    (told : List Entry) : Type 0 where
+    (transcript : TranscriptState) : Type 0 where
   pub settings : Config
   pub is_config : IsConfig config_bytes settings
   pub events : List Event
   pub is_schedule : text.IsSchedule settings.limits schedule_bytes events
-  pub plays : PlaysFromZeros settings.limits (chosen events) told
+  pub plays : PlaysFromZeros settings.limits (chosen events) transcript
 
 -- what became of events: they were played to the end, or the first ones up to want of memory
 abbrev pub IsPlayOf : Bounds → List Event → Play → Type 0
-IsPlayOf limits events (play.Whole transcript) = PlaysFromZeros limits events transcript.entries
-IsPlayOf limits events (play.Part transcript) =
-    (n : ℕ) × PlaysFromZeros limits (take n events) transcript.entries
+IsPlayOf bounds events (play.Whole transcript) = PlaysFromZeros bounds events transcript
+IsPlayOf bounds events (play.Part transcript) =
+    (n : ℕ) × PlaysFromZeros bounds (take n events) transcript
 
 -- the same of a schedule's text
 abbrev pub IsPlay : List ℕ → List ℕ → Play → Type 0
 IsPlay config_bytes schedule_bytes (play.Whole transcript) =
-    Tells config_bytes schedule_bytes (λ events. events) transcript.entries
+    Tells config_bytes schedule_bytes (λ events. events) transcript
 IsPlay config_bytes schedule_bytes (play.Part transcript) =
-    (n : ℕ) × Tells config_bytes schedule_bytes (take n) transcript.entries
+    (n : ℕ) × Tells config_bytes schedule_bytes (take n) transcript
 
 -- want of memory in a reader is want of memory; any other fault is kept
 abbrev pub BecomesOfConfig : ConfigFault → ReadFault → Type 0
@@ -101,9 +103,9 @@ PrintsAll transcript serial old new =
 abbrev pub Ends : TranscriptState → ℕ
     → Option (List ℕ) → Option (List ℕ) → Option (List ℕ) → Option (List ℕ) → Type 0
 Ends transcript status old_out new_out old_err new_err =
-    ((status ≡ 0) × IsSerialOverAny transcript × PrintsAll transcript true old_out new_out
+    ((status ≡ 0) × IsSerialOnOpening transcript × PrintsAll transcript true old_out new_out
     × (new_err ≡ old_err))
-    ⊎ ((status ≡ 1) × (¬ IsSerialOverAny transcript)
+    ⊎ ((status ≡ 1) × (¬ IsSerialOnOpening transcript)
     × PrintsAll transcript false old_out new_out × (new_err ≡ old_err))
     ⊎ ((status ≡ 4) × Appends old_out new_out (lines_from 1 transcript.entries)
     × Appends old_err new_err (codes "memory\n"))

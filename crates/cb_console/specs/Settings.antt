@@ -123,6 +123,7 @@ bounds_by required others = record {
   slots = required.slots;
   kin = others.kin;
   kout = others.kout;
+  keep_write = others.keep_write == 1;
 }
 
 -- the settings of these numbers
@@ -130,7 +131,6 @@ abbrev pub config_by : RequiredNumbers → DefaultedNumbers → Config
 config_by required others = record {
   limits = bounds_by required others;
   jobs = others.jobs;
-  keep_write = others.keep_write == 1;
 }
 
 -- a fault of the limits, by its number and name

@@ -135,8 +135,6 @@ pub struct Config {
     pub limits: Limits,
     /// How many jobs each worker has.
     pub jobs: u64,
-    /// Whether a client keeps its permissions to write from one transaction to the next.
-    pub keep_write: bool,
 }
 
 /// The most jobs of a worker.
@@ -230,7 +228,6 @@ fn config_of(required: RequiredNumbers, others: DefaultedNumbers) -> Result<Conf
     Ok(Config {
         limits,
         jobs: others.jobs,
-        keep_write: others.keep_write == 1,
     })
 }
 
@@ -303,7 +300,8 @@ fn whole_number(value: &Value) -> Option<u64>
 /// The number of a setting that needn't be there.
 #[tactic(auto, unfolding(crate::specs::Settings::optional_causes, crate::specs::Settings::number_at))]
 fn optional(table: &Table, key: Key) -> Result<Option<u64>, ConfigFault>
-    ensures { Gives (first_fault (optional_causes (table_view table.now) key)) (number_at (table_view table.now) key) result }
+    ensures { Gives (first_fault (optional_causes (table_view table.now) key))
+        (number_at (table_view table.now) key) result }
 {
     match value_at(table, key) {
         None => Ok(None),
@@ -317,7 +315,8 @@ fn optional(table: &Table, key: Key) -> Result<Option<u64>, ConfigFault>
 /// The number of a setting that must be there.
 #[tactic(auto, unfolding(crate::specs::Settings::required_causes, crate::specs::Settings::required_number, crate::specs::Settings::optional_causes, crate::specs::Settings::number_at))]
 fn required(table: &Table, key: Key) -> Result<u64, ConfigFault>
-    ensures { Gives (first_fault (required_causes (table_view table.now) key)) (required_number (table_view table.now) key) result }
+    ensures { Gives (first_fault (required_causes (table_view table.now) key))
+        (required_number (table_view table.now) key) result }
 {
     match value_at(table, key) {
         None => Err(ConfigFault::Missing(key)),
@@ -341,6 +340,7 @@ fn limits_of(required: RequiredNumbers, others: DefaultedNumbers) -> Result<Limi
         others.kout,
     );
     match limits {
+        Ok(limits) if others.keep_write == 1 => Ok(limits.keeping()),
         Ok(limits) => Ok(limits),
         Err(fault) => Err(ConfigFault::Limit(fault)),
     }

@@ -117,22 +117,9 @@ fn config_faults(rt: HostRuntime) -> Result<(), Fail> {
 }
 
 /// Whether the text is a configuration of these settings.
-fn is_read_as(
-    alloc: Global,
-    text: &str,
-    limits: Limits,
-    jobs: u64,
-    keep_write: bool,
-) -> Result<bool, Fail> {
+fn is_read_as(alloc: Global, text: &str, limits: Limits, jobs: u64) -> Result<bool, Fail> {
     let config = read_config(alloc, text.as_bytes())?;
-    Ok(
-        config
-            == Config {
-                limits,
-                jobs,
-                keep_write,
-            },
-    )
+    Ok(config == Config { limits, jobs })
 }
 
 /// Configurations at the ends of what is allowed; what has a default may be left out.
@@ -140,11 +127,10 @@ fn is_read_as(
 fn configs_accepted(rt: HostRuntime) -> Result<(), Fail> {
     let greatest = is_read_as(
         rt.alloc(),
-        "clients = 32\npages = 4096\npage_size = 4096\nslots = 1024\nkin = 1023\nkout = 4096\n\
+        "clients = 32\npages = 4096\npage_size = 65536\nslots = 1024\nkin = 1023\nkout = 4096\n\
         jobs = 100000\nkeep_write = 1",
-        Limits::new(32, 4096, 4096, 1024, 1023, 4096)?,
+        Limits::new(32, 4096, 65_536, 1024, 1023, 4096)?.keeping(),
         100_000,
-        true,
     )?;
     let least = is_read_as(
         rt.alloc(),
@@ -152,14 +138,12 @@ fn configs_accepted(rt: HostRuntime) -> Result<(), Fail> {
         clients = 1 # one",
         Limits::new(1, 1, 16, 2, 1, 1)?,
         0,
-        false,
     )?;
     let defaults = is_read_as(
         rt.alloc(),
         "clients = 0x1\npages = 1_0\r\npage_size = 16\nslots = 9",
         Limits::new(1, 10, 16, 9, 2, 4)?,
         0,
-        false,
     )?;
     assert!(rt; greatest && least && defaults);
     Ok(())

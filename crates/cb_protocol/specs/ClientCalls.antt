@@ -1,4 +1,5 @@
--- What a client answers and does at each call: first the causes of a refusal, then the calls that are accepted.
+-- What a client answers and does at each call: first the causes of a refusal, then the calls that
+-- are accepted.
 use Rattle.std.specs.Prelude.{ℕ, nat_le, length, Bool, not, ◌&&◌, if◌then◌else◌, ◌==◌, List, [], ◌∷◌, ◌++◌, Option, Some, None, zero, suc}
 use Rattle.cb_protocol.specs.Answers.{AnswerWord, AnsweredBytes, AnsweredOk, Asked, ClientFault, CommittingFault, Exhausted, NoTransaction, NotHere, NotRead, NotWelcome, NotWritable, Nothing, PageRange, Permitted, PoolFull, Refused, TransactionOpen, Waiting, WrongLength}
 use Rattle.cb_protocol.specs.Basics.{Bytes, Limits, is_none, max_number}
@@ -19,19 +20,19 @@ pub data Call : Type 0 where
   CallAgain : Call  -- send again what may be lost
   CallPeek : (page : ℕ) → Call  -- the bytes of the copy, outside any transaction
 
--- the cause of a refusal, and whether it stands
+-- the cause of a refusal, and whether it holds
 pub record Cause : Type 0 where
-  pub stands : Bool
+  pub holds : Bool
   pub fault : ClientFault
 
 -- that fault, where the test holds
 abbrev pub cause_of : Bool → ClientFault → Cause
-cause_of b f = record { stands = b; fault = f }
+cause_of b f = record { holds = b; fault = f }
 
--- the first fault whose cause stands
-abbrev pub first_fault : List Cause → Option ClientFault
-first_fault [] = None
-first_fault (c ∷ cs) = if c.stands then Some c.fault else first_fault cs
+-- the first fault whose cause holds
+abbrev pub first_refusal : List Cause → Option ClientFault
+first_refusal [] = None
+first_refusal (c ∷ cs) = if c.holds then Some c.fault else first_refusal cs
 
 -- of a call that needs an open transaction
 abbrev pub open_causes : Client → List Cause
@@ -86,7 +87,8 @@ say_ask k NoAsk = []
 say_ask k (ReadAsk p) = Say (AskRead k.cache.number p) ∷ []
 say_ask k (WriteAsk p) = say_ask_write k p (k.cache.held p)
 
--- What may be lost is sent again: Hello until the Welcome came; then the Drop, the ask, the Commit, as far as each is still open.
+-- What may be lost is sent again: Hello until the Welcome came; then the Drop, the ask, the Commit,
+-- as far as each is still open.
 abbrev pub client_again : Limits → Client → List ClientStep
 client_again L k = if k.cache.welcomed then say_drop k k.last_outcome ++ (say_ask k k.ask ++ (if is_committing k.cache.status then say_commit L k else [])) else Say Hello ∷ []
 
@@ -122,7 +124,7 @@ accept_call L k (CallPeek p) = reply_with (peek_word (k.cache.content p)) []
 
 -- the fault that a call is refused with, if it is
 unfoldable pub call_fault : Limits → Client → Call → Option ClientFault
-call_fault L k c = first_fault (causes L k c)
+call_fault L k c = first_refusal (causes L k c)
 
 -- refused: nothing changes
 abbrev pub accept_or_refuse : Limits → Client → Call → Option ClientFault → Reply
