@@ -44,11 +44,15 @@ word_text word.NoClient = codes "noclient"
 
 -- a packet that was sent: its number, kind and client
 abbrev pub packet_text : Sent → List ℕ
-packet_text sent = codes " " ++ (decimal sent.number ++ (codes ":" ++ (name_of sent.kind ++ (codes ":" ++ decimal sent.client))))
+packet_text sent =
+    codes " " ++ (decimal sent.number ++ (codes ":" ++ (name_of sent.kind
+    ++ (codes ":" ++ decimal sent.client))))
 
 -- the line of an event at its place: the answer, and the packets sent
 abbrev pub line : ℕ → Answer → List ℕ
-line place answer = decimal place ++ (codes " " ++ (word_text answer.word ++ (flat_map packet_text answer.sent ++ 10 ∷ [])))
+line place answer =
+    decimal place ++ (codes " " ++ (word_text answer.word
+    ++ (flat_map packet_text answer.sent ++ 10 ∷ [])))
 
 -- the lines of events, the first at this place
 abbrev pub lines_from : ℕ → List Entry → List ℕ
@@ -61,4 +65,5 @@ yes_or_no false = codes "no"
 
 -- The last two lines: the number of commits, and whether they are serial.
 abbrev pub last_lines : ℕ → Bool → List ℕ
-last_lines commits serial = codes "commits " ++ (decimal commits ++ (codes "\nserial: " ++ (yes_or_no serial ++ 10 ∷ [])))
+last_lines commits serial =
+    codes "commits " ++ (decimal commits ++ (codes "\nserial: " ++ (yes_or_no serial ++ 10 ∷ [])))

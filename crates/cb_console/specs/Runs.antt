@@ -1,4 +1,5 @@
--- What a run of the program is: which events are played, what is printed of them, and the status. This project's rules.
+-- What a run of the program is: which events are played, what is printed of them, and the status.
+-- This project's rules.
 use Rattle.std.specs.Prelude.{◌≡◌, ◌≢◌, ◌⊎◌, ℕ, Bool, true, false, Option, Some, None, option_map, Result, Ok, Err, IfSome, List, [], ◌∷◌, ◌++◌, length, take, codes}
 use Rattle.std.specs.Io.KnownBytes.{Appends}
 use Rattle.cb_commit.specs.Stores.{zeros}
@@ -31,7 +32,8 @@ pub record IsOpening (bounds : Bounds) (world : WorldState) : Type 0 where
   pub packets : world.net.packets ≡ []
   pub shows : Represents world (new_world (limits_of bounds) (opening_of (zeros bounds)))
 
--- From there these events are played, and the transcript tells of them, and of no other opening store.
+-- From there these events are played, and the transcript tells of them, and of no other opening
+-- store.
 pub record PlaysFromZeros (bounds : Bounds) (events : List Event) (transcript : TranscriptState)
     : Type 0 where
   pub world : WorldState
@@ -98,8 +100,8 @@ PrintsAll transcript serial old new =
     × Appends old new
     (lines_from 1 transcript.entries ++ last_lines (length transcript.commits) serial)
 
--- A transcript is printed to its end, and the status is 0 exactly where it is serial; or memory ran out for the check, and the
--- lines of its events alone are printed.
+-- A transcript is printed to its end, and the status is 0 exactly where it is serial; or memory ran
+-- out for the check, and the lines of its events alone are printed.
 abbrev pub Ends : TranscriptState → ℕ
     → Option (List ℕ) → Option (List ℕ) → Option (List ℕ) → Option (List ℕ) → Type 0
 Ends transcript status old_out new_out old_err new_err =
@@ -116,8 +118,8 @@ PrintsFault e status old new =
     (e ≡ fault.Memory → status ≡ 4) × (e ≢ fault.Memory → status ≡ 2)
     × IfSome (read_fault_line e) (λ line. Appends old new (line ++ 10 ∷ []))
 
--- What is printed of an outcome, with the status: all of a whole play; of a play that memory ended, the lines of the events
--- that were played; nothing of a refusal.
+-- What is printed of an outcome, with the status: all of a whole play; of a play that memory ended,
+-- the lines of the events that were played; nothing of a refusal.
 abbrev pub PrintsOutcome : Result Play ReadFault → ℕ
     → Option (List ℕ) → Option (List ℕ) → Option (List ℕ) → Option (List ℕ) → Type 0
 PrintsOutcome (Ok (play.Whole transcript)) status old_out new_out old_err new_err =

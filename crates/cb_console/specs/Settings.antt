@@ -1,4 +1,5 @@
--- Which texts are configurations, the settings that they mean, and the fault of any other text. This project's rules.
+-- Which texts are configurations, the settings that they mean, and the fault of any other text.
+-- This project's rules.
 use Rattle.std.specs.Prelude.{◌≡◌, ◌≢◌, ◌⊎◌, ℕ, ◌^◌, ◌/◌, ◌==◌, max, pos, Bool, not, ◌&&◌, nat_lt, List, [], ◌∷◌, ◌++◌, map, codes, Option, Some, None, is_some, is_none, unwrap_or, option_map, Result, Ok, Err, if◌then◌else◌, string_bytes}
 use Rattle.std.specs.List.{list_any}
 use Rattle.std.specs.Option.{option_and_then}
@@ -19,11 +20,13 @@ use Rattle.cb_console.specs.declared.config.Key.TheVariants as key
 use Rattle.cb_console.specs.declared.config.RequiredNumbers.{RequiredNumbers}
 use Rattle.cb_console.specs.declared.config.DefaultedNumbers.{DefaultedNumbers}
 
--- As the article on 2Q suggests (VLDB 1994): a quarter of the slots for A1in, and at least one page.
+-- As the article on 2Q suggests (VLDB 1994): a quarter of the slots for A1in, and at least one
+-- page.
 abbrev pub default_kin : ℕ → ℕ
 default_kin slots = max (slots / 4) 1
 
--- As the article on 2Q suggests (VLDB 1994): identifiers for half of the slots in A1out, and at least one.
+-- As the article on 2Q suggests (VLDB 1994): identifiers for half of the slots in A1out, and at
+-- least one.
 abbrev pub default_kout : ℕ → ℕ
 default_kout slots = max (slots / 2) 1
 
@@ -60,8 +63,8 @@ value_at table key = get_member (key_name key) table
 unfoldable pub number_at : Members → Key → Option ℕ
 number_at table key = option_and_then whole_number (value_at table key)
 
--- what is wrong, each behind the test of its cause: a key that no setting has, in the order of the table, which is that of
--- the keys' bytes
+-- what is wrong, each behind the test of its cause: a key that no setting has, in the order of the
+-- table, which is that of the keys' bytes
 unfoldable pub unknown_causes : Members → List (Bool × List ℕ)
 unknown_causes no_members = []
 unknown_causes (member name value rest) =
@@ -87,7 +90,8 @@ abbrev pub kin_of : Members → ℕ
 kin_of table = unwrap_or (number_at table key.Kin) (default_kin (required_number table key.Slots))
 
 abbrev pub kout_of : Members → ℕ
-kout_of table = unwrap_or (number_at table key.Kout) (default_kout (required_number table key.Slots))
+kout_of table =
+    unwrap_or (number_at table key.Kout) (default_kout (required_number table key.Slots))
 
 abbrev pub jobs_of : Members → ℕ
 jobs_of table = unwrap_or (number_at table key.Jobs) 0
@@ -154,7 +158,8 @@ bounds_causes bounds =
 -- jobs, and whether permissions are kept, out of range
 unfoldable pub others_causes : DefaultedNumbers → List (Bool × List ℕ)
 others_causes others =
-    (nat_lt 100000 others.jobs, codes "jobs") ∷ (nat_lt 1 others.keep_write, codes "keep_write") ∷ []
+    (nat_lt 100000 others.jobs, codes "jobs")
+    ∷ (nat_lt 1 others.keep_write, codes "keep_write") ∷ []
 
 -- what is wrong with the values at the keys that must be there
 unfoldable pub required_values : Members → List (Bool × List ℕ)
@@ -195,8 +200,8 @@ config_text fault.Jobs = codes "jobs"
 config_text fault.KeepWrite = codes "keep_write"
 config_text fault.Memory = codes "memory"
 
--- The same as a line shows it, with an unknown key's control characters escaped. How a fault of the limits is shown is said
--- by no clause.
+-- The same as a line shows it, with an unknown key's control characters escaped. How a fault of the
+-- limits is shown is said by no clause.
 abbrev pub config_line : ConfigFault → Option (List ℕ)
 config_line (fault.Unknown name) = Some (codes "unknown " ++ escaped (string_bytes name))
 config_line (fault.Limit e) = None
@@ -218,7 +223,8 @@ pub record IsConfig (text : List ℕ) (config : Config) : Type 0 where
 abbrev pub IsFirst : Option (List ℕ) → ConfigFault → Type 0
 IsFirst first e = e ≢ fault.Memory → first ≡ Some (config_text e)
 
--- What is wrong with a text: it is no table in TOML, or else the first that is wrong with its table.
+-- What is wrong with a text: it is no table in TOML, or else the first that is wrong with its
+-- table.
 abbrev pub IsWrong : List ℕ → List ℕ → Type 0
 IsWrong text what =
     ((what ≡ codes "text") × (IsUtf8 text → parse_document text ≡ None))
@@ -228,7 +234,8 @@ IsWrong text what =
 abbrev pub RefusesConfig : List ℕ → ConfigFault → Type 0
 RefusesConfig text e = e ≢ fault.Memory → IsWrong text (config_text e)
 
--- what a reader of a part of a table answers: its value where nothing is wrong with that part, else the first that is
+-- what a reader of a part of a table answers: its value where nothing is wrong with that part, else
+-- the first that is
 abbrev pub Gives : {X : Type 0} → Option (List ℕ) → X → Result X ConfigFault → Type 0
 Gives first value (Ok x) = (first ≡ None) × (x ≡ value)
 Gives first value (Err e) = IsFirst first e

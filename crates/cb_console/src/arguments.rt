@@ -92,8 +92,8 @@ fn command<'a>(alloc: Global) -> Result<Command<'a>, AllocError> {
         .subcommand(play_command(alloc)?)
 }
 
-/// What these words ask for; the first is the program's name. Else what to print, as clap has it: help or the version, where
-/// it was asked for, or what is wrong with the words.
+/// What these words ask for; the first is the program's name. Else what to print, as clap has it:
+/// help or the version, where it was asked for, or what is wrong with the words.
 pub fn request_of<'a, S: AsStr>(alloc: Global, words: &'a [S]) -> Result<Request<'a>, Error> {
     let matches = command(alloc)?.try_get_matches_from(words)?;
     if let Some(("play", matches)) = matches.subcommand()

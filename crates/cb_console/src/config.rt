@@ -68,8 +68,8 @@ const KEYS: [Key; 8] = [
     Key::KeepWrite,
 ];
 
-/// What is wrong with a configuration, in the order of the checks; the first is answered. The text is the rest of the
-/// program's line of it.
+/// What is wrong with a configuration, in the order of the checks; the first is answered. The text
+/// is the rest of the program's line of it.
 #[derive(Debug, Drop)]
 pub enum ConfigFault {
     /// Not TOML, or not UTF-8.
@@ -163,8 +163,8 @@ struct DefaultedNumbers {
 
 /// Reads a configuration: TOML with whole numbers.
 ///
-/// `clients`, `pages`, `page_size` and `slots` are required. `kin` is a quarter of the slots if it isn't there, `kout` half of
-/// them, both at least 1; `jobs` and `keep_write` are 0.
+/// `clients`, `pages`, `page_size` and `slots` are required. `kin` is a quarter of the slots if it
+/// isn't there, `kout` half of them, both at least 1; `jobs` and `keep_write` are 0.
 pub fn read_config(alloc: Global, text: &[u8]) -> Result<Config, ConfigFault>
     ensures ok { IfOk result (IsConfig text.now) }
     ensures in_range { IfOk result (λ config. AreInRange config.limits) }
@@ -178,7 +178,8 @@ pub fn read_config(alloc: Global, text: &[u8]) -> Result<Config, ConfigFault>
 #[tactic(auto, using(crate::proofs::ConfigLemmas::behind, crate::proofs::ConfigLemmas::ahead, crate::proofs::ConfigLemmas::clear_append))]
 fn settings_of(alloc: Global, table: &Table) -> Result<Config, ConfigFault>
     ensures gives { Gives (first_fault (table_causes (table_view table.now)))
-        (config_by (required_of (table_view table.now)) (defaulted_of (table_view table.now))) result }
+        (config_by (required_of (table_view table.now)) (defaulted_of (table_view table.now)))
+        result }
     ensures in_range { IfOk result (λ config. AreInRange config.limits) }
 {
     refuse_unknown(alloc, table)?;

@@ -16,7 +16,8 @@ pub const NO_MEMORY: u8 = 4;
 /// A writer failed.
 pub const CANNOT_WRITE: u8 = 5;
 
-/// The status of a run that failed, which is said on `err`: `memory`, or `cannot write`. Of a closed pipe nothing is said.
+/// The status of a run that failed, which is said on `err`: `memory`, or `cannot write`. Of a
+/// closed pipe nothing is said.
 pub fn end_by<E: Write>(error: &io::Error, err: &mut E) -> u8
     ensures { IsFailed (error_kind error.now) result }
 {

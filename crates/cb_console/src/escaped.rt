@@ -4,8 +4,8 @@ ghost use Rattle.cb_console.specs.Escaped.{escaped, escaped_character};
 
 use std::fmt;
 
-/// A text as a line shows it: each control character by its code, as `\u{1b}`, any other character as it is. So it stays
-/// one line, and nothing of it steers a terminal.
+/// A text as a line shows it: each control character by its code, as `\u{1b}`, any other character
+/// as it is. So it stays one line, and nothing of it steers a terminal.
 #[derive(Clone, Copy, Debug)]
 pub struct Escaped<'a>(pub &'a str);
 

@@ -1,7 +1,9 @@
-//! The program's console: the words of its command line, the settings of a run, what a run prints, and how it ends.
+//! The program's console: the words of its command line, the settings of a run, what a run prints,
+//! and how it ends.
 //!
-//! [`run`] does what the words ask for. [`play_to`] plays a schedule's text under a configuration's text and prints what
-//! became of each event, in two steps: [`read_and_play`], then [`print_outcome`]. [`read_config`] reads the settings.
+//! [`run`] does what the words ask for. [`play_to`] plays a schedule's text under a configuration's
+//! text and prints what became of each event, in two steps: [`read_and_play`], then
+//! [`print_outcome`]. [`read_config`] reads the settings.
 #![tactic(auto)]
 
 mod arguments;

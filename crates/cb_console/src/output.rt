@@ -9,9 +9,11 @@ use cb_schedule::{Answer, Entry, SentPackets, Word};
 use std::io;
 use std::io::Write;
 
-/// Prints a line for each event: its place from 1, its answer, and each packet sent as `number:kind:client`.
+/// Prints a line for each event: its place from 1, its answer, and each packet sent as
+/// `number:kind:client`.
 pub fn put_entries<O: Write>(out: &mut O, entries: &[Entry]) -> io::Result<()>
-    ensures { OnOk result (Appends (O.contents out.old) (O.contents out.new) (lines_from 1 entries.now)) }
+    ensures { OnOk result
+        (Appends (O.contents out.old) (O.contents out.new) (lines_from 1 entries.now)) }
 {
     for (index, entry) in entries.iter().enumerate() {
         put_line(out, index + 1, &entry.answer)?;
@@ -21,14 +23,16 @@ pub fn put_entries<O: Write>(out: &mut O, entries: &[Entry]) -> io::Result<()>
 
 /// Prints the number of commits and whether they are serial: the last two lines.
 pub fn put_verdict<O: Write>(out: &mut O, commits: usize, serial: bool) -> io::Result<()>
-    ensures { OnOk result (Appends (O.contents out.old) (O.contents out.new) (last_lines commits serial)) }
+    ensures { OnOk result
+        (Appends (O.contents out.old) (O.contents out.new) (last_lines commits serial)) }
 {
     let serial = if serial { "yes" } else { "no" };
     write!(out, "commits {commits}\nserial: {serial}\n")
 }
 
 fn put_line<O: Write>(out: &mut O, place: usize, answer: &Answer) -> io::Result<()>
-    ensures { OnOk result (Appends (O.contents out.old) (O.contents out.new) (line place answer.now)) }
+    ensures { OnOk result
+        (Appends (O.contents out.old) (O.contents out.new) (line place answer.now)) }
 {
     write!(out, "{place} ")?;
     put_word(out, &answer.word)?;
@@ -58,7 +62,8 @@ fn put_word<O: Write>(out: &mut O, word: &Word) -> io::Result<()>
 }
 
 fn put_sent<O: Write>(out: &mut O, sent: &SentPackets) -> io::Result<()>
-    ensures { OnOk result (Appends (O.contents out.old) (O.contents out.new) (flat_map packet_text sent.now)) }
+    ensures { OnOk result
+        (Appends (O.contents out.old) (O.contents out.new) (flat_map packet_text sent.now)) }
 {
     for packet in sent.as_slice() {
         let number = packet.number;
@@ -87,9 +92,11 @@ fn are_all(bytes: &[u8], byte: u8) -> bool
     bytes.iter().all(|other| *other == byte)
 }
 
-/// A page's bytes as two hexadecimal digits each; of a page of one byte throughout, that byte alone.
+/// A page's bytes as two hexadecimal digits each; of a page of one byte throughout, that byte
+/// alone.
 fn put_bytes<O: Write>(out: &mut O, page: &Page) -> io::Result<()>
-    ensures { OnOk result (Appends (O.contents out.old) (O.contents out.new) (bytes_text page.now)) }
+    ensures { OnOk result
+        (Appends (O.contents out.old) (O.contents out.new) (bytes_text page.now)) }
 {
     let bytes = page.as_slice();
     match only_byte(bytes) {
@@ -105,7 +112,8 @@ fn put_bytes<O: Write>(out: &mut O, page: &Page) -> io::Result<()>
 }
 
 fn put_each_byte<O: Write>(out: &mut O, bytes: &[u8]) -> io::Result<()>
-    ensures { OnOk result (Appends (O.contents out.old) (O.contents out.new) (flat_map two_digits bytes.now)) }
+    ensures { OnOk result
+        (Appends (O.contents out.old) (O.contents out.new) (flat_map two_digits bytes.now)) }
 {
     for byte in bytes {
         put_byte(out, *byte)?;

@@ -79,12 +79,12 @@ pub enum Play {
     Part(Transcript),
 }
 
-/// Plays the schedule over a store of zeros with the configuration's limits, and prints what became of each event, the number
-/// of commits, and whether they are serial.
+/// Plays the schedule over a store of zeros with the configuration's limits, and prints what became
+/// of each event, the number of commits, and whether they are serial.
 ///
-/// The answer is the program's status. The configuration is checked first, then the schedule; a fault is said on `err`, and
-/// then nothing is on `out`. Where memory is refused in the play, the lines so far are printed and the last two are not.
-/// It fails only where a writer does.
+/// The answer is the program's status. The configuration is checked first, then the schedule; a
+/// fault is said on `err`, and then nothing is on `out`. Where memory is refused in the play, the
+/// lines so far are printed and the last two are not. It fails only where a writer does.
 pub fn play_to<O: Write, E: Write>(
     alloc: Global,
     config: &[u8],
@@ -122,8 +122,9 @@ fn play_from_zeros(alloc: Global, limits: &Limits, events: &[Event]) -> Result<P
     }
 }
 
-/// Prints what came of a play, and says on `err` what it was refused for; the answer is the program's status. Of a play that
-/// memory ended, the lines of the events that were played are printed. It fails only where a writer does.
+/// Prints what came of a play, and says on `err` what it was refused for; the answer is the
+/// program's status. Of a play that memory ended, the lines of the events that were played are
+/// printed. It fails only where a writer does.
 pub fn print_outcome<O: Write, E: Write>(
     alloc: Global,
     outcome: &Result<Play, ReadFault>,

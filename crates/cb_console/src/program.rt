@@ -12,15 +12,17 @@ use clap::error::ErrorKind;
 use std::io::Write;
 use std::{env, fs, io};
 
-/// The words of the process's command line; the first is the program's name. `InvalidData` where one isn't text.
+/// The words of the process's command line; the first is the program's name. `InvalidData` where
+/// one isn't text.
 pub fn command_line(rt: &HostRuntime) -> io::Result<Vec<String>> {
     Ok(env::args(rt)?.collect(rt.alloc())?)
 }
 
-/// Does what the words ask for, and leaves nothing of it in the buffer of `out`. The answer is the program's status.
+/// Does what the words ask for, and leaves nothing of it in the buffer of `out`. The answer is the
+/// program's status.
 ///
-/// Help and the version, where asked for, go to `out`; what is wrong with the words, or with a file, goes to `err`, as does the line of a
-/// writer that failed.
+/// Help and the version, where asked for, go to `out`; what is wrong with the words, or with a
+/// file, goes to `err`, as does the line of a writer that failed.
 pub fn run<O: Write, E: Write>(
     rt: &HostRuntime,
     words: io::Result<Vec<String>>,
@@ -78,7 +80,8 @@ fn answer_words<O: Write, E: Write>(
     }
 }
 
-/// Says what is wrong with wrong words, their control characters escaped: such a word is no more right than before.
+/// Says what is wrong with wrong words, their control characters escaped: such a word is no more
+/// right than before.
 fn refuse_words<E: Write>(rt: &HostRuntime, words: &[String], err: &mut E) -> io::Result<u8>
     ensures { IfOk result (λ status. status ≡ 2) }
 {
@@ -112,7 +115,8 @@ fn play_files<O: Write, E: Write>(
     play_to(rt.alloc(), config.as_slice(), schedule.as_slice(), out, err)
 }
 
-/// The bytes of a file. Where it can't be read that is said, and there are none; it fails where memory is refused.
+/// The bytes of a file. Where it can't be read that is said, and there are none; it fails where
+/// memory is refused.
 fn read_file<E: Write>(rt: &HostRuntime, path: &str, err: &mut E) -> io::Result<Option<Vec<u8>>>
     ensures { IfOk result (λ read. MatchOption read
         (Appends (E.contents err.old) (E.contents err.new)

@@ -41,7 +41,8 @@ fn ends_so(rt: &HostRuntime, mut out: Failing, status: u8, line: &[u8]) -> Resul
     Ok(ended == status && err.as_slice() == line)
 }
 
-/// A writer that fails ends the program with status 5 and a line, also in mid-text and at the flush; a closed pipe with no line.
+/// A writer that fails ends the program with status 5 and a line, also in mid-text and at the
+/// flush; a closed pipe with no line.
 #[test]
 fn writers_that_fail(rt: HostRuntime) -> Result<(), Fail> {
     let full = |room, flushes| Failing {

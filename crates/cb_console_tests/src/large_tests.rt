@@ -32,7 +32,8 @@ fn put_reads(schedule: &mut Vec<u8>) -> Result<(), Fail> {
     Ok(())
 }
 
-/// Whether a play of five thousand events on the greatest store but for its page size is whole, each read granted.
+/// Whether a play of five thousand events on the greatest store but for its page size is whole,
+/// each read granted.
 fn plays_to_the_end(alloc: Global) -> Result<bool, Fail> {
     let mut schedule = Vec::new(alloc);
     put_greetings(&mut schedule)?;

@@ -12,7 +12,8 @@ use std::test::Fail;
 /// One client, eight pages, four slots.
 const FIRST: &str = "clients = 1\npages = 8\npage_size = 16\nslots = 4\n";
 
-/// A schedule, the status with which its play ends, and what is printed on the standard output and the standard error.
+/// A schedule, the status with which its play ends, and what is printed on the standard output and
+/// the standard error.
 struct Run {
     schedule: &'static str,
     status: u8,
@@ -20,7 +21,8 @@ struct Run {
     err: &'static str,
 }
 
-/// Plays of one client: the empty schedule, the first run, refusals, and each fault of a schedule but its length of a million.
+/// Plays of one client: the empty schedule, the first run, refusals, and each fault of a schedule
+/// but its length of a million.
 static RUNS: [Run; 13] = [
     Run {
         schedule: "",
@@ -177,7 +179,8 @@ fn entry_of(alloc: Global, client: ClientNo, word: Word) -> Result<Entry, Fail> 
     })
 }
 
-/// Every word of an answer has its text; a page of unlike bytes has two digits a byte, also below 16.
+/// Every word of an answer has its text; a page of unlike bytes has two digits a byte, also below
+/// 16.
 #[test]
 fn words_of_answers(rt: HostRuntime) -> Result<(), Fail> {
     let limits = Limits::new(3, 8, 16, 4, 1, 2)?;
@@ -232,7 +235,8 @@ fn lines_so_far(rt: HostRuntime) -> Result<(), Fail> {
     Ok(())
 }
 
-/// Passes also where memory runs out: an allocation may be made to fail. Then the lines so far are printed, and no others.
+/// Passes also where memory runs out: an allocation may be made to fail. Then the lines so far are
+/// printed, and no others.
 #[test]
 fn play_without_memory(rt: HostRuntime) -> Result<(), Fail> {
     let whole = b"1 ok 0:Hello:0\n2 taken 1:Welcome:0\ncommits 0\nserial: yes\n";

@@ -73,8 +73,8 @@ fn first_wrong_refusal(rt: &HostRuntime) -> Result<Option<usize>, Fail> {
     Ok(None)
 }
 
-/// Wrong words are said to be so; files that can't be read are named, the configuration first, and both are read before
-/// either is checked.
+/// Wrong words are said to be so; files that can't be read are named, the configuration first, and
+/// both are read before either is checked.
 #[test]
 fn command_lines_refused(rt: HostRuntime) -> Result<(), Fail> {
     let wrong = first_wrong_refusal(&rt)?;
@@ -91,7 +91,8 @@ fn is_answered(rt: &HostRuntime, line: &str, end: &[u8]) -> Result<bool, Fail> {
 const STATUSES: &str = "\n\nStatuses:\n  0  done\n  1  the serial check said no\n  \
     2  wrong words, configuration or schedule\n  4  no memory\n  5  cannot write\n";
 
-/// Help and the version, where asked for, go to the standard output with status 0; the help has the statuses.
+/// Help and the version, where asked for, go to the standard output with status 0; the help has the
+/// statuses.
 #[test]
 fn help_and_version(rt: HostRuntime) -> Result<(), Fail> {
     let help = is_answered(&rt, "cb_play --help", STATUSES.as_bytes())?;

@@ -18,7 +18,8 @@ fn words_of(alloc: Global, name: &str) -> Result<Vec<String>, AllocError> {
     Ok(words)
 }
 
-/// Prints the name of each example, what the program prints of it, and the status with which it ends.
+/// Prints the name of each example, what the program prints of it, and the status with which it
+/// ends.
 fn play_examples<O: Write, E: Write>(rt: &HostRuntime, out: &mut O, err: &mut E) -> io::Result<()> {
     for name in command_line(rt)?.iter().skip(1) {
         writeln!(out, "{name}")?;

@@ -1,4 +1,5 @@
-//! The program: plays a page server with callback locking and its clients from a schedule of events.
+//! The program: plays a page server with callback locking and its clients from a schedule of
+//! events.
 #![tactic(auto)]
 
 use cb_console::{command_line, end_by, run};
@@ -6,7 +7,8 @@ use std::io;
 use std::io::BufWriter;
 use std::process::ExitCode;
 
-/// Does what the command line asks for, on the standard streams; the answer is the program's status.
+/// Does what the command line asks for, on the standard streams; the answer is the program's
+/// status.
 fn run_on_streams(rt: &HostRuntime) -> u8 {
     let mut err = rt.stderr();
     match BufWriter::new(rt.alloc(), io::writer(rt)) {
