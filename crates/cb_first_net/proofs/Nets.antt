@@ -149,14 +149,22 @@ no_client_becomes n c x a h e f = record {
   );
 }
 
--- where nothing is let go, the pool's law allows it
-none_let_go : (L : Limits) (k : Client) (b : Body) → ChoiceAllowed L k b None
-none_let_go L k (Granted p g v b) = tt
-none_let_go L k _ = tt
+-- a message to the server brings no page
+none_let_go : (L : Limits) (k : Client) (b : Body) → to_server b ≡ true → ChoiceAllowed L k b None
+none_let_go L k (Granted p g v b) t = absurd cc
+none_let_go L k _ t = tt
 
-none_chosen : (L : Limits) (w : World) (m : Option Message) → MessageChoiceAllowed L w m None
-none_chosen L w None = tt
-none_chosen L w (Some m) = none_let_go L (w.client m.client) m.body
+-- the pool's law for packet k, by the message that it is
+chosen_at : (L : Limits) (w : World) (k : ℕ) (m : Message) (let_go : Option ℕ) → packet_at w.packets k ≡ Some m
+    → (m.incarnation ≡ w.incarnation m.client → ChoiceAllowed L (w.client m.client) m.body let_go)
+    → MessageChoiceAllowed L w (packet_at w.packets k) let_go
+chosen_at L w k m let_go e f = subst (λ (x : Option Message). MessageChoiceAllowed L w x let_go) (sym e) f
+
+none_chosen : (L : Limits) (w : World) (k : ℕ) → packet_at w.packets k ≡ None → MessageChoiceAllowed L w (packet_at w.packets k) None
+none_chosen L w k e = subst (λ (x : Option Message). MessageChoiceAllowed L w x None) (sym e) tt
+
+not_own : (i j : ℕ) → (i == j) ≡ false → i ≡ j → ⊥
+not_own i j e f = grind arith
 
 -- a packet that was not sent yet
 no_packet : (L : Limits) (w : World) (k : ℕ) → packet_at w.packets k ≡ None → step L on_cycle w (TakePacket k) None ≡ answer_only w (TakePacket k) NoPacket
@@ -176,7 +184,7 @@ no_packet_becomes n k a h e f = record {
         None,
         [],
         w,
-        none_chosen (limits_of n.limits) w (packet_at w.packets k),
+        none_chosen (limits_of n.limits) w k none,
         no_packet (limits_of n.limits) w k none ∙ ap (λ (o : AnswerWord). answer_with w (TakePacket k) o [] w) (sym e),
         ap (λ (l : List Sent). map sent_of l) (sym f),
         record { server = sh.server; clients = sh.clients; incarnations = sh.incarnations; packets = rw (append-nil w.packets) sh.packets },
@@ -215,7 +223,7 @@ server_becomes n k m s r ps a x t z y q b e f = record {
         None,
         ms,
         record w { server = server_of s },
-        none_chosen (limits_of n.limits) w (packet_at w.packets k),
+        chosen_at (limits_of n.limits) w k m None here (λ i. none_let_go (limits_of n.limits) (w.client m.client) m.body t),
         delivered (limits_of n.limits) w k m None here ∙ (to_the_server w m None t fine ∙ (λ i. answer_with w (TakePacket k) (sym e i) (sends i) (record w { server = after i }))),
         f,
         shows_server n w s ps ms (record { event = TakePacket k; word = word_of a.word } ∷ w.transcript) sh b,
@@ -236,7 +244,7 @@ exhausted_becomes n k m a x t z e f = record {
         None,
         [],
         w,
-        none_chosen (limits_of n.limits) w (packet_at w.packets k),
+        chosen_at (limits_of n.limits) w k m None (carried n k m w x sh) (λ i. none_let_go (limits_of n.limits) (w.client m.client) m.body t),
         delivered (limits_of n.limits) w k m None (carried n k m w x sh) ∙ (to_the_server w t gone ∙ ap (λ (o : AnswerWord). answer_with w (TakePacket k) o [] w) (sym e)),
         ap (λ (l : List Sent). map sent_of l) (sym f),
         record { server = sh.server; clients = sh.clients; incarnations = sh.incarnations; packets = rw (append-nil w.packets) sh.packets },
@@ -266,8 +274,7 @@ client_becomes n k m s bodies ps a z x t o h r b e f = record {
         r.let_go,
         messages_said m.client 1 bodies,
         record w { client = update w.client m.client (client_of s os) },
-        subst (λ (y : Option Message). MessageChoiceAllowed (limits_of n.limits) w y r.let_go) (sym here)
-            (transport_choice w l q (r.allowed os)),
+        chosen_at (limits_of n.limits) w k m r.let_go here (λ i. transport_choice w l q (r.allowed os)),
         delivered (limits_of n.limits) w k m r.let_go here ∙ (to_the_client w t own ∙ (λ i. answer_with w (TakePacket k) (sym e i) (said_is i) (record w { client = update w.client m.client (after_is i) }))),
         f,
         shows_client n w m.client s (client_of s os) os ps (messages_said m.client 1 bodies) (record { event = TakePacket k; word = word_of a.word } ∷ w.transcript) (rw z.clients h) sh refl b,
@@ -292,7 +299,7 @@ other_becomes n k m a x t o e f = record {
         None,
         [],
         w,
-        none_chosen (limits_of n.limits) w (packet_at w.packets k),
+        chosen_at (limits_of n.limits) w k m None (carried n k m w x sh) (λ i. absurd (not_own m.incarnation (w.incarnation m.client) other i)),
         delivered (limits_of n.limits) w k m None (carried n k m w x sh) ∙ (to_nobody w t other ∙ ap (λ (y : AnswerWord). answer_with w (TakePacket k) y [] w) (sym e)),
         ap (λ (l : List Sent). map sent_of l) (sym f),
         record { server = sh.server; clients = sh.clients; incarnations = sh.incarnations; packets = rw (append-nil w.packets) sh.packets },

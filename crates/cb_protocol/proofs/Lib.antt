@@ -13,6 +13,7 @@ pub mod HistoryKept
 pub mod SerialHistories
 pub mod TranscriptKept
 -- a client's tables make allowed steps
+pub mod PageComes
 pub mod ClientSteps
 pub mod ClientReady
 pub mod ClientTakes
@@ -59,6 +60,7 @@ pub mod GrantNumbers
 pub mod MessagesSent
 pub mod MarksKept
 pub mod Permissions
+pub mod DowngradesSent
 -- computed schedules
 pub mod ScheduleText
 pub mod WorkedSchedules

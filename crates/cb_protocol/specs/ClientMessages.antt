@@ -1,6 +1,6 @@
 -- What a client does at each message (TODS 1997; by the grant held and `seen`, the greatest grant
 -- that came, this project's rule).
-use Rattle.std.specs.Prelude.{◌≡◌, ℕ, ◌≤◌, nat_lt, Bool, false, not, ◌&&◌, if◌then◌else◌, ◌==◌, ◌≢◌, List, [], ◌∷◌, ◌++◌, Option, Some, None, ⊤}
+use Rattle.std.specs.Prelude.{◌≡◌, ◌<◌, ◌≤◌, ℕ, nat_lt, Bool, true, false, not, ◌&&◌, if◌then◌else◌, ◌==◌, ◌≢◌, List, [], ◌∷◌, ◌++◌, Option, Some, None, ⊤}
 use Rattle.cb_protocol.specs.Basics.{Bytes, Limits, is_exactly, is_none}
 use Rattle.cb_protocol.specs.Cache.{Fill, Install, Lock, MakeBare, TakeDone, TakePermission, TakeWelcome, YieldPermission, is_committing, is_open}
 use Rattle.cb_protocol.specs.Client.{Aborted, ChangeCache, Client, ClientStep, Committed, EndTransaction, MarkDue, MarkDueDowngrade, NoAsk, Say, SetAsk, asks_to_read, asks_to_write, is_fixed, pages_in_pool}
@@ -67,15 +67,24 @@ unfoldable pub client_take : Limits → Client → Body → Option ℕ → List 
 client_take L k Welcome let_go = ChangeCache TakeWelcome ∷ []
 client_take L k b let_go = if k.cache.welcomed then take_welcomed L k b let_go else []
 
--- The law of the pool's choice: it lets go only a page that is there and not fixed, for a page that
--- was not, and only where it is full.
-abbrev pub MayLetGo : Limits → Client → ℕ → Option ℕ → Type 0
-MayLetGo L k p None = ⊤
-MayLetGo L k p (Some q) = (q ≢ p) × (is_none (k.cache.content q) ≡ false) × (is_fixed k q ≡ false) × (L.slots ≤ pages_in_pool k L.pages)
+-- a page's bytes come into the pool in these steps
+abbrev pub brings_page : List ClientStep → Bool
+brings_page [] = false
+brings_page (ChangeCache (Install page grant version bytes) ∷ steps) = true
+brings_page (ChangeCache (Fill page grant bytes) ∷ steps) = true
+brings_page (_ ∷ steps) = brings_page steps
 
--- it binds the choice at a Granted, the one message that can bring a page
+-- The law of the pool's choice, where a page comes in that was not there: nothing goes where there
+-- is room; where the pool is full one page goes, which is there and not fixed.
+abbrev pub MayLetGo : Limits → Client → ℕ → Option ℕ → Type 0
+MayLetGo L k p None = pages_in_pool k L.pages < L.slots
+MayLetGo L k p (Some q) = (q ≢ p) × (is_none (k.cache.content q) ≡ false)
+    × (is_fixed k q ≡ false) × (L.slots ≤ pages_in_pool k L.pages)
+
+-- it binds the choice at a Granted that brings a page, the one message that can
 abbrev pub ChoiceAllowed : Limits → Client → Body → Option ℕ → Type 0
-ChoiceAllowed L k (Granted p g v b) let_go = MayLetGo L k p let_go
+ChoiceAllowed L k (Granted p g v b) let_go =
+    brings_page (client_take L k (Granted p g v b) let_go) ≡ true → MayLetGo L k p let_go
 ChoiceAllowed L k _ let_go = ⊤
 
 -- the steps of a client at a message, with the pool's choice left open
