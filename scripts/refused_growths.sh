@@ -27,6 +27,6 @@ cb_pool_tests pool_tests::calls_of_a_pool
 cb_commit tests::refused_growths
 cb_schedule text_tests::schedule_without_memory
 cb_schedule world_tests::stopped_world
-cb_play tests::play_without_memory
+cb_console_tests play_tests::play_without_memory
 LIST
 exit $bad
