@@ -8,6 +8,3 @@
 mod sessions;
 
 pub use sessions::{Admission, Session, Sessions, Standing, Transaction};
-
-#[cfg(test)]
-mod tests;
