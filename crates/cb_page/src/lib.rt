@@ -10,7 +10,7 @@ mod page;
 mod page_set;
 
 pub use limits::{LimitFault, Limits};
-pub use numbers::{ClientNo, CommitNo, GrantNo, Incarnation, PageNo, TxnNo, Version};
+pub use numbers::{ClientNo, CommitNo, GrantNo, Incarnation, MAX_NUMBER, PageNo, TxnNo, Version};
 pub use page::Page;
 pub use page_set::PageSet;
 

@@ -10,7 +10,8 @@ fn limit_faults(rt: HostRuntime) {
         ([1, 4097, 16, 4, 1, 2], LimitFault::Pages),
         ([1, 8, 24, 4, 1, 2], LimitFault::PageSize),
         ([1, 8, 0, 4, 1, 2], LimitFault::PageSize),
-        ([1, 8, 4112, 4, 1, 2], LimitFault::PageSize),
+        ([1, 8, 65_552, 4, 1, 2], LimitFault::PageSize),
+        ([1, 8, u64::MAX - 15, 4, 1, 2], LimitFault::PageSize),
         ([1, 8, 16, 1, 1, 2], LimitFault::Slots),
         ([1, 8, 16, 1025, 1, 2], LimitFault::Slots),
         ([1, 8, 16, 4, 4, 2], LimitFault::Kin),
@@ -22,7 +23,20 @@ fn limit_faults(rt: HostRuntime) {
         let made = Limits::new(clients, pages, page_size, slots, kin, kout);
         assert!(rt; made == Err(fault), "at {fault}");
     }
-    assert!(rt; Limits::new(32, 4096, 4096, 2, 1, 4096).is_ok());
+    for page_size in [16, 4096, 4112, 65_536] {
+        assert!(rt; Limits::new(32, 4096, page_size, 2, 1, 4096).is_ok());
+    }
+}
+
+#[test]
+fn keeping(rt: HostRuntime) -> Result<(), Fail> {
+    let limits = Limits::new(3, 8, 65_536, 5, 2, 7)?;
+    assert!(rt; !limits.keep_write());
+    let keeping = limits.keeping();
+    assert!(rt; keeping.keep_write() && keeping.keeping() == keeping && keeping != limits);
+    assert!(rt; keeping.clients() == 3 && keeping.pages() == 8 && keeping.page_size() == 65_536);
+    assert!(rt; keeping.slots() == 5 && keeping.kin() == 2 && keeping.kout() == 7);
+    Ok(())
 }
 
 #[test]

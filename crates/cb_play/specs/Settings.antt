@@ -91,6 +91,7 @@ bounds_of table = record {
   slots = required_number table key.Slots;
   kin = kin_of table;
   kout = kout_of table;
+  keep_write = false;
 }
 
 -- a fault of the limits, by its number and name

@@ -243,8 +243,8 @@ fn limits_of(
     kout: u64,
 ) -> Result<Limits, ConfigFault>
     ensures gives { Gives
-        (first_fault (bounds_causes (record { clients = clients; pages = pages; page_size = page_size; slots = slots; kin = kin; kout = kout })))
-        (record { clients = clients; pages = pages; page_size = page_size; slots = slots; kin = kin; kout = kout })
+        (first_fault (bounds_causes (record { clients = clients; pages = pages; page_size = page_size; slots = slots; kin = kin; kout = kout; keep_write = false })))
+        (record { clients = clients; pages = pages; page_size = page_size; slots = slots; kin = kin; kout = kout; keep_write = false })
         result }
     ensures in_range { IfOk result AreInRange }
 {

@@ -46,6 +46,9 @@ pub mod ClientRanges
 pub mod ReadAsksWaiting
 pub mod ServerRanges
 pub mod ServerRangesKept
+-- numbers, room and marks of the server
+pub mod GrantNumbers
+pub mod MessagesSent
 -- computed schedules
 pub mod ScheduleText
 pub mod WorkedSchedules

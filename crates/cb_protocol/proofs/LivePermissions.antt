@@ -12,7 +12,7 @@ use Rattle.cb_protocol.proofs.ServerOrder.{Orderly, ServerStepMay, ServerStepsMa
 use Rattle.cb_protocol.proofs.ServerTakes.{right_server_take, right_again, right_flushes}
 
 -- whatever messages come
-abbrev AnyMessage : ℕ → ℕ → Body → Type 0
+abbrev pub AnyMessage : ℕ → ℕ → Body → Type 0
 AnyMessage c i b = ⊤
 
 record Live (s : Server) : Type 0 where
@@ -47,7 +47,7 @@ live_steps : (s : Server) (ds : List ServerStep) → ServerStepsMay AnyMessage s
 live_steps s [] a l = l
 live_steps s (x ∷ ds) a l = live_steps (after_server_step s x) ds a.1 (live_step s x a.0 l)
 
-right_input : (cycle : Server → ℕ → Bool) (s : Server) (i : Input) → Orderly AnyMessage s → InputInRange s i → StepsRight AnyMessage s (input_steps cycle s i)
+pub right_input : (cycle : Server → ℕ → Bool) (s : Server) (i : Input) → Orderly AnyMessage s → InputInRange s i → StepsRight AnyMessage s (input_steps cycle s i)
 right_input cycle s (MessageComes c i b) o f = right_server_take AnyMessage cycle s c i b o f.0 tt
 right_input cycle s SendsAgain o f = right_again AnyMessage s o
 right_input cycle s (ReachesDisk n) o f = right_flushes AnyMessage s n o

@@ -12,7 +12,7 @@ use Rattle.cb_protocol.specs.ServerMessages.{admit_incarnation, commit_allowed, 
 use Rattle.cb_protocol.specs.Settling.{Decided, Settled, Decision, downgrade_once, send_callback, send_callbacks, call_back_once, decide, decide_read, decide_write, decision_steps, doom_client, send_downgrade, send_downgrades, grant_row, keeps_permission, is_listed, no_other_holder, nobody, permit_write, wait_or_doom, settle_page, settle_pages, sole_row, send_to}
 
 -- what a step of the server needs to leave what client d has
-abbrev Gentle : ℕ → Server → ServerStep → Type 0
+abbrev pub Gentle : ℕ → Server → ServerStep → Type 0
 Gentle d s (ChangeSession c (GrantRow p g)) = ((s.session c).row p ≡ None) × (g ≡ s.next_grant)
 Gentle d s (ChangeSession c (PermitWrite p g)) = (no_other_holder (s.store.holder p) c ≡ true) × ((s.session c).row p ≡ Some g)
 Gentle d s (ChangeSession c m) = d ≢ c
@@ -21,14 +21,14 @@ Gentle d s (UnmarkInUse c p) = d ≢ c
 Gentle d s (ForgetTransaction c) = d ≢ c
 Gentle d s _ = ⊤
 
-abbrev AllGentle : ℕ → Server → List ServerStep → Type 0
+abbrev pub AllGentle : ℕ → Server → List ServerStep → Type 0
 AllGentle d s [] = ⊤
 AllGentle d s (x ∷ xs) = Gentle d s x × AllGentle d (after_server_step s x) xs
 
 leaves_same : (s : Server) (d : ℕ) → Leaves s s d
 leaves_same s d = record { incarnation = refl; begun = refl; ended = refl; outcome = refl; doomed = λ e. e; mark = λ p. refl; row = λ p g e. e; new_row = λ p g e. inl e; permission = λ p e. e; new_permission = λ p e. inl e; next_grant = omega arith }
 
-leaves_more : (s t u : Server) (d : ℕ) → Leaves s t d → Leaves t u d → Leaves s u d
+pub leaves_more : (s t u : Server) (d : ℕ) → Leaves s t d → Leaves t u d → Leaves s u d
 leaves_more s t u d a b = record {
   incarnation = b.incarnation ∙ a.incarnation;
   begun = b.begun ∙ a.begun;
@@ -96,11 +96,11 @@ leaves_after s d (Doom c) f = grind arith
 leaves_after s d (ForgetTransaction c) f = grind arith
 leaves_after s d (SetFlushed n) f = grind arith
 
-leaves_all : (s : Server) (d : ℕ) (xs : List ServerStep) → AllGentle d s xs → Leaves s (server_after s xs) d
+pub leaves_all : (s : Server) (d : ℕ) (xs : List ServerStep) → AllGentle d s xs → Leaves s (server_after s xs) d
 leaves_all s d [] f = leaves_same s d
 leaves_all s d (x ∷ xs) f = leaves_more s (after_server_step s x) (server_after (after_server_step s x) xs) d (leaves_after s d x f.0) (leaves_all (after_server_step s x) d xs f.1)
 
-gentle_append : (d : ℕ) (s : Server) (xs ys : List ServerStep) → AllGentle d s xs → AllGentle d (server_after s xs) ys → AllGentle d s (xs ++ ys)
+pub gentle_append : (d : ℕ) (s : Server) (xs ys : List ServerStep) → AllGentle d s xs → AllGentle d (server_after s xs) ys → AllGentle d s (xs ++ ys)
 gentle_append d s [] ys a b = b
 gentle_append d s (x ∷ xs) ys a b = (a.0, gentle_append d (after_server_step s x) xs ys a.1 b)
 
@@ -193,10 +193,10 @@ mild_refuses cycle s c ds f = go (cycle (server_after s ds) c)
     go false = f
 
 -- settling
-none_is : (r : Option ℕ) → is_none r ≡ true → r ≡ None
+pub none_is : (r : Option ℕ) → is_none r ≡ true → r ≡ None
 none_is r e = grind arith
 
-some_is : (r : Option ℕ) (g : ℕ) → is_exactly r g ≡ true → r ≡ Some g
+pub some_is : (r : Option ℕ) (g : ℕ) → is_exactly r g ≡ true → r ≡ Some g
 some_is r g e = grind arith
 
 gentle_decide : (d : ℕ) (cycle : Server → ℕ → Bool) (s : Server) (p : ℕ) (q : List WaitingAsk) → AllGentle d s (decision_steps (decide cycle s p q))
@@ -224,7 +224,7 @@ gentle_settle d cycle (suc n) s p = go (λ k. gentle_settle d cycle n k p) (deci
     go f (Settled ds) a = a
     go f (Decided ds) a = gentle_append d s ds _ a (f (server_after s ds))
 
-gentle_settles : (d : ℕ) (cycle : Server → ℕ → Bool) (s : Server) (n : ℕ) → AllGentle d s (settle_pages cycle s n)
+pub gentle_settles : (d : ℕ) (cycle : Server → ℕ → Bool) (s : Server) (n : ℕ) → AllGentle d s (settle_pages cycle s n)
 gentle_settles d cycle s zero = tt
 gentle_settles d cycle s (suc n) = gentle_append d s (settle_pages cycle s n) _ (gentle_settles d cycle s n) (gentle_settle d cycle (length (s.queue n) + 1) (server_after s (settle_pages cycle s n)) n)
 
@@ -236,7 +236,7 @@ gentle_enters d cycle s p a = mild_gentle d _ s (go (not (is_empty (s.queue p)) 
     go true = tt
     go false = tt
 
-gentle_ask_read : (d : ℕ) (cycle : Server → ℕ → Bool) (s : Server) (c p : ℕ) (r : Option ℕ) → AllGentle d s (take_ask_read cycle s c p r)
+pub gentle_ask_read : (d : ℕ) (cycle : Server → ℕ → Bool) (s : Server) (c p : ℕ) (r : Option ℕ) → AllGentle d s (take_ask_read cycle s c p r)
 gentle_ask_read d cycle s c p (Some g) = (tt, tt)
 gentle_ask_read d cycle s c p None = go (has_waiting_ask s c s.pages)
   where
@@ -244,7 +244,7 @@ gentle_ask_read d cycle s c p None = go (has_waiting_ask s c s.pages)
     go true = tt
     go false = gentle_enters d cycle s p (new_ask c None)
 
-gentle_ask_write : (d : ℕ) (cycle : Server → ℕ → Bool) (s : Server) (c p g : ℕ) → AllGentle d s (take_ask_write cycle s c p g)
+pub gentle_ask_write : (d : ℕ) (cycle : Server → ℕ → Bool) (s : Server) (c p g : ℕ) → AllGentle d s (take_ask_write cycle s c p g)
 gentle_ask_write d cycle s c p g = go (is_exactly ((s.session c).row p) g) refl (is_exactly (s.store.holder p) c) refl (has_waiting_ask s c s.pages)
   where
     go : (r : Bool) → is_exactly ((s.session c).row p) g ≡ r → (u : Bool) → is_exactly (s.store.holder p) c ≡ u → (v : Bool)
@@ -254,7 +254,7 @@ gentle_ask_write d cycle s c p g = go (is_exactly ((s.session c).row p) g) refl 
     go true e false f true = tt
     go true e false f false = gentle_enters d cycle s p (new_ask c (Some g))
 
-gentle_live : (d : ℕ) (s : Server) (c t : ℕ) (ds : List ServerStep) → AllGentle d s ds → AllGentle d s (if_live s c t ds)
+pub gentle_live : (d : ℕ) (s : Server) (c t : ℕ) (ds : List ServerStep) → AllGentle d s ds → AllGentle d s (if_live s c t ds)
 gentle_live d s c t ds a = go (nat_lt (s.session c).ended t) (s.doomed c)
   where
     go : (r u : Bool) → AllGentle d s (if r then (if u then send_to s c (AbortNow t) ∷ [] else ds) else [])
@@ -270,7 +270,7 @@ gentle_again d s c t (Some n) = go (nat_le n s.flushed)
     go true = (tt, tt)
     go false = tt
 
-gentle_answers : (d : ℕ) (cycle : Server → ℕ → Bool) (s : Server) (c : ℕ) (b : Body) → d ≢ c → AllGentle d s (direct_answer cycle s c b)
+pub gentle_answers : (d : ℕ) (cycle : Server → ℕ → Bool) (s : Server) (c : ℕ) (b : Body) → d ≢ c → AllGentle d s (direct_answer cycle s c b)
 gentle_answers d cycle s c (AskRead t p) n = gentle_live d s c t _ (gentle_ask_read d cycle s c p ((s.session c).row p))
 gentle_answers d cycle s c (AskWrite t p g) n = gentle_live d s c t _ (gentle_ask_write d cycle s c p g)
 gentle_answers d cycle s c (GiveBack p g) n = go (is_exactly ((s.session c).row p) g)

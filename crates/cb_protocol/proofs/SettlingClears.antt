@@ -328,7 +328,7 @@ noted_first h p a b q e s f t = record {
 }
 
 -- messages, and then a note of them
-after_noted : (h : Server) (ds : List ServerStep) (x : ServerStep) → OnlySends ds → server_after h (ds ++ x ∷ []) ≡ after_server_step h x
+pub after_noted : (h : Server) (ds : List ServerStep) (x : ServerStep) → OnlySends ds → server_after h (ds ++ x ∷ []) ≡ after_server_step h x
 after_noted h ds x a = after_append h ds (x ∷ []) ∙ ap (λ (k : Server). after_server_step k x) (after_sends h ds a)
 
 right_calls_back : (cycle : Server → ℕ → Bool) → Exact cycle → (h : Server) (p : ℕ) (a : WaitingAsk) (q : List WaitingAsk) (g : ℕ) → h.queue p ≡ a ∷ q → SoundAsks h → a.write_grant ≡ Some g

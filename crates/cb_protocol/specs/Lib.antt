@@ -23,3 +23,4 @@ pub mod Deadlock
 pub mod ClientAlone
 pub mod StepsLeave
 pub mod Ranges
+pub mod Numbers

@@ -6,6 +6,7 @@
 
 pub mod alone;
 pub mod deadlock;
+pub mod numbers;
 
 ghost use Rattle.cb_protocol.specs.Laws.{CommittedAlwaysSerial, CopiesAlwaysAgree, CopiesAlwaysBacked, DonesAlwaysNameCommits, EachCommitsOnce, RulesHoldUnderAnyMessages, WholePromise, WriterAlwaysAlone};
 

@@ -49,6 +49,7 @@ returns-in_err-limits-clause-fault c =
       slots = c.in_ok-slots.slots;
       kin = c.unwrap_or-kin.result;
       kout = c.unwrap_or-kout.result;
+      keep_write = false;
     }) (bounds_of (table_view c.args.table.now)) =
     cc (c.in_ok-clients.ensures.1, c.in_ok-pages.ensures.1, c.in_ok-page_size.ensures.1, c.in_ok-slots.ensures.1, c.in_ok-optional.ensures.1, c.in_ok-optional-2.ensures.1, c.unwrap_or-kin.ensures, c.unwrap_or-kout.ensures, c.default_kin.ensures, c.default_kout.ensures) in
     rw (p.1, p.2)
@@ -63,6 +64,7 @@ returns-then-jobs-gt-MOST_JOBS-clause-fault c =
       slots = c.in_ok-slots.slots;
       kin = c.unwrap_or-kin.result;
       kout = c.unwrap_or-kout.result;
+      keep_write = false;
     }) (bounds_of (table_view c.args.table.now)) =
     cc (c.in_ok-clients.ensures.1, c.in_ok-pages.ensures.1, c.in_ok-page_size.ensures.1, c.in_ok-slots.ensures.1, c.in_ok-optional.ensures.1, c.in_ok-optional-2.ensures.1, c.unwrap_or-kin.ensures, c.unwrap_or-kout.ensures, c.default_kin.ensures, c.default_kout.ensures) in
     λ other. none_wrong (table_view c.args.table.now) c.in_ok-refuse_unknown.ensures.0 c.in_ok-clients.ensures.0 c.in_ok-pages.ensures.0 c.in_ok-page_size.ensures.0 c.in_ok-slots.ensures.0 c.in_ok-optional.ensures.0 c.in_ok-optional-2.ensures.0 c.in_ok-optional-3.ensures.0 (rw same at c.in_ok-limits.ensures.gives.0)
@@ -77,6 +79,7 @@ returns-clause-faultless c =
       slots = c.in_ok-slots.slots;
       kin = c.unwrap_or-kin.result;
       kout = c.unwrap_or-kout.result;
+      keep_write = false;
     }) (bounds_of (table_view c.args.table.now)) =
     cc (c.in_ok-clients.ensures.1, c.in_ok-pages.ensures.1, c.in_ok-page_size.ensures.1, c.in_ok-slots.ensures.1, c.in_ok-optional.ensures.1, c.in_ok-optional-2.ensures.1, c.unwrap_or-kin.ensures, c.unwrap_or-kout.ensures, c.default_kin.ensures, c.default_kout.ensures) in
     none_wrong (table_view c.args.table.now) c.in_ok-refuse_unknown.ensures.0 c.in_ok-clients.ensures.0 c.in_ok-pages.ensures.0 c.in_ok-page_size.ensures.0 c.in_ok-slots.ensures.0 c.in_ok-optional.ensures.0 c.in_ok-optional-2.ensures.0 c.in_ok-optional-3.ensures.0 (rw same at c.in_ok-limits.ensures.gives.0)
