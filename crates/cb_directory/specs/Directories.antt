@@ -1,5 +1,6 @@
 -- A directory as its callers see it, its rule, and what each call makes of it.
-use Rattle.std.specs.Prelude.{◌≡◌, ◌<◌, ◌+◌, ℕ, true, false, List, length, Option, Some, None}
+use Rattle.std.specs.Prelude.{◌≡◌, ◌<◌, ◌≤◌, ◌+◌, ◌^◌, ℕ, ◌==◌, if◌then◌else◌, true, false, List, length, Option, Some, None}
+use Rattle.cb_page.specs.Bounds.{Bounds}
 use Rattle.cb_directory.specs.Tables as tables
 use Rattle.cb_directory.specs.Tables.{TablesState, at_place, at_page, is_listed, is_marked}
 
@@ -37,12 +38,17 @@ abbrev pub NoOtherHolder : DirectoryState → ℕ → ℕ → Type 0
 NoOtherHolder directory client page =
     (other : ℕ) → holder directory page ≡ Some other → other ≡ client
 
+-- a number is left for one more grant
+abbrev pub HasGrantLeft : DirectoryState → Type 0
+HasGrantLeft directory = directory.next_grant < 2 ^ 62
+
 -- The directory rule (TODS 1997; grants are this project's).
 pub record Rule (directory : DirectoryState) : Type 0 where
   -- a page with a write holder has copies at no other client
   pub alone : (page client : ℕ) → holder directory page ≡ Some client
       → IsSoleRow directory client page
-  -- grants are numbered upwards
+  -- grants are numbered from 1, upwards
+  pub first : 1 ≤ directory.next_grant
   pub below : (client page grant : ℕ) → row directory client page ≡ Some grant
       → grant < directory.next_grant
   -- no two copies have the same grant
@@ -59,6 +65,9 @@ pub record TablesAgree (directory : DirectoryState) : Type 0 where
   -- a client's pages are at least those of which it has a row or the permission
   pub row_listed : (client page grant : ℕ) → row directory client page ≡ Some grant
       → is_listed directory.tables client page ≡ true
+  -- and a write holder is a client that there is
+  pub holder_known : (client page : ℕ) → holder directory page ≡ Some client
+      → HasClient directory client
   pub holder_listed : (client page : ℕ) → holder directory page ≡ Some client
       → is_listed directory.tables client page ≡ true
 
@@ -98,3 +107,30 @@ pub record Permits (before : DirectoryState) (client page txn : ℕ) (after : Di
 pub record Releases (before : DirectoryState) (page : ℕ) (after : DirectoryState) : Type 0 where
   pub has : Has before after (row before) (at_page (holder before) page None) (tag before)
   pub next : after.next_grant ≡ before.next_grant
+
+-- this client is no write holder of the page
+abbrev pub without_holder : Option ℕ → ℕ → Option ℕ
+without_holder None client = None
+without_holder (Some other) client = if other == client then None else Some other
+
+-- a client is write holder of no page any more; the tags stay
+pub record ReleasesAll (before : DirectoryState) (client : ℕ) (after : DirectoryState) : Type 0 where
+  pub has : Has before after
+      (row before) (λ page. without_holder (holder before page) client) (tag before)
+  pub next : after.next_grant ≡ before.next_grant
+
+-- all rows and permissions of a client go
+pub record Forgets (before : DirectoryState) (client : ℕ) (after : DirectoryState) : Type 0 where
+  pub has : Has before after
+      (λ other page. if other == client then None else row before other page)
+      (λ page. without_holder (holder before page) client) (tag before)
+  pub next : after.next_grant ≡ before.next_grant
+
+-- of these limits, and nobody has anything
+pub record IsNew (limits : Bounds) (directory : DirectoryState) : Type 0 where
+  pub rows : (client page : ℕ) → row directory client page ≡ None
+  pub holders : (page : ℕ) → holder directory page ≡ None
+  pub tags : (page : ℕ) → tag directory page ≡ None
+  pub next : directory.next_grant ≡ 1
+  pub clients : length directory.tables.clients ≡ limits.clients
+  pub pages : length directory.tables.pages ≡ limits.pages

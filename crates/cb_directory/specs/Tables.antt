@@ -1,8 +1,8 @@
 -- The rows and write holders as tables by client and by page.
-use Rattle.std.specs.Prelude.{◌≡◌, ◌<◌, ◌≤◌, ℕ, Bool, true, false, ◌==◌, if◌then◌else◌, List, [], length, Option, Some, None, slice_index_or}
+use Rattle.std.specs.Prelude.{◌≡◌, ◌<◌, ◌≤◌, ℕ, Bool, true, false, ◌==◌, if◌then◌else◌, List, [], length, Option, Some, None, replicate, slice_index_or}
 use Rattle.cb_clients.specs.Clients as clients
 use Rattle.cb_page.specs.Flags.{has}
-use Rattle.cb_directory.specs.Rows.{ClientState, grant_of}
+use Rattle.cb_directory.specs.Rows.{ClientState, grant_of, no_rows}
 use Rattle.cb_directory.specs.declared.lines.PageLine.{PageLine}
 
 -- one line a client and one a page
@@ -52,6 +52,11 @@ pub record IsSized (tables : TablesState) : Type 0 where
       → length (client_of tables client).grants ≡ length tables.pages
   pub flags : (client : ℕ) → client < length tables.clients
       → length (client_of tables client).pages ≡ length tables.pages
+
+-- no rows and no write holders
+abbrev pub empty : ℕ → ℕ → TablesState
+empty clients pages =
+    record { clients = replicate clients (no_rows pages); pages = replicate pages no_line }
 
 -- what stands at one client and page changes, all else stays
 abbrev pub at_place : {A : Type 0} → (ℕ → ℕ → A) → ℕ → ℕ → A → ℕ → ℕ → A

@@ -6,5 +6,8 @@
 //! are this project's.
 #![tactic(auto)]
 
+mod directory;
 mod lines;
 mod tables;
+
+pub use directory::Directory;

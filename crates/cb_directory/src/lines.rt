@@ -1,7 +1,7 @@
 //! What stands for one client, and for one page.
 ghost use Rattle.std.specs.Prelude.{◌≡◌, ℕ, ◌<◌, ◌≤◌, true, false, None, replicate, length, slice_set, IfOk, MatchOption};
 ghost use Rattle.cb_page.specs.Flags.{has};
-ghost use Rattle.cb_directory.specs.Rows.{grant_of};
+ghost use Rattle.cb_directory.specs.Rows.{grant_of, no_rows};
 
 use cb_clients::ClientSet;
 use cb_page::{ClientNo, GrantNo, PageNo, PageSet, TxnNo};
@@ -36,7 +36,7 @@ impl ClientLine {
     /// A client with no copies.
     pub fn new(alloc: Global, pages: usize) -> Result<ClientLine, AllocError>
         requires { pages ≤ 4096 }
-        ensures { IfOk result (λ line. line ≡ record { grants = replicate pages None; pages = replicate pages false }) }
+        ensures { IfOk result (λ line. line ≡ no_rows pages) }
     {
         let grants = vec![in alloc; None; pages]?;
         Ok(ClientLine {

@@ -2,11 +2,11 @@
 ghost use Rattle.std.specs.Prelude.{◌≡◌, ℕ, ◌<◌, ◌≤◌, None, Some, false, true, length, replicate, IfOk, MatchOption};
 ghost use Rattle.cb_clients.specs.Clients.{has};
 ghost use Rattle.std.specs.Option.{is_some};
-ghost use Rattle.cb_directory.specs.Tables.{Lists, PutsHolder, PutsRow, holder, is_listed, is_marked, row, tag};
+ghost use Rattle.cb_directory.specs.Tables.{Lists, PutsHolder, PutsRow, empty, no_rows, holder, is_listed, is_marked, row, tag};
 
 use crate::lines::{ClientLine, PageLine};
 use cb_clients::ClientSet;
-use cb_page::{ClientNo, GrantNo, PageNo, TxnNo};
+use cb_page::{ClientNo, GrantNo, Limits, PageNo, TxnNo};
 use std::alloc::{AllocError, Global};
 use std::marker::Model;
 
@@ -28,6 +28,25 @@ impl Model for Tables {
 }
 
 impl Tables {
+    /// No rows and no write holders.
+    pub fn new(alloc: Global, limits: &Limits) -> Result<Tables, AllocError>
+        ensures { IfOk result (λ tables. tables ≡ empty limits.now.clients limits.now.pages) }
+    {
+        let line = PageLine {
+            clients: ClientSet::empty(),
+            holder: None,
+            tag: None,
+        };
+        Ok(Tables {
+            clients: empty_lines(
+                alloc,
+                usize::from(limits.clients()),
+                limits.pages() as usize,
+            )?,
+            pages: vec![in alloc; line; limits.pages() as usize]?,
+        })
+    }
+
     /// The grant of the client's copy of the page.
     pub fn row(&self, client: ClientNo, page: PageNo) -> Option<GrantNo>
         requires client { client < length self.now.clients }
@@ -121,4 +140,16 @@ impl Tables {
     {
         self.pages[page.index()].holder = None;
     }
+}
+
+/// That many clients with nothing.
+fn empty_lines(alloc: Global, clients: usize, pages: usize) -> Result<Vec<ClientLine>, AllocError>
+    requires { pages ≤ 4096 }
+    ensures { IfOk result (λ lines. lines.items ≡ replicate clients (no_rows pages)) }
+{
+    let mut lines = Vec::with_capacity(alloc, clients)?;
+    for _ in 0..clients {
+        lines.push(ClientLine::new(alloc, pages)?)?;
+    }
+    Ok(lines)
 }
