@@ -2,7 +2,8 @@
 ghost use Rattle.std.specs.Prelude.{◌≡◌, ℕ, ◌<◌, ◌≤◌, None, Some, false, true, length, replicate, IfOk, MatchOption};
 ghost use Rattle.cb_clients.specs.Clients.{has};
 ghost use Rattle.std.specs.Option.{is_some};
-ghost use Rattle.cb_directory.specs.Tables.{Lists, PutsHolder, PutsRow, empty, no_rows, holder, is_listed, is_marked, row, tag};
+ghost use Rattle.cb_directory.specs.Rows.{no_rows};
+ghost use Rattle.cb_directory.specs.Tables.{Lists, PutsHolder, PutsRow, empty, holder, is_listed, is_marked, row, tag};
 
 use crate::lines::{ClientLine, PageLine};
 use cb_clients::ClientSet;

@@ -8,7 +8,7 @@ use Rattle.cb_schedule.specs.Plays.{Played}
 use Rattle.cb_schedule.specs.ProtocolLimits.{limits_of}
 use Rattle.cb_schedule.specs.ScheduleText as text
 use Rattle.cb_schedule.specs.Transcripts.{IsSerialOverAny, TranscriptState}
-use Rattle.cb_schedule.specs.WorldState.{Shows, WorldState, opening_of}
+use Rattle.cb_schedule.specs.WorldState.{Represents, WorldState, opening_of}
 use Rattle.cb_schedule.specs.declared.answer.Entry.{Entry}
 use Rattle.cb_schedule.specs.declared.event.Event.{Event}
 use Rattle.cb_schedule.specs.declared.text.ScheduleFault.{ScheduleFault}
@@ -28,7 +28,7 @@ pub record IsOpening (bounds : Bounds) (world : WorldState) : Type 0 where
   pub limits : world.limits ≡ bounds
   pub transcript : world.transcript ≡ []
   pub packets : world.net.packets ≡ []
-  pub shows : Shows world (new_world (limits_of bounds) (opening_of (zeros bounds)))
+  pub shows : Represents world (new_world (limits_of bounds) (opening_of (zeros bounds)))
 
 -- From there these events are played, and that is told of them.
 pub record PlaysFromZeros (limits : Bounds) (events : List Event) (told : List Entry) : Type 0 where

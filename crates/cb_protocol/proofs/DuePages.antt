@@ -6,7 +6,7 @@ use Rattle.cb_protocol.specs.Cache.{Begin, CacheChange, Fill, Abandon, Idle, Ins
 use Rattle.cb_protocol.specs.Client.{Aborted, ClientStep, Ask, SetAsk, Client, EndTransaction, Committed, Dropped, LastOutcome, ChangeCache, NoAsk, NoneEnded, MarkDue, MarkDueDowngrade, ReadAsk, Say, MarkWanted, WriteAsk, client_after, asks_to_write, after_client_step, is_fixed, asks_to_read, bodies_said}
 use Rattle.cb_protocol.specs.Answers.{Asked, ClientFault, Permitted}
 use Rattle.cb_protocol.specs.Basics.{is_exactly, Bytes, IsIn, Limits, update}
-use Rattle.cb_protocol.specs.ClientCalls.{CallAgain, CallBegin, Call, CallDrop, CallFinish, CallHello, CallPeek, CallRead, CallWant, CallWrite, accept_call, client_again, client_call, causes, first_fault, read_page, accept_or_refuse, reply_with, say_ask, say_ask_write, say_commit, say_drop}
+use Rattle.cb_protocol.specs.ClientCalls.{CallAgain, CallBegin, Call, CallDrop, CallFinish, CallHello, CallPeek, CallRead, CallWant, CallWrite, accept_call, client_again, client_call, causes, first_refusal, read_page, accept_or_refuse, reply_with, say_ask, say_ask_write, say_commit, say_drop}
 use Rattle.cb_protocol.specs.ClientEnd.{drop_transaction, end_pages, give_back, refuse_grant}
 use Rattle.cb_protocol.specs.ClientMessages.{take_callback, take_downgrade, take_granted, take_granted_held, take_welcomed, let_page_go, of_committing_txn, of_open_txn, client_take}
 use Rattle.cb_protocol.specs.Messages.{AbortNow, Body, Callback, Done, Downgrade, Downgraded, GiveBack, Granted, Hello, InUse, MayWrite, Welcome}
@@ -198,7 +198,7 @@ spare_wants : (p g : ℕ) (k : Client) (q : ℕ) (u : Bool) → AllSpare p g (if
 spare_wants p g k q true = (tt, tt)
 spare_wants p g k q false = (tt, (tt, spare_ask_write p g k q (k.cache.held q)))
 
-goes_on_call : (L : Limits) (k : Client) (c : Call) (p g : ℕ) → ClientKeeps L k → k.due p ≡ true → k.cache.held p ≡ Some g → first_fault (causes L k c) ≡ None → c ≢ CallDrop → AllSpare p g (accept_call L k c).steps
+goes_on_call : (L : Limits) (k : Client) (c : Call) (p g : ℕ) → ClientKeeps L k → k.due p ≡ true → k.cache.held p ≡ Some g → first_refusal (causes L k c) ≡ None → c ≢ CallDrop → AllSpare p g (accept_call L k c).steps
 goes_on_call L k CallHello p g h d e f n = (tt, tt)
 goes_on_call L k CallBegin p g h d e f n = absurd ((due_reading L k p h d).0 (grind arith))
 goes_on_call L k (CallRead q) p g h d e f n = spare_reads p g k q (k.cache.content q)
@@ -211,9 +211,9 @@ goes_on_call L k (CallPeek q) p g h d e f n = tt
 
 pub call_stays : (L : Limits) (k : Client) (c : Call) (p g : ℕ) → ClientKeeps L k → k.due p ≡ true → k.cache.held p ≡ Some g → c ≢ CallDrop → StaysDue k (client_after L.keep_write k (client_call L k c).steps) (bodies_said (client_call L k c).steps) p g
 unfolding call_fault client_call
-call_stays L k c p g h d e n = go (first_fault (causes L k c)) refl
+call_stays L k c p g h d e n = go (first_refusal (causes L k c)) refl
   where
-    go : (f : Option ClientFault) → first_fault (causes L k c) ≡ f → StaysDue k (client_after L.keep_write k (accept_or_refuse L k c f).steps) (bodies_said (accept_or_refuse L k c f).steps) p g
+    go : (f : Option ClientFault) → first_refusal (causes L k c) ≡ f → StaysDue k (client_after L.keep_write k (accept_or_refuse L k c f).steps) (bodies_said (accept_or_refuse L k c f).steps) p g
     go (Some y) f = stays L k p g [] h d e tt
     go None f = stays L k p g (accept_call L k c).steps h d e (goes_on_call L k c p g h d e f n)
 

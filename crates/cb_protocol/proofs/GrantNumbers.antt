@@ -7,7 +7,7 @@ use Rattle.cb_protocol.specs.Flush.{dones_between}
 use Rattle.cb_protocol.specs.Messages.{AbortNow, AskRead, AskWrite, Body, Commit, Done, Downgraded, Drop, GiveBack, Hello, InUse, MayWrite, Welcome}
 use Rattle.cb_protocol.specs.Numbers.{GrantsLeftAtFirst, GrantsNeverRunOut, HasGrantsLeft, IsTaken, SettlingTakesKeptGrants, first_free_grant}
 use Rattle.cb_protocol.specs.Resend.{again_doomed, again_pages}
-use Rattle.cb_protocol.specs.Server.{ChangeSession, Doom, EnterQueue, ForgetTransaction, LeaveQueue, MarkCalledBack, MarkInUse, MarkTold, RemoveAsk, Send, Server, ServerStep, SetFlushed, UnmarkInUse, WaitingAsk, add_told, new_server, after_first, after_server_step, server_after, set_called_back}
+use Rattle.cb_protocol.specs.Server.{ChangeSession, DeadlockTest, Doom, EnterQueue, ForgetTransaction, LeaveQueue, MarkCalledBack, MarkDowngradeSent, MarkInUse, RemoveAsk, Send, Server, ServerStep, SetFlushed, UnmarkInUse, WaitingAsk, add_downgrade_sent, after_first, after_server_step, new_server, server_after, set_called_back}
 use Rattle.cb_protocol.specs.ServerMessages.{admit_incarnation, begin_transaction, commit_allowed, direct_answer, enter_queue, has_waiting_ask, if_live, is_empty, is_exhausted, lacks_number, may_proceed, named_txn, new_ask, read_asks_below, read_asks_in, repeat_done, server_take, take_ask_read, take_ask_write, take_current}
 use Rattle.cb_protocol.specs.Session.{Admit, ApplyCommit, BeginTransaction, DropTransaction, EndPermission, GrantRow, PermitWrite, RemoveRow}
 use Rattle.cb_protocol.specs.Settling.{Decided, Decision, Settled, call_back_once, decide, decide_read, decide_write, decision_steps, doom_client, downgrade_once, grant_row, is_listed, keeps_permission, no_other_holder, nobody, permit_write, send_callbacks, send_downgrades, send_to, settle_page, settle_pages, sole_row, wait_or_doom}
@@ -104,7 +104,7 @@ frugal_step s (Send c i b) f = frugal_same s
 frugal_step s (EnterQueue p a) f = absurd f
 frugal_step s (LeaveQueue p) f = frugal_queue s _ refl refl (put_count s p (after_first (s.queue p)) (count_rest (s.queue p)))
 frugal_step s (MarkCalledBack p) f = frugal_queue s _ refl refl (put_count s p (set_called_back (s.queue p)) (let e = count_called (s.queue p) in omega arith))
-frugal_step s (MarkTold p t) f = frugal_queue s _ refl refl (put_count s p (add_told t (s.queue p)) (let e = count_told t (s.queue p) in omega arith))
+frugal_step s (MarkDowngradeSent p t) f = frugal_queue s _ refl refl (put_count s p (add_downgrade_sent t (s.queue p)) (let e = count_told t (s.queue p) in omega arith))
 frugal_step s (MarkInUse c p) f = frugal_queue s _ refl refl (λ p. omega arith)
 frugal_step s (UnmarkInUse c p) f = frugal_queue s _ refl refl (λ p. omega arith)
 frugal_step s (RemoveAsk c) f = frugal_queue s _ refl refl (λ p. count_without c (s.queue p))
@@ -166,14 +166,14 @@ thrifty_grants s p a q l e r = record { frugal = record { free = free; pages = r
     given h c y g (inr (inr (inl f))) = absurd cc
     given h c y g (inr (inr (inr i))) = absurd i
 
-nothing_refuses : (cycle : Server → ℕ → Bool) (s : Server) (c : ℕ) (ds : List ServerStep) → GivesNothing ds → GivesNothing (decision_steps (wait_or_doom cycle s c ds))
+nothing_refuses : (cycle : DeadlockTest) (s : Server) (c : ℕ) (ds : List ServerStep) → GivesNothing ds → GivesNothing (decision_steps (wait_or_doom cycle s c ds))
 nothing_refuses cycle s c ds f = go (cycle (server_after s ds) c)
   where
     go : (r : Bool) → GivesNothing (decision_steps (if r then Decided (ds ++ doom_client (server_after s ds) c) else Settled ds))
     go true = nothing_append ds (doom_client (server_after s ds) c) f tt
     go false = f
 
-thrifty_decide : (cycle : Server → ℕ → Bool) (s : Server) (p : ℕ) (q : List WaitingAsk) → s.queue p ≡ q → p < s.pages → Thrifty s (decision_steps (decide cycle s p q))
+thrifty_decide : (cycle : DeadlockTest) (s : Server) (p : ℕ) (q : List WaitingAsk) → s.queue p ≡ q → p < s.pages → Thrifty s (decision_steps (decide cycle s p q))
 thrifty_decide cycle s p [] e l = thrifty_nothing s [] tt
 thrifty_decide cycle s p (a ∷ q) e l = kind_of a.write_grant refl
   where
@@ -183,8 +183,8 @@ thrifty_decide cycle s p (a ∷ q) e l = kind_of a.write_grant refl
     back : List ServerStep
     back = send_callbacks s nobody p a.client s.clients
 
-    brings : (r : Bool) → GivesNothing (if r then down ++ MarkTold p (s.store.tag p) ∷ [] else [])
-    brings true = nothing_append down (MarkTold p (s.store.tag p) ∷ []) (nothing_sends down (sends_downgrades s nobody p a.client (s.store.holder p))) tt
+    brings : (r : Bool) → GivesNothing (if r then down ++ MarkDowngradeSent p (s.store.tag p) ∷ [] else [])
+    brings true = nothing_append down (MarkDowngradeSent p (s.store.tag p) ∷ []) (nothing_sends down (sends_downgrades s nobody p a.client (s.store.holder p))) tt
     brings false = tt
 
     calls : (r : Bool) → GivesNothing (if r then [] else back ++ MarkCalledBack p ∷ [])
@@ -193,7 +193,7 @@ thrifty_decide cycle s p (a ∷ q) e l = kind_of a.write_grant refl
 
     reads : is_none a.write_grant ≡ true → (u : Bool) → Thrifty s (decision_steps (if u then Decided (grant_row s p a.client) else wait_or_doom cycle s a.client (downgrade_once s p a)))
     reads r true = thrifty_grants s p a q l e r
-    reads r false = thrifty_nothing s _ (nothing_refuses cycle s a.client (downgrade_once s p a) (brings (s.store.keep_write && keeps_permission s p a.client (s.store.holder p) && not (is_listed (s.store.tag p) a.told_tags))))
+    reads r false = thrifty_nothing s _ (nothing_refuses cycle s a.client (downgrade_once s p a) (brings (s.store.keep_write && keeps_permission s p a.client (s.store.holder p) && not (is_listed (s.store.tag p) a.downgrades_sent))))
 
     writes : (g : ℕ) (u : Bool) → Thrifty s (decision_steps (if u then Decided (permit_write s p a.client g) else wait_or_doom cycle s a.client (call_back_once s p a)))
     writes g true = thrifty_nothing s (permit_write s p a.client g) tt
@@ -203,7 +203,7 @@ thrifty_decide cycle s p (a ∷ q) e l = kind_of a.write_grant refl
     kind_of None w = reads (rw w refl) (no_other_holder (s.store.holder p) a.client && is_none ((s.session a.client).row p))
     kind_of (Some g) w = writes g (no_other_holder (s.store.holder p) a.client && is_exactly ((s.session a.client).row p) g && sole_row s p a.client s.clients)
 
-thrifty_settle : (cycle : Server → ℕ → Bool) (n : ℕ) (s : Server) (p : ℕ) → p < s.pages → Thrifty s (settle_page cycle n s p)
+thrifty_settle : (cycle : DeadlockTest) (n : ℕ) (s : Server) (p : ℕ) → p < s.pages → Thrifty s (settle_page cycle n s p)
 thrifty_settle cycle zero s p l = thrifty_nothing s [] tt
 thrifty_settle cycle (suc n) s p l = go (λ k m. thrifty_settle cycle n k p m) (decide cycle s p (s.queue p)) (thrifty_decide cycle s p (s.queue p) refl l)
   where
@@ -211,12 +211,12 @@ thrifty_settle cycle (suc n) s p l = go (λ k m. thrifty_settle cycle n k p m) (
     go f (Settled ds) a = a
     go f (Decided ds) a = thrifty_append s ds _ a (f (server_after s ds) (rw a.frugal.pages l))
 
-thrifty_settles : (cycle : Server → ℕ → Bool) (s : Server) (n : ℕ) → n ≤ s.pages → Thrifty s (settle_pages cycle s n)
+thrifty_settles : (cycle : DeadlockTest) (s : Server) (n : ℕ) → n ≤ s.pages → Thrifty s (settle_pages cycle s n)
 thrifty_settles cycle s zero l = thrifty_nothing s [] tt
 thrifty_settles cycle s (suc n) l = let a = thrifty_settles cycle s n (omega arith) in
     thrifty_append s (settle_pages cycle s n) _ a (thrifty_settle cycle (length (s.queue n) + 1) (server_after s (settle_pages cycle s n)) n (rw a.frugal.pages (omega arith)))
 
-pub settling_takes_kept_grants : (cycle : Server → ℕ → Bool) (s : Server) → SettlingTakesKeptGrants cycle s
+pub settling_takes_kept_grants : (cycle : DeadlockTest) (s : Server) → SettlingTakesKeptGrants cycle s
 settling_takes_kept_grants cycle s = record {
   decision = λ p l. (thrifty_decide cycle s p (s.queue p) refl l).frugal.free;
   one_page = λ n p l. (thrifty_settle cycle n s p l).frugal.free;
@@ -242,7 +242,7 @@ lasts_append s xs ys a b = record {
   given = gives_append xs ys a.given b.given;
 }
 
-lasts_settles : (cycle : Server → ℕ → Bool) (s : Server) → HasGrantsLeft s → Lasts s (settle_pages cycle s s.pages)
+lasts_settles : (cycle : DeadlockTest) (s : Server) → HasGrantsLeft s → Lasts s (settle_pages cycle s s.pages)
 lasts_settles cycle s h = lasts_thrifty s (settle_pages cycle s s.pages) h (thrifty_settles cycle s s.pages (omega arith))
 
 -- an ask enters, to read only where a number is left for it
@@ -268,7 +268,7 @@ enters_left s p a h f = (h.0, elim (below_or_not p s.pages) [ inl l ↦ go l (is
     go l true e = let x = reads_change s t p s.pages l others in let y : read_asks_in (t.queue p) ≡ read_asks_in (s.queue p) + 1 = rw e at count in let z = f e in omega arith
     go l false e = let x = reads_change s t p s.pages l others in let y : read_asks_in (t.queue p) ≡ read_asks_in (s.queue p) = rw e at count in let z = h.1 in omega arith
 
-lasts_enters : (cycle : Server → ℕ → Bool) (s : Server) (p : ℕ) (a : WaitingAsk) → HasGrantsLeft s → (is_none a.write_grant ≡ true → first_free_grant s ≤ max_number) → Lasts s (enter_queue cycle s p a)
+lasts_enters : (cycle : DeadlockTest) (s : Server) (p : ℕ) (a : WaitingAsk) → HasGrantsLeft s → (is_none a.write_grant ≡ true → first_free_grant s ≤ max_number) → Lasts s (enter_queue cycle s p a)
 lasts_enters cycle s p a h f = go (not (is_empty (s.queue p)) && cycle t a.client)
   where
     t : Server
@@ -281,7 +281,7 @@ lasts_enters cycle s p a h f = go (not (is_empty (s.queue p)) && cycle t a.clien
     go true = let d = lasts_nothing t (doom_client t a.client) (enters_left s p a h f) tt in record { pages = d.pages; left = d.left; given = given (doom_client t a.client) d.given }
     go false = record { pages = refl; left = enters_left s p a h f; given = given [] (λ c q x i. absurd i) }
 
-lasts_ask_read : (cycle : Server → ℕ → Bool) (s : Server) (c p : ℕ) (r : Option ℕ) → HasGrantsLeft s → (r ≡ None → has_waiting_ask s c s.pages ≡ false → first_free_grant s ≤ max_number) → Lasts s (take_ask_read cycle s c p r)
+lasts_ask_read : (cycle : DeadlockTest) (s : Server) (c p : ℕ) (r : Option ℕ) → HasGrantsLeft s → (r ≡ None → has_waiting_ask s c s.pages ≡ false → first_free_grant s ≤ max_number) → Lasts s (take_ask_read cycle s c p r)
 lasts_ask_read cycle s c p (Some g) h f = lasts_nothing s _ h tt
 lasts_ask_read cycle s c p None h f = go (has_waiting_ask s c s.pages) refl
   where
@@ -289,7 +289,7 @@ lasts_ask_read cycle s c p None h f = go (has_waiting_ask s c s.pages) refl
     go true q = lasts_nothing s [] h tt
     go false q = lasts_enters cycle s p (new_ask c None) h (λ z. f refl q)
 
-lasts_ask_write : (cycle : Server → ℕ → Bool) (s : Server) (c p g : ℕ) → HasGrantsLeft s → Lasts s (take_ask_write cycle s c p g)
+lasts_ask_write : (cycle : DeadlockTest) (s : Server) (c p g : ℕ) → HasGrantsLeft s → Lasts s (take_ask_write cycle s c p g)
 lasts_ask_write cycle s c p g h = go (is_exactly ((s.session c).row p) g) (is_exactly (s.store.holder p) c) (has_waiting_ask s c s.pages)
   where
     go : (r u v : Bool) → Lasts s (if not r then [] else if u then ChangeSession c (PermitWrite p g) ∷ send_to s c (MayWrite (s.session c).txn p g) ∷ [] else if v then [] else enter_queue cycle s p (new_ask c (Some g)))
@@ -313,7 +313,7 @@ taken_ask s c t p l m r w = over (rw (m, r, w) at l)
     over : nat_lt max_number (s.next_grant + read_asks_below s s.pages) ≡ false → first_free_grant s ≤ max_number
     over e = grind arith
 
-lasts_answer : (cycle : Server → ℕ → Bool) (s : Server) (c : ℕ) (b : Body) → HasGrantsLeft s → lacks_number s c b ≡ false → Lasts s (direct_answer cycle s c b)
+lasts_answer : (cycle : DeadlockTest) (s : Server) (c : ℕ) (b : Body) → HasGrantsLeft s → lacks_number s c b ≡ false → Lasts s (direct_answer cycle s c b)
 lasts_answer cycle s c (AskRead t p) h l = lasts_live s c t _ h (λ m. lasts_ask_read cycle s c p ((s.session c).row p) h (λ r w. taken_ask s c t p l m r w))
 lasts_answer cycle s c (AskWrite t p g) h l = lasts_live s c t _ h (λ m. lasts_ask_write cycle s c p g h)
 lasts_answer cycle s c (GiveBack p g) h l = go (is_exactly ((s.session c).row p) g)
@@ -363,20 +363,20 @@ lasts_begins s c t h = go (nat_lt (s.session c).txn t)
     go true = lasts_nothing s _ h tt
     go false = lasts_nothing s [] h tt
 
-lasts_current : (cycle : Server → ℕ → Bool) (s : Server) (c : ℕ) (b : Body) → HasGrantsLeft s → lacks_number (server_after s (begin_transaction s c (named_txn b))) c b ≡ false → Lasts s (take_current cycle s c b)
+lasts_current : (cycle : DeadlockTest) (s : Server) (c : ℕ) (b : Body) → HasGrantsLeft s → lacks_number (server_after s (begin_transaction s c (named_txn b))) c b ≡ false → Lasts s (take_current cycle s c b)
 lasts_current cycle s c b h l = let x = lasts_begins s c (named_txn b) h in let k = server_after s (begin_transaction s c (named_txn b)) in
     let y = lasts_answer cycle k c b x.left l in let a = server_after k (direct_answer cycle k c b) in
     lasts_append s (begin_transaction s c (named_txn b)) (direct_answer cycle k c b ++ settle_pages cycle a a.pages) x
     (lasts_append k (direct_answer cycle k c b) (settle_pages cycle a a.pages) y (lasts_settles cycle a y.left))
 
-lasts_message : (cycle : Server → ℕ → Bool) (s : Server) (c i : ℕ) (b : Body) → HasGrantsLeft s → is_exhausted s c i b ≡ false → Lasts s (if i == (s.session c).current then take_current cycle s c b else [])
+lasts_message : (cycle : DeadlockTest) (s : Server) (c i : ℕ) (b : Body) → HasGrantsLeft s → is_exhausted s c i b ≡ false → Lasts s (if i == (s.session c).current then take_current cycle s c b else [])
 lasts_message cycle s c i b h l = go (i == (s.session c).current) refl
   where
     go : (r : Bool) → (i == (s.session c).current) ≡ r → Lasts s (if r then take_current cycle s c b else [])
     go true e = lasts_current cycle s c b h (rw e at l)
     go false e = lasts_nothing s [] h tt
 
-lasts_take : (cycle : Server → ℕ → Bool) (s : Server) (c i : ℕ) (b : Body) → HasGrantsLeft s → is_exhausted s c i b ≡ false → Lasts s (server_take cycle s c i b)
+lasts_take : (cycle : DeadlockTest) (s : Server) (c i : ℕ) (b : Body) → HasGrantsLeft s → is_exhausted s c i b ≡ false → Lasts s (server_take cycle s c i b)
 unfolding server_take
 lasts_take cycle s c i Hello h l = go (nat_lt (s.session c).current i) (i == (s.session c).current)
   where
@@ -392,12 +392,12 @@ lasts_take cycle s c i b h l = lasts_message cycle s c i b h l
 lasts_sends : (s : Server) (ds : List ServerStep) → HasGrantsLeft s → OnlySends ds → Lasts s ds
 lasts_sends s ds h o = lasts_nothing s ds h (nothing_sends ds o)
 
-lasts_input : (cycle : Server → ℕ → Bool) (s : Server) (i : Input) → HasGrantsLeft s → IsTaken s i → Lasts s (input_steps cycle s i)
+lasts_input : (cycle : DeadlockTest) (s : Server) (i : Input) → HasGrantsLeft s → IsTaken s i → Lasts s (input_steps cycle s i)
 lasts_input cycle s (MessageComes c i b) h l = lasts_take cycle s c i b h l
 lasts_input cycle s SendsAgain h l = lasts_sends s _ h (sends_append (again_pages s s.pages) (again_doomed s s.clients) (sends_pages s s.pages) (sends_doomed s s.clients))
 lasts_input cycle s (ReachesDisk n) h l = lasts_nothing s _ h (nothing_append (dones_between s.commits s.flushed n) (SetFlushed n ∷ []) (nothing_sends (dones_between s.commits s.flushed n) (sends_dones s.commits s.flushed n)) tt)
 
-pub grants_never_run_out : (cycle : Server → ℕ → Bool) (s : Server) (i : Input) → GrantsNeverRunOut cycle s i
+pub grants_never_run_out : (cycle : DeadlockTest) (s : Server) (i : Input) → GrantsNeverRunOut cycle s i
 grants_never_run_out cycle s i h l = let a = lasts_input cycle s i h l in (a.left, λ g x. a.given x.0 x.1.0 g x.1.1)
 
 none_wait : (s : Server) (n : ℕ) → ((p : ℕ) → s.queue p ≡ []) → read_asks_below s n ≡ 0

@@ -25,6 +25,13 @@ pub mod SettlingRight
 pub mod ServerTakes
 pub mod ServerSteps
 pub mod LedgerKept
+-- single steps of the server
+pub mod ServerWalks
+pub mod FirstAsks
+pub mod ServedSteps
+pub mod CommitsApplied
+pub mod HelloStarts
+pub mod DoneOnDisk
 -- worlds
 pub mod Mirrors
 pub mod HeadlineProof
@@ -36,6 +43,7 @@ pub mod NoCycles
 pub mod SettlingAgain
 pub mod LivePermissions
 pub mod DoomedAsks
+pub mod NoneWaits
 -- one side alone
 pub mod ClientInvariant
 pub mod DuePages

@@ -6,7 +6,7 @@ use Rattle.cb_protocol.specs.Basics.{is_exactly, is_none, update}
 use Rattle.cb_protocol.specs.Deadlock.{InputInRange, OneAsk, ReachedServer, ask_count}
 use Rattle.cb_protocol.specs.Messages.{AbortNow, AskRead, AskWrite, Body, Commit, Done, Downgraded, Drop, GiveBack, Granted, Hello, InUse, MayWrite, Welcome}
 use Rattle.cb_protocol.specs.Numbers.{SettlingSendsAtMost, StepSendsAtMost, copies_sent, messages_for, messages_for_pages, messages_for_queue}
-use Rattle.cb_protocol.specs.Server.{ChangeSession, Doom, EnterQueue, ForgetTransaction, LeaveQueue, MarkCalledBack, MarkInUse, MarkTold, RemoveAsk, Send, Server, ServerStep, SetFlushed, UnmarkInUse, WaitingAsk, after_first, after_server_step, is_live_permission, server_after, without_client}
+use Rattle.cb_protocol.specs.Server.{ChangeSession, DeadlockTest, Doom, EnterQueue, ForgetTransaction, LeaveQueue, MarkCalledBack, MarkDowngradeSent, MarkInUse, RemoveAsk, Send, Server, ServerStep, SetFlushed, UnmarkInUse, WaitingAsk, after_first, after_server_step, is_live_permission, server_after, without_client}
 use Rattle.cb_protocol.specs.ServerMessages.{begin_transaction, commit_allowed, direct_answer, enter_queue, has_waiting_ask, is_empty, named_txn, new_ask, read_asks_below, read_asks_in, repeat_done, server_take, take_ask_read, take_ask_write, take_current}
 use Rattle.cb_protocol.specs.Session.{Admit, ApplyCommit, BeginTransaction, DropTransaction, EndPermission, PermitWrite, RemoveRow}
 use Rattle.cb_protocol.specs.Settling.{Decided, Decision, Settled, call_back_once, decide, decide_read, decide_write, decision_steps, doom_client, downgrade_once, grant_row, is_listed, keeps_permission, no_other_holder, nobody, permit_write, send_callback, send_callbacks, send_downgrade, send_downgrades, settle_page, settle_pages, send_to, sole_row, wait_or_doom}
@@ -87,7 +87,7 @@ record Stays (p : ℕ) (s k : Server) (a : WaitingAsk) (q : List WaitingAsk) : T
   clients : k.clients ≡ s.clients
 
 -- it waits, or its client is doomed
-spends_refuses : (w : Option ℕ → ℕ) (count : List ServerStep → ℕ) (cycle : Server → ℕ → Bool) (s : Server) (p : ℕ) (a : WaitingAsk) (q : List WaitingAsk) (ds : List ServerStep)
+spends_refuses : (w : Option ℕ → ℕ) (count : List ServerStep → ℕ) (cycle : DeadlockTest) (s : Server) (p : ℕ) (a : WaitingAsk) (q : List WaitingAsk) (ds : List ServerStep)
     → ((xs ys : List ServerStep) → count (xs ++ ys) ≡ count xs + count ys) → s.queue p ≡ a ∷ q → Stays p s (server_after s ds) a q
     → count ds + count (doom_client (server_after s ds) a.client) ≤ w a.write_grant → DecisionSpends w count p s (wait_or_doom cycle s a.client ds)
 spends_refuses w count cycle s p a q ds append e t l = go (cycle (server_after s ds) a.client)
@@ -145,7 +145,7 @@ stays_noted s p a b q ds x sends e f g = subst (λ (k : Server). Stays p s k a q
   clients = refl;
 })
 
-spends_decide : (w : Option ℕ → ℕ) (count : List ServerStep → ℕ) (cycle : Server → ℕ → Bool) (s : Server) (p : ℕ) (q : List WaitingAsk) → Counts s.clients w count → s.queue p ≡ q → DecisionSpends w count p s (decide cycle s p q)
+spends_decide : (w : Option ℕ → ℕ) (count : List ServerStep → ℕ) (cycle : DeadlockTest) (s : Server) (p : ℕ) (q : List WaitingAsk) → Counts s.clients w count → s.queue p ≡ q → DecisionSpends w count p s (decide cycle s p q)
 spends_decide w count cycle s p [] f e = record { here = rw f.empty (omega arith); apart = λ r. omega arith; clients = refl }
 spends_decide w count cycle s p (a ∷ q) f e = kind_of a.write_grant refl
   where
@@ -158,13 +158,13 @@ spends_decide w count cycle s p (a ∷ q) f e = kind_of a.write_grant refl
     back : List ServerStep
     back = send_callbacks s nobody p a.client s.clients
 
-    told : Stays p s (server_after s (down ++ MarkTold p (s.store.tag p) ∷ [])) a q
-    told = stays_noted s p a (record a { told_tags = s.store.tag p ∷ a.told_tags }) q down (MarkTold p (s.store.tag p)) (sends_downgrades s nobody p a.client (s.store.holder p)) (rw e refl) refl refl
+    told : Stays p s (server_after s (down ++ MarkDowngradeSent p (s.store.tag p) ∷ [])) a q
+    told = stays_noted s p a (record a { downgrades_sent = s.store.tag p ∷ a.downgrades_sent }) q down (MarkDowngradeSent p (s.store.tag p)) (sends_downgrades s nobody p a.client (s.store.holder p)) (rw e refl) refl refl
 
     called : Stays p s (server_after s (back ++ MarkCalledBack p ∷ [])) a q
     called = stays_noted s p a (record a { called_back = true }) q back (MarkCalledBack p) (sends_callbacks s nobody p a.client s.clients) (rw e refl) refl refl
 
-    brought : (r : Bool) → Stays p s (server_after s (if r then down ++ MarkTold p (s.store.tag p) ∷ [] else [])) a q
+    brought : (r : Bool) → Stays p s (server_after s (if r then down ++ MarkDowngradeSent p (s.store.tag p) ∷ [] else [])) a q
     brought true = told
     brought false = stays
 
@@ -174,7 +174,7 @@ spends_decide w count cycle s p (a ∷ q) f e = kind_of a.write_grant refl
 
     reads : a.write_grant ≡ None → (u : Bool) → DecisionSpends w count p s (if u then Decided (grant_row s p a.client) else wait_or_doom cycle s a.client (downgrade_once s p a))
     reads g true = spends_leave w s (server_after s (grant_row s p a.client)) p a q (count (grant_row s p a.client)) e refl refl (rw g (f.grants s p a.client))
-    reads g false = let ds = downgrade_once s p a in spends_refuses w count cycle s p a q ds f.append e (brought (s.store.keep_write && keeps_permission s p a.client (s.store.holder p) && not (is_listed (s.store.tag p) a.told_tags))) (rw g (f.downs s (server_after s ds) p a.client a))
+    reads g false = let ds = downgrade_once s p a in spends_refuses w count cycle s p a q ds f.append e (brought (s.store.keep_write && keeps_permission s p a.client (s.store.holder p) && not (is_listed (s.store.tag p) a.downgrades_sent))) (rw g (f.downs s (server_after s ds) p a.client a))
 
     writes : (g : ℕ) → a.write_grant ≡ Some g → (u : Bool) → DecisionSpends w count p s (if u then Decided (permit_write s p a.client g) else wait_or_doom cycle s a.client (call_back_once s p a))
     writes g h true = spends_leave w s (server_after s (permit_write s p a.client g)) p a q (count (permit_write s p a.client g)) e refl refl (rw h (f.permits s p a.client g))
@@ -184,7 +184,7 @@ spends_decide w count cycle s p (a ∷ q) f e = kind_of a.write_grant refl
     kind_of None g = reads g (no_other_holder (s.store.holder p) a.client && is_none ((s.session a.client).row p))
     kind_of (Some g) h = writes g h (no_other_holder (s.store.holder p) a.client && is_exactly ((s.session a.client).row p) g && sole_row s p a.client s.clients)
 
-spends_settle : (w : Option ℕ → ℕ) (count : List ServerStep → ℕ) (cycle : Server → ℕ → Bool) (n : ℕ) (s : Server) (p : ℕ) → Counts s.clients w count → Waits w p s (server_after s (settle_page cycle n s p)) (count (settle_page cycle n s p))
+spends_settle : (w : Option ℕ → ℕ) (count : List ServerStep → ℕ) (cycle : DeadlockTest) (n : ℕ) (s : Server) (p : ℕ) → Counts s.clients w count → Waits w p s (server_after s (settle_page cycle n s p)) (count (settle_page cycle n s p))
 spends_settle w count cycle zero s p f = record { here = rw f.empty (omega arith); apart = λ r. omega arith; clients = refl }
 spends_settle w count cycle (suc n) s p f = go (λ k g. spends_settle w count cycle n k p g) (decide cycle s p (s.queue p)) (spends_decide w count cycle s p (s.queue p) f refl)
   where
@@ -202,7 +202,7 @@ record AllWait (w : Option ℕ → ℕ) (n : ℕ) (s k : Server) (m : ℕ) : Typ
   apart : (q : ℕ) → weight w (k.queue q) ≤ weight w (s.queue q)
   clients : k.clients ≡ s.clients
 
-spends_settles : (w : Option ℕ → ℕ) (count : List ServerStep → ℕ) (cycle : Server → ℕ → Bool) (s : Server) (n : ℕ) → Counts s.clients w count → AllWait w n s (server_after s (settle_pages cycle s n)) (count (settle_pages cycle s n))
+spends_settles : (w : Option ℕ → ℕ) (count : List ServerStep → ℕ) (cycle : DeadlockTest) (s : Server) (n : ℕ) → Counts s.clients w count → AllWait w n s (server_after s (settle_pages cycle s n)) (count (settle_pages cycle s n))
 spends_settles w count cycle s zero f = record { here = rw f.empty (omega arith); apart = λ r. omega arith; clients = refl }
 spends_settles w count cycle s (suc n) f = let a = spends_settles w count cycle s n f in let k = server_after s (settle_pages cycle s n) in
     let ds = settle_page cycle (length (s.queue n) + 1) k n in let b = spends_settle w count cycle (length (s.queue n) + 1) k n (rw a.clients f) in
@@ -250,15 +250,15 @@ messages_counted clients = record {
   grants = λ s p c. omega arith;
   permits = λ s p c g. omega arith;
   calls = λ s k p c g a e. calls s p a e a.called_back;
-  downs = λ s k p c a. downs s p a (s.store.keep_write && keeps_permission s p a.client (s.store.holder p) && not (is_listed (s.store.tag p) a.told_tags));
+  downs = λ s k p c a. downs s p a (s.store.keep_write && keeps_permission s p a.client (s.store.holder p) && not (is_listed (s.store.tag p) a.downgrades_sent));
 }
   where
     calls : (s : Server) (p : ℕ) (a : WaitingAsk) → s.clients ≡ clients → (r : Bool) → sends (if r then [] else send_callbacks s nobody p a.client s.clients ++ MarkCalledBack p ∷ []) + 1 ≤ clients + 1
     calls s p a e true = omega arith
     calls s p a e false = rw (sends_more (send_callbacks s nobody p a.client s.clients) (MarkCalledBack p ∷ [])) (let l = sends_calls s nobody p a.client s.clients in omega arith)
 
-    downs : (s : Server) (p : ℕ) (a : WaitingAsk) → (r : Bool) → sends (if r then send_downgrades s nobody p a.client (s.store.holder p) ++ MarkTold p (s.store.tag p) ∷ [] else []) + 1 ≤ 2
-    downs s p a true = rw (sends_more (send_downgrades s nobody p a.client (s.store.holder p)) (MarkTold p (s.store.tag p) ∷ [])) (let l = sends_downs s nobody p a.client (s.store.holder p) in omega arith)
+    downs : (s : Server) (p : ℕ) (a : WaitingAsk) → (r : Bool) → sends (if r then send_downgrades s nobody p a.client (s.store.holder p) ++ MarkDowngradeSent p (s.store.tag p) ∷ [] else []) + 1 ≤ 2
+    downs s p a true = rw (sends_more (send_downgrades s nobody p a.client (s.store.holder p)) (MarkDowngradeSent p (s.store.tag p) ∷ [])) (let l = sends_downs s nobody p a.client (s.store.holder p) in omega arith)
     downs s p a false = omega arith
 
 -- so are copies of pages
@@ -301,15 +301,15 @@ copies_counted clients = record {
   grants = λ s p c. omega arith;
   permits = λ s p c g. omega arith;
   calls = λ s k p c g a e. calls s p a a.called_back;
-  downs = λ s k p c a. downs s p a (s.store.keep_write && keeps_permission s p a.client (s.store.holder p) && not (is_listed (s.store.tag p) a.told_tags));
+  downs = λ s k p c a. downs s p a (s.store.keep_write && keeps_permission s p a.client (s.store.holder p) && not (is_listed (s.store.tag p) a.downgrades_sent));
 }
   where
     calls : (s : Server) (p : ℕ) (a : WaitingAsk) → (r : Bool) → copies_sent (if r then [] else send_callbacks s nobody p a.client s.clients ++ MarkCalledBack p ∷ []) + 0 ≤ 0
     calls s p a true = omega arith
     calls s p a false = rw (copies_more (send_callbacks s nobody p a.client s.clients) (MarkCalledBack p ∷ []), no_copy_calls s nobody p a.client s.clients) (omega arith)
 
-    downs : (s : Server) (p : ℕ) (a : WaitingAsk) → (r : Bool) → copies_sent (if r then send_downgrades s nobody p a.client (s.store.holder p) ++ MarkTold p (s.store.tag p) ∷ [] else []) + 0 ≤ 1
-    downs s p a true = rw (copies_more (send_downgrades s nobody p a.client (s.store.holder p)) (MarkTold p (s.store.tag p) ∷ []), no_copy_downs s nobody p a.client (s.store.holder p)) (omega arith)
+    downs : (s : Server) (p : ℕ) (a : WaitingAsk) → (r : Bool) → copies_sent (if r then send_downgrades s nobody p a.client (s.store.holder p) ++ MarkDowngradeSent p (s.store.tag p) ∷ [] else []) + 0 ≤ 1
+    downs s p a true = rw (copies_more (send_downgrades s nobody p a.client (s.store.holder p)) (MarkDowngradeSent p (s.store.tag p) ∷ []), no_copy_downs s nobody p a.client (s.store.holder p)) (omega arith)
     downs s p a false = omega arith
 
 messages_weigh : (clients : ℕ) (q : List WaitingAsk) → weight (messages_for clients) q ≡ messages_for_queue clients q
@@ -333,7 +333,7 @@ copies_weigh_below s zero = refl
 copies_weigh_below s (suc n) = rw (copies_weigh_below s n, copies_weigh (s.queue n)) refl
 
 -- one decision sends no more than its ask weighs
-decision_sends : (cycle : Server → ℕ → Bool) (s : Server) (p : ℕ) (a : WaitingAsk) (q : List WaitingAsk) → s.queue p ≡ a ∷ q → sends (decision_steps (decide cycle s p (a ∷ q))) ≤ messages_for s.clients a.write_grant
+decision_sends : (cycle : DeadlockTest) (s : Server) (p : ℕ) (a : WaitingAsk) (q : List WaitingAsk) → s.queue p ≡ a ∷ q → sends (decision_steps (decide cycle s p (a ∷ q))) ≤ messages_for s.clients a.write_grant
 decision_sends cycle s p a q e = kind_of a.write_grant
   where
     n : Counts s.clients (messages_for s.clients) sends
@@ -358,7 +358,7 @@ decision_sends cycle s p a q e = kind_of a.write_grant
     kind_of None = reads (no_other_holder (s.store.holder p) a.client && is_none ((s.session a.client).row p))
     kind_of (Some g) = writes g (no_other_holder (s.store.holder p) a.client && is_exactly ((s.session a.client).row p) g && sole_row s p a.client s.clients)
 
-pub settling_sends_at_most : (cycle : Server → ℕ → Bool) (s : Server) → SettlingSendsAtMost cycle s
+pub settling_sends_at_most : (cycle : DeadlockTest) (s : Server) → SettlingSendsAtMost cycle s
 settling_sends_at_most cycle s = record {
   decision = λ p a q e. rw e (decision_sends cycle s p a q e);
   one_page = λ n p. let l = (spends_settle (messages_for s.clients) sends cycle n s p (messages_counted s.clients)).here in rw (messages_weigh s.clients (s.queue p)) at l;
@@ -447,7 +447,7 @@ nobody_asks s (suc n) l k = rw (nobody_asks s n l k) (go (s.queue n) (λ c h. (k
     go [] f = refl
     go (a ∷ q) f = absurd (let u = f a.client (inl refl) in omega arith)
 
-pub settling_by_clients : (cycle : Server → ℕ → Bool) (s : Server) (n : ℕ) → OneAsk s.queue → AsksInRange s → sends (settle_pages cycle s n) ≤ s.clients * (s.clients + 1)
+pub settling_by_clients : (cycle : DeadlockTest) (s : Server) (n : ℕ) → OneAsk s.queue → AsksInRange s → sends (settle_pages cycle s n) ≤ s.clients * (s.clients + 1)
 settling_by_clients cycle s n o k = elim (below_or_not 0 s.clients) [
   | inl l ↦ bound (asks_below s n) s.clients (s.clients + 1) (messages_for_pages s n) _ (few_asks s n o k) (pages_cost s n (omega arith)) ((settling_sends_at_most cycle s).all_pages n)
   | inr l ↦ (let a = (settling_sends_at_most cycle s).all_pages n in let e = nobody_asks s n l k in bound 0 s.clients (s.clients + 1) (messages_for_pages s n) _ (omega arith) (omega arith) a)
@@ -457,7 +457,7 @@ settling_by_clients cycle s n o k = elim (below_or_not 0 s.clients) [
     bound a b m x y i j l = let k = mul-le-mul_right m i in omega arith
 
 -- a direct answer sends one message at most
-answer_sends : (cycle : Server → ℕ → Bool) (s : Server) (c : ℕ) (b : Body) → sends (direct_answer cycle s c b) ≤ 1
+answer_sends : (cycle : DeadlockTest) (s : Server) (c : ℕ) (b : Body) → sends (direct_answer cycle s c b) ≤ 1
 answer_sends cycle s c (AskRead t p) = live (nat_lt (s.session c).ended t) (s.doomed c) (asks ((s.session c).row p))
   where
     enters : (r : Bool) → sends (if r then EnterQueue p (new_ask c None) ∷ doom_client (after_server_step s (EnterQueue p (new_ask c None))) c else EnterQueue p (new_ask c None) ∷ []) ≤ 1
@@ -549,7 +549,7 @@ same_clients s (x ∷ ds) = same_clients (after_server_step s x) ds ∙ one x
     one (EnterQueue p a) = refl
     one (LeaveQueue p) = refl
     one (MarkCalledBack p) = refl
-    one (MarkTold p t) = refl
+    one (MarkDowngradeSent p t) = refl
     one (MarkInUse c p) = refl
     one (UnmarkInUse c p) = refl
     one (RemoveAsk c) = refl

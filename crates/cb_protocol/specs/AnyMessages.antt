@@ -1,11 +1,11 @@
 -- What the server keeps whatever messages come, from honest clients or not.
-use Rattle.std.specs.Prelude.{◌≡◌, ◌<◌, ◌+◌, ℕ, Bool, List, [], ◌∷◌, map, Some, ⊤}
+use Rattle.std.specs.Prelude.{◌≡◌, ◌<◌, ◌+◌, ℕ, List, [], ◌∷◌, map, Some, ⊤}
 use Rattle.cb_protocol.specs.Basics.{Bytes, IsIn, Limits}
 use Rattle.cb_protocol.specs.Flush.{server_flush}
 use Rattle.cb_protocol.specs.Messages.{Body, write_of_page}
 use Rattle.cb_protocol.specs.Resend.{server_again}
 use Rattle.cb_protocol.specs.Serial.{EachOnce, TransactionName}
-use Rattle.cb_protocol.specs.Server.{AppliedCommit, Server, ServerStep, new_server, server_after}
+use Rattle.cb_protocol.specs.Server.{DeadlockTest, AppliedCommit, Server, ServerStep, new_server, server_after}
 use Rattle.cb_protocol.specs.ServerMessages.{server_take}
 use Rattle.cb_protocol.specs.Session.{new_bytes, new_version}
 use Rattle.cb_protocol.specs.World.{Opening, opening_store}
@@ -54,21 +54,21 @@ pub data Input : Type 0 where
   ReachesDisk : (number : ℕ) → Input
 
 -- what it does
-abbrev pub input_steps : (Server → ℕ → Bool) → Server → Input → List ServerStep
+abbrev pub input_steps : DeadlockTest → Server → Input → List ServerStep
 input_steps cycle s (MessageComes c i b) = server_take cycle s c i b
 input_steps cycle s SendsAgain = server_again s
 input_steps cycle s (ReachesDisk n) = server_flush s n
 
 -- all that is asked of a message: its client is one that there is
-abbrev pub InputFits : Limits → Input → Type 0
-InputFits L (MessageComes c i b) = c < L.clients
-InputFits L _ = ⊤
+abbrev pub ComesFromClient : Limits → Input → Type 0
+ComesFromClient L (MessageComes c i b) = c < L.clients
+ComesFromClient L _ = ⊤
 
 -- directory rule and ledger hold of the server, and of each that it becomes by these inputs
-abbrev pub KeepsRules : Limits → (Server → ℕ → Bool) → Opening → Server → List Input → Type 0
+abbrev pub KeepsRules : Limits → DeadlockTest → Opening → Server → List Input → Type 0
 KeepsRules L cycle o s [] = DirectoryRule s × Ledger o s
-KeepsRules L cycle o s (i ∷ is) = (DirectoryRule s × Ledger o s) × (InputFits L i → KeepsRules L cycle o (server_after s (input_steps cycle s i)) is)
+KeepsRules L cycle o s (i ∷ is) = (DirectoryRule s × Ledger o s) × (ComesFromClient L i → KeepsRules L cycle o (server_after s (input_steps cycle s i)) is)
 
 -- over any opening store, along any list of inputs
-abbrev pub RulesAlwaysHold : Limits → (Server → ℕ → Bool) → Type 0
+abbrev pub RulesAlwaysHold : Limits → DeadlockTest → Type 0
 RulesAlwaysHold L cycle = (o : Opening) (is : List Input) → KeepsRules L cycle o (new_server L.clients L.pages (opening_store L o)) is

@@ -4,7 +4,7 @@ use Rattle.cb_protocol.specs.Basics.{Limits, IsIn, is_none, update}
 use Rattle.cb_protocol.specs.Messages.{Body, GiveBack, InUse, Callback, Done, AbortNow, Downgrade, Downgraded}
 use Rattle.cb_protocol.specs.Cache.{Idle}
 use Rattle.cb_protocol.specs.Client.{Client, ClientStep, DueDowngrade, new_client, client_after, bodies_said, is_fixed}
-use Rattle.cb_protocol.specs.ClientCalls.{Call, CallDrop, client_call, first_fault, open_causes}
+use Rattle.cb_protocol.specs.ClientCalls.{Call, CallDrop, client_call, first_refusal, open_causes}
 use Rattle.cb_protocol.specs.ClientMessages.{ChoiceAllowed, client_take, of_open_txn, of_committing_txn}
 
 -- what comes to a client: a call; or a message of its incarnation, with the page that its pool lets go should it take one in
@@ -101,7 +101,7 @@ ending_if b e = if b then e else GoesOn
 
 -- the open transaction ends by an accepted drop or an AbortNow of its number, the committing one by a Done of its number; nothing else ends one
 abbrev pub ending : Limits → Client → ClientInput → Ending
-ending L k (ReceivesCall CallDrop) = ending_if (is_none (first_fault (open_causes k))) EndsDropped
+ending L k (ReceivesCall CallDrop) = ending_if (is_none (first_refusal (open_causes k))) EndsDropped
 ending L k (ReceivesCall _) = GoesOn
 ending L k (ReceivesMessage (Done t n) let_go) = ending_if (k.cache.welcomed && of_committing_txn k t) EndsCommitted
 ending L k (ReceivesMessage (AbortNow t) let_go) = ending_if (k.cache.welcomed && of_open_txn k t) EndsDropped

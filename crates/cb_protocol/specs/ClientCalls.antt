@@ -19,19 +19,19 @@ pub data Call : Type 0 where
   CallAgain : Call  -- send again what may be lost
   CallPeek : (page : ℕ) → Call  -- the bytes of the copy, outside any transaction
 
--- the cause of a refusal, and whether it stands
+-- the cause of a refusal, and whether it holds
 pub record Cause : Type 0 where
-  pub stands : Bool
+  pub holds : Bool
   pub fault : ClientFault
 
 -- that fault, where the test holds
 abbrev pub cause_of : Bool → ClientFault → Cause
-cause_of b f = record { stands = b; fault = f }
+cause_of b f = record { holds = b; fault = f }
 
--- the first fault whose cause stands
-abbrev pub first_fault : List Cause → Option ClientFault
-first_fault [] = None
-first_fault (c ∷ cs) = if c.stands then Some c.fault else first_fault cs
+-- the first fault whose cause holds
+abbrev pub first_refusal : List Cause → Option ClientFault
+first_refusal [] = None
+first_refusal (c ∷ cs) = if c.holds then Some c.fault else first_refusal cs
 
 -- of a call that needs an open transaction
 abbrev pub open_causes : Client → List Cause
@@ -122,7 +122,7 @@ accept_call L k (CallPeek p) = reply_with (peek_word (k.cache.content p)) []
 
 -- the fault that a call is refused with, if it is
 unfoldable pub call_fault : Limits → Client → Call → Option ClientFault
-call_fault L k c = first_fault (causes L k c)
+call_fault L k c = first_refusal (causes L k c)
 
 -- refused: nothing changes
 abbrev pub accept_or_refuse : Limits → Client → Call → Option ClientFault → Reply

@@ -1,8 +1,8 @@
 -- Laws of deadlocks: the test is exact, no step of the server leaves a cycle, and only who lies on one is doomed. This project's rules.
-use Rattle.std.specs.Prelude.{◌≡◌, ◌≢◌, ◌≤◌, ◌↔◌, ◌⊎◌, ◌<◌, ◌+◌, ◌==◌, if◌then◌else◌, ℕ, Bool, true, false, List, [], ◌∷◌, ◌++◌, length, Some, None, ⊤}
+use Rattle.std.specs.Prelude.{◌≡◌, ◌≢◌, ◌≤◌, ◌↔◌, ◌⊎◌, ◌<◌, ◌+◌, ◌==◌, if◌then◌else◌, ℕ, true, false, List, [], ◌∷◌, ◌++◌, length, Some, None, ⊤}
 use Rattle.cb_protocol.specs.Basics.{Limits, IsIn}
 use Rattle.cb_protocol.specs.Messages.{Body, AskRead, AskWrite}
-use Rattle.cb_protocol.specs.Server.{WaitingAsk, Server, ServerStep, RemoveAsk, Doom, new_server, server_after, is_live_permission}
+use Rattle.cb_protocol.specs.Server.{DeadlockTest, WaitingAsk, Server, ServerStep, RemoveAsk, Doom, new_server, server_after, is_live_permission}
 use Rattle.cb_protocol.specs.ServerMessages.{begin_transaction, direct_answer, take_current, named_txn}
 use Rattle.cb_protocol.specs.Settling.{settle_page, settle_pages}
 use Rattle.cb_protocol.specs.WaitsFor.{HasAsk, HoldsUp, WaitsFor, LiesOnCycle, NoCycle, AsksInRange, on_cycle}
@@ -70,30 +70,30 @@ abbrev pub UnchangedNeedsNoSettling : Type 0
 UnchangedNeedsNoSettling = (s : Server) → ReachedServer s → (c : ℕ) (b : Body) → begin_transaction s c (named_txn b) ≡ [] → server_after s (direct_answer on_cycle s c b) ≡ s → take_current on_cycle s c b ≡ direct_answer on_cycle s c b
 
 -- settling these pages, in that order
-abbrev pub settle_listed : (Server → ℕ → Bool) → Server → List ℕ → List ServerStep
+abbrev pub settle_listed : DeadlockTest → Server → List ℕ → List ServerStep
 settle_listed cycle s [] = []
 settle_listed cycle s (p ∷ ps) = let ds = settle_page cycle (length (s.queue p) + 1) s p in ds ++ settle_listed cycle (server_after s ds) ps
 
 -- rising numbers, from m on and below n
-abbrev pub Rising : ℕ → ℕ → List ℕ → Type 0
-Rising m n [] = ⊤
-Rising m n (p ∷ ps) = (m ≤ p) × (p < n) × Rising (p + 1) n ps
+abbrev pub RisingWithin : ℕ → ℕ → List ℕ → Type 0
+RisingWithin m n [] = ⊤
+RisingWithin m n (p ∷ ps) = (m ≤ p) × (p < n) × RisingWithin (p + 1) n ps
 
 -- Settling a page takes at most as many steps as asks wait for it, and one.
 abbrev pub SettlingEnds : Type 0
-SettlingEnds = (cycle : Server → ℕ → Bool) (s : Server) (p n : ℕ) → length (s.queue p) < n → settle_page cycle n s p ≡ settle_page cycle (length (s.queue p) + 1) s p
+SettlingEnds = (cycle : DeadlockTest) (s : Server) (p n : ℕ) → length (s.queue p) < n → settle_page cycle n s p ≡ settle_page cycle (length (s.queue p) + 1) s p
 
 -- Settling a page with no ask does nothing.
 abbrev pub EmptyNeedsNoSettling : Type 0
-EmptyNeedsNoSettling = (cycle : Server → ℕ → Bool) (s : Server) (p n : ℕ) → s.queue p ≡ [] → settle_page cycle n s p ≡ []
+EmptyNeedsNoSettling = (cycle : DeadlockTest) (s : Server) (p n : ℕ) → s.queue p ≡ [] → settle_page cycle n s p ≡ []
 
 -- Pages with no ask, when settling begins, are passed over.
 abbrev pub EmptyPassedOver : Type 0
-EmptyPassedOver = (cycle : Server → ℕ → Bool) (s : Server) (m n : ℕ) → m ≤ n → ((p : ℕ) → m ≤ p → p < n → s.queue p ≡ []) → settle_pages cycle s n ≡ settle_pages cycle s m
+EmptyPassedOver = (cycle : DeadlockTest) (s : Server) (m n : ℕ) → m ≤ n → ((p : ℕ) → m ≤ p → p < n → s.queue p ≡ []) → settle_pages cycle s n ≡ settle_pages cycle s m
 
 -- Settling rising pages, among them each with an ask when settling begins, is settling all.
 abbrev pub ListedAreEnough : Type 0
-ListedAreEnough = (cycle : Server → ℕ → Bool) (s : Server) (n : ℕ) (ps : List ℕ) → Rising 0 n ps → ((p : ℕ) → p < n → s.queue p ≢ [] → IsIn p ps) → settle_listed cycle s ps ≡ settle_pages cycle s n
+ListedAreEnough = (cycle : DeadlockTest) (s : Server) (n : ℕ) (ps : List ℕ) → RisingWithin 0 n ps → ((p : ℕ) → p < n → s.queue p ≢ [] → IsIn p ps) → settle_listed cycle s ps ≡ settle_pages cycle s n
 
 -- Without kept write permission, every permission is of its holder's live transaction.
 abbrev pub PermissionsLive : Type 0

@@ -1,11 +1,11 @@
 -- What the protocol promises of every world that is reached.
 use Rattle.std.specs.Prelude.{◌≡◌, ◌≤◌, ℕ, Bool, false, true, List, [], ◌∷◌, Some, ⊤}
-use Rattle.cb_protocol.specs.AnyMessages.{IsCommit, Ledger, committed_names}
+use Rattle.cb_protocol.specs.AnyMessages.{DirectoryRule, IsCommit, Ledger, committed_names}
 use Rattle.cb_protocol.specs.Basics.{Bytes, IsIn, Limits}
 use Rattle.cb_protocol.specs.Cache.{Open}
 use Rattle.cb_protocol.specs.Messages.{Done, GiveBack}
 use Rattle.cb_protocol.specs.Serial.{EachOnce, IsSerial, committed_operations, store_left}
-use Rattle.cb_protocol.specs.Server.{Server}
+use Rattle.cb_protocol.specs.Server.{DeadlockTest}
 use Rattle.cb_protocol.specs.Transcript.{transcript_operations}
 use Rattle.cb_protocol.specs.World.{Moment, Opening, Plays, World, new_world}
 
@@ -34,6 +34,15 @@ pub record CommittedIsSerial (opening : ℕ → Bytes) (w : World) : Type 0 wher
 abbrev pub DonesNameCommits : World → Type 0
 DonesNameCommits w = (c i t n : ℕ) → IsIn (record { client = c; incarnation = i; body = Done t n }) w.packets → IsCommit w.server.commits c i t n
 
+-- Done is said only of commits that are on disk (textbook: durability).
+pub record DonesOnDisk (w : World) : Type 0 where
+  -- what is on disk was committed
+  pub committed : w.server.flushed ≤ w.server.store.last_commit
+  -- and each Done that was sent is of a commit up to that
+  pub on_disk : (client incarnation txn number : ℕ)
+      → IsIn (record { client = client; incarnation = incarnation; body = Done txn number }) w.packets
+      → number ≤ w.server.flushed
+
 -- Why the copies are right: what a client holds, the server has in its rows.
 pub record BackedByServer (w : World) : Type 0 where
   -- a grant that is held has its row, and was never given back
@@ -51,8 +60,10 @@ pub record Promise (o : Opening) (w : World) : Type 0 where
   pub alone : WriterAlone w
   pub serial : CommittedIsSerial o.bytes w
   pub once : EachOnce (committed_names w.server.commits)
+  pub directory : DirectoryRule w.server
   pub ledger : Ledger o w.server
   pub dones : DonesNameCommits w
+  pub disk : DonesOnDisk w
   pub backed : BackedByServer w
 
 -- of each world on the way
@@ -65,5 +76,5 @@ abbrev pub SoundOpening : Opening → Type 0
 SoundOpening o = (p : ℕ) → o.version p ≤ o.number
 
 -- From the opening world, along every list of events, each world keeps the promise. `cycle`: whoever is doomed, by whatever test.
-abbrev pub Headline : Limits → (Server → ℕ → Bool) → Type 0
+abbrev pub Headline : Limits → DeadlockTest → Type 0
 Headline L cycle = (o : Opening) (ms : List Moment) → SoundOpening o → Plays L cycle (new_world L o) ms → Promise o (new_world L o) × Promises o ms

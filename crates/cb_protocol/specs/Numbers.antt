@@ -5,7 +5,7 @@ use Rattle.cb_protocol.specs.AnyMessages.{Input, MessageComes, input_steps}
 use Rattle.cb_protocol.specs.Basics.{IsIn, Limits, is_none, max_number}
 use Rattle.cb_protocol.specs.Deadlock.{InputInRange, ReachedServer}
 use Rattle.cb_protocol.specs.Messages.{Granted}
-use Rattle.cb_protocol.specs.Server.{ChangeSession, Send, Server, ServerStep, WaitingAsk, new_server, server_after}
+use Rattle.cb_protocol.specs.Server.{ChangeSession, DeadlockTest, Send, Server, ServerStep, WaitingAsk, new_server, server_after}
 use Rattle.cb_protocol.specs.ServerMessages.{is_exhausted, read_asks_below, read_asks_in}
 use Rattle.cb_protocol.specs.Session.{GrantRow}
 use Rattle.cb_protocol.specs.Settling.{decide, decision_steps, settle_page, settle_pages}
@@ -32,7 +32,7 @@ TakesKeptGrants server steps =
     first_free_grant (server_after server steps) ≤ first_free_grant server
 
 -- So does settling: one decision, one page, and all.
-pub record SettlingTakesKeptGrants (cycle : Server → ℕ → Bool) (server : Server) : Type 0 where
+pub record SettlingTakesKeptGrants (cycle : DeadlockTest) (server : Server) : Type 0 where
   pub decision : (page : ℕ) → page < server.pages
       → TakesKeptGrants server (decision_steps (decide cycle server page (server.queue page)))
   pub one_page : (decisions page : ℕ) → page < server.pages
@@ -51,7 +51,7 @@ GivesGrant steps grant =
 
 -- So a server that takes what is not refused as exhausted, whatever it is, never lacks a number:
 -- each new row has a grant number in range, and the asks that wait can still have one.
-abbrev pub GrantsNeverRunOut : (Server → ℕ → Bool) → Server → Input → Type 0
+abbrev pub GrantsNeverRunOut : DeadlockTest → Server → Input → Type 0
 GrantsNeverRunOut cycle server input = HasGrantsLeft server → IsTaken server input
     → HasGrantsLeft (server_after server (input_steps cycle server input))
     × ((grant : ℕ) → GivesGrant (input_steps cycle server input) grant
@@ -85,7 +85,7 @@ SendsAtMost steps n = length (messages_sent steps) ≤ n
 
 -- Settling sends at most so many messages, by the asks that wait as it begins, and a copy of
 -- a page at most for each read ask. Of any server, and for any test of deadlock.
-pub record SettlingSendsAtMost (cycle : Server → ℕ → Bool) (server : Server) : Type 0 where
+pub record SettlingSendsAtMost (cycle : DeadlockTest) (server : Server) : Type 0 where
   pub decision : (page : ℕ) (first : WaitingAsk) (others : List WaitingAsk)
       → server.queue page ≡ first ∷ others
       → SendsAtMost (decision_steps (decide cycle server page (server.queue page)))

@@ -1,10 +1,10 @@
 -- Which numbers and bytes a message has: every message that is decoded, and every one that is said.
-use Rattle.std.specs.Prelude.{◌≡◌, ◌<◌, ◌≤◌, ℕ, Bool, false, length, List, [], ◌∷◌, ⊤}
+use Rattle.std.specs.Prelude.{◌≡◌, ◌<◌, ◌≤◌, ℕ, false, length, List, [], ◌∷◌, ⊤}
 use Rattle.cb_protocol.specs.Client.{Client, bodies_said}
 use Rattle.cb_protocol.specs.Basics.{Bytes, Limits, max_number}
 use Rattle.cb_protocol.specs.Messages.{PageWrite, Body, Hello, AskRead, AskWrite, GiveBack, InUse, Commit, Drop, Downgraded, Welcome, Granted, MayWrite, Callback, Done, AbortNow, Downgrade, Message}
 use Rattle.cb_protocol.specs.ClientAlone.{Arises, ClientInput, ReceivesCall, ReceivesMessage, client_steps_at, InputAllowed}
-use Rattle.cb_protocol.specs.Server.{Server, new_server, server_after}
+use Rattle.cb_protocol.specs.Server.{DeadlockTest, Server, new_server, server_after}
 use Rattle.cb_protocol.specs.ServerMessages.{is_exhausted}
 use Rattle.cb_protocol.specs.AnyMessages.{Input, MessageComes, input_steps}
 use Rattle.cb_protocol.specs.World.{Opening, opening_store, messages_sent}
@@ -89,10 +89,10 @@ InputTaken L s (MessageComes c i b) = MessageFits L (record { client = c; incarn
 InputTaken L s _ = ⊤
 
 -- A server that was new over a store, after messages that fit, whoever sent them, and flushes.
-pub data ServerArises (L : Limits) (cycle : Server → ℕ → Bool) (o : Opening) : Server → Type 0 where
+pub data ServerArises (L : Limits) (cycle : DeadlockTest) (o : Opening) : Server → Type 0 where
   OpensServer : ServerArises L cycle o (new_server L.clients L.pages (opening_store L o))
   ServesInput : (s : Server) (i : Input) → ServerArises L cycle o s → InputTaken L s i → ServerArises L cycle o (server_after s (input_steps cycle s i))
 
 -- Over a store that fits, where what comes fits, every message that the server sends fits.
-abbrev pub ServerMessagesInRange : Limits → (Server → ℕ → Bool) → Type 0
+abbrev pub ServerMessagesInRange : Limits → DeadlockTest → Type 0
 ServerMessagesInRange L cycle = (o : Opening) (s : Server) (i : Input) → StoreFits L o → ServerArises L cycle o s → InputTaken L s i → AllMessagesFit L (messages_sent (input_steps cycle s i))

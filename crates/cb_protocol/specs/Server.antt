@@ -9,7 +9,7 @@ pub record WaitingAsk : Type 0 where
   pub client : ℕ
   pub write_grant : Option ℕ  -- none: it asks to read; else to write, by that grant
   pub called_back : Bool  -- the Callbacks for it were sent
-  pub told_tags : List ℕ  -- the permissions, by tag, for which a Downgrade was sent for it
+  pub downgrades_sent : List ℕ  -- the tags of the permissions for which a Downgrade was sent for it
 
 -- a commit that was applied
 pub record AppliedCommit : Type 0 where
@@ -32,6 +32,10 @@ pub record Server : Type 0 where
   pub clients : ℕ
   pub pages : ℕ
 
+-- A test that a client lies on a cycle of waits, as the server is. Who is picked as the victim of a deadlock is left to it.
+abbrev pub DeadlockTest : Type 0
+DeadlockTest = Server → ℕ → Bool
+
 -- One step of the server. A message makes it do a list of steps, in order.
 pub data ServerStep : Type 0 where
   ChangeSession : (client : ℕ) → SessionChange → ServerStep
@@ -39,7 +43,7 @@ pub data ServerStep : Type 0 where
   EnterQueue : (page : ℕ) → WaitingAsk → ServerStep  -- an ask goes to the end of the queue
   LeaveQueue : (page : ℕ) → ServerStep  -- the first ask leaves
   MarkCalledBack : (page : ℕ) → ServerStep  -- the Callbacks for the first ask were sent
-  MarkTold : (page tag : ℕ) → ServerStep  -- a Downgrade for it was sent
+  MarkDowngradeSent : (page tag : ℕ) → ServerStep  -- a Downgrade for it was sent
   MarkInUse : (client page : ℕ) → ServerStep
   UnmarkInUse : (client page : ℕ) → ServerStep
   RemoveAsk : (client : ℕ) → ServerStep  -- the client's ask goes, wherever it waits
@@ -56,14 +60,14 @@ abbrev pub without_client : ℕ → List WaitingAsk → List WaitingAsk
 without_client c [] = []
 without_client c (a ∷ q) = if a.client == c then without_client c q else a ∷ without_client c q
 
--- the first ask is noted as called back; as told of a tag
+-- the first ask is noted as called back; the Downgrade of a tag as sent for it
 abbrev pub set_called_back : List WaitingAsk → List WaitingAsk
 set_called_back [] = []
 set_called_back (a ∷ q) = record a { called_back = true } ∷ q
 
-abbrev pub add_told : ℕ → List WaitingAsk → List WaitingAsk
-add_told t [] = []
-add_told t (a ∷ q) = record a { told_tags = t ∷ a.told_tags } ∷ q
+abbrev pub add_downgrade_sent : ℕ → List WaitingAsk → List WaitingAsk
+add_downgrade_sent t [] = []
+add_downgrade_sent t (a ∷ q) = record a { downgrades_sent = t ∷ a.downgrades_sent } ∷ q
 
 -- the in-use marks with one set or taken off; without those of client c
 abbrev pub set_in_use : (ℕ → ℕ → Bool) → ℕ → ℕ → Bool → ℕ → ℕ → Bool
@@ -101,7 +105,7 @@ after_server_step s (Send c i b) = s
 after_server_step s (EnterQueue p a) = record s { queue = update s.queue p (s.queue p ++ a ∷ []) }
 after_server_step s (LeaveQueue p) = record s { queue = update s.queue p (after_first (s.queue p)) }
 after_server_step s (MarkCalledBack p) = record s { queue = update s.queue p (set_called_back (s.queue p)) }
-after_server_step s (MarkTold p t) = record s { queue = update s.queue p (add_told t (s.queue p)) }
+after_server_step s (MarkDowngradeSent p t) = record s { queue = update s.queue p (add_downgrade_sent t (s.queue p)) }
 after_server_step s (MarkInUse c p) = record s { in_use = set_in_use s.in_use c p true }
 after_server_step s (UnmarkInUse c p) = record s { in_use = set_in_use s.in_use c p false }
 after_server_step s (RemoveAsk c) = record s { queue = λ p. without_client c (s.queue p) }

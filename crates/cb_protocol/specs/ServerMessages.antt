@@ -3,7 +3,7 @@
 use Rattle.std.specs.Prelude.{ℕ, ◌+◌, nat_lt, nat_le, Bool, true, false, not, ◌&&◌, ◌||◌, if◌then◌else◌, ◌==◌, List, [], ◌∷◌, ◌++◌, Option, Some, None, zero, suc}
 use Rattle.cb_protocol.specs.Basics.{is_exactly, is_none, max_number}
 use Rattle.cb_protocol.specs.Messages.{AbortNow, AskRead, AskWrite, Body, Commit, Done, Downgraded, Drop, GiveBack, Hello, InUse, MayWrite, PageWrite, Welcome}
-use Rattle.cb_protocol.specs.Server.{ChangeSession, EnterQueue, ForgetTransaction, MarkInUse, Send, Server, ServerStep, UnmarkInUse, WaitingAsk, after_server_step, has_ask, server_after}
+use Rattle.cb_protocol.specs.Server.{DeadlockTest, ChangeSession, EnterQueue, ForgetTransaction, MarkInUse, Send, Server, ServerStep, UnmarkInUse, WaitingAsk, after_server_step, has_ask, server_after}
 use Rattle.cb_protocol.specs.Session.{Admit, ApplyCommit, BeginTransaction, DropTransaction, EndPermission, PermitWrite, RemoveRow}
 use Rattle.cb_protocol.specs.Settling.{doom_client, send_granted, send_to, settle_pages}
 
@@ -17,7 +17,7 @@ is_empty [] = true
 is_empty (a ∷ q) = false
 
 -- An ask enters the queue; where it is not first and closes a cycle, its client is doomed at once.
-abbrev pub enter_queue : (Server → ℕ → Bool) → Server → ℕ → WaitingAsk → List ServerStep
+abbrev pub enter_queue : DeadlockTest → Server → ℕ → WaitingAsk → List ServerStep
 enter_queue cycle s p a =
     if not (is_empty (s.queue p)) && cycle (after_server_step s (EnterQueue p a)) a.client
     then EnterQueue p a ∷ doom_client (after_server_step s (EnterQueue p a)) a.client else EnterQueue p a ∷ []
@@ -29,15 +29,15 @@ has_waiting_ask s c (suc n) = has_waiting_ask s c n || has_ask c (s.queue n)
 
 -- an ask as it enters
 abbrev pub new_ask : ℕ → Option ℕ → WaitingAsk
-new_ask c w = record { client = c; write_grant = w; called_back = false; told_tags = [] }
+new_ask c w = record { client = c; write_grant = w; called_back = false; downgrades_sent = [] }
 
 -- AskRead: a client with a row gets that row's grant again, with the present bytes; one whose ask waits gets nothing; else the ask enters.
-abbrev pub take_ask_read : (Server → ℕ → Bool) → Server → ℕ → ℕ → Option ℕ → List ServerStep
+abbrev pub take_ask_read : DeadlockTest → Server → ℕ → ℕ → Option ℕ → List ServerStep
 take_ask_read cycle s c p (Some g) = send_granted s c p g ∷ []
 take_ask_read cycle s c p None = if has_waiting_ask s c s.pages then [] else enter_queue cycle s p (new_ask c None)
 
 -- AskWrite, by the grant of a row: the write holder is told again, for its present transaction; else as AskRead.
-abbrev pub take_ask_write : (Server → ℕ → Bool) → Server → ℕ → ℕ → ℕ → List ServerStep
+abbrev pub take_ask_write : DeadlockTest → Server → ℕ → ℕ → ℕ → List ServerStep
 take_ask_write cycle s c p g =
     if not (is_exactly ((s.session c).row p) g) then []
     else if is_exactly (s.store.holder p) c then ChangeSession c (PermitWrite p g) ∷ send_to s c (MayWrite (s.session c).txn p g) ∷ []
@@ -59,7 +59,7 @@ repeat_done s c t (Some n) = if nat_le n s.flushed then send_to s c (Done t n) �
 
 -- The direct answer to a message of the current incarnation, after its transaction has begun. GiveBack takes the row and its mark. InUse sets the mark.
 -- Commit is applied, once, where it is allowed. Drop ends the transaction. Downgraded takes the permission of that very grant and tag.
-abbrev pub direct_answer : (Server → ℕ → Bool) → Server → ℕ → Body → List ServerStep
+abbrev pub direct_answer : DeadlockTest → Server → ℕ → Body → List ServerStep
 direct_answer cycle s c (AskRead t p) = if_live s c t (take_ask_read cycle s c p ((s.session c).row p))
 direct_answer cycle s c (AskWrite t p g) = if_live s c t (take_ask_write cycle s c p g)
 direct_answer cycle s c (GiveBack p g) = if is_exactly ((s.session c).row p) g then UnmarkInUse c p ∷ ChangeSession c (RemoveRow p g) ∷ [] else []
@@ -87,16 +87,16 @@ abbrev pub and_then : Server → List ServerStep → (Server → List ServerStep
 and_then s ds f = ds ++ f (server_after s ds)
 
 -- a message of the current incarnation other than Hello
-abbrev pub take_current : (Server → ℕ → Bool) → Server → ℕ → Body → List ServerStep
+abbrev pub take_current : DeadlockTest → Server → ℕ → Body → List ServerStep
 take_current cycle s c b = and_then s (begin_transaction s c (named_txn b)) (λ m. and_then m (direct_answer cycle m c b) (λ a. settle_pages cycle a a.pages))
 
 -- a greater Hello: everything of the old incarnation goes, the new one is current
-abbrev pub admit_incarnation : (Server → ℕ → Bool) → Server → ℕ → ℕ → List ServerStep
+abbrev pub admit_incarnation : DeadlockTest → Server → ℕ → ℕ → List ServerStep
 admit_incarnation cycle s c i = and_then s (ForgetTransaction c ∷ ChangeSession c (Admit i) ∷ Send c i Welcome ∷ []) (λ a. settle_pages cycle a a.pages)
 
 -- What the server does when a message of client c and incarnation i comes. Hello of a greater incarnation is admitted, of the current one welcomed again;
 -- every other message counts only at the current incarnation. Proofs open it by the case lemmas of proofs/Cases.
-unfoldable pub server_take : (Server → ℕ → Bool) → Server → ℕ → ℕ → Body → List ServerStep
+unfoldable pub server_take : DeadlockTest → Server → ℕ → ℕ → Body → List ServerStep
 server_take cycle s c i Hello = if nat_lt (s.session c).current i then admit_incarnation cycle s c i else if i == (s.session c).current then Send c i Welcome ∷ [] else []
 server_take cycle s c i b = if i == (s.session c).current then take_current cycle s c b else []
 

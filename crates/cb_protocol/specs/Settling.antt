@@ -3,7 +3,7 @@
 use Rattle.std.specs.Prelude.{ℕ, ◌+◌, length, Bool, true, false, not, ◌&&◌, ◌||◌, if◌then◌else◌, ◌==◌, List, [], ◌∷◌, ◌++◌, Option, Some, None, zero, suc}
 use Rattle.cb_protocol.specs.Basics.{is_exactly, is_none}
 use Rattle.cb_protocol.specs.Messages.{AbortNow, Body, Callback, Downgrade, Granted, MayWrite}
-use Rattle.cb_protocol.specs.Server.{ChangeSession, Doom, LeaveQueue, MarkCalledBack, MarkTold, RemoveAsk, Send, Server, ServerStep, WaitingAsk, is_live_permission, server_after}
+use Rattle.cb_protocol.specs.Server.{DeadlockTest, ChangeSession, Doom, LeaveQueue, MarkCalledBack, MarkDowngradeSent, RemoveAsk, Send, Server, ServerStep, WaitingAsk, is_live_permission, server_after}
 use Rattle.cb_protocol.specs.Session.{GrantRow, PermitWrite}
 
 -- a message to a client, at its current incarnation
@@ -51,7 +51,7 @@ keeps_permission s p c (Some d) = not (d == c) && not (is_live_permission s d p)
 -- a Downgrade to that client, save where it is left out
 abbrev pub send_downgrades : Server → (ℕ → Bool) → ℕ → ℕ → Option ℕ → List ServerStep
 send_downgrades s skip p c None = []
-send_downgrades s skip p c (Some d) = if not (d == c) && not (is_live_permission s d p) && not (skip d) then send_downgrade s d p ((s.session d).row p) else []
+send_downgrades s skip p c (Some d) = if keeps_permission s p c (Some d) && not (skip d) then send_downgrade s d p ((s.session d).row p) else []
 
 -- the client's transaction is the victim of a deadlock: its ask goes, it is told; its permissions, rows and marks stay
 abbrev pub doom_client : Server → ℕ → List ServerStep
@@ -68,7 +68,7 @@ decision_steps (Settled ds) = ds
 decision_steps (Decided ds) = ds
 
 -- The ask can't be met now: its client is doomed where it lies on a cycle, else the page is settled.
-abbrev pub wait_or_doom : (Server → ℕ → Bool) → Server → ℕ → List ServerStep → Decision
+abbrev pub wait_or_doom : DeadlockTest → Server → ℕ → List ServerStep → Decision
 wait_or_doom cycle s c ds = if cycle (server_after s ds) c then Decided (ds ++ doom_client (server_after s ds) c) else Settled ds
 
 -- the client becomes write holder and is told; the ask leaves
@@ -90,31 +90,31 @@ call_back_once s p a = if a.called_back then [] else send_callbacks s nobody p a
 
 -- A Downgrade to a client that merely keeps its permission, once for each ask and tag
 abbrev pub downgrade_once : Server → ℕ → WaitingAsk → List ServerStep
-downgrade_once s p a = if s.store.keep_write && keeps_permission s p a.client (s.store.holder p) && not (is_listed (s.store.tag p) a.told_tags) then send_downgrades s nobody p a.client (s.store.holder p) ++ MarkTold p (s.store.tag p) ∷ [] else []
+downgrade_once s p a = if s.store.keep_write && keeps_permission s p a.client (s.store.holder p) && not (is_listed (s.store.tag p) a.downgrades_sent) then send_downgrades s nobody p a.client (s.store.holder p) ++ MarkDowngradeSent p (s.store.tag p) ∷ [] else []
 
 -- A first write ask: permitted where no other client is write holder and the only row of the page is the asker's; else the other rows are called back.
-abbrev pub decide_write : (Server → ℕ → Bool) → Server → ℕ → WaitingAsk → ℕ → Decision
+abbrev pub decide_write : DeadlockTest → Server → ℕ → WaitingAsk → ℕ → Decision
 decide_write cycle s p a g =
     if no_other_holder (s.store.holder p) a.client && is_exactly ((s.session a.client).row p) g && sole_row s p a.client s.clients
     then Decided (permit_write s p a.client g) else wait_or_doom cycle s a.client (call_back_once s p a)
 
 -- A first read ask: granted where no other client is write holder; else a kept permission is called down.
-abbrev pub decide_read : (Server → ℕ → Bool) → Server → ℕ → WaitingAsk → Decision
+abbrev pub decide_read : DeadlockTest → Server → ℕ → WaitingAsk → Decision
 decide_read cycle s p a =
     if no_other_holder (s.store.holder p) a.client && is_none ((s.session a.client).row p)
     then Decided (grant_row s p a.client) else wait_or_doom cycle s a.client (downgrade_once s p a)
 
 -- the first ask of page p, by its queue
-abbrev pub decide : (Server → ℕ → Bool) → Server → ℕ → List WaitingAsk → Decision
+abbrev pub decide : DeadlockTest → Server → ℕ → List WaitingAsk → Decision
 decide cycle s p [] = Settled []
 decide cycle s p (a ∷ q) = elim a.write_grant [ None ↦ decide_read cycle s p a | Some g ↦ decide_write cycle s p a g ]
 
 -- Settling a page, in n decisions at most: each but the last takes an ask off the queue.
-abbrev pub settle_page : (Server → ℕ → Bool) → ℕ → Server → ℕ → List ServerStep
+abbrev pub settle_page : DeadlockTest → ℕ → Server → ℕ → List ServerStep
 settle_page cycle zero s p = []
 settle_page cycle (suc n) s p = elim (decide cycle s p (s.queue p)) [ Settled ds ↦ ds | Decided ds ↦ ds ++ settle_page cycle n (server_after s ds) p ]
 
 -- settling the pages below n, rising
-abbrev pub settle_pages : (Server → ℕ → Bool) → Server → ℕ → List ServerStep
+abbrev pub settle_pages : DeadlockTest → Server → ℕ → List ServerStep
 settle_pages cycle s zero = []
 settle_pages cycle s (suc n) = let ds = settle_pages cycle s n in ds ++ settle_page cycle (length (s.queue n) + 1) (server_after s ds) n

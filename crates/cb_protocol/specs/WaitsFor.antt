@@ -50,14 +50,16 @@ abbrev pub is_behind : List WaitingAsk → ℕ → ℕ → Bool
 is_behind [] c d = false
 is_behind (a ∷ q) c d = ((a.client == d) && has_ask c q) || is_behind q c d
 
--- d has write permission for the page; one that is merely kept counts only where d uses the page
-abbrev pub holds_up : Server → ℕ → ℕ → Bool
-holds_up s p d = is_exactly (s.store.holder p) d && (is_live_permission s d p || s.in_use d p)
+-- d holds up the ask a, the first for page p
+abbrev pub holds_up : Server → ℕ → WaitingAsk → ℕ → Bool
+holds_up s p a d =
+    (is_exactly (s.store.holder p) d && (is_live_permission s d p || s.in_use d p))
+    || (not (is_none a.write_grant) && s.in_use d p)
 
--- c's ask is first, and d has write permission; or c asks to write, and d uses the page (TODS 1997: a copy called back counts from its InUse on)
+-- c's ask is first, and d holds it up
 abbrev pub first_waits_for : Server → ℕ → List WaitingAsk → ℕ → ℕ → Bool
 first_waits_for s p [] c d = false
-first_waits_for s p (a ∷ q) c d = (a.client == c) && (holds_up s p d || (not (is_none a.write_grant) && s.in_use d p))
+first_waits_for s p (a ∷ q) c d = (a.client == c) && holds_up s p a d
 
 -- at a page below n
 abbrev pub waits_for_below : Server → ℕ → ℕ → ℕ → Bool
@@ -69,10 +71,10 @@ abbrev pub waits_for : Server → ℕ → ℕ → Bool
 waits_for s c d = not (c == d) && waits_for_below s c d s.pages
 
 -- there is a path from c to d whose inner clients are below n (textbook: Warshall's theorem on Boolean matrices)
-abbrev pub by_way : (ℕ → ℕ → Bool) → ℕ → ℕ → ℕ → Bool
-by_way r zero c d = r c d
-by_way r (suc n) c d = by_way r n c d || (by_way r n c n && by_way r n n d)
+abbrev pub has_path_through : (ℕ → ℕ → Bool) → ℕ → ℕ → ℕ → Bool
+has_path_through r zero c d = r c d
+has_path_through r (suc n) c d = has_path_through r n c d || (has_path_through r n c n && has_path_through r n n d)
 
 -- Client c lies on a cycle. The law that this is exact is `cycle_test_is_exact`.
 abbrev pub on_cycle : Server → ℕ → Bool
-on_cycle s c = by_way (waits_for s) s.clients c c
+on_cycle s c = has_path_through (waits_for s) s.clients c c

@@ -1,5 +1,5 @@
 -- The world: a server, its clients, every packet that was ever sent, and what each event makes of it.
-use Rattle.std.specs.Prelude.{◌≡◌, ℕ, ◌+◌, nat_lt, nat_le, length, Bool, if◌then◌else◌, ◌==◌, List, [], ◌∷◌, ◌++◌, Option, Some, None, zero, suc, ⊤}
+use Rattle.std.specs.Prelude.{◌≡◌, ℕ, ◌+◌, nat_lt, nat_le, length, if◌then◌else◌, ◌==◌, List, [], ◌∷◌, ◌++◌, Option, Some, None, zero, suc, ⊤}
 use Rattle.cb_protocol.specs.Answers.{AnswerWord, AnsweredOk, Exhausted, Flushed, NoClient, NoPacket, Nothing, Refused, ServerExhausted, Taken}
 use Rattle.cb_protocol.specs.Basics.{Bytes, Limits, max_number, update}
 use Rattle.cb_protocol.specs.Client.{Client, ClientStep, bodies_said, client_after, new_client}
@@ -8,7 +8,7 @@ use Rattle.cb_protocol.specs.ClientMessages.{ChoiceAllowed, client_take}
 use Rattle.cb_protocol.specs.Flush.{can_flush, server_flush}
 use Rattle.cb_protocol.specs.Messages.{Body, Message, kind, to_server}
 use Rattle.cb_protocol.specs.Resend.{server_again}
-use Rattle.cb_protocol.specs.Server.{Send, Server, ServerStep, new_server, server_after}
+use Rattle.cb_protocol.specs.Server.{DeadlockTest, Send, Server, ServerStep, new_server, server_after}
 use Rattle.cb_protocol.specs.ServerMessages.{is_exhausted, server_take}
 use Rattle.cb_protocol.specs.Session.{Store}
 
@@ -105,7 +105,7 @@ answer_only w e word = answer_with w e word [] w
 
 -- A packet is taken by its addressee; one of another incarnation than the client's is ignored. `let_go`: the page that the client's pool lets go,
 -- should it take in a page.
-abbrev pub deliver : Limits → (Server → ℕ → Bool) → World → Event → Message → Option ℕ → StepResult
+abbrev pub deliver : Limits → DeadlockTest → World → Event → Message → Option ℕ → StepResult
 deliver L cycle w e f let_go =
     if to_server f.body
     then (if is_exhausted w.server f.client f.incarnation f.body then answer_only w e ServerExhausted
@@ -114,7 +114,7 @@ deliver L cycle w e f let_go =
     else answer_only w e Taken
 
 -- a packet of that number, if there is one
-abbrev pub take_packet : Limits → (Server → ℕ → Bool) → World → Event → Option Message → Option ℕ → StepResult
+abbrev pub take_packet : Limits → DeadlockTest → World → Event → Option Message → Option ℕ → StepResult
 take_packet L cycle w e None let_go = answer_only w e NoPacket
 take_packet L cycle w e (Some f) let_go = deliver L cycle w e f let_go
 
@@ -129,7 +129,7 @@ abbrev pub flush_up_to : World → Event → ℕ → StepResult
 flush_up_to w e n = if can_flush w.server n then server_does w e (Flushed n) (server_flush w.server n) else answer_only w e Nothing
 
 -- What a world answers to an event, and becomes by it. Proofs open it by the case lemmas of proofs/Cases.
-unfoldable pub step : Limits → (Server → ℕ → Bool) → World → Event → Option ℕ → StepResult
+unfoldable pub step : Limits → DeadlockTest → World → Event → Option ℕ → StepResult
 step L cycle w (ClientCalls c x) let_go =
     if nat_lt c L.clients then client_does L w (ClientCalls c x) c (client_call L (w.client c) x).word (client_call L (w.client c) x).steps else answer_only w (ClientCalls c x) NoClient
 step L cycle w (TakePacket n) let_go = take_packet L cycle w (TakePacket n) (packet_at w.packets n) let_go
@@ -148,7 +148,7 @@ EventChoiceAllowed L w (TakePacket n) let_go = MessageChoiceAllowed L w (packet_
 EventChoiceAllowed L w _ let_go = ⊤
 
 -- World w answers a to event e and becomes v. Only the page that a pool lets go is left open.
-abbrev pub Becomes : Limits → (Server → ℕ → Bool) → World → Event → Answer → World → Type 0
+abbrev pub Becomes : Limits → DeadlockTest → World → Event → Answer → World → Type 0
 Becomes L cycle w e a v = (let_go : Option ℕ) × EventChoiceAllowed L w e let_go × (step L cycle w e let_go ≡ record { answer = a; world = v })
 
 -- an event, its answer, and the world after it
@@ -158,7 +158,7 @@ pub record Moment : Type 0 where
   pub world : World
 
 -- a run: each world is what the one before it becomes
-abbrev pub Plays : Limits → (Server → ℕ → Bool) → World → List Moment → Type 0
+abbrev pub Plays : Limits → DeadlockTest → World → List Moment → Type 0
 Plays L cycle w [] = ⊤
 Plays L cycle w (m ∷ ms) = Becomes L cycle w m.event m.answer m.world × Plays L cycle m.world ms
 

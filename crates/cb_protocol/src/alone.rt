@@ -2,9 +2,9 @@
 
 ghost use Rattle.std.specs.Prelude.{ℕ, Bool};
 ghost use Rattle.cb_protocol.specs.Basics.{Limits};
-ghost use Rattle.cb_protocol.specs.Server.{Server};
+ghost use Rattle.cb_protocol.specs.Server.{DeadlockTest, Server};
 ghost use Rattle.cb_protocol.specs.ClientAlone.{Anything, CallbackAnsweredAtOnce, DowngradeAnsweredAtOnce, InUseGivenBackOnce};
-ghost use Rattle.cb_protocol.specs.StepsLeave.{OthersKeepRowsAndPermissions, PacketsOnlyGrow, StepsAreAlone};
+ghost use Rattle.cb_protocol.specs.StepsKeep.{OthersKeepRowsAndPermissions, PacketsOnlyGrow, StepsAreAlone};
 ghost use Rattle.cb_protocol.specs.Ranges.{ClientMessagesInRange, InputFits, ServerMessagesInRange};
 
 /// A welcomed client, whatever its state, answers each Callback of its incarnation at once with one message: InUse where it holds that grant and its
@@ -32,17 +32,17 @@ pub fn in_use_given_back_once()
 /// for each message that it takes.
 pub fn messages_in_range()
     ensures client { (L : Limits) → ClientMessagesInRange L }
-    ensures server { (L : Limits) (cycle : Server → ℕ → Bool) → ServerMessagesInRange L cycle }
+    ensures server { (L : Limits) (cycle : DeadlockTest) → ServerMessagesInRange L cycle }
 {}
 
 /// A server's step for a message of one client takes no row, permission, mark or transaction of another; it may give rows with new grants, and permissions.
 /// Resending and a flush leave all that clients have.
 pub fn others_keep_rows_and_permissions()
-    ensures law { (cycle : Server → ℕ → Bool) → OthersKeepRowsAndPermissions cycle }
+    ensures law { (cycle : DeadlockTest) → OthersKeepRowsAndPermissions cycle }
 {}
 
 /// In the world a client's step changes that client alone, and a server's step no client; packets are only added.
 pub fn steps_are_alone()
-    ensures sides { (L : Limits) (cycle : Server → ℕ → Bool) → StepsAreAlone L cycle }
-    ensures packets { (L : Limits) (cycle : Server → ℕ → Bool) → PacketsOnlyGrow L cycle }
+    ensures sides { (L : Limits) (cycle : DeadlockTest) → StepsAreAlone L cycle }
+    ensures packets { (L : Limits) (cycle : DeadlockTest) → PacketsOnlyGrow L cycle }
 {}

@@ -7,8 +7,9 @@
 pub mod alone;
 pub mod deadlock;
 pub mod numbers;
+pub mod server;
 
-ghost use Rattle.cb_protocol.specs.Laws.{CommittedAlwaysSerial, CopiesAlwaysAgree, CopiesAlwaysBacked, DonesAlwaysNameCommits, EachCommitsOnce, RulesHoldUnderAnyMessages, WholePromise, WriterAlwaysAlone};
+ghost use Rattle.cb_protocol.specs.Laws.{CommittedAlwaysSerial, CopiesAlwaysAgree, CopiesAlwaysBacked, DirectoryAlwaysKept, DonesAlwaysNameCommits, DonesAlwaysOnDisk, EachCommitsOnce, RulesHoldUnderAnyMessages, WholePromise, WriterAlwaysAlone};
 
 /// Whatever is called, sent, lost, repeated or reordered, whoever restarts, and whatever pages are let go: at every moment all the laws below hold,
 /// with kept write permission and without it, and whoever is picked as the victim of a deadlock.
@@ -37,15 +38,17 @@ pub fn each_transaction_commits_once()
     ensures law { EachCommitsOnce }
 {}
 
-/// Each Done that was ever sent names a transaction that was applied, and the number of its commit.
+/// Each Done that was ever sent names a transaction that was applied, and the number of its commit, which is on disk.
 pub fn each_done_names_its_commit()
     ensures law { DonesAlwaysNameCommits }
+    ensures on_disk { DonesAlwaysOnDisk }
 {}
 
 /// At every moment each grant that a client holds has its row at the server and was never given back, each client that may write is the write holder,
-/// and each copy that its client did not write has the store's version and bytes.
+/// and each copy that its client did not write has the store's version and bytes. A page with a write holder has rows of no other client.
 pub fn copies_are_backed_by_rows()
     ensures law { CopiesAlwaysBacked }
+    ensures directory { DirectoryAlwaysKept }
 {}
 
 /// The server alone, whatever messages come, from honest clients or not: a page with a write holder has rows of no other client, no two rows have the same

@@ -11,7 +11,7 @@ use Rattle.std.proofs.lemmas.List.Elements.{All-nil}
 use Rattle.cb_schedule.proofs.ClientCopies.{starts}
 use Rattle.cb_schedule.specs.NetMoves.{IsNet, IsPacket}
 use Rattle.cb_schedule.specs.ServerState.{new_state, fresh_session, no_session, server_of, session_at, session_of, row_at, grant_of}
-use Rattle.cb_schedule.specs.WorldState.{NetState, ShowsNet, opening_of, client_at}
+use Rattle.cb_schedule.specs.WorldState.{NetState, RepresentsNet, opening_of, client_at}
 use Rattle.cb_protocol.specs.Server.{new_server}
 use Rattle.cb_protocol.specs.Session as table
 use Rattle.cb_protocol.specs.World.{new_world, opening_store}
@@ -66,7 +66,7 @@ opening_is_net l s r o = record {
   packets = All-nil (IsPacket l);
 }
 
-pub shows_opening : (l : Bounds) (s : StoreState) → IsOf l s → ShowsNet (opening_net l s) (new_world (limits_of l) (opening_of s))
+pub shows_opening : (l : Bounds) (s : StoreState) → IsOf l s → RepresentsNet (opening_net l s) (new_world (limits_of l) (opening_of s))
 shows_opening l s o = record {
   server = sym (server_opening l s o);
   clients = λ c. sym (ap (λ (k : ClientState). client_of k []) (clients_fresh l s c) ∙ starts l);

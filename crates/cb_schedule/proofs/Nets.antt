@@ -11,11 +11,11 @@ use Rattle.cb_schedule.specs.Wire.{AllSpell, Spells}
 use Rattle.cb_schedule.specs.ClientAnswers.{Calls, Takes}
 use Rattle.cb_schedule.specs.ProtocolLimits.{limits_of}
 use Rattle.cb_schedule.specs.ProtocolEvents.{word_of, sent_of}
-use Rattle.cb_schedule.specs.NetMoves.{IsNet, Becomes, Carries}
+use Rattle.cb_schedule.specs.NetMoves.{IsNet, NetBecomes, Carries}
 use Rattle.cb_schedule.specs.declared.answer.Sent.{Sent}
 use Rattle.cb_schedule.specs.declared.server.ServerReply.{ServerReply}
 use Rattle.cb_schedule.specs.declared.answer.Answer.{Answer}
-use Rattle.cb_schedule.specs.WorldState.{NetState, ShowsNet, client_at}
+use Rattle.cb_schedule.specs.WorldState.{NetState, RepresentsNet, client_at}
 use Rattle.cb_protocol.specs.Answers.{AnswerWord, NoClient, NoPacket, ServerExhausted, Taken}
 use Rattle.cb_protocol.specs.Basics.{update, Limits}
 use Rattle.cb_protocol.specs.ClientCalls.{Call, client_call}
@@ -73,8 +73,8 @@ clients_put n w c d s k h a b = put_by (d == c) refl
         rw (e, get_or-set_other n.clients c d s (fresh n.limits) other) (a d)
 
 -- a client changes, and packets are sent
-pub shows_client : (n : NetState) (w : World) (c : ℕ) (s : ClientState) (k : Client) (os : List Operation) (ps : List (List ℕ)) (ms : List Message) (t : List TranscriptEntry) → c < length n.clients → ShowsNet n w → k ≡ client_of s os → AllSpell n.limits ps ms
-    → ShowsNet (record n { clients = slice_set n.clients c s; packets = n.packets ++ ps }) (record w { client = update w.client c k; packets = w.packets ++ ms; transcript = t })
+pub shows_client : (n : NetState) (w : World) (c : ℕ) (s : ClientState) (k : Client) (os : List Operation) (ps : List (List ℕ)) (ms : List Message) (t : List TranscriptEntry) → c < length n.clients → RepresentsNet n w → k ≡ client_of s os → AllSpell n.limits ps ms
+    → RepresentsNet (record n { clients = slice_set n.clients c s; packets = n.packets ++ ps }) (record w { client = update w.client c k; packets = w.packets ++ ms; transcript = t })
 shows_client n w c s k os ps ms t h a e b = record {
   server = a.server;
   clients = λ d. clients_put n w c d s k h a.clients (client_is s k os e);
@@ -83,8 +83,8 @@ shows_client n w c s k os ps ms t h a e b = record {
 }
 
 -- the server changes, and packets are sent
-pub shows_server : (n : NetState) (w : World) (s : ServerState) (ps : List (List ℕ)) (ms : List Message) (t : List TranscriptEntry) → ShowsNet n w → AllSpell n.limits ps ms
-    → ShowsNet (record n { server = s; packets = n.packets ++ ps }) (record w { server = server_of s; packets = w.packets ++ ms; transcript = t })
+pub shows_server : (n : NetState) (w : World) (s : ServerState) (ps : List (List ℕ)) (ms : List Message) (t : List TranscriptEntry) → RepresentsNet n w → AllSpell n.limits ps ms
+    → RepresentsNet (record n { server = s; packets = n.packets ++ ps }) (record w { server = server_of s; packets = w.packets ++ ms; transcript = t })
 shows_server n w s ps ms t a b = record { server = refl; clients = a.clients; incarnations = a.incarnations; packets = all_spell n.limits n.packets ps w.packets ms a.packets b }
 
 pub kept_clients : (n : NetState) (c : ℕ) → slice_set n.clients c (client_at n c) ≡ n.clients
@@ -106,7 +106,7 @@ called L w c x h = rw (is_below c L.clients h) refl
 pub call_becomes : (n : NetState) (c : ℕ) (x : Call) (word : AnswerWord) (bodies : List Body) (s : ClientState) (performed : List Operation) (ps : List (List ℕ)) (a : Answer)
     → IsNet n → c < n.limits.clients → Calls (client_at n c) x word bodies s performed → AllSpell n.limits ps (messages_said c 1 bodies)
     → word_of a.word ≡ word → numbered_from (length n.packets) (messages_said c 1 bodies) ≡ map sent_of a.sent
-    → Becomes n (ClientCalls c x) a (record n { clients = slice_set n.clients c s; packets = n.packets ++ ps })
+    → NetBecomes n (ClientCalls c x) a (record n { clients = slice_set n.clients c s; packets = n.packets ++ ps })
 call_becomes n c x word bodies s performed ps a z h r b e f = record {
   limits = refl;
   by_event = λ w sh.
@@ -135,7 +135,7 @@ unfolding step
 no_client L w c x h = rw (not_below c L.clients h) refl
 
 -- there is no such client
-pub no_client_becomes : (n : NetState) (c : ℕ) (x : Call) (a : Answer) → n.limits.clients ≤ c → word_of a.word ≡ NoClient → a.sent ≡ [] → Becomes n (ClientCalls c x) a n
+pub no_client_becomes : (n : NetState) (c : ℕ) (x : Call) (a : Answer) → n.limits.clients ≤ c → word_of a.word ≡ NoClient → a.sent ≡ [] → NetBecomes n (ClientCalls c x) a n
 no_client_becomes n c x a h e f = record {
   limits = refl;
   by_event = λ w sh. (
@@ -168,7 +168,7 @@ none_at l None None e s = refl
 none_at l (Some b) m e s = cc
 none_at l None (Some m) e s = absurd s
 
-pub no_packet_becomes : (n : NetState) (k : ℕ) (a : Answer) → slice_get n.packets k ≡ None → word_of a.word ≡ NoPacket → a.sent ≡ [] → Becomes n (TakePacket k) a n
+pub no_packet_becomes : (n : NetState) (k : ℕ) (a : Answer) → slice_get n.packets k ≡ None → word_of a.word ≡ NoPacket → a.sent ≡ [] → NetBecomes n (TakePacket k) a n
 no_packet_becomes n k a h e f = record {
   limits = refl;
   by_event = λ w sh.
@@ -184,7 +184,7 @@ no_packet_becomes n k a h e f = record {
 }
 
 -- Packet k of the net carries this message: it is the one that any frame spelled by it carries.
-carried : (n : NetState) (k : ℕ) (m : Message) (w : World) → Carries n k m → ShowsNet n w → packet_at w.packets k ≡ Some m
+carried : (n : NetState) (k : ℕ) (m : Message) (w : World) → Carries n k m → RepresentsNet n w → packet_at w.packets k ≡ Some m
 carried n k m w x sh = carried_at (slice_get n.packets k) (packet_at w.packets k) x.is (spelled_at n.limits n.packets w.packets k sh.packets)
   where
     carried_at : (o : Option (List ℕ)) (q : Option Message) → o ≡ Some x.bytes → SpelledAt n.limits o q → q ≡ Some m
@@ -202,7 +202,7 @@ pub server_becomes : (n : NetState) (k : ℕ) (m : Message) (s : ServerState) (r
     → Replies n.server m.client m.incarnation m.body r → TakesMessage n.server m.client m.incarnation m.body s
     → AllSpell n.limits ps (messages_said m.client m.incarnation (bodies_of n.server.store r)) → word_of a.word ≡ Taken
     → numbered_from (length n.packets) (messages_said m.client m.incarnation (bodies_of n.server.store r)) ≡ map sent_of a.sent
-    → Becomes n (TakePacket k) a (record n { server = s; packets = n.packets ++ ps })
+    → NetBecomes n (TakePacket k) a (record n { server = s; packets = n.packets ++ ps })
 server_becomes n k m s r ps a x t z y q b e f = record {
   limits = refl;
   by_event = λ w sh.
@@ -228,7 +228,7 @@ server_becomes n k m s r ps a x t z y q b e f = record {
 
 -- it has no number left for it
 pub exhausted_becomes : (n : NetState) (k : ℕ) (m : Message) (a : Answer) → Carries n k m → to_server m.body ≡ true → is_exhausted (server_of n.server) m.client m.incarnation m.body ≡ true
-    → word_of a.word ≡ ServerExhausted → a.sent ≡ [] → Becomes n (TakePacket k) a n
+    → word_of a.word ≡ ServerExhausted → a.sent ≡ [] → NetBecomes n (TakePacket k) a n
 exhausted_becomes n k m a x t z e f = record {
   limits = refl;
   by_event = λ w sh.
@@ -250,7 +250,7 @@ exhausted_becomes n k m a x t z e f = record {
 pub client_becomes : (n : NetState) (k : ℕ) (m : Message) (s : ClientState) (bodies : List Body) (ps : List (List ℕ)) (a : Answer)
     → IsNet n → Carries n k m → to_server m.body ≡ false → m.incarnation ≡ 1 → m.client < n.limits.clients → Takes (client_at n m.client) m.body bodies s
     → AllSpell n.limits ps (messages_said m.client 1 bodies) → word_of a.word ≡ Taken → numbered_from (length n.packets) (messages_said m.client 1 bodies) ≡ map sent_of a.sent
-    → Becomes n (TakePacket k) a (record n { clients = slice_set n.clients m.client s; packets = n.packets ++ ps })
+    → NetBecomes n (TakePacket k) a (record n { clients = slice_set n.clients m.client s; packets = n.packets ++ ps })
 client_becomes n k m s bodies ps a z x t o h r b e f = record {
   limits = refl;
   by_event = λ w sh.
@@ -284,7 +284,7 @@ client_becomes n k m s bodies ps a z x t o h r b e f = record {
     transport_choice w l q y = subst (λ (k : Client). ChoiceAllowed (limits_of n.limits) k m.body r.let_go) (sym q) (subst (λ (b : Bounds). ChoiceAllowed (limits_of b) (client_of (client_at n m.client) (w.client m.client).cache.operations) m.body r.let_go) l y)
 
 -- a packet for another incarnation of the client
-pub other_becomes : (n : NetState) (k : ℕ) (m : Message) (a : Answer) → Carries n k m → to_server m.body ≡ false → (m.incarnation == 1) ≡ false → word_of a.word ≡ Taken → a.sent ≡ [] → Becomes n (TakePacket k) a n
+pub other_becomes : (n : NetState) (k : ℕ) (m : Message) (a : Answer) → Carries n k m → to_server m.body ≡ false → (m.incarnation == 1) ≡ false → word_of a.word ≡ Taken → a.sent ≡ [] → NetBecomes n (TakePacket k) a n
 other_becomes n k m a x t o e f = record {
   limits = refl;
   by_event = λ w sh.

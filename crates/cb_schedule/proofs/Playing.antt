@@ -4,10 +4,10 @@ use Rattle.std.specs.Prelude.{slice_index_or}
 use Rattle.std.specs.List.{AllByRecursion}
 use Rattle.std.proofs.lemmas.List.{append-nil, map-append}
 use Rattle.cb_page.specs.Bounds.{Bounds}
-use Rattle.cb_schedule.specs.Plays.{Played, Stands, Steps}
+use Rattle.cb_schedule.specs.Plays.{Played, IsReached, Steps}
 use Rattle.cb_schedule.specs.ProtocolEvents.{event_of, answer_of}
 use Rattle.cb_schedule.specs.ProtocolLimits.{limits_of}
-use Rattle.cb_schedule.specs.WorldState.{WorldState, Shows, opened}
+use Rattle.cb_schedule.specs.WorldState.{WorldState, Represents, opened}
 use Rattle.cb_schedule.specs.declared.event.Event.{Event}
 use Rattle.cb_schedule.specs.declared.answer.Answer.{Answer}
 use Rattle.cb_schedule.specs.declared.answer.Entry.{Entry}
@@ -23,14 +23,14 @@ pub record PlayedTo (w : WorldState) (es : List Event) (v : WorldState) : Type 0
   pub limits : v.limits ≡ w.limits
   pub sound : SoundOpening (opened w)
   pub reached : ReachedWorld (limits_of w.limits) on_cycle (opened w) (protocol.world_after played.first played.moments)
-  pub shows : Shows v (protocol.world_after played.first played.moments)
+  pub represents : Represents v (protocol.world_after played.first played.moments)
 
-pub played_none : (w : WorldState) → WholePromise → w.stopped ≡ false → Stands w → PlayedTo w [] w
+pub played_none : (w : WorldState) → WholePromise → w.stopped ≡ false → IsReached w → PlayedTo w [] w
 played_none w whole ran s = record {
   played = record {
     ran = ran;
     first = s.world;
-    shows = s.shows;
+    represents = s.represents;
     moments = [];
     plays = tt;
     first_promise = promise_of (limits_of w.limits) (opened w) s.world whole s.sound s.reached;
@@ -44,14 +44,14 @@ played_none w whole ran s = record {
   limits = refl;
   sound = s.sound;
   reached = s.reached;
-  shows = s.shows;
+  represents = s.represents;
 }
 
 pub played_more : (w : WorldState) (es : List Event) (u : WorldState) (e : Event) (a : Answer) (v : WorldState) → WholePromise → PlayedTo w es u → Steps u e a v → PlayedTo w (es ++ e ∷ []) v
 played_more w es u e a v whole p s =
     let o = opened w in
     let end = protocol.world_after p.played.first p.played.moments in
-    let next = s.becomes end p.shows in
+    let next = s.becomes end p.represents in
     let becomes : protocol.Becomes (limits_of w.limits) on_cycle end (event_of e) (answer_of a) next.0
     = subst (λ (l : Bounds). protocol.Becomes (limits_of l) on_cycle end (event_of e) (answer_of a) next.0) p.limits next.1 in
     let reached = reached_more (limits_of w.limits) o end next.0 (event_of e) (answer_of a) p.reached becomes in
@@ -63,7 +63,7 @@ played_more w es u e a v whole p s =
       played = record {
         ran = p.played.ran;
         first = p.played.first;
-        shows = p.played.shows;
+        represents = p.played.represents;
         moments = p.played.moments ++ m ∷ [];
         plays = plays_more (limits_of w.limits) p.played.first p.played.moments m p.played.plays becomes;
         first_promise = p.played.first_promise;
@@ -78,7 +78,7 @@ played_more w es u e a v whole p s =
       limits = s.limits ∙ p.limits;
       sound = p.sound;
       reached = subst (λ (x : protocol.World). ReachedWorld (limits_of w.limits) on_cycle o x) (sym last) reached;
-      shows = subst (λ (x : protocol.World). Shows v x) (sym last) next.2;
+      represents = subst (λ (x : protocol.World). Represents v x) (sym last) next.2;
     }
 
 -- what was told is what the last world tells

@@ -12,7 +12,7 @@ use Rattle.cb_schedule.proofs.Settled.{entered, settles_empty, settles_entered, 
 use Rattle.cb_protocol.specs.Basics.{update, is_exactly}
 use Rattle.cb_protocol.specs.Messages.{Body, AskRead, GiveBack, Message, Welcome}
 use Rattle.cb_protocol.specs.Session as table
-use Rattle.cb_protocol.specs.Server.{Server, ServerStep, Send, EnterQueue, ForgetTransaction, ChangeSession, UnmarkInUse, after_server_step, server_after}
+use Rattle.cb_protocol.specs.Server.{DeadlockTest, Server, ServerStep, Send, EnterQueue, ForgetTransaction, ChangeSession, UnmarkInUse, after_server_step, server_after}
 use Rattle.cb_protocol.specs.Settling.{settle_pages, grant_row, send_granted}
 use Rattle.cb_protocol.specs.ServerMessages.{and_then, begin_transaction, direct_answer, take_current, admit_incarnation, has_waiting_ask, new_ask}
 use Rattle.cb_protocol.specs.World.{messages_sent}
@@ -72,10 +72,10 @@ took_begun : (v : ServerState) (c t : ℕ) → c < length v.sessions → Took v 
 took_begun v c t h = record { sends = begin_sends v c t (nat_lt (session_at v.sessions c).txn t) refl; after = begun_is v c t h }
 
 -- what follows once the transaction was begun
-abbrev rest : (Server → ℕ → Bool) → Server → ℕ → Body → List ServerStep
+abbrev rest : DeadlockTest → Server → ℕ → Body → List ServerStep
 rest cycle s c b = and_then s (direct_answer cycle s c b) (λ a. settle_pages cycle a a.pages)
 
-took_txn : (cycle : Server → ℕ → Bool) (v u : ServerState) (c t : ℕ) (b : Body) (ms : List Message) → c < length v.sessions → Took (begun v c t) (rest cycle (server_of (begun v c t)) c b) ms u
+took_txn : (cycle : DeadlockTest) (v u : ServerState) (c t : ℕ) (b : Body) (ms : List Message) → c < length v.sessions → Took (begun v c t) (rest cycle (server_of (begun v c t)) c b) ms u
     → Took v (and_then (server_of v) (begin_transaction (server_of v) c t) (λ m. rest cycle m c b)) ms u
 took_txn cycle v u c t b ms h r =
     subst (λ (s : Server). Took v (begin_transaction (server_of v) c t ++ rest cycle s c b) ms u) (sym (begun_is v c t h))
@@ -86,11 +86,11 @@ waits_none v c zero = refl
 waits_none v c (suc n) = ap (λ b. b || false) (waits_none v c n)
 
 -- an ask of an ended transaction
-rest_ended : (cycle : Server → ℕ → Bool) (v : ServerState) (c t p : ℕ) → nat_lt (session_at v.sessions c).ended t ≡ false → Took v (rest cycle (server_of v) c (AskRead t p)) [] v
+rest_ended : (cycle : DeadlockTest) (v : ServerState) (c t p : ℕ) → nat_lt (session_at v.sessions c).ended t ≡ false → Took v (rest cycle (server_of v) c (AskRead t p)) [] v
 rest_ended cycle v c t p e = rw e (subst (λ (ds : List ServerStep). Took v ds [] v) (sym (settles_empty cycle v (length v.store.pages))) (took_nothing v))
 
 -- an ask for a page of which the client has a row
-rest_row : (cycle : Server → ℕ → Bool) (v : ServerState) (c t p g : ℕ) → nat_lt (session_at v.sessions c).ended t ≡ true → row_at (session_at v.sessions c) p ≡ Some g
+rest_row : (cycle : DeadlockTest) (v : ServerState) (c t p g : ℕ) → nat_lt (session_at v.sessions c).ended t ≡ true → row_at (session_at v.sessions c) p ≡ Some g
     → Took v (rest cycle (server_of v) c (AskRead t p)) (messages_sent (send_granted (server_of v) c p g ∷ [])) v
 rest_row cycle v c t p g e r = rw (e, r) (record {
   sends = ap (λ (ds : List ServerStep). messages_sent (send_granted (server_of v) c p g ∷ ds)) (settles_empty cycle v (length v.store.pages));
@@ -122,18 +122,18 @@ granted_after v c p s h k =
     ∙ sym (ap (λ (u : Server). record u { next_grant = v.next_grant + 1 }) (server_put v c (with_row (session_at v.sessions c) p (Some (record { incarnation = (session_at v.sessions c).incarnation; grant = v.next_grant }))) h))
 
 -- an ask for a page of which the client has no row
-enters : (cycle : Server → ℕ → Bool) (v : ServerState) (c t p : ℕ) → nat_lt (session_at v.sessions c).ended t ≡ true → row_at (session_at v.sessions c) p ≡ None
+enters : (cycle : DeadlockTest) (v : ServerState) (c t p : ℕ) → nat_lt (session_at v.sessions c).ended t ≡ true → row_at (session_at v.sessions c) p ≡ None
     → direct_answer cycle (server_of v) c (AskRead t p) ≡ EnterQueue p (new_ask c None) ∷ []
 enters cycle v c t p e r = rw (e, r, waits_none v c (length v.store.pages)) refl
 
 is_below : (p n : ℕ) → p < n → nat_lt p n ≡ true
 is_below p n h = grind (arith, nat_tests)
 
-settles_granted : (cycle : Server → ℕ → Bool) (v : ServerState) (c p : ℕ) → p < length v.store.pages → row_at (session_at v.sessions c) p ≡ None
+settles_granted : (cycle : DeadlockTest) (v : ServerState) (c p : ℕ) → p < length v.store.pages → row_at (session_at v.sessions c) p ≡ None
     → settle_pages cycle (entered v p c) (length v.store.pages) ≡ grant_row (entered v p c) p c
 settles_granted cycle v c p k r = settles_entered cycle v p c (length v.store.pages) r ∙ ap (λ (b : Bool). if b then grant_row (entered v p c) p c else []) (is_below p (length v.store.pages) k)
 
-rest_new : (cycle : Server → ℕ → Bool) (v : ServerState) (c t p : ℕ) → IsServer v → c < length v.sessions → p < length v.store.pages
+rest_new : (cycle : DeadlockTest) (v : ServerState) (c t p : ℕ) → IsServer v → c < length v.sessions → p < length v.store.pages
     → nat_lt (session_at v.sessions c).ended t ≡ true → row_at (session_at v.sessions c) p ≡ None
     → Took v (rest cycle (server_of v) c (AskRead t p)) (messages_sent (send_granted (server_of v) c p v.next_grant ∷ [])) (granted v c p)
 rest_new cycle v c t p s h k e r =
@@ -142,16 +142,16 @@ rest_new cycle v c t p s h k e r =
     (record { sends = refl; after = granted_after v c p s h k }))
 
 -- an ask of the current incarnation: of a transaction that has ended; for a page with a row; for one without
-pub ask_ended : (cycle : Server → ℕ → Bool) (v : ServerState) (c t p : ℕ) → c < length v.sessions → nat_lt (session_at (begun v c t).sessions c).ended t ≡ false
+pub ask_ended : (cycle : DeadlockTest) (v : ServerState) (c t p : ℕ) → c < length v.sessions → nat_lt (session_at (begun v c t).sessions c).ended t ≡ false
     → Took v (take_current cycle (server_of v) c (AskRead t p)) [] (begun v c t)
 ask_ended cycle v c t p h e = took_txn cycle v (begun v c t) c t (AskRead t p) [] h (rest_ended cycle (begun v c t) c t p e)
 
-pub ask_row : (cycle : Server → ℕ → Bool) (v : ServerState) (c t p g : ℕ) → c < length v.sessions → nat_lt (session_at (begun v c t).sessions c).ended t ≡ true
+pub ask_row : (cycle : DeadlockTest) (v : ServerState) (c t p g : ℕ) → c < length v.sessions → nat_lt (session_at (begun v c t).sessions c).ended t ≡ true
     → row_at (session_at (begun v c t).sessions c) p ≡ Some g
     → Took v (take_current cycle (server_of v) c (AskRead t p)) (messages_sent (send_granted (server_of (begun v c t)) c p g ∷ [])) (begun v c t)
 ask_row cycle v c t p g h e r = took_txn cycle v (begun v c t) c t (AskRead t p) _ h (rest_row cycle (begun v c t) c t p g e r)
 
-pub ask_new : (cycle : Server → ℕ → Bool) (v : ServerState) (c t p : ℕ) → IsServer (begun v c t) → c < length v.sessions → c < length (begun v c t).sessions → p < length (begun v c t).store.pages
+pub ask_new : (cycle : DeadlockTest) (v : ServerState) (c t p : ℕ) → IsServer (begun v c t) → c < length v.sessions → c < length (begun v c t).sessions → p < length (begun v c t).store.pages
     → nat_lt (session_at (begun v c t).sessions c).ended t ≡ true → row_at (session_at (begun v c t).sessions c) p ≡ None
     → Took v (take_current cycle (server_of v) c (AskRead t p)) (messages_sent (send_granted (server_of (begun v c t)) c p (begun v c t).next_grant ∷ [])) (granted (begun v c t) c p)
 ask_new cycle v c t p s h i k e r = took_txn cycle v (granted (begun v c t) c p) c t (AskRead t p) _ h (rest_new cycle (begun v c t) c t p s i k e r)
@@ -182,11 +182,11 @@ admitted_after v c i s h k =
     })
     ∙ sym (renumbered_server v c i 0 0 h)
 
-abbrev settled_steps : (Server → ℕ → Bool) → Server → List ServerStep
+abbrev settled_steps : DeadlockTest → Server → List ServerStep
 settled_steps cycle s = settle_pages cycle s s.pages
 
 -- settling leaves a server alone in which nobody waits
-took_settled : (cycle : Server → ℕ → Bool) (v u : ServerState) (xs : List ServerStep) (ms : List Message) → Took v xs ms u → Took v (and_then (server_of v) xs (λ a. settle_pages cycle a a.pages)) ms u
+took_settled : (cycle : DeadlockTest) (v u : ServerState) (xs : List ServerStep) (ms : List Message) → Took v xs ms u → Took v (and_then (server_of v) xs (λ a. settle_pages cycle a a.pages)) ms u
 took_settled cycle v u xs ms r =
     subst (λ (l : List Message). Took v (and_then (server_of v) xs (λ a. settle_pages cycle a a.pages)) l u) (append-nil ms)
     (record {
@@ -195,7 +195,7 @@ took_settled cycle v u xs ms r =
       after = after_append (server_of v) xs _ ∙ (ap (λ (s : Server). server_after s (settled_steps cycle s)) r.after ∙ ap (λ (ds : List ServerStep). server_after (server_of u) ds) (settles_empty cycle u (length u.store.pages)));
     })
 
-pub hello_greater : (cycle : Server → ℕ → Bool) (v : ServerState) (c i : ℕ) → IsServer v → c < length v.sessions → (session_at v.sessions c).incarnation < i
+pub hello_greater : (cycle : DeadlockTest) (v : ServerState) (c i : ℕ) → IsServer v → c < length v.sessions → (session_at v.sessions c).incarnation < i
     → Took v (admit_incarnation cycle (server_of v) c i) (record { client = c; incarnation = i; body = Welcome } ∷ []) (with_session v c (renumbered (session_at v.sessions c) i 0 0))
 hello_greater cycle v c i s h k = took_settled cycle v (with_session v c (renumbered (session_at v.sessions c) i 0 0)) (admits c i) _ (record { sends = refl; after = admitted_after v c i s h k })
 
@@ -227,14 +227,14 @@ never_below n = grind (arith, nat_tests)
 plain_txn : (v : ServerState) (c : ℕ) → begin_transaction (server_of v) c 0 ≡ []
 plain_txn v c = rw (never_below (session_at v.sessions c).txn) refl
 
-pub give_back_held : (cycle : Server → ℕ → Bool) (v : ServerState) (c p g : ℕ) → IsServer v → c < length v.sessions → p < length v.store.pages → is_exactly (row_at (session_at v.sessions c) p) g ≡ true
+pub give_back_held : (cycle : DeadlockTest) (v : ServerState) (c p g : ℕ) → IsServer v → c < length v.sessions → p < length v.store.pages → is_exactly (row_at (session_at v.sessions c) p) g ≡ true
     → Took v (take_current cycle (server_of v) c (GiveBack p g)) [] (with_session v c (with_row (session_at v.sessions c) p None))
 give_back_held cycle v c p g s h k e =
     subst (λ (ds : List ServerStep). Took v (and_then (server_of v) ds (λ m. rest cycle m c (GiveBack p g))) [] (with_session v c (with_row (session_at v.sessions c) p None))) (sym (plain_txn v c))
     (subst (λ (ds : List ServerStep). Took v (and_then (server_of v) ds (λ a. settle_pages cycle a a.pages)) [] (with_session v c (with_row (session_at v.sessions c) p None))) (sym (ap (λ (b : Bool). if b then removes c p g else []) e))
     (took_settled cycle v (with_session v c (with_row (session_at v.sessions c) p None)) (removes c p g) [] (record { sends = refl; after = removed_after v c p g s h k })))
 
-pub give_back_other : (cycle : Server → ℕ → Bool) (v : ServerState) (c p g : ℕ) → is_exactly (row_at (session_at v.sessions c) p) g ≡ false
+pub give_back_other : (cycle : DeadlockTest) (v : ServerState) (c p g : ℕ) → is_exactly (row_at (session_at v.sessions c) p) g ≡ false
     → Took v (take_current cycle (server_of v) c (GiveBack p g)) [] v
 give_back_other cycle v c p g e =
     subst (λ (ds : List ServerStep). Took v (and_then (server_of v) ds (λ m. rest cycle m c (GiveBack p g))) [] v) (sym (plain_txn v c))

@@ -8,12 +8,12 @@ use Rattle.std.proofs.lemmas.Bool.Decides.{nat_tests}
 use Rattle.cb_page.specs.Bounds.{Bounds}
 use Rattle.cb_commit.specs.Stores.{IsSound, IsStored, StoreState, no_page, version_at}
 use Rattle.cb_schedule.specs.NetMoves as net
-use Rattle.cb_schedule.specs.Plays.{IsSpelled, IsWorld, Stands, Steps}
+use Rattle.cb_schedule.specs.Plays.{IsSpelled, IsWorld, IsReached, Steps}
 use Rattle.cb_schedule.specs.ProtocolEvents.{event_of, answer_of, word_of, sent_of, entry_of, transcript_of}
 use Rattle.cb_schedule.specs.ProtocolLimits.{limits_of}
 use Rattle.cb_schedule.specs.ServerState.{ServerState, server_of}
 use Rattle.cb_schedule.specs.Wire.{AllSpell}
-use Rattle.cb_schedule.specs.WorldState.{NetState, WorldState, Shows, ShowsNet, opened, opening_of}
+use Rattle.cb_schedule.specs.WorldState.{NetState, WorldState, Represents, RepresentsNet, opened, opening_of}
 use Rattle.cb_schedule.specs.declared.event.Event.{Event}
 use Rattle.cb_schedule.specs.declared.answer.Answer.{Answer}
 use Rattle.cb_schedule.specs.declared.answer.Sent.{Sent}
@@ -65,7 +65,7 @@ reached_more L o w v e a r b =
 opening_same : (s : ServerState) (o : protocol.Opening) → Ledger o (server_of s) → opening_of s.store ≡ o
 opening_same s o l = λ i. record { bytes = λ p. l.bytes p i; version = λ p. l.version p i; number = l.numbered i }
 
-pub opening_kept : (n : NetState) (o : protocol.Opening) (w : protocol.World) → ShowsNet n w → Promise o w → opening_of n.server.store ≡ o
+pub opening_kept : (n : NetState) (o : protocol.Opening) (w : protocol.World) → RepresentsNet n w → Promise o w → opening_of n.server.store ≡ o
 opening_kept n o w sh p = opening_same n.server o (subst (λ (s : Server). Ledger o s) sh.server p.ledger)
 
 -- the protocol's world after the event
@@ -85,8 +85,8 @@ sent_length (s ∷ ss) = ap suc (sent_length ss)
 
 -- What an event makes of the net it makes of the world, as the protocol has it.
 pub net_becomes : (w v : WorldState) (e : Event) (a : Answer) (u : protocol.World) → w.net.limits ≡ w.limits
-    → net.Becomes w.net (event_of e) a v.net → v.transcript ≡ w.transcript ++ record { event = e; answer = a } ∷ [] → Shows w u
-    → (x : protocol.World) × protocol.Becomes (limits_of w.limits) on_cycle u (event_of e) (answer_of a) x × Shows v x
+    → net.NetBecomes w.net (event_of e) a v.net → v.transcript ≡ w.transcript ++ record { event = e; answer = a } ∷ [] → Represents w u
+    → (x : protocol.World) × protocol.Becomes (limits_of w.limits) on_cycle u (event_of e) (answer_of a) x × Represents v x
 net_becomes w v e a u l b t sh =
     let by = b.by_event u sh.net in
     let fs = by.1 in
@@ -99,7 +99,7 @@ net_becomes w v e a u l b t sh =
     )
 
 -- The packets are the old ones and as many more as the answer names.
-pub packets_added : (n m : NetState) (e : protocol.Event) (a : Answer) (u : protocol.World) → net.Becomes n e a m → ShowsNet n u
+pub packets_added : (n m : NetState) (e : protocol.Event) (a : Answer) (u : protocol.World) → net.NetBecomes n e a m → RepresentsNet n u
     → (sent : List (List ℕ)) × (m.packets ≡ n.packets ++ sent) × (length sent ≡ length a.sent)
 packets_added n m e a u b sh =
     let by = b.by_event u sh in
@@ -108,10 +108,10 @@ packets_added n m e a u b sh =
     (more.0, more.1, more.2 ∙ sym (as_many (length n.packets) fs) ∙ ap length by.5 ∙ sent_length a.sent)
 
 -- A running world plays an event.
-pub steps : (w v : WorldState) (e : Event) (a : Answer) → WholePromise → Stands w → w.stopped ≡ false → v.stopped ≡ false → v.limits ≡ w.limits
-    → net.Becomes w.net (event_of e) a v.net → v.transcript ≡ w.transcript ++ record { event = e; answer = a } ∷ [] → Steps w e a v
+pub steps : (w v : WorldState) (e : Event) (a : Answer) → WholePromise → IsReached w → w.stopped ≡ false → v.stopped ≡ false → v.limits ≡ w.limits
+    → net.NetBecomes w.net (event_of e) a v.net → v.transcript ≡ w.transcript ++ record { event = e; answer = a } ∷ [] → Steps w e a v
 steps w v e a whole s ran runs l b t =
-    let next = net_becomes w v e a s.world s.limits b t s.shows in
+    let next = net_becomes w v e a s.world s.limits b t s.represents in
     let reached = reached_more (limits_of w.limits) (opened w) s.world next.0 (event_of e) (answer_of a) s.reached next.1 in
     let promise = promise_of (limits_of w.limits) (opened w) next.0 whole s.sound reached in
     record {
@@ -120,38 +120,38 @@ steps w v e a whole s ran runs l b t =
       limits = l;
       opening = opening_kept v.net (opened w) next.0 next.2.net promise;
       transcript = t;
-      packets = packets_added w.net v.net (event_of e) a s.world b s.shows.net;
+      packets = packets_added w.net v.net (event_of e) a s.world b s.represents.net;
       becomes = λ u sh. net_becomes w v e a u s.limits b t sh;
       promise = (next.0, next.2, reached, promise);
     }
 
 -- It is such a world afterwards.
-pub stands_after : (w v : WorldState) (e : Event) (a : Answer) → SoundOpening (opened w) → v.net.limits ≡ v.limits → Steps w e a v → Stands v
-stands_after w v e a sound l s = record {
+pub reached_after : (w v : WorldState) (e : Event) (a : Answer) → SoundOpening (opened w) → v.net.limits ≡ v.limits → Steps w e a v → IsReached v
+reached_after w v e a sound l s = record {
   limits = l;
   sound = subst SoundOpening (sym s.opening) sound;
   world = s.promise.0;
-  shows = s.promise.1;
+  represents = s.promise.1;
   reached = subst (λ (o : protocol.Opening). ReachedWorld (limits_of v.limits) on_cycle o s.promise.0) (sym s.opening) (subst (λ (m : Bounds). ReachedWorld (limits_of m) on_cycle (opened w) s.promise.0) (sym s.limits) s.promise.2);
 }
 
 -- Its packets are spellings of frames.
-pub spelled_packets : (v : WorldState) → Stands v → AllByRecursion (IsSpelled v.limits) v.net.packets
-spelled_packets v s = subst (λ (l : Bounds). AllByRecursion (IsSpelled l) v.net.packets) s.limits (all_spelled v.net.limits v.net.packets s.world.packets s.shows.net.packets)
+pub spelled_packets : (v : WorldState) → IsReached v → AllByRecursion (IsSpelled v.limits) v.net.packets
+spelled_packets v s = subst (λ (l : Bounds). AllByRecursion (IsSpelled l) v.net.packets) s.limits (all_spelled v.net.limits v.net.packets s.world.packets s.represents.net.packets)
 
 -- The world of a store before any event.
-pub stands_at_first : (v : WorldState) (l : Bounds) (s : StoreState) → v.limits ≡ l → v.net.limits ≡ l → SoundOpening (opening_of s) → ShowsNet v.net (protocol.new_world (limits_of l) (opening_of s)) → v.transcript ≡ []
-    → (opened v ≡ opening_of s) × Shows v (protocol.new_world (limits_of l) (opening_of s)) × Stands v
-stands_at_first v l s e f sound sh t =
+pub reached_at_first : (v : WorldState) (l : Bounds) (s : StoreState) → v.limits ≡ l → v.net.limits ≡ l → SoundOpening (opening_of s) → RepresentsNet v.net (protocol.new_world (limits_of l) (opening_of s)) → v.transcript ≡ []
+    → (opened v ≡ opening_of s) × Represents v (protocol.new_world (limits_of l) (opening_of s)) × IsReached v
+reached_at_first v l s e f sound sh t =
     let o : opened v ≡ opening_of s = ap (λ (k : Server). record { bytes = k.store.bytes; version = k.store.version; number = k.store.last_commit }) (sym sh.server) in
-    let shows : Shows v (protocol.new_world (limits_of l) (opening_of s)) = record { net = sh; transcript = ap transcript_of (sym t) } in (
+    let represents : Represents v (protocol.new_world (limits_of l) (opening_of s)) = record { net = sh; transcript = ap transcript_of (sym t) } in (
       o,
-      shows,
+      represents,
       record {
         limits = f ∙ sym e;
         sound = subst SoundOpening (sym o) sound;
         world = protocol.new_world (limits_of l) (opening_of s);
-        shows = shows;
+        represents = represents;
         reached = ([], tt, λ i. protocol.new_world (limits_of (e i)) (o i));
       },
     )
@@ -171,10 +171,10 @@ sound_opening s sound p = by_test (nat_lt p (length s.pages)) refl
 
 -- A running world that is told an event is such a world again.
 pub stepped : (w v : WorldState) (e : Event) → WholePromise → IsWorld w → w.stopped ≡ false → v.stopped ≡ false → v.limits ≡ w.limits
-    → (a : Answer) × net.Becomes w.net (event_of e) a v.net × (v.transcript ≡ w.transcript ++ record { event = e; answer = a } ∷ [])
+    → (a : Answer) × net.NetBecomes w.net (event_of e) a v.net × (v.transcript ≡ w.transcript ++ record { event = e; answer = a } ∷ [])
     → IsWorld v × ((a : Answer) × Steps w e a v)
 stepped w v e whole z ran runs l told =
-    let s = z.stands ran in
+    let s = z.running ran in
     let one = steps w v e told.0 whole s ran runs l told.1 told.2 in
-    let after = stands_after w v e told.0 s.sound (told.1.limits ∙ s.limits ∙ sym l) one in
-    (record { packets = spelled_packets v after; stands = λ _. after }, (told.0, one))
+    let after = reached_after w v e told.0 s.sound (told.1.limits ∙ s.limits ∙ sym l) one in
+    (record { packets = spelled_packets v after; running = λ _. after }, (told.0, one))

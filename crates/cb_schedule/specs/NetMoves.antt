@@ -19,7 +19,7 @@ use Rattle.cb_schedule.specs.ProtocolLimits.{limits_of}
 use Rattle.cb_schedule.specs.ProtocolEvents.{sent_of, word_of}
 use Rattle.cb_schedule.specs.Wire.{AllSpell, Spells, IsSentSoFar, body_of, message_of}
 use Rattle.cb_frame.specs.Grammar.{Fits}
-use Rattle.cb_schedule.specs.WorldState.{NetState, ShowsNet, client_at}
+use Rattle.cb_schedule.specs.WorldState.{NetState, RepresentsNet, client_at}
 use Rattle.cb_schedule.specs.declared.answer.Answer.{Answer}
 use Rattle.cb_protocol.specs.Messages.{Message, Body}
 use Rattle.cb_protocol.specs.WaitsFor.{on_cycle}
@@ -63,9 +63,9 @@ pub record FoundFrame (n : NetState) (k : ℕ) (f : Frame) : Type 0 where
   pub so_far : IsSentSoFar (body_of f.body)
   pub carries : Carries n k (message_of f)
 
-abbrev pub Finds : NetState → ℕ → Option Frame → Type 0
-Finds n k None = slice_get n.packets k ≡ None
-Finds n k (Some f) = FoundFrame n k f
+abbrev pub FrameOfPacket : NetState → ℕ → Option Frame → Type 0
+FrameOfPacket n k None = slice_get n.packets k ≡ None
+FrameOfPacket n k (Some f) = FoundFrame n k f
 
 -- these bodies are sent, to or from the client at that incarnation
 pub record Says (n : NetState) (c i : ℕ) (bodies : List Body) (sent : List Sent) (m : NetState) : Type 0 where
@@ -95,11 +95,11 @@ pub record IsNet (n : NetState) : Type 0 where
 
 -- One event of the protocol's world, answered as `a`, makes the net `n` the net `m`: whatever world of the protocol `n` is,
 -- `m` is what that one becomes, by some choice of the page let go that the pool's law allows.
-pub record Becomes (n : NetState) (e : Event) (a : Answer) (m : NetState) : Type 0 where
+pub record NetBecomes (n : NetState) (e : Event) (a : Answer) (m : NetState) : Type 0 where
   pub limits : m.limits ≡ n.limits
-  pub by_event : (w : World) → ShowsNet n w
+  pub by_event : (w : World) → RepresentsNet n w
       → (let_go : Option ℕ) × (messages : List Message) × (u : World)
       × EventChoiceAllowed (limits_of n.limits) w e let_go
       × (step (limits_of n.limits) on_cycle w e let_go ≡ answer_with w e (word_of a.word) messages u)
       × (numbered_from (length n.packets) messages ≡ map sent_of a.sent)
-      × ShowsNet m (answer_with w e (word_of a.word) messages u).world
+      × RepresentsNet m (answer_with w e (word_of a.word) messages u).world

@@ -35,15 +35,15 @@ with_server n s = record { limits = n.limits; server = s; clients = n.clients; p
 
 -- The protocol's world has this server, these clients and these packets. What its clients' transactions have done so far,
 -- their operations, no code keeps.
-pub record ShowsNet (n : NetState) (w : protocol.World) : Type 0 where
+pub record RepresentsNet (n : NetState) (w : protocol.World) : Type 0 where
   pub server : w.server ≡ server_of n.server
   pub clients : (c : ℕ) → w.client c ≡ client_of (client_at n c) (w.client c).cache.operations
   pub incarnations : (c : ℕ) → w.incarnation c ≡ 1
   pub packets : AllSpell n.limits n.packets w.packets
 
 -- The protocol's world that a world is: its net, and its transcript.
-pub record Shows (v : WorldState) (w : protocol.World) : Type 0 where
-  pub net : ShowsNet v.net w
+pub record Represents (v : WorldState) (w : protocol.World) : Type 0 where
+  pub net : RepresentsNet v.net w
   pub transcript : w.transcript ≡ transcript_of v.transcript
 
 -- the protocol's opening of a store

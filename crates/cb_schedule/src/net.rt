@@ -16,9 +16,9 @@ ghost use Rattle.cb_protocol.specs.Messages.{AskRead, GiveBack, Granted, Hello, 
 ghost use Rattle.cb_protocol.specs.ServerMessages.{is_exhausted};
 ghost use Rattle.cb_schedule.specs.ServerState.{server_of, bodies_of, Replies, ReplyFits, TakesMessage};
 ghost use Rattle.cb_protocol.specs.Answers.{AnsweredOk};
-ghost use Rattle.cb_schedule.specs.NetMoves.{FoundFrame, Finds, Says, granting_frame, AnswersRead, Becomes, Carries, IsAnswered, IsNet, IsPacket, asking_frame, page_frame, sent_as, sent_net_of};
+ghost use Rattle.cb_schedule.specs.NetMoves.{FoundFrame, FrameOfPacket, Says, granting_frame, AnswersRead, NetBecomes, Carries, IsAnswered, IsNet, IsPacket, asking_frame, page_frame, sent_as, sent_net_of};
 ghost use Rattle.cb_schedule.specs.Wire.{message_of, body_of, IsSentSoFar};
-ghost use Rattle.cb_schedule.specs.WorldState.{NetState, ShowsNet, opening_of, client_at, with_client, with_server};
+ghost use Rattle.cb_schedule.specs.WorldState.{NetState, RepresentsNet, opening_of, client_at, with_client, with_server};
 
 use crate::answer::{Answer, Sent, SentPackets, Word};
 use crate::client::{Client, ReadAnswer};
@@ -59,7 +59,7 @@ impl Net {
         ensures limits { IfOk result (λ n. n.limits ≡ limits.now) }
         ensures packets { IfOk result (λ n. n.packets ≡ []) }
         ensures store { IfOk result (λ n. n.server.store ≡ store) }
-        ensures opening { IfOk result (λ n. ShowsNet n (new_world (limits_of limits.now) (opening_of store))) }
+        ensures opening { IfOk result (λ n. RepresentsNet n (new_world (limits_of limits.now) (opening_of store))) }
     {
         let _in_range = limits.clients();
         let clients = new_clients(alloc, limits)?;
@@ -200,7 +200,7 @@ impl Net {
     /// A client says Hello.
     pub(crate) fn hello(&mut self, alloc: Global, client: ClientNo) -> Result<Answer, AllocError>
         requires { client < self.old.limits.clients }
-        ensures ok { IfOk result (λ a. Becomes self.old (ClientCalls client CallHello) a self.new) }
+        ensures ok { IfOk result (λ a. NetBecomes self.old (ClientCalls client CallHello) a self.new) }
         ensures err { OnErr result (self.new.packets ≡ self.old.packets) }
     {
         self.sound();
@@ -216,7 +216,7 @@ impl Net {
     /// A client begins a transaction.
     pub(crate) fn begin(&mut self, alloc: Global, client: ClientNo) -> Answer
         requires { client < self.old.limits.clients }
-        ensures { Becomes self.old (ClientCalls client CallBegin) result self.new }
+        ensures { NetBecomes self.old (ClientCalls client CallBegin) result self.new }
     {
         self.sound();
         match self.begin_at(client) {
@@ -233,7 +233,7 @@ impl Net {
         page: PageNo,
     ) -> Result<Answer, AllocError>
         requires { client < self.now.limits.clients }
-        ensures { IfOk result (λ a. Becomes self.now (ClientCalls client (CallPeek page)) a self.now) }
+        ensures { IfOk result (λ a. NetBecomes self.now (ClientCalls client (CallPeek page)) a self.now) }
     {
         self.sound();
         match self.peek_at(client, page) {
@@ -253,7 +253,7 @@ impl Net {
         page: PageNo,
     ) -> Result<Answer, AllocError>
         requires { client < self.old.limits.clients }
-        ensures ok { IfOk result (λ a. Becomes self.old (ClientCalls client (CallRead page)) a self.new) }
+        ensures ok { IfOk result (λ a. NetBecomes self.old (ClientCalls client (CallRead page)) a self.new) }
         ensures err { OnErr result (self.new.packets ≡ self.old.packets) }
     {
         self.sound();
@@ -352,7 +352,7 @@ impl Net {
 
     /// The frame that a packet is.
     fn frame(&self, alloc: Global, number: u64) -> Result<Option<Frame>, AllocError>
-        ensures { IfOk result (Finds self.now number) }
+        ensures { IfOk result (FrameOfPacket self.now number) }
     {
         self.sound();
         match self.packet(number) {
@@ -426,7 +426,7 @@ impl Net {
         incarnation: Incarnation,
     ) -> Result<Answer, AllocError>
         requires { FoundFrame self.old packet (record { client = client; incarnation = incarnation; body = Body.Short ShortBody.Hello }) }
-        ensures ok { IfOk result (λ a. Becomes self.old (TakePacket packet) a self.new) }
+        ensures ok { IfOk result (λ a. NetBecomes self.old (TakePacket packet) a self.new) }
         ensures err { OnErr result (self.new.packets ≡ self.old.packets) }
     {
         self.sound();
@@ -450,7 +450,7 @@ impl Net {
         page: PageNo,
     ) -> Result<Answer, AllocError>
         requires { FoundFrame self.old packet (record { client = client; incarnation = incarnation; body = Body.Short (ShortBody.AskRead txn page) }) }
-        ensures ok { IfOk result (λ a. Becomes self.old (TakePacket packet) a self.new) }
+        ensures ok { IfOk result (λ a. NetBecomes self.old (TakePacket packet) a self.new) }
         ensures err { OnErr result (self.new.packets ≡ self.old.packets) }
         ensures left { OnErr result (is_exhausted (server_of self.old.server) client incarnation (AskRead txn page) ≡ false) }
     {
@@ -479,7 +479,7 @@ impl Net {
         grant: GrantNo,
     ) -> Answer
         requires { FoundFrame self.old packet (record { client = client; incarnation = incarnation; body = Body.Short (ShortBody.GiveBack page grant) }) }
-        ensures { Becomes self.old (TakePacket packet) result self.new }
+        ensures { NetBecomes self.old (TakePacket packet) result self.new }
     {
         self.sound();
         self.serve_give_back(client, incarnation, page, grant);
@@ -495,7 +495,7 @@ impl Net {
         incarnation: Incarnation,
     ) -> Answer
         requires { FoundFrame self.old packet (record { client = client; incarnation = incarnation; body = Body.Short ShortBody.Welcome }) }
-        ensures { Becomes self.old (TakePacket packet) result self.new }
+        ensures { NetBecomes self.old (TakePacket packet) result self.new }
     {
         self.sound();
         if incarnation.get() != 1 {
@@ -513,7 +513,7 @@ impl Net {
         frame: Granting,
     ) -> Result<Answer, AllocError>
         requires { FoundFrame self.old packet (granting_frame frame) }
-        ensures ok { IfOk result (λ a. Becomes self.old (TakePacket packet) a self.new) }
+        ensures ok { IfOk result (λ a. NetBecomes self.old (TakePacket packet) a self.new) }
         ensures err { OnErr result (self.new.packets ≡ self.old.packets) }
         ensures first { OnErr result (frame.incarnation ≡ 1) }
     {
@@ -541,7 +541,7 @@ impl Net {
     /// The addressee of a packet takes its frame.
     fn deliver(&mut self, alloc: Global, packet: u64, frame: Frame) -> Result<Answer, AllocError>
         requires { FoundFrame self.old packet frame }
-        ensures ok { IfOk result (λ a. Becomes self.old (TakePacket packet) a self.new) }
+        ensures ok { IfOk result (λ a. NetBecomes self.old (TakePacket packet) a self.new) }
         ensures err { OnErr result (self.new.packets ≡ self.old.packets) }
     {
         let Frame {
@@ -581,7 +581,7 @@ impl Net {
         short: ShortBody,
     ) -> Result<Answer, AllocError>
         requires { FoundFrame self.old packet (record { client = client; incarnation = incarnation; body = Body.Short short }) }
-        ensures ok { IfOk result (λ a. Becomes self.old (TakePacket packet) a self.new) }
+        ensures ok { IfOk result (λ a. NetBecomes self.old (TakePacket packet) a self.new) }
         ensures err { OnErr result (self.new.packets ≡ self.old.packets) }
         ensures memory { OnErr result (IsAnswered short) }
     {
@@ -600,7 +600,7 @@ impl Net {
 
     /// A packet is taken by its addressee.
     fn take(&mut self, alloc: Global, packet: u64) -> Result<Answer, AllocError>
-        ensures ok { IfOk result (λ a. Becomes self.old (TakePacket packet) a self.new) }
+        ensures ok { IfOk result (λ a. NetBecomes self.old (TakePacket packet) a self.new) }
         ensures err { OnErr result (self.new.packets ≡ self.old.packets) }
     {
         match self.frame(alloc, packet)? {
@@ -612,7 +612,7 @@ impl Net {
     /// A client is called.
     fn call(&mut self, alloc: Global, client: ClientNo, call: &Call) -> Result<Answer, AllocError>
         requires { IsPlayed (Event.Call client call.now) }
-        ensures ok { IfOk result (λ a. Becomes self.old (ClientCalls client (call_of call.now)) a self.new) }
+        ensures ok { IfOk result (λ a. NetBecomes self.old (ClientCalls client (call_of call.now)) a self.new) }
         ensures err { OnErr result (self.new.packets ≡ self.old.packets) }
     {
         if !self.has_client(client) {
@@ -630,7 +630,7 @@ impl Net {
     /// One event.
     pub(crate) fn event(&mut self, alloc: Global, event: &Event) -> Result<Answer, AllocError>
         requires { IsPlayed event.now }
-        ensures ok { IfOk result (λ a. Becomes self.old (event_of event.now) a self.new) }
+        ensures ok { IfOk result (λ a. NetBecomes self.old (event_of event.now) a self.new) }
         ensures err { OnErr result (self.new.packets ≡ self.old.packets) }
     {
         match event {

@@ -1,6 +1,6 @@
 //! The transcript of a world, and the serial check of it.
 ghost use Rattle.std.specs.Prelude.{◌≡◌, List, ◌++◌, [], ◌∷◌, IfOk, OnErr, ◌↔◌};
-ghost use Rattle.cb_schedule.specs.NetMoves.{Becomes};
+ghost use Rattle.cb_schedule.specs.NetMoves.{NetBecomes};
 ghost use Rattle.cb_schedule.specs.ProtocolEvents.{IsPlayed, event_of};
 ghost use Rattle.cb_schedule.specs.Transcripts.{IsSerialOverAny};
 ghost use Rattle.cb_schedule.specs.declared.answer.Answer.{Answer as AnswerState};
@@ -85,7 +85,7 @@ impl Transcript {
         event: Event,
     ) -> Result<(), AllocError>
         requires { IsPlayed event }
-        ensures ok { IfOk result (λ _. (a : AnswerState) × Becomes net.old (event_of event) a net.new × (self.new.entries ≡ self.old.entries ++ record { event = event; answer = a } ∷ [])) }
+        ensures ok { IfOk result (λ _. (a : AnswerState) × NetBecomes net.old (event_of event) a net.new × (self.new.entries ≡ self.old.entries ++ record { event = event; answer = a } ∷ [])) }
         ensures kept { OnErr result (self.new ≡ self.old) }
         ensures packets { OnErr result (net.new.packets ≡ net.old.packets) }
     {

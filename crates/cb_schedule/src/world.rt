@@ -4,10 +4,10 @@ ghost use Rattle.std.specs.List.{AllByRecursion};
 ghost use Rattle.cb_commit.specs.Stores.{IsOf};
 ghost use Rattle.cb_protocol.specs.Headline.{Promise};
 ghost use Rattle.cb_protocol.specs.World.{new_world};
-ghost use Rattle.cb_schedule.specs.Plays.{IsSpelled, Played, Stands, Steps};
+ghost use Rattle.cb_schedule.specs.Plays.{IsSpelled, Played, IsReached, Steps};
 ghost use Rattle.cb_schedule.specs.ProtocolEvents.{IsPlayed};
 ghost use Rattle.cb_schedule.specs.ProtocolLimits.{limits_of};
-ghost use Rattle.cb_schedule.specs.WorldState.{Shows, opened, opening_of};
+ghost use Rattle.cb_schedule.specs.WorldState.{Represents, opened, opening_of};
 ghost use Rattle.cb_schedule.specs.declared.answer.Answer.{Answer as AnswerState};
 ghost use Rattle.cb_schedule.specs.declared.answer.Entry.{Entry as EntryState};
 
@@ -60,7 +60,7 @@ impl World {
         ensures packets { IfOk result (λ w. w.net.packets ≡ []) }
         ensures limits { IfOk result (λ w. w.limits ≡ limits.now) }
         ensures opening { IfOk result (λ w. opened w ≡ opening_of store) }
-        ensures shows { IfOk result (λ w. Shows w (new_world (limits_of limits.now) (opening_of store))) }
+        ensures represents { IfOk result (λ w. Represents w (new_world (limits_of limits.now) (opening_of store))) }
         ensures promise { IfOk result (λ w. Promise (opened w) (new_world (limits_of limits.now) (opening_of store))) }
     {
         callback_read();
@@ -100,7 +100,7 @@ impl World {
     /// plays none.
     pub fn play(mut self, events: &[Event]) -> Result<Transcript, PlayFault>
         requires { AllByRecursion IsPlayed events.now }
-        ensures ok { IfOk result (λ told. Played self events.now told.entries) }
+        ensures ok { IfOk result (λ transcript. Played self events.now transcript.entries) }
         ensures fault { IfErr result (λ fault. self.stopped ≡ false → (n : ℕ) × (n < length events.now) × Played self (take n events.now) fault.transcript.entries) }
         ensures stopped { self.stopped ≡ true → IfErr result (λ fault. fault.transcript.entries ≡ self.transcript) }
         ensures stays { self.stopped ≡ true → IsErr result }
@@ -154,7 +154,7 @@ impl World {
     /// Whether no want of memory stopped the world.
     pub fn is_running(&self) -> bool
         ensures value { IsTrue result ↔ (self.now.stopped ≡ false) }
-        ensures stands { self.now.stopped ≡ false → Stands self.now }
+        ensures reached { self.now.stopped ≡ false → IsReached self.now }
     {
         !self.stopped
     }

@@ -9,7 +9,7 @@ use Rattle.cb_schedule.proofs.world.World.play.Goals as goal
 pub loop-event-init : goal.loop-event-init
 loop-event-init c =
     let ran = c.is_running.ensures.value.0 c.if-not-is_running.false in
-    record { played = played_none c.args.self c.callback_read.ensures.promise ran (c.is_running.ensures.stands ran) }
+    record { played = played_none c.args.self c.callback_read.ensures.promise ran (c.is_running.ensures.reached ran) }
 
 pub returns-in_default-clause-fault : goal.returns-in_default-clause-fault
 returns-in_default-clause-fault c = λ ran. (
