@@ -113,6 +113,14 @@ abbrev pub without_holder : Option ℕ → ℕ → Option ℕ
 without_holder None client = None
 without_holder (Some other) client = if other == client then None else Some other
 
+-- a client is not write holder of a page any more, if it was
+pub record ReleasesIf (before : DirectoryState) (client page : ℕ) (after : DirectoryState)
+    : Type 0 where
+  pub has : Has before after
+      (row before) (at_page (holder before) page (without_holder (holder before page) client))
+      (tag before)
+  pub next : after.next_grant ≡ before.next_grant
+
 -- a client is write holder of no page any more; the tags stay
 pub record ReleasesAll (before : DirectoryState) (client : ℕ) (after : DirectoryState) : Type 0 where
   pub has : Has before after

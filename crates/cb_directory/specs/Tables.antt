@@ -2,7 +2,7 @@
 use Rattle.std.specs.Prelude.{◌≡◌, ◌<◌, ◌≤◌, ℕ, Bool, true, false, ◌==◌, if◌then◌else◌, List, [], length, Option, Some, None, replicate, slice_index_or}
 use Rattle.cb_clients.specs.Clients as clients
 use Rattle.cb_page.specs.Flags.{has}
-use Rattle.cb_directory.specs.Rows.{ClientState, grant_of, no_rows}
+use Rattle.cb_directory.specs.Rows.{ClientState, grant_of}
 use Rattle.cb_directory.specs.declared.lines.PageLine.{PageLine}
 
 -- one line a client and one a page
@@ -53,10 +53,15 @@ pub record IsSized (tables : TablesState) : Type 0 where
   pub flags : (client : ℕ) → client < length tables.clients
       → length (client_of tables client).pages ≡ length tables.pages
 
--- no rows and no write holders
-abbrev pub empty : ℕ → ℕ → TablesState
-empty clients pages =
-    record { clients = replicate clients (no_rows pages); pages = replicate pages no_line }
+-- that many clients and pages, and nobody has anything
+pub record IsEmpty (client_count page_count : ℕ) (tables : TablesState) : Type 0 where
+  pub clients : length tables.clients ≡ client_count
+  pub pages : length tables.pages ≡ page_count
+  pub rows : (client page : ℕ) → row tables client page ≡ None
+  pub marks : (client page : ℕ) → is_marked tables client page ≡ false
+  pub listed : (client page : ℕ) → is_listed tables client page ≡ false
+  pub holders : (page : ℕ) → holder tables page ≡ None
+  pub tags : (page : ℕ) → tag tables page ≡ None
 
 -- what stands at one client and page changes, all else stays
 abbrev pub at_place : {A : Type 0} → (ℕ → ℕ → A) → ℕ → ℕ → A → ℕ → ℕ → A

@@ -1,7 +1,7 @@
 ghost use Rattle.std.specs.Prelude.{◌≡◌, ◌^◌, ℕ, ◌<◌, None, Some, IfOk};
 ghost use Rattle.std.specs.Option.{is_some};
 ghost use Rattle.cb_clients.specs.Clients.{has};
-ghost use Rattle.cb_directory.specs.Directories.{Forgets, GivesBack, Grants, HasClient, HasGrantLeft, HasPage, IsNew, IsSoleRow, NoOtherHolder, Permits, Releases, ReleasesAll, row, holder, tag};
+ghost use Rattle.cb_directory.specs.Directories.{Forgets, GivesBack, Grants, HasClient, HasGrantLeft, HasPage, IsNew, IsSoleRow, NoOtherHolder, Permits, Releases, ReleasesAll, ReleasesIf, row, holder, tag};
 
 use crate::tables::Tables;
 use cb_clients::ClientSet;
@@ -129,6 +129,16 @@ impl Directory {
         }
     }
 
+    /// The client may not write the page any more. Another write holder stays.
+    fn clear_writer_if(&mut self, client: ClientNo, page: PageNo)
+        requires { HasPage self.old page }
+        ensures { ReleasesIf self.old client page self.new }
+    {
+        if self.tables.holder(page) == Some(client) {
+            self.clear_writer(page);
+        }
+    }
+
     /// The client may write no page any more. It costs the client's rows and permissions.
     pub fn clear_writers(&mut self, client: ClientNo)
         requires { HasClient self.old client }
@@ -136,9 +146,7 @@ impl Directory {
     {
         let mut from = 0;
         while let Some(page) = self.tables.next_listed(client, from) {
-            if self.tables.holder(page) == Some(client) {
-                self.clear_writer(page);
-            }
+            self.clear_writer_if(client, page);
             from = page.index() + 1;
         }
     }

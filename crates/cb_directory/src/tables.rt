@@ -3,7 +3,7 @@ ghost use Rattle.std.specs.Prelude.{◌≡◌, ℕ, ◌<◌, ◌≤◌, None, So
 ghost use Rattle.cb_clients.specs.Clients.{has};
 ghost use Rattle.std.specs.Option.{is_some};
 ghost use Rattle.cb_directory.specs.Rows.{no_rows};
-ghost use Rattle.cb_directory.specs.Tables.{Lists, PutsHolder, PutsRow, empty, holder, is_listed, is_marked, row, tag};
+ghost use Rattle.cb_directory.specs.Tables.{IsEmpty, Lists, PutsHolder, PutsRow, holder, is_listed, is_marked, row, tag};
 
 use crate::lines::{ClientLine, PageLine};
 use cb_clients::ClientSet;
@@ -31,7 +31,7 @@ impl Model for Tables {
 impl Tables {
     /// No rows and no write holders.
     pub fn new(alloc: Global, limits: &Limits) -> Result<Tables, AllocError>
-        ensures { IfOk result (λ tables. tables ≡ empty limits.now.clients limits.now.pages) }
+        ensures { IfOk result (IsEmpty limits.now.clients limits.now.pages) }
     {
         let line = PageLine {
             clients: ClientSet::empty(),
