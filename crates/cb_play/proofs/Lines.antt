@@ -1,7 +1,7 @@
 -- The lines of events, one more at the end.
 use Rattle.std.proofs.Common.{◌≡◌, ℕ, zero, suc, ◌+◌, ◌<◌, List, [], ◌∷◌, ◌++◌, length, take, get_or, append_assoc, append-nil, arith}
 use Rattle.cb_play.specs.Output.{line, lines_from}
-use Rattle.cb_schedule.specs.declared.answer.Entry.{Entry}
+use Rattle.cb_transcript.specs.declared.answer.Entry.{Entry}
 
 -- the lines up to a place, and the line of the event there
 pub lines-more : (first : ℕ) (entries : List Entry) (i : ℕ) (place : ℕ) (entry : Entry) → i < length entries

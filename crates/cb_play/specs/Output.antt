@@ -3,12 +3,12 @@ use Rattle.std.specs.Prelude.{ℕ, ◌+◌, ◌/◌, ◌%◌, ◌==◌, Bool, tr
 use Rattle.std.specs.List.{list_all, flat_map}
 use Rattle.std.specs.Fmt.{decimal, digit_glyph}
 use Rattle.cb_frame.specs.Kinds.{name_of}
-use Rattle.cb_schedule.specs.FaultTexts.{refusal_text}
-use Rattle.cb_schedule.specs.declared.answer.Word.{Word}
-use Rattle.cb_schedule.specs.declared.answer.Word.TheVariants as word
-use Rattle.cb_schedule.specs.declared.answer.Sent.{Sent}
-use Rattle.cb_schedule.specs.declared.answer.Answer.{Answer}
-use Rattle.cb_schedule.specs.declared.answer.Entry.{Entry}
+use Rattle.cb_first_client.specs.FaultTexts.{refusal_text}
+use Rattle.cb_transcript.specs.declared.answer.Word.{Word}
+use Rattle.cb_transcript.specs.declared.answer.Word.TheVariants as word
+use Rattle.cb_transcript.specs.declared.answer.Sent.{Sent}
+use Rattle.cb_transcript.specs.declared.answer.Answer.{Answer}
+use Rattle.cb_transcript.specs.declared.answer.Entry.{Entry}
 
 -- a byte as two small hexadecimal digits
 unfoldable pub two_digits : ℕ → List ℕ

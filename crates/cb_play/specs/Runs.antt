@@ -5,14 +5,15 @@ use Rattle.cb_commit.specs.Stores.{zeros}
 use Rattle.cb_page.specs.Bounds.{Bounds}
 use Rattle.cb_protocol.specs.World.{new_world}
 use Rattle.cb_schedule.specs.Plays.{Played}
-use Rattle.cb_schedule.specs.ProtocolLimits.{limits_of}
-use Rattle.cb_schedule.specs.ScheduleText as text
-use Rattle.cb_schedule.specs.Transcripts.{IsSerialOverAny, TranscriptState}
-use Rattle.cb_schedule.specs.WorldState.{Represents, WorldState, opening_of}
-use Rattle.cb_schedule.specs.declared.answer.Entry.{Entry}
-use Rattle.cb_schedule.specs.declared.event.Event.{Event}
-use Rattle.cb_schedule.specs.declared.text.ScheduleFault.{ScheduleFault}
-use Rattle.cb_schedule.specs.declared.text.ScheduleFault.TheVariants as schedule
+use Rattle.cb_first_client.specs.ProtocolLimits.{limits_of}
+use Rattle.cb_event.specs.ScheduleText as text
+use Rattle.cb_transcript.specs.Transcripts.{IsSerialOnOpening, TranscriptState}
+use Rattle.cb_first_net.specs.NetState.{opening_of}
+use Rattle.cb_schedule.specs.WorldState.{Represents, WorldState}
+use Rattle.cb_transcript.specs.declared.answer.Entry.{Entry}
+use Rattle.cb_event.specs.declared.event.Event.{Event}
+use Rattle.cb_event.specs.declared.text.ScheduleFault.{ScheduleFault}
+use Rattle.cb_event.specs.declared.text.ScheduleFault.TheVariants as schedule
 use Rattle.cb_play.specs.Output.{last_lines, lines_from}
 use Rattle.cb_play.specs.Settings.{IsConfig, IsWrong, config_text}
 use Rattle.cb_play.specs.declared.config.Config.{Config}
@@ -80,8 +81,8 @@ IsRefusal config_bytes schedule_bytes refusal =
 -- A transcript is printed to the end, and the status is 0 exactly where it is serial; or memory ran out for the check.
 abbrev pub Ends : TranscriptState → ℕ → List ℕ → Type 0
 Ends t status printed =
-    ((status ≡ 0) × IsSerialOverAny t × (printed ≡ lines_from 1 t.entries ++ last_lines (length t.commits) true))
-    ⊎ ((status ≡ 1) × (¬ IsSerialOverAny t) × (printed ≡ lines_from 1 t.entries ++ last_lines (length t.commits) false))
+    ((status ≡ 0) × IsSerialOnOpening t × (printed ≡ lines_from 1 t.entries ++ last_lines (length t.commits) true))
+    ⊎ ((status ≡ 1) × (¬ IsSerialOnOpening t) × (printed ≡ lines_from 1 t.entries ++ last_lines (length t.commits) false))
     ⊎ ((status ≡ 4) × (printed ≡ lines_from 1 t.entries))
 
 -- What a run prints on the standard output, with its status: every event is played, and none is a commit yet; or memory

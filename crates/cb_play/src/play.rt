@@ -2,7 +2,7 @@
 ghost use Rattle.std.specs.Prelude.{◌≡◌, ◌≢◌, ℕ, List, [], ◌++◌, length, codes, IfOk, IfErr, OnOk};
 ghost use Rattle.std.specs.Io.KnownBytes.{Appends};
 ghost use Rattle.std.specs.List.{AllByRecursion};
-ghost use Rattle.cb_schedule.specs.ProtocolEvents.{IsPlayed};
+ghost use Rattle.cb_event.specs.Events.{IsPlayed};
 ghost use Rattle.cb_play.specs.Output.{last_lines, lines_from};
 ghost use Rattle.cb_play.specs.Runs.{BecomesOfConfig, BecomesOfSchedule, Ends, IsPlay, IsPlayOf, IsReadStatus, IsRefusal, IsRun, IsSaid, IsStatus};
 ghost use Rattle.cb_play.specs.declared.play.ReadFault.TheVariants as fault;

@@ -57,6 +57,8 @@ pub mod ServerRangesKept
 -- numbers, room and marks of the server
 pub mod GrantNumbers
 pub mod MessagesSent
+pub mod MarksKept
+pub mod Permissions
 -- computed schedules
 pub mod ScheduleText
 pub mod WorkedSchedules

@@ -14,8 +14,8 @@ use Rattle.cb_protocol.specs.World.{Opening, opening_store}
 abbrev pub committed_names : List AppliedCommit → List TransactionName
 committed_names xs = map (λ x. record { client = x.client; incarnation = x.incarnation; txn = x.txn }) xs
 
--- The directory rule (TODS 1997; grants are this project's). That a client has at most one row a page, and that a row's version is the store's,
--- lies in the form of `Session`.
+-- The directory rule (TODS 1997; grants are this project's). That a client has at most one row a
+-- page, and that a row's version is the store's, lies in the form of `Session`.
 pub record DirectoryRule (s : Server) : Type 0 where
   -- a page with a write holder has rows of no other client
   pub sole : (p c d g : ℕ) → s.store.holder p ≡ Some c → (s.session d).row p ≡ Some g → d ≡ c
@@ -36,7 +36,8 @@ abbrev pub Numbered : ℕ → List AppliedCommit → ℕ → Type 0
 Numbered m [] n = n ≡ m
 Numbered m (x ∷ xs) n = (x.number ≡ n) × ((k : ℕ) × (n ≡ k + 1) × Numbered m xs k)
 
--- The ledger: the store is the opening store with the commits written over it, in order, and no transaction commits twice.
+-- The ledger: the store is the opening store with the commits written over it, in order, and no
+-- transaction commits twice.
 pub record Ledger (o : Opening) (s : Server) : Type 0 where
   pub numbered : Numbered o.number s.commits s.store.last_commit
   pub bytes : (p : ℕ) → s.store.bytes p ≡ bytes_after o.bytes s.commits p

@@ -1,5 +1,5 @@
 -- Laws of asks at the server, whatever messages come: who is granted a page and when. This project's rules.
-use Rattle.std.specs.Prelude.{◌≡◌, ◌≢◌, ◌<◌, ◌⊎◌, ℕ, Bool, List, ◌∷◌, ◌++◌, Option, Some, None}
+use Rattle.std.specs.Prelude.{◌≡◌, ◌≢◌, ◌<◌, ◌⊎◌, ℕ, List, ◌∷◌, ◌++◌, Option, Some, None}
 use Rattle.cb_protocol.specs.AnyMessages.{Input, input_steps}
 use Rattle.cb_protocol.specs.Deadlock.{ReachedServer}
 use Rattle.cb_protocol.specs.Messages.{Granted, MayWrite}

@@ -1,9 +1,11 @@
--- What one incarnation of a client has: its copies of pages (TODS 1997) and its transaction, and each change of them.
+-- What one incarnation of a client has: its copies of pages (TODS 1997) and its transaction, and
+-- each change of them.
 use Rattle.std.specs.Prelude.{ℕ, ◌+◌, max, Bool, true, false, if◌then◌else◌, List, [], ◌∷◌, Option, Some, None}
 use Rattle.cb_protocol.specs.Basics.{Bytes, update}
 use Rattle.cb_protocol.specs.Serial.{Operation, Put, Saw}
 
--- where a client stands with its transaction: none, an open one, or one whose Commit was sent and not yet answered
+-- where a client stands with its transaction: none, an open one, or one whose Commit was sent and
+-- not yet answered
 pub data TransactionState : Type 0 where
   Idle : TransactionState
   Open : TransactionState
@@ -21,8 +23,9 @@ abbrev pub is_committing : TransactionState → Bool
 is_committing Committing = true
 is_committing _ = false
 
--- A client's copies and transaction. A held page is a copy that the server granted; its bytes are in the pool, or it is bare: the pool
--- let the bytes go while the transaction reads the page. A copy of a page is also the lock that lets its client read it (TODS 1997).
+-- A client's copies and transaction. A held page is a copy that the server granted; its bytes are
+-- in the pool, or it is bare: the pool let the bytes go while the transaction reads the page. A
+-- copy of a page is also the lock that lets its client read it (TODS 1997).
 pub record Cache : Type 0 where
   pub welcomed : Bool  -- the server's Welcome came
   pub number : ℕ  -- of the last transaction begun; 0 before the first

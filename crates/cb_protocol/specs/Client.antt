@@ -79,7 +79,8 @@ abbrev pub is_asking : Ask → Bool
 is_asking NoAsk = false
 is_asking _ = true
 
--- the transaction wants to write the page or wrote it: the pool may not let it go, and its permission counts as used
+-- the transaction wants to write the page or wrote it: the pool may not let it go, and its
+-- permission counts as used
 abbrev pub is_fixed : Client → ℕ → Bool
 is_fixed k p = k.wanted p || k.cache.wrote p
 

@@ -1,4 +1,5 @@
--- A client alone: each callback is answered at once, and a page in use is given back once, as its transaction ends.
+-- A client alone: each callback is answered at once, and a page in use is given back once, as its
+-- transaction ends.
 use Rattle.std.specs.Prelude.{◌≡◌, ◌≢◌, ◌<◌, ℕ, Bool, true, false, ◌&&◌, ◌||◌, if◌then◌else◌, ◌==◌, List, [], ◌∷◌, Option, Some, None, ⊤}
 use Rattle.cb_protocol.specs.Basics.{Limits, IsIn, is_none, update}
 use Rattle.cb_protocol.specs.Messages.{Body, GiveBack, InUse, Callback, Done, AbortNow, Downgrade, Downgraded}
@@ -7,7 +8,8 @@ use Rattle.cb_protocol.specs.Client.{Client, ClientStep, DueDowngrade, new_clien
 use Rattle.cb_protocol.specs.ClientCalls.{Call, CallDrop, client_call, first_refusal, open_causes}
 use Rattle.cb_protocol.specs.ClientMessages.{ChoiceAllowed, client_take, of_open_txn, of_committing_txn}
 
--- what comes to a client: a call; or a message of its incarnation, with the page that its pool lets go should it take one in
+-- what comes to a client: a call; or a message of its incarnation, with the page that its pool lets
+-- go should it take one in
 pub data ClientInput : Type 0 where
   ReceivesCall : Call → ClientInput
   ReceivesMessage : Body → (let_go : Option ℕ) → ClientInput
@@ -40,20 +42,23 @@ abbrev pub Reading : Client → ℕ → ℕ → Type 0
 Reading k p g = (k.cache.held p ≡ Some g) × (k.cache.locked p ≡ true)
 
 -- Each callback is answered by one message at once (callback locking: TODS 1997).
--- In use: exactly where the grant is held and the transaction read the page. The page is then due, and nothing else changes.
--- Else given back, also where the grant never came; it is not held afterwards.
+-- In use: exactly where the grant is held and the transaction read the page. The page is then due,
+-- and nothing else changes. Else given back, also where the grant never came; it is not held
+-- afterwards.
 abbrev pub CallbackAnsweredAtOnce : Limits → Type 0
 CallbackAnsweredAtOnce L = (k : Client) (p g : ℕ) (let_go : Option ℕ) → k.cache.welcomed ≡ true →
     (Reading k p g → (bodies_said (client_take L k (Callback p g) let_go) ≡ InUse k.cache.number p g ∷ []) × (after_input L k (ReceivesMessage (Callback p g) let_go) ≡ record k { due = λ q. if q == p then true else k.due q }))
     × ((Reading k p g → ⊥) → (bodies_said (client_take L k (Callback p g) let_go) ≡ GiveBack p g ∷ []) × ((after_input L k (ReceivesMessage (Callback p g) let_go)).cache.held p ≢ Some g))
 
--- the transaction uses that permission of the page: it has the tag, and the page is wanted or was written
+-- the transaction uses that permission of the page: it has the tag, and the page is wanted or was
+-- written
 abbrev pub Using : Client → ℕ → ℕ → ℕ → Type 0
 Using k p g t = (k.cache.held p ≡ Some g) × (k.cache.may_write p ≡ true) × (k.cache.tag p ≡ t) × (is_fixed k p ≡ true)
 
--- Each downgrade is answered by one message at once, where permission is kept (this project's rule); else it is ignored.
--- In use: exactly where the grant is held and its permission with that tag is used. The downgrade is then due, and nothing else changes.
--- Given up: where the grant is held otherwise; no permission with that tag is left. Given back: where it isn't held.
+-- Each downgrade is answered by one message at once, where permission is kept (this project's
+-- rule); else it is ignored. In use: exactly where the grant is held and its permission with that
+-- tag is used. The downgrade is then due, and nothing else changes. Given up: where the grant is
+-- held otherwise; no permission with that tag is left. Given back: where it isn't held.
 abbrev pub DowngradeAnsweredAtOnce : Limits → Type 0
 DowngradeAnsweredAtOnce L = (k : Client) (p g t : ℕ) (let_go : Option ℕ) → k.cache.welcomed ≡ true →
     let bs = bodies_said (client_take L k (Downgrade p g t) let_go) in
@@ -99,7 +104,8 @@ pub data Ending : Type 0 where
 abbrev pub ending_if : Bool → Ending → Ending
 ending_if b e = if b then e else GoesOn
 
--- the open transaction ends by an accepted drop or an AbortNow of its number, the committing one by a Done of its number; nothing else ends one
+-- the open transaction ends by an accepted drop or an AbortNow of its number, the committing one by
+-- a Done of its number; nothing else ends one
 abbrev pub ending : Limits → Client → ClientInput → Ending
 ending L k (ReceivesCall CallDrop) = ending_if (is_none (first_refusal (open_causes k))) EndsDropped
 ending L k (ReceivesCall _) = GoesOn
@@ -107,23 +113,27 @@ ending L k (ReceivesMessage (Done t n) let_go) = ending_if (k.cache.welcomed && 
 ending L k (ReceivesMessage (AbortNow t) let_go) = ending_if (k.cache.welcomed && of_open_txn k t) EndsDropped
 ending L k (ReceivesMessage _ let_go) = GoesOn
 
--- what is given back of page p as the transaction ends: the grant held, where the page is due or bare, or was written and that is dropped
+-- what is given back of page p as the transaction ends: the grant held, where the page is due or
+-- bare, or was written and that is dropped
 abbrev pub owed_back : Client → Bool → ℕ → Option ℕ → List ℕ
 owed_back k dropped p None = []
 owed_back k dropped p (Some g) = if k.due p || is_none (k.cache.content p) || (dropped && k.cache.wrote p) then g ∷ [] else []
 
--- the permission given up of it (kept write permission alone): one whose downgrade is due, where the transaction commits and the page isn't given back
+-- the permission given up of it (kept write permission alone): one whose downgrade is due, where
+-- the transaction commits and the page isn't given back
 abbrev pub owed_down : Client → Bool → ℕ → Option ℕ → List DueDowngrade
 owed_down k dropped p None = []
 owed_down k dropped p (Some g) = if dropped || k.due p || is_none (k.cache.content p) then [] else elim (k.due_downgrade p) [ None ↦ [] | Some y ↦ y ∷ [] ]
 
--- that page's grant stays held and due, and its transaction the same; this grant of it is not given back
+-- that page's grant stays held and due, and its transaction the same; this grant of it is not given
+-- back
 abbrev pub StaysDue : Client → Client → List Body → ℕ → ℕ → Type 0
 StaysDue k l bs p g = Reading l p g × (l.due p ≡ true) × (l.cache.number ≡ k.cache.number) × (IsIn (GiveBack p g) bs → ⊥)
 
 -- What a client said, and is, at its transaction's end.
 pub record EndSays (k l : Client) (dropped : Bool) (bs : List Body) : Type 0 where
-  -- of each page exactly what it owes: one grant given back, or one permission, or nothing; pages given back rise
+  -- of each page exactly what it owes: one grant given back, or one permission, or nothing; pages
+  -- given back rise
   pub back : (p : ℕ) → given_back p bs ≡ owed_back k dropped p (k.cache.held p)
   pub down : (p : ℕ) → given_down p bs ≡ owed_down k dropped p (k.cache.held p)
   pub rising : Rising (pages_given_back bs)
@@ -137,9 +147,10 @@ EndsRight k l bs GoesOn = (p g : ℕ) → k.due p ≡ true → k.cache.held p �
 EndsRight k l bs EndsCommitted = EndSays k l false bs
 EndsRight k l bs EndsDropped = EndSays k l true bs
 
--- A page whose callback was answered InUse is due until its transaction ends, and its grant is given back exactly once then, and by no earlier step.
--- A due page is held, and read by a transaction that has not ended; until the end it stays so. At the end one grant is given back of each page that is due,
--- bare or (where dropped) written, and none of another.
+-- A page whose callback was answered InUse is due until its transaction ends, and its grant is
+-- given back exactly once then, and by no earlier step. A due page is held, and read by a
+-- transaction that has not ended; until the end it stays so. At the end one grant is given back of
+-- each page that is due, bare or (where dropped) written, and none of another.
 abbrev pub InUseGivenBackOnce : Limits → (ClientInput → Type 0) → Type 0
 InUseGivenBackOnce L Allowed = (k : Client) → Arises L Allowed k →
     ((p : ℕ) → k.due p ≡ true → (k.cache.status ≢ Idle) × ((g : ℕ) × Reading k p g))

@@ -1,4 +1,5 @@
--- What a client answers and does at each call: first the causes of a refusal, then the calls that are accepted.
+-- What a client answers and does at each call: first the causes of a refusal, then the calls that
+-- are accepted.
 use Rattle.std.specs.Prelude.{ℕ, nat_le, length, Bool, not, ◌&&◌, if◌then◌else◌, ◌==◌, List, [], ◌∷◌, ◌++◌, Option, Some, None, zero, suc}
 use Rattle.cb_protocol.specs.Answers.{AnswerWord, AnsweredBytes, AnsweredOk, Asked, ClientFault, CommittingFault, Exhausted, NoTransaction, NotHere, NotRead, NotWelcome, NotWritable, Nothing, PageRange, Permitted, PoolFull, Refused, TransactionOpen, Waiting, WrongLength}
 use Rattle.cb_protocol.specs.Basics.{Bytes, Limits, is_none, max_number}
@@ -86,7 +87,8 @@ say_ask k NoAsk = []
 say_ask k (ReadAsk p) = Say (AskRead k.cache.number p) ∷ []
 say_ask k (WriteAsk p) = say_ask_write k p (k.cache.held p)
 
--- What may be lost is sent again: Hello until the Welcome came; then the Drop, the ask, the Commit, as far as each is still open.
+-- What may be lost is sent again: Hello until the Welcome came; then the Drop, the ask, the Commit,
+-- as far as each is still open.
 abbrev pub client_again : Limits → Client → List ClientStep
 client_again L k = if k.cache.welcomed then say_drop k k.last_outcome ++ (say_ask k k.ask ++ (if is_committing k.cache.status then say_commit L k else [])) else Say Hello ∷ []
 

@@ -14,8 +14,9 @@ give_back p (Some g) = ChangeCache (LetGo p) ∷ Say (GiveBack p g) ∷ []
 abbrev pub refuse_grant : ℕ → ℕ → List ClientStep
 refuse_grant p g = ChangeCache (RefuseGrant p g) ∷ Say (GiveBack p g) ∷ []
 
--- One page at the transaction's end, by the client k as it was before it; `dropped`: the transaction is not committed.
--- At most one message: GiveBack for a copy that a dropped transaction wrote, that is due or that is bare, else Downgraded where that is due.
+-- One page at the transaction's end, by the client k as it was before it; `dropped`: the
+-- transaction is not committed. At most one message: GiveBack for a copy that a dropped transaction
+-- wrote, that is due or that is bare, else Downgraded where that is due.
 abbrev pub end_page : Client → Bool → ℕ → Option ℕ → List ClientStep
 end_page k dropped p None = []
 end_page k dropped p (Some g) =

@@ -1,5 +1,5 @@
 -- Laws of commits at the server, whatever messages come: which are applied, and of which Done is said.
-use Rattle.std.specs.Prelude.{◌≡◌, ◌≢◌, ◌<◌, ◌≤◌, ◌+◌, ℕ, Bool, false, List, ◌∷◌, Some}
+use Rattle.std.specs.Prelude.{◌≡◌, ◌≢◌, ◌<◌, ◌≤◌, ◌+◌, ℕ, false, List, ◌∷◌, Some}
 use Rattle.cb_protocol.specs.AnyMessages.{Input, MessageComes, ReachesDisk, input_steps}
 use Rattle.cb_protocol.specs.Basics.{IsIn}
 use Rattle.cb_protocol.specs.Messages.{Commit, Done, Message, PageWrite}

@@ -1,4 +1,5 @@
--- Laws of deadlocks: the test is exact, no step of the server leaves a cycle, and only who lies on one is doomed. This project's rules.
+-- Laws of deadlocks: the test is exact, no step of the server leaves a cycle, and only who lies on
+-- one is doomed. This project's rules.
 use Rattle.std.specs.Prelude.{◌≡◌, ◌≢◌, ◌≤◌, ◌↔◌, ◌⊎◌, ◌<◌, ◌+◌, ◌==◌, if◌then◌else◌, ℕ, true, false, List, [], ◌∷◌, ◌++◌, length, Some, None, ⊤}
 use Rattle.cb_protocol.specs.Basics.{Limits, IsIn}
 use Rattle.cb_protocol.specs.Messages.{Body, AskRead, AskWrite}
@@ -15,7 +16,8 @@ AskInRange n (AskRead t p) = p < n
 AskInRange n (AskWrite t p g) = p < n
 AskInRange n _ = ⊤
 
--- the input is of a client that there is, and for a page that there is where it asks for one; nothing else is asked of it
+-- the input is of a client that there is, and for a page that there is where it asks for one;
+-- nothing else is asked of it
 abbrev pub InputInRange : Server → Input → Type 0
 InputInRange s (MessageComes c i b) = (c < s.clients) × AskInRange s.pages b
 InputInRange s _ = ⊤
@@ -35,7 +37,8 @@ pub record OneAsk (queue : ℕ → List WaitingAsk) : Type 0 where
   pub here : (p c : ℕ) → ask_count c (queue p) ≤ 1
   pub apart : (p q c : ℕ) → p ≢ q → ask_count c (queue p) + ask_count c (queue q) ≤ 1
 
--- Each doom comes right after its client's ask was taken away, and as the server was just before that, the client lay on a cycle.
+-- Each doom comes right after its client's ask was taken away, and as the server was just before
+-- that, the client lay on a cycle.
 abbrev pub DoomsOnCycle : Server → List ServerStep → Type 0
 DoomsOnCycle s ds = (before after : List ServerStep) (c : ℕ) → ds ≡ before ++ Doom c ∷ after
     → (earlier : List ServerStep) × (before ≡ earlier ++ RemoveAsk c ∷ []) × LiesOnCycle (WaitsFor (server_after s earlier)) c
@@ -48,7 +51,8 @@ CycleTestExact = (s : Server) → AsksInRange s → (c : ℕ) → (on_cycle s c 
 abbrev pub NoCycleStays : Type 0
 NoCycleStays = (s : Server) → ReachedServer s → NoCycle s
 
--- At every moment of a step, also before the first and after the last of what is done in it, a client has at most one ask, and all asks are in range.
+-- At every moment of a step, also before the first and after the last of what is done in it, a
+-- client has at most one ask, and all asks are in range.
 abbrev pub OneAskAlways : Type 0
 OneAskAlways = (s : Server) → ReachedServer s → (i : Input) → InputInRange s i → (before after : List ServerStep) → input_steps on_cycle s i ≡ before ++ after
     → OneAsk (server_after s before).queue × AsksInRange (server_after s before)
@@ -99,7 +103,8 @@ ListedAreEnough = (cycle : DeadlockTest) (s : Server) (n : ℕ) (ps : List ℕ) 
 abbrev pub PermissionsLive : Type 0
 PermissionsLive = (s : Server) → ReachedServer s → s.store.keep_write ≡ false → (p d : ℕ) → s.store.holder p ≡ Some d → is_live_permission s d p ≡ true
 
--- So a first ask is then held up by exactly the write holder, and one to write by each client that uses the page.
+-- So a first ask is then held up by exactly the write holder, and one to write by each client that
+-- uses the page.
 abbrev pub PlainHoldsUp : Type 0
 PlainHoldsUp = (s : Server) → ReachedServer s → s.store.keep_write ≡ false → (p : ℕ) (a : WaitingAsk) (d : ℕ)
     → HoldsUp s p a d ↔ ((s.store.holder p ≡ Some d) ⊎ ((a.write_grant ≢ None) × (s.in_use d p ≡ true)))

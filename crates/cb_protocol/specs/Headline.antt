@@ -1,5 +1,5 @@
 -- What the protocol promises of every world that is reached.
-use Rattle.std.specs.Prelude.{◌≡◌, ◌≤◌, ℕ, Bool, false, true, List, [], ◌∷◌, Some, ⊤}
+use Rattle.std.specs.Prelude.{◌≡◌, ◌≤◌, ℕ, false, true, List, [], ◌∷◌, Some, ⊤}
 use Rattle.cb_protocol.specs.AnyMessages.{DirectoryRule, IsCommit, Ledger, committed_names}
 use Rattle.cb_protocol.specs.Basics.{Bytes, IsIn, Limits}
 use Rattle.cb_protocol.specs.Cache.{Open}
@@ -25,7 +25,8 @@ CopiesAgree w = (c d p : ℕ) (b e : Bytes) → ReadableCopy w c p b → Readabl
 abbrev pub WriterAlone : World → Type 0
 WriterAlone w = (c d p : ℕ) (b : Bytes) → MayWritePage w c p → ReadableCopy w d p b → d ≡ c
 
--- The operations of the committed transactions, in commit order, are a serial history on the opening store, and the server's store is what it leaves.
+-- The operations of the committed transactions, in commit order, are a serial history on the
+-- opening store, and the server's store is what it leaves.
 pub record CommittedIsSerial (opening : ℕ → Bytes) (w : World) : Type 0 where
   pub legal : IsSerial opening (committed_operations (committed_names w.server.commits) (transcript_operations w.transcript))
   pub leaves : (p : ℕ) → store_left opening (committed_operations (committed_names w.server.commits) (transcript_operations w.transcript)) p ≡ w.server.store.bytes p
@@ -75,6 +76,7 @@ Promises o (m ∷ ms) = Promise o m.world × Promises o ms
 abbrev pub SoundOpening : Opening → Type 0
 SoundOpening o = (p : ℕ) → o.version p ≤ o.number
 
--- From the opening world, along every list of events, each world keeps the promise. `cycle`: whoever is doomed, by whatever test.
+-- From the opening world, along every list of events, each world keeps the promise. `cycle`:
+-- whoever is doomed, by whatever test.
 abbrev pub Headline : Limits → DeadlockTest → Type 0
 Headline L cycle = (o : Opening) (ms : List Moment) → SoundOpening o → Plays L cycle (new_world L o) ms → Promise o (new_world L o) × Promises o ms

@@ -1,5 +1,5 @@
 -- What a greater Hello leaves of its client at the server: nothing of the older incarnation. This project's rule.
-use Rattle.std.specs.Prelude.{◌≡◌, ◌≢◌, ◌<◌, ℕ, Bool, false, Some, None}
+use Rattle.std.specs.Prelude.{◌≡◌, ◌≢◌, ◌<◌, ℕ, false, Some, None}
 use Rattle.cb_protocol.specs.Basics.{IsIn}
 use Rattle.cb_protocol.specs.Messages.{Hello, Welcome}
 use Rattle.cb_protocol.specs.Server.{DeadlockTest, Server, server_after}

@@ -1,6 +1,6 @@
--- The laws, each as a statement of its own: of every world that is reached, along every list of events, with or without kept write permission,
--- and whoever is doomed (`cycle` is any test).
-use Rattle.std.specs.Prelude.{◌≡◌, ℕ, Bool, List, [], ◌∷◌}
+-- The laws, each as a statement of its own: of every world that is reached, along every list of
+-- events, with or without kept write permission, and whoever is doomed (`cycle` is any test).
+use Rattle.std.specs.Prelude.{◌≡◌, List, [], ◌∷◌}
 use Rattle.cb_protocol.specs.AnyMessages.{DirectoryRule, RulesAlwaysHold, committed_names}
 use Rattle.cb_protocol.specs.Basics.{Limits}
 use Rattle.cb_protocol.specs.Headline.{BackedByServer, CommittedIsSerial, CopiesAgree, DonesNameCommits, DonesOnDisk, Headline, SoundOpening, WriterAlone}

@@ -27,3 +27,4 @@ pub mod AskLaws
 pub mod CommitLaws
 pub mod HelloLaws
 pub mod Numbers
+pub mod Marks

@@ -68,7 +68,8 @@ abbrev pub AllMessagesFit : Limits → List Message → Type 0
 AllMessagesFit L [] = ⊤
 AllMessagesFit L (f ∷ fs) = MessageFits L f × AllMessagesFit L fs
 
--- messages that come fit; a call may name any page and any bytes, since it is refused where they don't fit
+-- messages that come fit; a call may name any page and any bytes, since it is refused where they
+-- don't fit
 abbrev pub InputFits : Limits → ClientInput → Type 0
 InputFits L (ReceivesCall c) = ⊤
 InputFits L (ReceivesMessage b let_go) = BodyFits L b
@@ -77,7 +78,8 @@ InputFits L (ReceivesMessage b let_go) = BodyFits L b
 abbrev pub ClientMessagesInRange : Limits → Type 0
 ClientMessagesInRange L = (k : Client) (i : ClientInput) → Arises L (InputFits L) k → InputAllowed L k i → InputFits L i → AllBodiesFit L (bodies_said (client_steps_at L k i))
 
--- the opening store's rule: each page has its bytes and is no newer than the last commit, whose number is left room
+-- the opening store's rule: each page has its bytes and is no newer than the last commit, whose
+-- number is left room
 pub record StoreFits (L : Limits) (o : Opening) : Type 0 where
   pub number : o.number ≤ max_number
   pub version : (p : ℕ) → IsPage L p → o.version p ≤ o.number

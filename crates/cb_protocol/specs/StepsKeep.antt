@@ -1,4 +1,5 @@
--- What one step leaves as it was: of the other clients at the server, and of the other side in the world.
+-- What one step leaves as it was: of the other clients at the server, and of the other side in the
+-- world.
 use Rattle.std.specs.Prelude.{◌≡◌, ◌≢◌, ◌≤◌, ◌⊎◌, ℕ, true, if◌then◌else◌, List, ◌++◌, Option, Some, None}
 use Rattle.cb_protocol.specs.Basics.{Limits}
 use Rattle.cb_protocol.specs.Messages.{Body, Message, to_server}
@@ -8,8 +9,9 @@ use Rattle.cb_protocol.specs.Resend.{server_again}
 use Rattle.cb_protocol.specs.ServerMessages.{server_take}
 use Rattle.cb_protocol.specs.World.{World, Event, ClientCalls, TakePacket, Restart, packet_at, step}
 
--- What stands of client d at server t as it stood at s: its incarnation, transaction, outcome, doom and marks; its rows, with their grants; its permissions.
--- It may have got rows, each with a new grant number, and permissions for pages of which it has a row.
+-- What stands of client d at server t as it stood at s: its incarnation, transaction, outcome, doom
+-- and marks; its rows, with their grants; its permissions. It may have got rows, each with a new
+-- grant number, and permissions for pages of which it has a row.
 pub record KeepsClient (s t : Server) (d : ℕ) : Type 0 where
   pub incarnation : (t.session d).current ≡ (s.session d).current
   pub begun : (t.session d).txn ≡ (s.session d).txn
@@ -23,7 +25,8 @@ pub record KeepsClient (s t : Server) (d : ℕ) : Type 0 where
   pub new_permission : (p : ℕ) → t.store.holder p ≡ Some d → (s.store.holder p ≡ Some d) ⊎ ((g : ℕ) × ((t.session d).row p ≡ Some g))
   pub next_grant : s.next_grant ≤ t.next_grant
 
--- A server's step for a message of client c leaves what every other client has; resending and a flush leave what all have. Of any server, and for any test of deadlock.
+-- A server's step for a message of client c leaves what every other client has; resending and a
+-- flush leave what all have. Of any server, and for any test of deadlock.
 abbrev pub OthersKeepRowsAndPermissions : DeadlockTest → Type 0
 OthersKeepRowsAndPermissions cycle = (s : Server) →
     ((c i : ℕ) (b : Body) (d : ℕ) → d ≢ c → KeepsClient s (server_after s (server_take cycle s c i b)) d)

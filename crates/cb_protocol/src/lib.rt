@@ -6,6 +6,7 @@
 
 pub mod alone;
 pub mod deadlock;
+pub mod marks;
 pub mod numbers;
 pub mod server;
 

@@ -11,7 +11,7 @@ use Rattle.cb_frame.specs.declared.frame.ShortBody.{ShortBody}
 use Rattle.cb_frame.specs.declared.frame.ShortBody.TheVariants as short
 use Rattle.cb_frame.specs.declared.writes.Write.{Write}
 use Rattle.cb_schedule.specs.Plays.{IsSpelled}
-use Rattle.cb_schedule.specs.Wire.{AllSpell, Spells, body_of, message_of, page_write, short_of}
+use Rattle.cb_first_net.specs.Wire.{AllSpell, Spells, body_of, message_of, page_write, short_of}
 use Rattle.cb_protocol.specs.Messages as protocol
 
 -- the frame that carries a message; a Hello where none does
