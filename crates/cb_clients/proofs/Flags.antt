@@ -1,6 +1,7 @@
 -- Bits of a number as members of a set of clients.
-use Rattle.std.proofs.Common.{◌≡◌, ℕ, ◌-◌, ◌*◌, ◌%◌, ◌^◌, ◌<◌, ◌≤◌, ◌/◌, ◌==◌, ◌&&◌, ◌||◌, not, min, max, zero, suc, false, bit_and, bit_or, ap, inl, inr, arith}
+use Rattle.std.proofs.Common.{subst, sym, ◌≢◌, ◌≡◌, ℕ, ◌-◌, ◌*◌, ◌%◌, ◌^◌, ◌<◌, ◌≤◌, ◌/◌, ◌==◌, ◌&&◌, ◌||◌, not, min, max, zero, suc, false, bit_and, bit_or, ap, inl, inr, arith}
 use Rattle.std.specs.Int.{w32, bit_at, bit_not, trailing_zeros}
+use Rattle.std.proofs.lemmas.Nat.{le_or_l}
 use Rattle.std.proofs.lemmas.Bool.{cases_eq, cases_lt}
 use Rattle.std.proofs.lemmas.Nat.Bits.{shr_and_one, bit_at-zero, bit_at-lt, bit_at_and, bit_at_or, bit_at_not, bit_at_set_same, bit_at_set_other, bit_at_clear_same, bit_at_clear_other, bit_at-trailing_zeros, bit_at_above}
 use Rattle.cb_clients.specs.Clients.{has, with, without, set_of, IsLeast}
@@ -69,3 +70,13 @@ unfolding has
 least bits fits some =
     let found = bit_at-trailing_zeros w32 bits some fits in
     (found.0, record { here = ap (λ (n : ℕ). n == 1) found.1; none_before = λ other lt. ap (λ (n : ℕ). n == 1) (found.2 other lt) })
+
+-- one more bit is a greater number
+pub grows : (bits client : ℕ) → client < 32 → has (set_of bits) client ≡ false → bits < bit_or bits (1 * 2 ^ client % 2 ^ 32)
+unfolding has
+grows bits client lt out = not_same (le_or_l bits (1 * 2 ^ client % 2 ^ 32)) (bit_at_set_same w32 bits client lt)
+  where
+    not_same : {more : ℕ} → bits ≤ more → bit_at more client ≡ 1 → bits < more
+    not_same {more} le one =
+        let apart : bits ≢ more = λ same. let here : bit_at bits client ≡ 1 = subst (λ (n : ℕ). bit_at n client ≡ 1) (sym same) one in grind (arith, out, here) in
+        omega arith

@@ -1,5 +1,5 @@
 -- A set of clients.
-use Rattle.std.specs.Prelude.{◌≡◌, ◌<◌, ℕ, Bool, true, false, ◌==◌, if◌then◌else◌}
+use Rattle.std.specs.Prelude.{◌≡◌, ◌<◌, ◌-◌, ◌^◌, ℕ, Bool, true, false, ◌==◌, if◌then◌else◌}
 use Rattle.std.specs.Int.{bit_at}
 
 -- one bit for each client that there may be
@@ -19,6 +19,10 @@ with set client other = if other == client then true else has set other
 
 abbrev pub without : Clients → ℕ → ℕ → Bool
 without set client other = if other == client then false else has set other
+
+-- a number that falls as clients are put in: the measure of a walk that follows each client once
+abbrev pub left_out : Clients → ℕ
+left_out set = 2 ^ 32 - set.bits
 
 -- the client is in the set, and none before it
 pub record IsLeast (set : Clients) (client : ℕ) : Type 0 where

@@ -1,5 +1,5 @@
-ghost use Rattle.std.specs.Prelude.{◌≡◌, ℕ, ◌&&◌, ◌||◌, not, true, false, MatchOption};
-ghost use Rattle.cb_clients.specs.Clients.{IsLeast, has, with, without};
+ghost use Rattle.std.specs.Prelude.{◌≡◌, ◌<◌, ℕ, ◌&&◌, ◌||◌, not, true, false, MatchOption};
+ghost use Rattle.cb_clients.specs.Clients.{IsLeast, has, left_out, with, without};
 
 use cb_page::ClientNo;
 use std::marker::Model;
@@ -43,7 +43,8 @@ impl ClientSet {
 
     /// Puts the client in.
     pub fn insert(&mut self, client: ClientNo)
-        ensures { (other : ℕ) → has self.new other ≡ with self.old client other }
+        ensures members { (other : ℕ) → has self.new other ≡ with self.old client other }
+        ensures grows { has self.old client ≡ false → left_out self.new < left_out self.old }
     {
         self.bits |= 1 << client.get();
     }
