@@ -2,8 +2,8 @@
 //!
 //! The waits-for graph of the textbooks (Bernstein, Hadzilacos and Goodman, Concurrency Control and
 //! Recovery in Database Systems, chapter 3), whose cycles are deadlocks, over at most 32 clients: for
-//! each client the set of those that it waits for. [`View`] is kept up to date as asks enter and leave
-//! their queues; [`View::add_page`] makes it from the queues themselves.
+//! each client the set of those that it waits for. Whoever owns the queues of asks keeps the [`View`] up
+//! to date, row by row, as asks enter and leave them.
 #![tactic(auto)]
 
 mod view;

@@ -1,7 +1,6 @@
 ghost use Rattle.std.specs.Prelude.{◌≡◌, ◌≢◌, ◌⊎◌, ◌↔◌, ◌==◌, ◌&&◌, ◌||◌, if◌then◌else◌, not, ℕ, true, false, IsTrue};
 ghost use Rattle.cb_clients.specs.Clients.{has};
 ghost use Rattle.cb_waits.specs.Graph.{LiesOnCycle, Waits, waits};
-ghost use Rattle.cb_waits.specs.Queues.{WaitsAt};
 
 use cb_clients::ClientSet;
 use cb_page::ClientNo;
@@ -31,15 +30,22 @@ impl View {
         }
     }
 
+    /// Those that the client waits for.
+    pub fn row(&self, client: ClientNo) -> ClientSet
+        ensures { (other : ℕ) → has result other ≡ waits self.now client other }
+    {
+        self.rows[client.index()]
+    }
+
     /// Whether the client waits, in one or more steps, for itself.
     pub fn closes_cycle(&self, client: ClientNo) -> bool
         ensures { IsTrue result ↔ LiesOnCycle (Waits self.now) client }
     {
-        let mut reached = self.rows[client.index()];
+        let mut reached = self.row(client);
         let mut followed = ClientSet::empty();
         while let Some(next) = reached.difference(followed).first() {
             followed.insert(next);
-            reached = reached.union(self.rows[next.index()]);
+            reached = reached.union(self.row(next));
         }
         reached.contains(client)
     }
@@ -65,6 +71,6 @@ impl View {
     {
         let mut row = others;
         row.remove(client);
-        self.rows[client.index()] = self.rows[client.index()].union(row);
+        self.rows[client.index()] = self.row(client).union(row);
     }
 }

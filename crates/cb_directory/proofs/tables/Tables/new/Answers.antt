@@ -6,7 +6,7 @@ use Rattle.cb_clients.proofs.Flags.{has_none}
 use Rattle.cb_directory.specs.Rows.{ClientState, grant_of, no_rows}
 use Rattle.cb_directory.specs.declared.lines.PageLine.{PageLine}
 use Rattle.cb_directory.specs.Tables.{TablesState, IsEmpty, no_client, no_line}
-use Rattle.cb_directory.proofs.Lookups.{replicate_gives}
+use Rattle.cb_clients.proofs.Lookups.{replicate_gives}
 use Rattle.cb_directory.proofs.tables.Tables.new.Goals as goal
 
 -- tables of equal lines of which nobody has anything
