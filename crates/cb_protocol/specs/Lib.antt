@@ -26,4 +26,5 @@ pub mod Ranges
 pub mod AskLaws
 pub mod CommitLaws
 pub mod HelloLaws
+pub mod ClientLaws
 pub mod Numbers

@@ -5,6 +5,7 @@
 #![tactic(auto)]
 
 pub mod alone;
+pub mod client;
 pub mod deadlock;
 pub mod numbers;
 pub mod server;
