@@ -171,16 +171,16 @@ module _ (r : ℕ → ℕ → Bool) where
 
   way_has : (n : ℕ) → ((c d : ℕ) → r c d ≡ true → c < n) → (c d : ℕ) → Path (λ x y. r x y ≡ true) c d → has_path_through r n c d ≡ true
   way_has n f c d (OneEdge e) = way_more n c d e
-  way_has n f c d (MoreEdges {d = m} e w) = way_join n c m d (source m d w) (way_more n c m e) (way_has n f m d w)
+  way_has n f c d (MoreEdges {next = m} e w) = way_join n c m d (source m d w) (way_more n c m e) (way_has n f m d w)
     where
       source : (m d : ℕ) → Path (λ x y. r x y ≡ true) m d → m < n
       source m d (OneEdge e) = f m d e
-      source m d (MoreEdges {d = k} e w) = f m k e
+      source m d (MoreEdges {next = k} e w) = f m k e
 
 -- a path of one relation is a path of another that holds it
 pub carry : {R S : ℕ → ℕ → Type 0} → ((c d : ℕ) → R c d → S c d) → (c d : ℕ) → Path R c d → Path S c d
 carry f c d (OneEdge r) = OneEdge (f c d r)
-carry f c e (MoreEdges {d = d} r w) = MoreEdges (f c d r) (carry f d e w)
+carry f c e (MoreEdges {next = d} r w) = MoreEdges (f c d r) (carry f d e w)
 
 -- the law
 pub test_is_exact : (s : Server) → AsksInRange s → (c : ℕ) → (on_cycle s c ≡ true) ↔ LiesOnCycle (WaitsFor s) c

@@ -7,7 +7,7 @@ use Rattle.cb_protocol.specs.Deadlock.{ask_count, AskInRange, InputInRange, Reac
 use Rattle.cb_protocol.specs.Flush.{dones_between}
 use Rattle.cb_protocol.specs.Messages.{Body, Hello, AskRead, AskWrite, GiveBack, InUse, Commit, Drop, Downgraded, AbortNow, Done, MayWrite, Welcome}
 use Rattle.cb_protocol.specs.Resend.{again_pages, again_doomed, server_again}
-use Rattle.cb_protocol.specs.Server.{DeadlockTest, WaitingAsk, Server, ServerStep, ChangeSession, Send, EnterQueue, LeaveQueue, MarkCalledBack, MarkDowngradeSent, MarkInUse, UnmarkInUse, RemoveAsk, Doom, ForgetTransaction, SetFlushed, after_first, without_client, set_called_back, add_downgrade_sent, after_server_step, server_after}
+use Rattle.cb_protocol.specs.Server.{DeadlockTest, WaitingAsk, Server, ServerStep, ChangeSession, Send, EnterQueue, LeaveQueue, MarkCalledBack, MarkDowngradeSent, MarkInUse, UnmarkInUse, RemoveAsk, Doom, ForgetTransaction, SetFlushed, after_first, without_client, set_called_back, set_downgrade_sent, after_server_step, server_after}
 use Rattle.cb_protocol.specs.ServerMessages.{begin_transaction, is_empty, enter_queue, has_waiting_ask, new_ask, take_ask_read, take_ask_write, if_live, commit_allowed, repeat_done, direct_answer, named_txn, take_current, admit_incarnation, server_take}
 use Rattle.cb_protocol.specs.Session.{Admit, BeginTransaction, DropTransaction, PermitWrite, RemoveRow, EndPermission, ApplyCommit}
 use Rattle.cb_protocol.specs.Settling.{send_to, doom_client, settle_pages}
@@ -59,7 +59,7 @@ quiet_step N s (Send c i y) n a b d = d
 quiet_step N s (EnterQueue p w) n a b d = let l = b.0 in record { quiet = λ c e q. grind (arith, count_push c w (s.queue p), d.quiet c e) }
 quiet_step N s (LeaveQueue p) n a b d = quiet_fewer s (after_server_step s (LeaveQueue p)) d (fewer_put s.queue p (after_first (s.queue p)) (λ c. count_rest c (s.queue p))) (λ c e. e)
 quiet_step N s (MarkCalledBack p) n a b d = quiet_fewer s (after_server_step s (MarkCalledBack p)) d (fewer_put s.queue p (set_called_back (s.queue p)) (λ c. count_called c (s.queue p))) (λ c e. e)
-quiet_step N s (MarkDowngradeSent p t) n a b d = quiet_fewer s (after_server_step s (MarkDowngradeSent p t)) d (fewer_put s.queue p (add_downgrade_sent t (s.queue p)) (λ c. count_told t c (s.queue p))) (λ c e. e)
+quiet_step N s (MarkDowngradeSent p t) n a b d = quiet_fewer s (after_server_step s (MarkDowngradeSent p t)) d (fewer_put s.queue p (set_downgrade_sent t (s.queue p)) (λ c. count_told t c (s.queue p))) (λ c e. e)
 quiet_step N s (MarkInUse c p) n a b d = record { quiet = d.quiet }
 quiet_step N s (UnmarkInUse c p) n a b d = record { quiet = d.quiet }
 quiet_step N s (RemoveAsk c) n a b d = quiet_fewer s (after_server_step s (RemoveAsk c)) d (record { less = λ p e. count_without c e (s.queue p) }) (λ e f. f)
@@ -194,7 +194,7 @@ sound_step s (Send c i y) b o = o
 sound_step s (EnterQueue p w) b o = sound_enter s p w o b.3 b.2 b.1
 sound_step s (LeaveQueue p) b o = sound_fewer s (after_server_step s (LeaveQueue p)) o (fewer_put s.queue p (after_first (s.queue p)) (λ c. count_rest c (s.queue p))) refl refl
 sound_step s (MarkCalledBack p) b o = sound_fewer s (after_server_step s (MarkCalledBack p)) o (fewer_put s.queue p (set_called_back (s.queue p)) (λ c. count_called c (s.queue p))) refl refl
-sound_step s (MarkDowngradeSent p t) b o = sound_fewer s (after_server_step s (MarkDowngradeSent p t)) o (fewer_put s.queue p (add_downgrade_sent t (s.queue p)) (λ c. count_told t c (s.queue p))) refl refl
+sound_step s (MarkDowngradeSent p t) b o = sound_fewer s (after_server_step s (MarkDowngradeSent p t)) o (fewer_put s.queue p (set_downgrade_sent t (s.queue p)) (λ c. count_told t c (s.queue p))) refl refl
 sound_step s (MarkInUse c p) b o = record { one = o.one; known = o.known }
 sound_step s (UnmarkInUse c p) b o = record { one = o.one; known = o.known }
 sound_step s (RemoveAsk c) b o = sound_fewer s (after_server_step s (RemoveAsk c)) o (record { less = λ p e. count_without c e (s.queue p) }) refl refl

@@ -9,7 +9,7 @@ use Rattle.cb_protocol.specs.Basics.{is_exactly, is_none}
 use Rattle.cb_protocol.specs.Messages.{Body, Done}
 use Rattle.cb_protocol.specs.Server.{ChangeSession, DeadlockTest, EnterQueue, ForgetTransaction, MarkCalledBack, MarkInUse, MarkDowngradeSent, Send, Server, ServerStep, SetFlushed, UnmarkInUse, WaitingAsk, server_after}
 use Rattle.cb_protocol.specs.Session.{GrantRow, PermitWrite}
-use Rattle.cb_protocol.specs.Settling.{Decided, Settled, call_back_once, decide, decide_read, decide_write, decision_steps, doom_client, downgrade_once, grant_row, is_listed, keeps_permission, no_other_holder, nobody, permit_write, send_callbacks, send_downgrades, settle_pages, sole_row, wait_or_doom}
+use Rattle.cb_protocol.specs.Settling.{Decided, Settled, call_back_once, decide, decide_read, decide_write, decision_steps, doom_client, downgrade_once, grant_row, keeps_permission, no_other_holder, nobody, permit_write, send_callbacks, send_downgrades, settle_pages, sole_row, wait_or_doom}
 
 -- the message is no Done
 abbrev pub NoDone : Body → Type 0
@@ -61,7 +61,7 @@ settles_calls_back s p a = go a.called_back
         (each_callbacks Settles settles_lasting s nobody p a.client s.clients (λ d i g. tt)) (tt, tt)
 
 settles_brings_down : (s : Server) (p : ℕ) (a : WaitingAsk) → EachStep Settles s (downgrade_once s p a)
-settles_brings_down s p a = go (s.store.keep_write && keeps_permission s p a.client (s.store.holder p) && not (is_listed (s.store.tag p) a.downgrades_sent))
+settles_brings_down s p a = go (s.store.keep_write && keeps_permission s p a.client (s.store.holder p) && not (is_exactly a.downgrade_sent (s.store.tag p)))
   where
     ds : List ServerStep
     ds = send_downgrades s nobody p a.client (s.store.holder p)

@@ -7,10 +7,10 @@ use Rattle.cb_protocol.specs.Flush.{dones_between}
 use Rattle.cb_protocol.specs.Messages.{AbortNow, AskRead, AskWrite, Body, Commit, Done, Downgraded, Drop, GiveBack, Hello, InUse, MayWrite, Welcome}
 use Rattle.cb_protocol.specs.Numbers.{GrantsLeftAtFirst, GrantsNeverRunOut, HasGrantsLeft, IsTaken, SettlingTakesKeptGrants, first_free_grant}
 use Rattle.cb_protocol.specs.Resend.{again_doomed, again_pages}
-use Rattle.cb_protocol.specs.Server.{ChangeSession, DeadlockTest, Doom, EnterQueue, ForgetTransaction, LeaveQueue, MarkCalledBack, MarkDowngradeSent, MarkInUse, RemoveAsk, Send, Server, ServerStep, SetFlushed, UnmarkInUse, WaitingAsk, add_downgrade_sent, after_first, after_server_step, new_server, server_after, set_called_back}
+use Rattle.cb_protocol.specs.Server.{DeadlockTest, ChangeSession, Doom, EnterQueue, ForgetTransaction, LeaveQueue, MarkCalledBack, MarkInUse, MarkDowngradeSent, RemoveAsk, Send, Server, ServerStep, SetFlushed, UnmarkInUse, WaitingAsk, set_downgrade_sent, new_server, after_first, after_server_step, server_after, set_called_back}
 use Rattle.cb_protocol.specs.ServerMessages.{admit_incarnation, begin_transaction, commit_allowed, direct_answer, enter_queue, has_waiting_ask, if_live, is_empty, is_exhausted, lacks_number, may_proceed, named_txn, new_ask, read_asks_below, read_asks_in, repeat_done, server_take, take_ask_read, take_ask_write, take_current}
 use Rattle.cb_protocol.specs.Session.{Admit, ApplyCommit, BeginTransaction, DropTransaction, EndPermission, GrantRow, PermitWrite, RemoveRow}
-use Rattle.cb_protocol.specs.Settling.{Decided, Decision, Settled, call_back_once, decide, decide_read, decide_write, decision_steps, doom_client, downgrade_once, grant_row, is_listed, keeps_permission, no_other_holder, nobody, permit_write, send_callbacks, send_downgrades, send_to, settle_page, settle_pages, sole_row, wait_or_doom}
+use Rattle.cb_protocol.specs.Settling.{Decided, Decision, Settled, call_back_once, decide, decide_read, decide_write, decision_steps, doom_client, downgrade_once, grant_row, keeps_permission, no_other_holder, nobody, permit_write, send_callbacks, send_downgrades, send_to, settle_page, settle_pages, sole_row, wait_or_doom}
 use Rattle.cb_protocol.specs.World.{opening_store}
 use Rattle.cb_protocol.proofs.CyclePaths.{below_or_not}
 use Rattle.cb_protocol.proofs.NoCycles.{sends_dones, sends_doomed, sends_pages}
@@ -104,7 +104,7 @@ frugal_step s (Send c i b) f = frugal_same s
 frugal_step s (EnterQueue p a) f = absurd f
 frugal_step s (LeaveQueue p) f = frugal_queue s _ refl refl (put_count s p (after_first (s.queue p)) (count_rest (s.queue p)))
 frugal_step s (MarkCalledBack p) f = frugal_queue s _ refl refl (put_count s p (set_called_back (s.queue p)) (let e = count_called (s.queue p) in omega arith))
-frugal_step s (MarkDowngradeSent p t) f = frugal_queue s _ refl refl (put_count s p (add_downgrade_sent t (s.queue p)) (let e = count_told t (s.queue p) in omega arith))
+frugal_step s (MarkDowngradeSent p t) f = frugal_queue s _ refl refl (put_count s p (set_downgrade_sent t (s.queue p)) (let e = count_told t (s.queue p) in omega arith))
 frugal_step s (MarkInUse c p) f = frugal_queue s _ refl refl (λ p. omega arith)
 frugal_step s (UnmarkInUse c p) f = frugal_queue s _ refl refl (λ p. omega arith)
 frugal_step s (RemoveAsk c) f = frugal_queue s _ refl refl (λ p. count_without c (s.queue p))
@@ -193,7 +193,7 @@ thrifty_decide cycle s p (a ∷ q) e l = kind_of a.write_grant refl
 
     reads : is_none a.write_grant ≡ true → (u : Bool) → Thrifty s (decision_steps (if u then Decided (grant_row s p a.client) else wait_or_doom cycle s a.client (downgrade_once s p a)))
     reads r true = thrifty_grants s p a q l e r
-    reads r false = thrifty_nothing s _ (nothing_refuses cycle s a.client (downgrade_once s p a) (brings (s.store.keep_write && keeps_permission s p a.client (s.store.holder p) && not (is_listed (s.store.tag p) a.downgrades_sent))))
+    reads r false = thrifty_nothing s _ (nothing_refuses cycle s a.client (downgrade_once s p a) (brings (s.store.keep_write && keeps_permission s p a.client (s.store.holder p) && not (is_exactly a.downgrade_sent (s.store.tag p)))))
 
     writes : (g : ℕ) (u : Bool) → Thrifty s (decision_steps (if u then Decided (permit_write s p a.client g) else wait_or_doom cycle s a.client (call_back_once s p a)))
     writes g true = thrifty_nothing s (permit_write s p a.client g) tt

@@ -7,10 +7,10 @@ use Rattle.cb_protocol.proofs.SettlingClears.{after_sends, sends_callbacks, send
 use Rattle.cb_protocol.specs.Basics.{is_exactly, is_none, update}
 use Rattle.cb_protocol.specs.HelloLaws.{GreaterHelloStartsAnew, OnlyGreeted}
 use Rattle.cb_protocol.specs.Messages.{Welcome}
-use Rattle.cb_protocol.specs.Server.{ChangeSession, DeadlockTest, Doom, EnterQueue, ForgetTransaction, LeaveQueue, MarkCalledBack, MarkInUse, MarkDowngradeSent, RemoveAsk, Send, Server, ServerStep, SetFlushed, UnmarkInUse, WaitingAsk, add_downgrade_sent, after_first, after_server_step, server_after, set_called_back, without_client}
+use Rattle.cb_protocol.specs.Server.{ChangeSession, DeadlockTest, Doom, EnterQueue, ForgetTransaction, LeaveQueue, MarkCalledBack, MarkInUse, MarkDowngradeSent, RemoveAsk, Send, Server, ServerStep, SetFlushed, UnmarkInUse, WaitingAsk, set_downgrade_sent, after_first, after_server_step, server_after, set_called_back, without_client}
 use Rattle.cb_protocol.specs.ServerMessages.{admit_incarnation, server_take}
 use Rattle.cb_protocol.specs.Session.{Admit, GrantRow, PermitWrite}
-use Rattle.cb_protocol.specs.Settling.{Decided, Settled, call_back_once, decide, decide_read, decide_write, decision_steps, doom_client, downgrade_once, grant_row, is_listed, keeps_permission, no_other_holder, nobody, permit_write, send_callbacks, send_downgrades, settle_pages, sole_row, wait_or_doom}
+use Rattle.cb_protocol.specs.Settling.{Decided, Settled, call_back_once, decide, decide_read, decide_write, decision_steps, doom_client, downgrade_once, grant_row, keeps_permission, no_other_holder, nobody, permit_write, send_callbacks, send_downgrades, settle_pages, sole_row, wait_or_doom}
 use Rattle.cb_protocol.specs.WaitsFor.{HasAsk}
 
 -- the step gives client c nothing
@@ -38,7 +38,7 @@ called_has : (c : ℕ) (q : List WaitingAsk) → HasAsk c (set_called_back q) �
 called_has c [] h = h
 called_has c (a ∷ q) h = h
 
-told_has : (t c : ℕ) (q : List WaitingAsk) → HasAsk c (add_downgrade_sent t q) → HasAsk c q
+told_has : (t c : ℕ) (q : List WaitingAsk) → HasAsk c (set_downgrade_sent t q) → HasAsk c q
 told_has t c [] h = h
 told_has t c (a ∷ q) h = h
 
@@ -110,7 +110,7 @@ greeted_kept c i s (Send d j b) ds a o = o
 greeted_kept c i s (EnterQueue p x) ds a o = absurd a
 greeted_kept c i s (LeaveQueue p) ds a o = greeted_queue s c i p (after_first (s.queue p)) (rest_has c (s.queue p)) o
 greeted_kept c i s (MarkCalledBack p) ds a o = greeted_queue s c i p (set_called_back (s.queue p)) (called_has c (s.queue p)) o
-greeted_kept c i s (MarkDowngradeSent p t) ds a o = greeted_queue s c i p (add_downgrade_sent t (s.queue p)) (told_has t c (s.queue p)) o
+greeted_kept c i s (MarkDowngradeSent p t) ds a o = greeted_queue s c i p (set_downgrade_sent t (s.queue p)) (told_has t c (s.queue p)) o
 greeted_kept c i s (MarkInUse d p) ds a o = absurd a
 greeted_kept c i s (UnmarkInUse d p) ds a o = record {
   current = o.current;
@@ -187,7 +187,7 @@ spares_calls_back c s p a = go a.called_back
         (each_callbacks (Spares c) (spares_lasting c) s nobody p a.client s.clients (λ d i g. tt)) (tt, tt)
 
 spares_brings_down : (c : ℕ) (s : Server) (p : ℕ) (a : WaitingAsk) → EachStep (Spares c) s (downgrade_once s p a)
-spares_brings_down c s p a = go (s.store.keep_write && keeps_permission s p a.client (s.store.holder p) && not (is_listed (s.store.tag p) a.downgrades_sent))
+spares_brings_down c s p a = go (s.store.keep_write && keeps_permission s p a.client (s.store.holder p) && not (is_exactly a.downgrade_sent (s.store.tag p)))
   where
     go : (r : Bool) → EachStep (Spares c) s (if r then send_downgrades s nobody p a.client (s.store.holder p) ++ MarkDowngradeSent p (s.store.tag p) ∷ [] else [])
     go true = each_after_sends (Spares c) (spares_lasting c) s (send_downgrades s nobody p a.client (s.store.holder p)) (MarkDowngradeSent p (s.store.tag p) ∷ [])

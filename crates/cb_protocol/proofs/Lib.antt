@@ -60,10 +60,14 @@ pub mod ServerRangesKept
 -- numbers, room and marks of the server
 pub mod GrantNumbers
 pub mod MessagesSent
+pub mod MarksKept
+pub mod Permissions
+pub mod DowngradesSent
 -- computed schedules
 pub mod ScheduleText
 pub mod WorkedSchedules
 pub mod WorkedSides
+pub mod WorkedServers
 pub mod Short00To03
 pub mod Short04To07
 pub mod Short08To11

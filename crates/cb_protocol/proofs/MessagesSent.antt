@@ -6,10 +6,10 @@ use Rattle.cb_protocol.specs.Basics.{is_exactly, is_none, update}
 use Rattle.cb_protocol.specs.Deadlock.{InputInRange, OneAsk, ReachedServer, ask_count}
 use Rattle.cb_protocol.specs.Messages.{AbortNow, AskRead, AskWrite, Body, Commit, Done, Downgraded, Drop, GiveBack, Granted, Hello, InUse, MayWrite, Welcome}
 use Rattle.cb_protocol.specs.Numbers.{SettlingSendsAtMost, StepSendsAtMost, copies_sent, messages_for, messages_for_pages, messages_for_queue}
-use Rattle.cb_protocol.specs.Server.{ChangeSession, DeadlockTest, Doom, EnterQueue, ForgetTransaction, LeaveQueue, MarkCalledBack, MarkDowngradeSent, MarkInUse, RemoveAsk, Send, Server, ServerStep, SetFlushed, UnmarkInUse, WaitingAsk, after_first, after_server_step, is_live_permission, server_after, without_client}
+use Rattle.cb_protocol.specs.Server.{DeadlockTest, ChangeSession, Doom, EnterQueue, ForgetTransaction, LeaveQueue, MarkCalledBack, MarkInUse, MarkDowngradeSent, RemoveAsk, Send, Server, ServerStep, SetFlushed, UnmarkInUse, WaitingAsk, after_first, after_server_step, server_after, without_client}
 use Rattle.cb_protocol.specs.ServerMessages.{begin_transaction, commit_allowed, direct_answer, enter_queue, has_waiting_ask, is_empty, named_txn, new_ask, read_asks_below, read_asks_in, repeat_done, server_take, take_ask_read, take_ask_write, take_current}
 use Rattle.cb_protocol.specs.Session.{Admit, ApplyCommit, BeginTransaction, DropTransaction, EndPermission, PermitWrite, RemoveRow}
-use Rattle.cb_protocol.specs.Settling.{Decided, Decision, Settled, call_back_once, decide, decide_read, decide_write, decision_steps, doom_client, downgrade_once, grant_row, is_listed, keeps_permission, no_other_holder, nobody, permit_write, send_callback, send_callbacks, send_downgrade, send_downgrades, settle_page, settle_pages, send_to, sole_row, wait_or_doom}
+use Rattle.cb_protocol.specs.Settling.{Decided, Decision, Settled, call_back_once, decide, decide_read, decide_write, decision_steps, doom_client, downgrade_once, grant_row, keeps_permission, no_other_holder, nobody, permit_write, send_callback, send_callbacks, send_downgrade, send_downgrades, settle_page, settle_pages, send_to, sole_row, wait_or_doom}
 use Rattle.cb_protocol.specs.WaitsFor.{AsksInRange, HasAsk, on_cycle}
 use Rattle.cb_protocol.specs.World.{messages_sent}
 use Rattle.cb_protocol.proofs.CyclePaths.{below_or_not}
@@ -159,7 +159,7 @@ spends_decide w count cycle s p (a ∷ q) f e = kind_of a.write_grant refl
     back = send_callbacks s nobody p a.client s.clients
 
     told : Stays p s (server_after s (down ++ MarkDowngradeSent p (s.store.tag p) ∷ [])) a q
-    told = stays_noted s p a (record a { downgrades_sent = s.store.tag p ∷ a.downgrades_sent }) q down (MarkDowngradeSent p (s.store.tag p)) (sends_downgrades s nobody p a.client (s.store.holder p)) (rw e refl) refl refl
+    told = stays_noted s p a (record a { downgrade_sent = Some (s.store.tag p) }) q down (MarkDowngradeSent p (s.store.tag p)) (sends_downgrades s nobody p a.client (s.store.holder p)) (rw e refl) refl refl
 
     called : Stays p s (server_after s (back ++ MarkCalledBack p ∷ [])) a q
     called = stays_noted s p a (record a { called_back = true }) q back (MarkCalledBack p) (sends_callbacks s nobody p a.client s.clients) (rw e refl) refl refl
@@ -174,7 +174,7 @@ spends_decide w count cycle s p (a ∷ q) f e = kind_of a.write_grant refl
 
     reads : a.write_grant ≡ None → (u : Bool) → DecisionSpends w count p s (if u then Decided (grant_row s p a.client) else wait_or_doom cycle s a.client (downgrade_once s p a))
     reads g true = spends_leave w s (server_after s (grant_row s p a.client)) p a q (count (grant_row s p a.client)) e refl refl (rw g (f.grants s p a.client))
-    reads g false = let ds = downgrade_once s p a in spends_refuses w count cycle s p a q ds f.append e (brought (s.store.keep_write && keeps_permission s p a.client (s.store.holder p) && not (is_listed (s.store.tag p) a.downgrades_sent))) (rw g (f.downs s (server_after s ds) p a.client a))
+    reads g false = let ds = downgrade_once s p a in spends_refuses w count cycle s p a q ds f.append e (brought (s.store.keep_write && keeps_permission s p a.client (s.store.holder p) && not (is_exactly a.downgrade_sent (s.store.tag p)))) (rw g (f.downs s (server_after s ds) p a.client a))
 
     writes : (g : ℕ) → a.write_grant ≡ Some g → (u : Bool) → DecisionSpends w count p s (if u then Decided (permit_write s p a.client g) else wait_or_doom cycle s a.client (call_back_once s p a))
     writes g h true = spends_leave w s (server_after s (permit_write s p a.client g)) p a q (count (permit_write s p a.client g)) e refl refl (rw h (f.permits s p a.client g))
@@ -233,7 +233,7 @@ sends_calls s skip p c (suc n) = rw (sends_more (send_callbacks s skip p c n) (i
 
 sends_downs : (s : Server) (skip : ℕ → Bool) (p c : ℕ) (h : Option ℕ) → sends (send_downgrades s skip p c h) ≤ 1
 sends_downs s skip p c None = omega arith
-sends_downs s skip p c (Some d) = go (not (d == c) && not (is_live_permission s d p) && not (skip d))
+sends_downs s skip p c (Some d) = go (keeps_permission s p c (Some d) && not (skip d))
   where
     one : (r : Option ℕ) → sends (send_downgrade s d p r) ≤ 1
     one None = omega arith
@@ -250,7 +250,7 @@ messages_counted clients = record {
   grants = λ s p c. omega arith;
   permits = λ s p c g. omega arith;
   calls = λ s k p c g a e. calls s p a e a.called_back;
-  downs = λ s k p c a. downs s p a (s.store.keep_write && keeps_permission s p a.client (s.store.holder p) && not (is_listed (s.store.tag p) a.downgrades_sent));
+  downs = λ s k p c a. downs s p a (s.store.keep_write && keeps_permission s p a.client (s.store.holder p) && not (is_exactly a.downgrade_sent (s.store.tag p)));
 }
   where
     calls : (s : Server) (p : ℕ) (a : WaitingAsk) → s.clients ≡ clients → (r : Bool) → sends (if r then [] else send_callbacks s nobody p a.client s.clients ++ MarkCalledBack p ∷ []) + 1 ≤ clients + 1
@@ -284,7 +284,7 @@ no_copy_calls s skip p c (suc n) = rw (copies_more (send_callbacks s skip p c n)
 
 no_copy_downs : (s : Server) (skip : ℕ → Bool) (p c : ℕ) (h : Option ℕ) → copies_sent (send_downgrades s skip p c h) ≡ 0
 no_copy_downs s skip p c None = refl
-no_copy_downs s skip p c (Some d) = go (not (d == c) && not (is_live_permission s d p) && not (skip d))
+no_copy_downs s skip p c (Some d) = go (keeps_permission s p c (Some d) && not (skip d))
   where
     one : (r : Option ℕ) → copies_sent (send_downgrade s d p r) ≡ 0
     one None = refl
@@ -301,7 +301,7 @@ copies_counted clients = record {
   grants = λ s p c. omega arith;
   permits = λ s p c g. omega arith;
   calls = λ s k p c g a e. calls s p a a.called_back;
-  downs = λ s k p c a. downs s p a (s.store.keep_write && keeps_permission s p a.client (s.store.holder p) && not (is_listed (s.store.tag p) a.downgrades_sent));
+  downs = λ s k p c a. downs s p a (s.store.keep_write && keeps_permission s p a.client (s.store.holder p) && not (is_exactly a.downgrade_sent (s.store.tag p)));
 }
   where
     calls : (s : Server) (p : ℕ) (a : WaitingAsk) → (r : Bool) → copies_sent (if r then [] else send_callbacks s nobody p a.client s.clients ++ MarkCalledBack p ∷ []) + 0 ≤ 0

@@ -9,7 +9,7 @@ use Rattle.cb_protocol.specs.Session.{Admit, ApplyCommit, DropTransaction, Grant
 use Rattle.cb_protocol.specs.Flush.{dones_between, server_flush}
 use Rattle.cb_protocol.specs.Resend.{again_doomed, again_page, again_pages, server_again}
 use Rattle.cb_protocol.specs.ServerMessages.{admit_incarnation, commit_allowed, direct_answer, take_ask_read, take_ask_write, has_waiting_ask, repeat_done, enter_queue, take_current, is_empty, if_live, begin_transaction, named_txn, new_ask, server_take}
-use Rattle.cb_protocol.specs.Settling.{Decided, Settled, Decision, downgrade_once, send_callback, send_callbacks, call_back_once, decide, decide_read, decide_write, decision_steps, doom_client, send_downgrade, send_downgrades, grant_row, keeps_permission, is_listed, no_other_holder, nobody, permit_write, wait_or_doom, settle_page, settle_pages, sole_row, send_to}
+use Rattle.cb_protocol.specs.Settling.{Decided, Settled, Decision, downgrade_once, send_callback, send_callbacks, call_back_once, decide, decide_read, decide_write, decision_steps, doom_client, send_downgrade, send_downgrades, grant_row, keeps_permission, no_other_holder, nobody, permit_write, wait_or_doom, settle_page, settle_pages, sole_row, send_to}
 
 -- what a step of the server needs to leave what client d has
 abbrev pub Gentle : ℕ → Server → ServerStep → Type 0
@@ -179,7 +179,7 @@ mild_calls_back s p a = go a.called_back
     go false = mild_append (send_callbacks s nobody p a.client s.clients) (MarkCalledBack p ∷ []) (mild_callbacks s nobody p a.client s.clients) tt
 
 mild_brings_down : (s : Server) (p : ℕ) (a : WaitingAsk) → Mild (downgrade_once s p a)
-mild_brings_down s p a = go (s.store.keep_write && keeps_permission s p a.client (s.store.holder p) && not (is_listed (s.store.tag p) a.downgrades_sent))
+mild_brings_down s p a = go (s.store.keep_write && keeps_permission s p a.client (s.store.holder p) && not (is_exactly a.downgrade_sent (s.store.tag p)))
   where
     go : (r : Bool) → Mild (if r then send_downgrades s nobody p a.client (s.store.holder p) ++ MarkDowngradeSent p (s.store.tag p) ∷ [] else [])
     go true = mild_append (send_downgrades s nobody p a.client (s.store.holder p)) (MarkDowngradeSent p (s.store.tag p) ∷ []) (mild_downgrades s nobody p a.client (s.store.holder p)) tt

@@ -4,7 +4,7 @@ use Rattle.std.specs.Prelude.{⊤}
 use Rattle.cb_protocol.specs.Basics.{Bytes, IsIn, Limits, max_number, update}
 use Rattle.cb_protocol.specs.Messages.{PageWrite, write_of_page}
 use Rattle.cb_protocol.specs.Ranges.{AllMessagesFit, IsNumber, IsPage, IsPageBytes, MessageFits, StoreFits, WritesFit}
-use Rattle.cb_protocol.specs.Server.{AppliedCommit, MarkCalledBack, ServerStep, Doom, EnterQueue, SetFlushed, LeaveQueue, MarkInUse, ForgetTransaction, Server, Send, MarkDowngradeSent, ChangeSession, RemoveAsk, UnmarkInUse, WaitingAsk, new_server, after_first, after_server_step, set_called_back, add_downgrade_sent, without_client}
+use Rattle.cb_protocol.specs.Server.{AppliedCommit, MarkCalledBack, ServerStep, Doom, EnterQueue, SetFlushed, LeaveQueue, MarkInUse, ForgetTransaction, Server, Send, MarkDowngradeSent, ChangeSession, RemoveAsk, UnmarkInUse, WaitingAsk, new_server, after_first, after_server_step, set_called_back, set_downgrade_sent, without_client}
 use Rattle.cb_protocol.specs.Session.{Admit, ApplyCommit, DropTransaction, GrantRow, BeginTransaction, PermitWrite, RemoveRow, SessionChange, EndPermission, new_bytes, new_version}
 use Rattle.cb_protocol.specs.ServerMessages.{read_asks_below}
 use Rattle.cb_protocol.specs.World.{Opening, messages_sent, opening_store}
@@ -141,9 +141,9 @@ bounded_called L s p h = bounded_put L s p (set_called_back (s.queue p)) h (λ a
     go (b ∷ q) f a i = elim i [ inl e ↦ subst (λ (x : WaitingAsk). AskFits L s p x) e (f b (inl refl)) | inr j ↦ f a (inr j) ]
 
 bounded_told : (L : Limits) (s : Server) (p t : ℕ) → Bounded L s → Bounded L (after_server_step s (MarkDowngradeSent p t))
-bounded_told L s p t h = bounded_put L s p (add_downgrade_sent t (s.queue p)) h (λ a i. go (s.queue p) (λ b j. h.asking p b j) a i)
+bounded_told L s p t h = bounded_put L s p (set_downgrade_sent t (s.queue p)) h (λ a i. go (s.queue p) (λ b j. h.asking p b j) a i)
   where
-    go : (q : List WaitingAsk) → ((a : WaitingAsk) → IsIn a q → AskFits L s p a) → (a : WaitingAsk) → IsIn a (add_downgrade_sent t q) → AskFits L s p a
+    go : (q : List WaitingAsk) → ((a : WaitingAsk) → IsIn a q → AskFits L s p a) → (a : WaitingAsk) → IsIn a (set_downgrade_sent t q) → AskFits L s p a
     go [] f a i = absurd i
     go (b ∷ q) f a i = elim i [ inl e ↦ subst (λ (x : WaitingAsk). AskFits L s p x) e (f b (inl refl)) | inr j ↦ f a (inr j) ]
 

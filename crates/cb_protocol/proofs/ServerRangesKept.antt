@@ -8,12 +8,12 @@ use Rattle.cb_protocol.specs.AnyMessages.{MessageComes, Input, ReachesDisk, Send
 use Rattle.cb_protocol.specs.Basics.{IsIn, Limits, is_none, max_number, update, is_exactly}
 use Rattle.cb_protocol.specs.Messages.{AbortNow, AskRead, AskWrite, Body, Commit, Done, Downgraded, Drop, GiveBack, Granted, Hello, InUse, MayWrite, Welcome, PageWrite}
 use Rattle.cb_protocol.specs.Ranges.{BodyFits, InputTaken, IsNumber, IsPage, MessageFits, OpensServer, ServerArises, ServerMessagesInRange, ServesInput, StoreFits}
-use Rattle.cb_protocol.specs.Server.{DeadlockTest, AppliedCommit, MarkCalledBack, ServerStep, Doom, EnterQueue, SetFlushed, LeaveQueue, MarkInUse, ForgetTransaction, Server, Send, MarkDowngradeSent, ChangeSession, RemoveAsk, UnmarkInUse, WaitingAsk, new_server, after_first, server_after, after_server_step, set_called_back, add_downgrade_sent, without_client}
+use Rattle.cb_protocol.specs.Server.{DeadlockTest, AppliedCommit, MarkCalledBack, ServerStep, Doom, EnterQueue, SetFlushed, LeaveQueue, MarkInUse, ForgetTransaction, Server, Send, MarkDowngradeSent, ChangeSession, RemoveAsk, UnmarkInUse, WaitingAsk, new_server, after_first, server_after, after_server_step, set_called_back, set_downgrade_sent, without_client}
 use Rattle.cb_protocol.specs.Session.{Admit, ApplyCommit, DropTransaction, GrantRow, BeginTransaction, PermitWrite, RemoveRow, EndPermission}
 use Rattle.cb_protocol.specs.Flush.{dones_between, server_flush}
 use Rattle.cb_protocol.specs.Resend.{again_doomed, again_page, again_pages, server_again}
 use Rattle.cb_protocol.specs.ServerMessages.{admit_incarnation, commit_allowed, direct_answer, take_ask_read, take_ask_write, has_waiting_ask, read_asks_in, repeat_done, enter_queue, is_exhausted, take_current, is_empty, lacks_number, if_live, begin_transaction, named_txn, new_ask, read_asks_below, server_take}
-use Rattle.cb_protocol.specs.Settling.{Decided, Settled, Decision, downgrade_once, send_callback, send_callbacks, call_back_once, decide, decide_read, decide_write, decision_steps, doom_client, send_downgrade, send_downgrades, grant_row, keeps_permission, is_listed, no_other_holder, nobody, permit_write, wait_or_doom, settle_page, settle_pages, sole_row, send_to, send_granted}
+use Rattle.cb_protocol.specs.Settling.{Decided, Settled, Decision, downgrade_once, send_callback, send_callbacks, call_back_once, decide, decide_read, decide_write, decision_steps, doom_client, send_downgrade, send_downgrades, grant_row, keeps_permission, no_other_holder, nobody, permit_write, wait_or_doom, settle_page, settle_pages, sole_row, send_to, send_granted}
 use Rattle.cb_protocol.specs.World.{Opening, opening_store}
 
 -- what holds of a server between messages
@@ -70,7 +70,7 @@ room_easy L s (Send c i b) f r = r
 room_easy L s (EnterQueue p a) f r = absurd f
 room_easy L s (LeaveQueue p) f r = room_queue s (after_server_step s (LeaveQueue p)) refl refl (put_count s p (after_first (s.queue p)) (count_rest (s.queue p))) r
 room_easy L s (MarkCalledBack p) f r = room_queue s (after_server_step s (MarkCalledBack p)) refl refl (put_count s p (set_called_back (s.queue p)) (let e = count_called (s.queue p) in omega arith)) r
-room_easy L s (MarkDowngradeSent p t) f r = room_queue s (after_server_step s (MarkDowngradeSent p t)) refl refl (put_count s p (add_downgrade_sent t (s.queue p)) (let e = count_told t (s.queue p) in omega arith)) r
+room_easy L s (MarkDowngradeSent p t) f r = room_queue s (after_server_step s (MarkDowngradeSent p t)) refl refl (put_count s p (set_downgrade_sent t (s.queue p)) (let e = count_told t (s.queue p) in omega arith)) r
 room_easy L s (MarkInUse c p) f r = room_queue s (after_server_step s (MarkInUse c p)) refl refl (λ p. omega arith) r
 room_easy L s (UnmarkInUse c p) f r = room_queue s (after_server_step s (UnmarkInUse c p)) refl refl (λ p. omega arith) r
 room_easy L s (RemoveAsk c) f r = room_queue s (after_server_step s (RemoveAsk c)) refl refl (λ p. count_without c (s.queue p)) r
@@ -154,7 +154,7 @@ easy_calls_back L s p a h = go a.called_back
     go false = right_then L s (send_callbacks s nobody p a.client s.clients) (MarkCalledBack p) (right_callbacks L s nobody p a.client s.clients h) tt
 
 easy_brings_down : (L : Limits) (s : Server) (p : ℕ) (a : WaitingAsk) → Bounded L s → AllEasy L s (downgrade_once s p a)
-easy_brings_down L s p a h = go (s.store.keep_write && keeps_permission s p a.client (s.store.holder p) && not (is_listed (s.store.tag p) a.downgrades_sent))
+easy_brings_down L s p a h = go (s.store.keep_write && keeps_permission s p a.client (s.store.holder p) && not (is_exactly a.downgrade_sent (s.store.tag p)))
   where
     go : (r : Bool) → AllEasy L s (if r then send_downgrades s nobody p a.client (s.store.holder p) ++ MarkDowngradeSent p (s.store.tag p) ∷ [] else [])
     go true = right_then L s (send_downgrades s nobody p a.client (s.store.holder p)) (MarkDowngradeSent p (s.store.tag p)) (right_downgrades L s nobody p a.client (s.store.holder p) h refl) tt
@@ -226,7 +226,7 @@ notes_calls_back s p a = go a.called_back
     go false = notes_append (send_callbacks s nobody p a.client s.clients) (MarkCalledBack p ∷ []) (notes_callbacks s nobody p a.client s.clients) tt
 
 notes_brings_down : (s : Server) (p : ℕ) (a : WaitingAsk) → Notes (downgrade_once s p a)
-notes_brings_down s p a = go (s.store.keep_write && keeps_permission s p a.client (s.store.holder p) && not (is_listed (s.store.tag p) a.downgrades_sent))
+notes_brings_down s p a = go (s.store.keep_write && keeps_permission s p a.client (s.store.holder p) && not (is_exactly a.downgrade_sent (s.store.tag p)))
   where
     one : (d : ℕ) (r : Option ℕ) → Notes (send_downgrade s d p r)
     one d None = tt

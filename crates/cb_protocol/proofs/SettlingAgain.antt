@@ -2,9 +2,9 @@
 use Rattle.std.proofs.Common.{◌≡◌, ◌∙◌, ℕ, zero, suc, ◌+◌, ◌<◌, ◌≤◌, Bool, true, false, not, ◌==◌, ◌&&◌, if◌then◌else◌, ◌≢◌, ◌⊎◌, List, [], ◌∷◌, ◌++◌, length, Option, Some, None, ap, arith, add-one, append_assoc, refl, sym, subst, inl, inr}
 use Rattle.std.specs.Prelude.{⊤}
 use Rattle.cb_protocol.specs.Basics.{IsIn, update, is_none, is_exactly}
-use Rattle.cb_protocol.specs.Server.{DeadlockTest, WaitingAsk, Server, ServerStep, Send, EnterQueue, LeaveQueue, MarkCalledBack, MarkDowngradeSent, RemoveAsk, ForgetTransaction, after_first, set_called_back, add_downgrade_sent, after_server_step, server_after}
+use Rattle.cb_protocol.specs.Server.{DeadlockTest, WaitingAsk, Server, ServerStep, Send, EnterQueue, LeaveQueue, MarkCalledBack, MarkDowngradeSent, RemoveAsk, ForgetTransaction, after_first, set_called_back, set_downgrade_sent, after_server_step, server_after}
 use Rattle.cb_protocol.specs.ServerMessages.{direct_answer}
-use Rattle.cb_protocol.specs.Settling.{no_other_holder, sole_row, send_callbacks, nobody, send_downgrades, keeps_permission, is_listed, doom_client, Decision, Settled, Decided, wait_or_doom, permit_write, grant_row, call_back_once, downgrade_once, decide_read, decide_write, decide, settle_page, settle_pages}
+use Rattle.cb_protocol.specs.Settling.{no_other_holder, sole_row, send_callbacks, nobody, send_downgrades, keeps_permission, doom_client, Decision, Settled, Decided, wait_or_doom, permit_write, grant_row, call_back_once, downgrade_once, decide_read, decide_write, decide, settle_page, settle_pages}
 use Rattle.cb_protocol.specs.WaitsFor.{on_cycle}
 use Rattle.cb_protocol.specs.Deadlock.{SettledStaysSettled, UnchangedNeedsNoSettling, settle_listed, RisingWithin, SettlingEnds, EmptyNeedsNoSettling, EmptyPassedOver, ListedAreEnough}
 use Rattle.cb_protocol.proofs.CycleTest.{test_is_exact}
@@ -12,7 +12,7 @@ use Rattle.cb_protocol.proofs.SettlingClears.{Exact, StuckBy, Stuck, put_there, 
 use Rattle.cb_protocol.proofs.NoCycles.{between_steps}
 use Rattle.cb_protocol.proofs.ServerOrder.{after_append}
 
-append_nil : {A : Type 0} (xs : List A) → xs ++ [] ≡ xs
+pub append_nil : {A : Type 0} (xs : List A) → xs ++ [] ≡ xs
 append_nil [] = refl
 append_nil (x ∷ xs) = ap (λ (y : List _). x ∷ y) (append_nil xs)
 
@@ -86,7 +86,7 @@ called_shorter : (q : List WaitingAsk) → length (set_called_back q) ≤ length
 called_shorter [] = omega arith
 called_shorter (a ∷ q) = omega arith
 
-told_shorter : (t : ℕ) (q : List WaitingAsk) → length (add_downgrade_sent t q) ≤ length q
+told_shorter : (t : ℕ) (q : List WaitingAsk) → length (set_downgrade_sent t q) ≤ length q
 told_shorter t [] = omega arith
 told_shorter t (a ∷ q) = omega arith
 
@@ -94,7 +94,7 @@ one_shorter : (s : Server) (x : ServerStep) (p : ℕ) → NoAskEnters (x ∷ [])
 one_shorter s (EnterQueue q a) p n = absurd n
 one_shorter s (LeaveQueue q) p n = put_shorter s.queue q p (after_first (s.queue q)) (rest_shorter (s.queue q))
 one_shorter s (MarkCalledBack q) p n = put_shorter s.queue q p (set_called_back (s.queue q)) (called_shorter (s.queue q))
-one_shorter s (MarkDowngradeSent q t) p n = put_shorter s.queue q p (add_downgrade_sent t (s.queue q)) (told_shorter t (s.queue q))
+one_shorter s (MarkDowngradeSent q t) p n = put_shorter s.queue q p (set_downgrade_sent t (s.queue q)) (told_shorter t (s.queue q))
 one_shorter s (RemoveAsk c) p n = without_shorter c (s.queue p)
 one_shorter s (ForgetTransaction c) p n = without_shorter c (s.queue p)
 one_shorter s _ p n = omega arith
@@ -161,7 +161,7 @@ shrinks_decide cycle s p (a ∷ q) e = kind_of a.write_grant
     back = send_callbacks s nobody p a.client s.clients
 
     told : Stays p s (server_after s (down ++ MarkDowngradeSent p (s.store.tag p) ∷ [])) a
-    told = stays_noted s p a (record a { downgrades_sent = s.store.tag p ∷ a.downgrades_sent }) q down (MarkDowngradeSent p (s.store.tag p)) (sends_downgrades s nobody p a.client (s.store.holder p)) (rw (put_there s.queue p (add_downgrade_sent (s.store.tag p) (s.queue p)), e) refl) refl
+    told = stays_noted s p a (record a { downgrade_sent = Some (s.store.tag p) }) q down (MarkDowngradeSent p (s.store.tag p)) (sends_downgrades s nobody p a.client (s.store.holder p)) (rw (put_there s.queue p (set_downgrade_sent (s.store.tag p) (s.queue p)), e) refl) refl
 
     called : Stays p s (server_after s (back ++ MarkCalledBack p ∷ [])) a
     called = stays_noted s p a (record a { called_back = true }) q back (MarkCalledBack p) (sends_callbacks s nobody p a.client s.clients) (rw (put_there s.queue p (set_called_back (s.queue p)), e) refl) refl
@@ -176,7 +176,7 @@ shrinks_decide cycle s p (a ∷ q) e = kind_of a.write_grant
 
     reads : (u : Bool) → DecisionShrinks p s (if u then Decided (grant_row s p a.client) else wait_or_doom cycle s a.client (downgrade_once s p a))
     reads true = record { none = tt; fewer = leaves s (server_after s (grant_row s p a.client)) p a q e refl }
-    reads false = brings (s.store.keep_write && keeps_permission s p a.client (s.store.holder p) && not (is_listed (s.store.tag p) a.downgrades_sent))
+    reads false = brings (s.store.keep_write && keeps_permission s p a.client (s.store.holder p) && not (is_exactly a.downgrade_sent (s.store.tag p)))
 
     writes : (g : ℕ) (u : Bool) → DecisionShrinks p s (if u then Decided (permit_write s p a.client g) else wait_or_doom cycle s a.client (call_back_once s p a))
     writes g true = record { none = tt; fewer = leaves s (server_after s (permit_write s p a.client g)) p a q e refl }

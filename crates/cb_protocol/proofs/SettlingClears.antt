@@ -2,9 +2,9 @@
 use Rattle.std.proofs.Common.{◌≡◌, ◌↔◌, ◌∙◌, ℕ, zero, suc, ◌+◌, ◌<◌, ◌≤◌, Bool, true, false, not, ◌==◌, ◌&&◌, ◌||◌, if◌then◌else◌, ◌≢◌, ◌⊎◌, List, [], ◌∷◌, ◌++◌, length, Option, Some, None, ap, arith, add-one, refl, sym, subst, inl, inr}
 use Rattle.std.specs.Prelude.{⊤}
 use Rattle.cb_protocol.specs.Basics.{update, is_none, is_exactly}
-use Rattle.cb_protocol.specs.Server.{DeadlockTest, WaitingAsk, Server, ServerStep, Send, MarkCalledBack, MarkDowngradeSent, RemoveAsk, Doom, after_first, without_client, set_called_back, add_downgrade_sent, after_server_step, server_after, is_live_permission}
+use Rattle.cb_protocol.specs.Server.{DeadlockTest, WaitingAsk, Server, ServerStep, Send, MarkCalledBack, MarkDowngradeSent, RemoveAsk, Doom, after_first, without_client, set_called_back, set_downgrade_sent, after_server_step, server_after, is_live_permission}
 use Rattle.cb_protocol.specs.Session.{Session, GrantRow, session_after}
-use Rattle.cb_protocol.specs.Settling.{no_other_holder, sole_row, send_callback, send_callbacks, nobody, send_downgrade, keeps_permission, send_downgrades, doom_client, Decision, Settled, Decided, wait_or_doom, permit_write, grant_row, is_listed, call_back_once, downgrade_once, decide_read, decide_write, decide, settle_page, settle_pages}
+use Rattle.cb_protocol.specs.Settling.{no_other_holder, sole_row, send_callback, send_callbacks, nobody, send_downgrade, keeps_permission, send_downgrades, doom_client, Decision, Settled, Decided, wait_or_doom, permit_write, grant_row, call_back_once, downgrade_once, decide_read, decide_write, decide, settle_page, settle_pages}
 use Rattle.cb_protocol.specs.WaitsFor.{WaitsFor, HoldsUp, LiesOnCycle, NoCycle, AsksInRange}
 use Rattle.cb_protocol.specs.Deadlock.{ask_count, OneAsk, DoomsOnCycle}
 use Rattle.cb_protocol.proofs.CyclePaths.{Clear, has_count, count_has, stays_clear, none_where_clear, below_or_not, same_or_not}
@@ -42,7 +42,7 @@ pub count_called : (c : ℕ) (q : List WaitingAsk) → ask_count c (set_called_b
 count_called c [] = omega arith
 count_called c (a ∷ q) = omega arith
 
-pub count_told : (t c : ℕ) (q : List WaitingAsk) → ask_count c (add_downgrade_sent t q) ≤ ask_count c q
+pub count_told : (t c : ℕ) (q : List WaitingAsk) → ask_count c (set_downgrade_sent t q) ≤ ask_count c q
 count_told t c [] = omega arith
 count_told t c (a ∷ q) = omega arith
 
@@ -97,7 +97,7 @@ held_same n h k o p a d m (inr e) = inr (e.0, sym (o.marks d p) ∙ e.1)
 -- the first ask of page p can't be met, and what is to be sent for it was sent
 abbrev pub StuckBy : Server → ℕ → WaitingAsk → Option ℕ → Type 0
 StuckBy s p a None = ((no_other_holder (s.store.holder p) a.client && is_none ((s.session a.client).row p)) ≡ false)
-    × ((s.store.keep_write && keeps_permission s p a.client (s.store.holder p) && not (is_listed (s.store.tag p) a.downgrades_sent)) ≡ false)
+    × ((s.store.keep_write && keeps_permission s p a.client (s.store.holder p) && not (is_exactly a.downgrade_sent (s.store.tag p))) ≡ false)
 StuckBy s p a (Some g) = ((no_other_holder (s.store.holder p) a.client && is_exactly ((s.session a.client).row p) g && sole_row s p a.client s.clients) ≡ false) × (a.called_back ≡ true)
 
 abbrev pub Stuck : Server → ℕ → List WaitingAsk → Type 0
@@ -118,7 +118,7 @@ stuck_by_same n p h k a None o m b = (same ∙ b.0, more ∙ b.1)
     same : (no_other_holder (k.store.holder p) a.client && is_none ((k.session a.client).row p)) ≡ (no_other_holder (h.store.holder p) a.client && is_none ((h.session a.client).row p))
     same = let e = o.writers p m in let f = o.rows a.client p m in cc
 
-    more : (k.store.keep_write && keeps_permission k p a.client (k.store.holder p) && not (is_listed (k.store.tag p) a.downgrades_sent)) ≡ (h.store.keep_write && keeps_permission h p a.client (h.store.holder p) && not (is_listed (h.store.tag p) a.downgrades_sent))
+    more : (k.store.keep_write && keeps_permission k p a.client (k.store.holder p) && not (is_exactly a.downgrade_sent (k.store.tag p))) ≡ (h.store.keep_write && keeps_permission h p a.client (h.store.holder p) && not (is_exactly a.downgrade_sent (h.store.tag p)))
     more = let e = o.writers p m in let f = o.tags p m in let g = o.keep_write in let i = keeps_same n p a.client h k (h.store.holder p) o m in cc
 stuck_by_same n p h k a (Some g) o m b = (same ∙ b.0, b.1)
   where
@@ -351,12 +351,12 @@ right_calls_back cycle x h p a q g e s w n = go a.called_back refl
     go true f = right_refuses cycle x h p a [] tt (noted_none h p a q e s (subst (λ (v : Option ℕ). StuckBy h p a v) (sym w) (n, f)))
     go false f = right_refuses cycle x h p a (ds ++ MarkCalledBack p ∷ []) (dooms_append NoOne h ds (MarkCalledBack p ∷ []) (dooms_sends NoOne h ds (sends_callbacks h nobody p a.client h.clients)) (tt, tt)) (subst (λ (k : Server). Noted p h k a) (sym same) noted)
 
-listed_first : (t : ℕ) (xs : List ℕ) → is_listed t (t ∷ xs) ≡ true
-listed_first t xs = grind arith
+sent_there : (t : ℕ) → is_exactly (Some t) t ≡ true
+sent_there t = grind arith
 
 right_brings_down : (cycle : DeadlockTest) → Exact cycle → (h : Server) (p : ℕ) (a : WaitingAsk) (q : List WaitingAsk) → h.queue p ≡ a ∷ q → SoundAsks h → a.write_grant ≡ None
     → (no_other_holder (h.store.holder p) a.client && is_none ((h.session a.client).row p)) ≡ false → DecisionRight p h (wait_or_doom cycle h a.client (downgrade_once h p a))
-right_brings_down cycle x h p a q e s w n = go (h.store.keep_write && keeps_permission h p a.client (h.store.holder p) && not (is_listed (h.store.tag p) a.downgrades_sent)) refl
+right_brings_down cycle x h p a q e s w n = go (h.store.keep_write && keeps_permission h p a.client (h.store.holder p) && not (is_exactly a.downgrade_sent (h.store.tag p))) refl
   where
     ds : List ServerStep
     ds = send_downgrades h nobody p a.client (h.store.holder p)
@@ -365,18 +365,18 @@ right_brings_down cycle x h p a q e s w n = go (h.store.keep_write && keeps_perm
     t = h.store.tag p
 
     b : WaitingAsk
-    b = record a { downgrades_sent = t ∷ a.downgrades_sent }
+    b = record a { downgrade_sent = Some t }
 
     noted_before : (u v z : Bool) → z ≡ true → (u && v && not z) ≡ false
     noted_before u v z i = grind arith
 
     noted : Noted p h (record h { queue = update h.queue p (b ∷ q) }) a
-    noted = noted_first h p a b q e s refl (subst (λ (v : Option ℕ). StuckBy (record h { queue = update h.queue p (b ∷ q) }) p b v) (sym w) (n, noted_before h.store.keep_write (keeps_permission (record h { queue = update h.queue p (b ∷ q) }) p a.client (h.store.holder p)) (is_listed t (t ∷ a.downgrades_sent)) (listed_first t a.downgrades_sent)))
+    noted = noted_first h p a b q e s refl (subst (λ (v : Option ℕ). StuckBy (record h { queue = update h.queue p (b ∷ q) }) p b v) (sym w) (n, noted_before h.store.keep_write (keeps_permission (record h { queue = update h.queue p (b ∷ q) }) p a.client (h.store.holder p)) (is_exactly (Some t) t) (sent_there t)))
 
     same : server_after h (ds ++ MarkDowngradeSent p t ∷ []) ≡ record h { queue = update h.queue p (b ∷ q) }
-    same = after_noted h ds (MarkDowngradeSent p t) (sends_downgrades h nobody p a.client (h.store.holder p)) ∙ ap (λ (z : List WaitingAsk). record h { queue = update h.queue p (add_downgrade_sent t z) }) e
+    same = after_noted h ds (MarkDowngradeSent p t) (sends_downgrades h nobody p a.client (h.store.holder p)) ∙ ap (λ (z : List WaitingAsk). record h { queue = update h.queue p (set_downgrade_sent t z) }) e
 
-    go : (r : Bool) → (h.store.keep_write && keeps_permission h p a.client (h.store.holder p) && not (is_listed (h.store.tag p) a.downgrades_sent)) ≡ r → DecisionRight p h (wait_or_doom cycle h a.client (if r then ds ++ MarkDowngradeSent p t ∷ [] else []))
+    go : (r : Bool) → (h.store.keep_write && keeps_permission h p a.client (h.store.holder p) && not (is_exactly a.downgrade_sent (h.store.tag p))) ≡ r → DecisionRight p h (wait_or_doom cycle h a.client (if r then ds ++ MarkDowngradeSent p t ∷ [] else []))
     go false f = right_refuses cycle x h p a [] tt (noted_none h p a q e s (subst (λ (v : Option ℕ). StuckBy h p a v) (sym w) (n, f)))
     go true f = right_refuses cycle x h p a (ds ++ MarkDowngradeSent p t ∷ []) (dooms_append NoOne h ds (MarkDowngradeSent p t ∷ []) (dooms_sends NoOne h ds (sends_downgrades h nobody p a.client (h.store.holder p))) (tt, tt)) (subst (λ (k : Server). Noted p h k a) (sym same) noted)
 

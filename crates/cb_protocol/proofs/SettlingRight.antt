@@ -6,7 +6,7 @@ use Rattle.cb_protocol.specs.Basics.{IsIn, is_none, update, is_exactly}
 use Rattle.cb_protocol.specs.Messages.{Body, Granted, MayWrite}
 use Rattle.cb_protocol.specs.Server.{DeadlockTest, MarkCalledBack, ServerStep, Server, MarkDowngradeSent, RemoveAsk, WaitingAsk, is_live_permission, server_after, after_server_step}
 use Rattle.cb_protocol.specs.Session.{GrantRow, PermitWrite, Store, session_after, store_after}
-use Rattle.cb_protocol.specs.Settling.{Decided, Settled, Decision, downgrade_once, send_callback, send_callbacks, call_back_once, decide, decide_read, decide_write, decision_steps, doom_client, send_downgrade, send_downgrades, grant_row, keeps_permission, is_listed, no_other_holder, nobody, permit_write, wait_or_doom, settle_page, settle_pages, sole_row}
+use Rattle.cb_protocol.specs.Settling.{Decided, Settled, Decision, downgrade_once, send_callback, send_callbacks, call_back_once, decide, decide_read, decide_write, decision_steps, doom_client, send_downgrade, send_downgrades, grant_row, keeps_permission, no_other_holder, nobody, permit_write, wait_or_doom, settle_page, settle_pages, sole_row}
 
 pub no_other_is : (s : Store) (p c : ℕ) → no_other_holder (s.holder p) c ≡ true → NoOther s c p
 no_other_is s p c h = grind arith
@@ -107,7 +107,7 @@ right_calls_back Came s p a o = go a.called_back
     go false = right_then_one Came s (send_callbacks s nobody p a.client s.clients) (MarkCalledBack p) (speaks_callbacks Came s nobody p a.client s.clients (omega arith) o) tt (orderly_called Came s p o)
 
 right_brings_down : (Came : ℕ → ℕ → Body → Type 0) (s : Server) (p : ℕ) (a : WaitingAsk) → Orderly Came s → StepsRight Came s (downgrade_once s p a)
-right_brings_down Came s p a o = go (s.store.keep_write && keeps_permission s p a.client (s.store.holder p) && not (is_listed (s.store.tag p) a.downgrades_sent))
+right_brings_down Came s p a o = go (s.store.keep_write && keeps_permission s p a.client (s.store.holder p) && not (is_exactly a.downgrade_sent (s.store.tag p)))
   where
     go : (r : Bool) → StepsRight Came s (if r then send_downgrades s nobody p a.client (s.store.holder p) ++ MarkDowngradeSent p (s.store.tag p) ∷ [] else [])
     go true = right_then_one Came s (send_downgrades s nobody p a.client (s.store.holder p)) (MarkDowngradeSent p (s.store.tag p)) (speaks_downgrades Came s nobody p a.client (s.store.holder p) refl o) tt (orderly_told Came s p (s.store.tag p) o)

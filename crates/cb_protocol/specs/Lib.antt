@@ -28,3 +28,5 @@ pub mod CommitLaws
 pub mod HelloLaws
 pub mod ClientLaws
 pub mod Numbers
+pub mod Marks
+pub mod Downgrades

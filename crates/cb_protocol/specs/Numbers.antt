@@ -5,7 +5,7 @@ use Rattle.cb_protocol.specs.AnyMessages.{Input, MessageComes, input_steps}
 use Rattle.cb_protocol.specs.Basics.{IsIn, Limits, is_none, max_number}
 use Rattle.cb_protocol.specs.Deadlock.{InputInRange, ReachedServer}
 use Rattle.cb_protocol.specs.Messages.{Granted}
-use Rattle.cb_protocol.specs.Server.{ChangeSession, DeadlockTest, Send, Server, ServerStep, WaitingAsk, new_server, server_after}
+use Rattle.cb_protocol.specs.Server.{DeadlockTest, ChangeSession, Send, Server, ServerStep, WaitingAsk, new_server, server_after}
 use Rattle.cb_protocol.specs.ServerMessages.{is_exhausted, read_asks_below, read_asks_in}
 use Rattle.cb_protocol.specs.Session.{GrantRow}
 use Rattle.cb_protocol.specs.Settling.{decide, decision_steps, settle_page, settle_pages}

@@ -5,12 +5,12 @@ use Rattle.std.specs.List.{AllByRecursion}
 use Rattle.std.proofs.lemmas.List.{append-nil, map-append}
 use Rattle.cb_page.specs.Bounds.{Bounds}
 use Rattle.cb_schedule.specs.Plays.{Played, IsReached, Steps}
-use Rattle.cb_schedule.specs.ProtocolEvents.{event_of, answer_of}
-use Rattle.cb_schedule.specs.ProtocolLimits.{limits_of}
+use Rattle.cb_transcript.specs.ProtocolEvents.{event_of, answer_of}
+use Rattle.cb_first_client.specs.ProtocolLimits.{limits_of}
 use Rattle.cb_schedule.specs.WorldState.{WorldState, Represents, opened}
-use Rattle.cb_schedule.specs.declared.event.Event.{Event}
-use Rattle.cb_schedule.specs.declared.answer.Answer.{Answer}
-use Rattle.cb_schedule.specs.declared.answer.Entry.{Entry}
+use Rattle.cb_event.specs.declared.event.Event.{Event}
+use Rattle.cb_transcript.specs.declared.answer.Answer.{Answer}
+use Rattle.cb_transcript.specs.declared.answer.Entry.{Entry}
 use Rattle.cb_schedule.proofs.Worlds.{after_more, plays_more, promise_of, promises_more, reached_more}
 use Rattle.cb_protocol.specs.Headline.{SoundOpening}
 use Rattle.cb_protocol.specs.Laws.{ReachedWorld, WholePromise}
@@ -21,6 +21,7 @@ use Rattle.cb_protocol.specs.World as protocol
 pub record PlayedTo (w : WorldState) (es : List Event) (v : WorldState) : Type 0 where
   pub played : Played w es v.transcript
   pub limits : v.limits ≡ w.limits
+  pub opening : v.opening ≡ w.opening
   pub sound : SoundOpening (opened w)
   pub reached : ReachedWorld (limits_of w.limits) on_cycle (opened w) (protocol.world_after played.first played.moments)
   pub represents : Represents v (protocol.world_after played.first played.moments)
@@ -42,6 +43,7 @@ played_none w whole ran s = record {
     transcript = sym (append-nil w.transcript);
   };
   limits = refl;
+  opening = refl;
   sound = s.sound;
   reached = s.reached;
   represents = s.represents;
@@ -76,6 +78,7 @@ played_more w es u e a v whole p s =
         transcript = s.transcript ∙ ap (λ (xs : List Entry). xs ++ one ∷ []) p.played.transcript ∙ append_assoc w.transcript p.played.added (one ∷ []);
       };
       limits = s.limits ∙ p.limits;
+      opening = s.opening ∙ p.opening;
       sound = p.sound;
       reached = subst (λ (x : protocol.World). ReachedWorld (limits_of w.limits) on_cycle o x) (sym last) reached;
       represents = subst (λ (x : protocol.World). Represents v x) (sym last) next.2;
