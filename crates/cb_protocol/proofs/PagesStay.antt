@@ -270,7 +270,7 @@ ended_here L l h e p f = absurd (let z : true ≡ false = sym f ∙ h.idle_unfix
 
 fixed_here : (L : Limits) (Allowed : ClientInput → Type 0) (k : Client) → Arises L Allowed k → FixedHere k
 fixed_here L Allowed k StartsNew = λ p f. absurd (let z : false ≡ true = f in cc)
-fixed_here L Allowed k (Continues l i a u o) = go (fixed_here L Allowed l a) (ending L l i) refl ((in_use_given_back_once L Allowed l a).1 i)
+fixed_here L Allowed k (Continues l i a u o) = go (fixed_here L Allowed l a) (ending L l i) refl ((in_use_given_back_once L Allowed l a).ends i)
   where
     go : FixedHere l → (e : Ending) → ending L l i ≡ e → EndsRight l (after_input L l i) (bodies_said (client_steps_at L l i)) e → FixedHere (after_input L l i)
     go h GoesOn e r = stays_here L l i h u e

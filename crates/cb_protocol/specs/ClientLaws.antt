@@ -20,8 +20,8 @@ pub record PagesStay (old new : Client) : Type 0 where
   -- one that it wants to write or wrote
   pub fixed : (page : ℕ) → is_fixed old page ≡ true → is_fixed new page ≡ true
 
--- A page that the transaction wants to write or wrote is here. It stays fixed, and so here, until the
--- transaction ends; one that it reads stays held and read as long.
+-- A page that the transaction wants to write or wrote is here. It stays fixed, and so here, until
+-- the transaction ends; one that it reads stays held and read as long.
 abbrev pub FixedPagesStay : Limits → (ClientInput → Type 0) → Type 0
 FixedPagesStay L Allowed = (client : Client) → Arises L Allowed client
     → ((page : ℕ) → is_fixed client page ≡ true → IsHere client page)
@@ -33,8 +33,10 @@ abbrev pub NewCopyIsRead : Limits → Type 0
 NewCopyIsRead L = (client : Client) (page grant version : ℕ) (bytes : Bytes) (let_go : Option ℕ)
     → client.cache.held page ≡ None
     → brings_page (client_take L client (Granted page grant version bytes) let_go) ≡ true
-    → let after = after_input L client (ReceivesMessage (Granted page grant version bytes) let_go) in
-    Reading after page grant × (after.cache.content page ≡ Some bytes) × (after.cache.version page ≡ version)
+    → let granted = ReceivesMessage (Granted page grant version bytes) let_go in
+    let after = after_input L client granted in
+    Reading after page grant × (after.cache.content page ≡ Some bytes)
+    × (after.cache.version page ≡ version)
     × (after.ask ≡ NoAsk)
 
 -- how the transaction that ends at this input ended; where none does, how the last one did
