@@ -39,14 +39,16 @@ WritesPermitted server client writes = (write : PageWrite) → IsIn write writes
 
 -- A commit that may be applied: of the current incarnation, of a transaction that neither ended nor
 -- is doomed, of pages that it may write.
-pub record MayBeApplied (server : Server) (client incarnation txn : ℕ) (writes : List PageWrite) : Type 0 where
+pub record MayBeApplied (server : Server) (client incarnation txn : ℕ)
+    (writes : List PageWrite) : Type 0 where
   pub current : incarnation ≡ (server.session client).current
   pub lives : ((server_with server client txn).session client).ended < txn
   pub not_doomed : (server_with server client txn).doomed client ≡ false
   pub permitted : WritesPermitted (server_with server client txn) client writes
 
 -- it is the next commit, and its transaction has ended by it
-pub record IsApplied (before after : Server) (client incarnation txn : ℕ) (writes : List PageWrite) : Type 0 where
+pub record IsApplied (before after : Server) (client incarnation txn : ℕ)
+    (writes : List PageWrite) : Type 0 where
   pub listed : after.commits ≡ record {
     client = client;
     incarnation = incarnation;
@@ -58,15 +60,19 @@ pub record IsApplied (before after : Server) (client incarnation txn : ℕ) (wri
   pub outcome : after.outcome client ≡ Some (before.store.last_commit + 1)
 
 -- the server after that Commit came
-abbrev pub server_after_commit : DeadlockTest → Server → (client incarnation txn : ℕ) → List PageWrite → Server
+abbrev pub server_after_commit : DeadlockTest → Server → (client incarnation txn : ℕ)
+    → List PageWrite → Server
 server_after_commit cycle server client incarnation txn writes =
-    server_after server (input_steps cycle server (MessageComes client incarnation (Commit txn writes)))
+    server_after server
+    (input_steps cycle server (MessageComes client incarnation (Commit txn writes)))
 
 -- At any server a Commit is applied where it may be, and else no commit is.
 abbrev pub AppliedWhereItMay : Type 0
-AppliedWhereItMay = (cycle : DeadlockTest) (server : Server) (client incarnation txn : ℕ) (writes : List PageWrite)
+AppliedWhereItMay = (cycle : DeadlockTest) (server : Server)
+    (client incarnation txn : ℕ) (writes : List PageWrite)
     → let after = server_after_commit cycle server client incarnation txn writes in
-    (MayBeApplied server client incarnation txn writes → IsApplied server after client incarnation txn writes)
+    (MayBeApplied server client incarnation txn writes
+    → IsApplied server after client incarnation txn writes)
     × ((MayBeApplied server client incarnation txn writes → ⊥) → after.commits ≡ server.commits)
 
 -- No other input applies a commit.

@@ -27,4 +27,5 @@ GreaterHelloStartsAnew = (cycle : DeadlockTest) (server : Server) (client incarn
     → (server.session client).current < incarnation
     → let steps = server_take cycle server client incarnation Hello in
     OnlyGreeted (server_after server steps) client incarnation
-    × IsIn (record { client = client; incarnation = incarnation; body = Welcome }) (messages_sent steps)
+    × IsIn (record { client = client; incarnation = incarnation; body = Welcome })
+    (messages_sent steps)
