@@ -1,5 +1,5 @@
 -- What the table says of each message.
-use Rattle.std.proofs.Common.{◌≡◌, ◌<◌, ◌≤◌, nat_lt, ◌==◌, ℕ, Bool, true, false, not, ◌&&◌, if◌then◌else◌, List, [], ◌∷◌, ◌++◌, length, Option, Some, None, IfSome, refl, sym, ◌∙◌, ap, arith}
+use Rattle.std.proofs.Common.{◌≡◌, ◌<◌, ◌≤◌, nat_lt, ◌==◌, ℕ, Bool, true, false, not, ◌&&◌, if◌then◌else◌, List, [], ◌∷◌, ◌++◌, length, Option, Some, None, IfSome, refl, sym, inl, inr, ◌∙◌, ap, arith}
 use Rattle.std.specs.Option.{is_some}
 use Rattle.cb_pool.specs.PoolState.{MayGo, copy_of, held}
 use Rattle.cb_first_client.proofs.ClientCopies.{pool_brings, put_field, put_same}
@@ -11,11 +11,12 @@ use Rattle.cb_first_client.specs.ProtocolLimits.{limits_of}
 use Rattle.cb_first_client.specs.declared.client.GrantCase.{GrantCase}
 use Rattle.cb_first_client.specs.declared.client.GrantCase.TheVariants.{Filled, GivenBack, Ignored, Installed}
 use Rattle.cb_first_client.specs.declared.copies.Held.{Held}
+use Rattle.cb_protocol.proofs.PageComes.{brings_after}
 use Rattle.cb_protocol.specs.Basics.{Bytes}
 use Rattle.cb_protocol.specs.Cache.{Fill, Install, Lock, MakeBare}
 use Rattle.cb_protocol.specs.Client.{ChangeCache, Client, ClientStep, NoAsk, SetAsk, bodies_said, client_after, pages_in_pool}
 use Rattle.cb_protocol.specs.ClientEnd.{refuse_grant}
-use Rattle.cb_protocol.specs.ClientMessages.{MayLetGo, client_take, let_page_go}
+use Rattle.cb_protocol.specs.ClientMessages.{ChoiceAllowed, MayLetGo, brings_page, client_take, let_page_go}
 use Rattle.cb_protocol.specs.Messages.{Body, GiveBack, Granted, Welcome}
 use Rattle.cb_protocol.specs.Serial.{Operation}
 
@@ -82,10 +83,13 @@ said v page grant version true true w r = rw (w, r) refl
 said v page grant version true false w r = rw (w, r) (said_of_kept v page grant version (copy_at v.copies page).held)
 
 -- what the pool may let go the table allows
-may_let_go : (v : ClientState) → IsClient v → (operations : List Operation) (page : ℕ) (victim : Option ℕ) → MayGo v.pool page victim
+may_let_go : (v : ClientState) → IsClient v → (operations : List Operation) (page : ℕ) (victim : Option ℕ) → is_some (copy_of v.pool page) ≡ false → MayGo v.pool page victim
     → MayLetGo (limits_of v.limits) (client_of v operations) page victim
-may_let_go v h operations page None m = tt
-may_let_go v h operations page (Some victim) m =
+may_let_go v h operations page None away m = elim m [
+  | inl there ↦ absurd (let e : false ≡ true = sym away ∙ there in cc)
+  | inr room ↦ (let s = h.pool.slots in let e = pool_counted v operations h.pool.pages in omega arith)
+]
+may_let_go v h operations page (Some victim) away m =
     let full : v.limits.slots ≤ pages_in_pool (client_of v operations) v.limits.pages =
     let l : v.pool.slots ≤ held v.pool.pages = m.1 in let s = h.pool.slots in let e = pool_counted v operations h.pool.pages in omega arith in
     (m.4, not_none_of (copy_of v.pool victim) m.2, refl, full)
@@ -108,23 +112,34 @@ bare_says : (victim : Option ℕ) (rest : List ClientStep) → bodies_said (bare
 bare_says None rest = refl
 bare_says (Some victim) rest = refl
 
+-- what the law says of the page let go, where this grant brings a page
+abbrev Allowed : ClientState → List Operation → ℕ → ℕ → ℕ → Bytes → Option ℕ → GrantCase → Type 0
+Allowed v operations page grant version bytes victim case =
+    brings_page (steps_of case (client_of v operations) page grant version bytes victim) ≡ true
+    → MayLetGo (limits_of v.limits) (client_of v operations) page victim
+
 coming_says : (v : ClientState) → IsClient v → (operations : List Operation) (page : ℕ) (victim : Option ℕ) → MayLetGo (limits_of v.limits) (client_of v operations) page victim
     → (rest : List ClientStep) → bodies_said (let_page_go (client_of v operations) victim ++ rest) ≡ bodies_said rest
 coming_says v h operations page victim m rest = ap (λ (ss : List ClientStep). bodies_said (ss ++ rest)) (goes_bare v h operations page victim m) ∙ bare_says victim rest
 
-says_by_case : (v : ClientState) → IsClient v → (operations : List Operation) (page grant version : ℕ) (bytes : Bytes) (victim : Option ℕ) → MayLetGo (limits_of v.limits) (client_of v operations) page victim
-    → (case : GrantCase) → bodies_said (steps_of case (client_of v operations) page grant version bytes victim) ≡ said_in case page grant
-says_by_case v h operations page grant version bytes victim m Ignored = refl
-says_by_case v h operations page grant version bytes victim m GivenBack = refl
-says_by_case v h operations page grant version bytes victim m Filled = coming_says v h operations page victim m (SetAsk NoAsk ∷ ChangeCache (Fill page grant bytes) ∷ [])
-says_by_case v h operations page grant version bytes victim m Installed = coming_says v h operations page victim m (SetAsk NoAsk ∷ ChangeCache (Install page grant version bytes) ∷ ChangeCache (Lock page) ∷ [])
+says_by_case : (v : ClientState) → IsClient v → (operations : List Operation) (page grant version : ℕ) (bytes : Bytes) (victim : Option ℕ)
+    → (case : GrantCase) → Allowed v operations page grant version bytes victim case → bodies_said (steps_of case (client_of v operations) page grant version bytes victim) ≡ said_in case page grant
+says_by_case v h operations page grant version bytes victim Ignored m = refl
+says_by_case v h operations page grant version bytes victim GivenBack m = refl
+says_by_case v h operations page grant version bytes victim Filled m = let rest : List ClientStep = SetAsk NoAsk ∷ ChangeCache (Fill page grant bytes) ∷ [] in
+    coming_says v h operations page victim (m (brings_after (client_of v operations) victim rest refl)) rest
+says_by_case v h operations page grant version bytes victim Installed m = let rest : List ClientStep = SetAsk NoAsk ∷ ChangeCache (Install page grant version bytes) ∷ ChangeCache (Lock page) ∷ [] in
+    coming_says v h operations page victim (m (brings_after (client_of v operations) victim rest refl)) rest
 
 -- what is said of a grant, whatever its version and bytes and whatever page goes for it
-says : (v : ClientState) → IsClient v → (operations : List Operation) (page grant version : ℕ) (bytes : Bytes) (victim : Option ℕ) → MayLetGo (limits_of v.limits) (client_of v operations) page victim
+says : (v : ClientState) → IsClient v → (operations : List Operation) (page grant version : ℕ) (bytes : Bytes) (victim : Option ℕ)
+    → ChoiceAllowed (limits_of v.limits) (client_of v operations) (Granted page grant version bytes) victim
     → bodies_said (client_take (limits_of v.limits) (client_of v operations) (Granted page grant version bytes) victim) ≡ replies (gives_back v page grant) page grant
 says v h operations page grant version bytes victim m =
-    ap bodies_said (steps v operations page grant version bytes victim v.welcomed (copy_at v.copies page).held (copy_of v.pool page) refl refl refl)
-    ∙ says_by_case v h operations page grant version bytes victim m (case_of v page grant version)
+    let path : client_take (limits_of v.limits) (client_of v operations) (Granted page grant version bytes) victim ≡ steps_of (case_of v page grant version) (client_of v operations) page grant version bytes victim =
+    steps v operations page grant version bytes victim v.welcomed (copy_at v.copies page).held (copy_of v.pool page) refl refl refl in
+    ap bodies_said path
+    ∙ says_by_case v h operations page grant version bytes victim (case_of v page grant version) (λ e. m (ap brings_page path ∙ e))
     ∙ said v page grant version v.welcomed (is_refused v page grant (copy_at v.copies page).held) refl refl
 
 pub replies_to : (v : ClientState) → IsClient v → (page grant : ℕ) → RepliesTo v page grant (gives_back v page grant)
@@ -132,7 +147,7 @@ replies_to v h page grant = record { by_table = λ operations version bytes vict
 
 -- a grant is taken, where its case is known
 taken : (v : ClientState) → IsClient v → (page grant version : ℕ) (bytes : Bytes) (victim : Option ℕ) (case : GrantCase) → case ≡ case_of v page grant version
-    → ((operations : List Operation) → MayLetGo (limits_of v.limits) (client_of v operations) page victim)
+    → ((operations : List Operation) → Allowed v operations page grant version bytes victim case)
     → (new : ClientState) → new.limits ≡ v.limits
     → ((operations : List Operation) → client_after false (client_of v operations) (steps_of case (client_of v operations) page grant version bytes victim) ≡ client_of new operations)
     → Takes v (Granted page grant version bytes) (replies (gives_back v page grant) page grant) new
@@ -142,15 +157,15 @@ taken v h page grant version bytes victim case e m new l after =
     ∙ ap (λ (a : GrantCase). steps_of a (client_of v operations) page grant version bytes victim) (sym e) in
     record {
       let_go = victim;
-      allowed = m;
-      said = λ operations. says v h operations page grant version bytes victim (m operations);
+      allowed = λ operations e. m operations (sym (ap brings_page (s operations)) ∙ e);
+      said = λ operations. says v h operations page grant version bytes victim (λ e. m operations (sym (ap brings_page (s operations)) ∙ e));
       after = λ operations. ap (client_after false (client_of v operations)) (s operations) ∙ after operations;
       limits = l;
     }
 
 pub ignores : (v : ClientState) (page grant version : ℕ) (bytes : Bytes) → IsClient v → Ignored ≡ case_of v page grant version
     → Takes v (Granted page grant version bytes) (replies (gives_back v page grant) page grant) v
-ignores v page grant version bytes h e = taken v h page grant version bytes None Ignored e (λ operations. tt) v refl (λ operations. refl)
+ignores v page grant version bytes h e = taken v h page grant version bytes None Ignored e (λ operations b. absurd cc) v refl (λ operations. refl)
 
 -- the seen grant is one of the fields of the copies
 sees : (v : ClientState) (page grant : ℕ) (operations : List Operation) → page < length v.copies
@@ -169,7 +184,7 @@ sees v page grant operations lt =
 pub gives : (v : ClientState) (page grant version : ℕ) (bytes : Bytes) → IsClient v → page < v.limits.pages → GivenBack ≡ case_of v page grant version
     → Takes v (Granted page grant version bytes) (replies (gives_back v page grant) page grant) (seen_page v page grant)
 gives v page grant version bytes h lt e =
-    taken v h page grant version bytes None GivenBack e (λ operations. tt) (seen_page v page grant) refl (λ operations. sees v page grant operations (let c = h.copies in omega arith))
+    taken v h page grant version bytes None GivenBack e (λ operations b. absurd cc) (seen_page v page grant) refl (λ operations. sees v page grant operations (let c = h.copies in omega arith))
 
 -- the bytes of a page come in
 filled : (v : ClientState) → IsClient v → (operations : List Operation) (page grant : ℕ) (bytes : Bytes) (victim : Option ℕ) → page < v.limits.pages → MayGo v.pool page victim
@@ -243,19 +258,41 @@ installed v h operations page copy bytes victim lt m = by victim (victim_within 
       };
     }
 
+-- the page of such a grant is not in the pool
+away_bare : (v : ClientState) (page grant version : ℕ) → Filled ≡ case_of v page grant version → is_some (copy_of v.pool page) ≡ false
+away_bare v page grant version e = by v.welcomed (copy_at v.copies page).held (is_some (copy_of v.pool page)) refl refl e
+  where
+    by : (welcomed : Bool) (copy : Option Held) (there : Bool) → (copy_at v.copies page).held ≡ copy → is_some (copy_of v.pool page) ≡ there
+        → Filled ≡ (if welcomed then (if is_refused v page grant copy then GivenBack else case_of_kept v page version copy) else Ignored)
+        → there ≡ false
+    by w c false h t e = refl
+    by false c true h t e = absurd cc
+    by true None true h t e = grind arith
+    by true (Some copy) true h t e = grind arith
+
+away_new : (v : ClientState) → IsClient v → (page grant version : ℕ) → Installed ≡ case_of v page grant version → is_some (copy_of v.pool page) ≡ false
+away_new v h page grant version e = by (is_some (copy_of v.pool page)) refl
+  where
+    not_held : (copy_at v.copies page).held ≡ None
+    not_held = grind arith
+
+    by : (there : Bool) → is_some (copy_of v.pool page) ≡ there → there ≡ false
+    by false t = refl
+    by true t = absurd (let a = h.held page t in let b = not_held in cc)
+
 pub fills : (v : ClientState) (page grant version : ℕ) (bytes : Bytes) (victim : Option ℕ) → IsClient v → page < v.limits.pages → MayGo v.pool page victim → Filled ≡ case_of v page grant version
     → Takes v (Granted page grant version bytes) (replies (gives_back v page grant) page grant) (with_page v page (copy_at v.copies page) bytes victim)
 fills v page grant version bytes victim h lt m e =
     let rest : List ClientStep = SetAsk NoAsk ∷ ChangeCache (Fill page grant bytes) ∷ [] in
-    let may : (operations : List Operation) → MayLetGo (limits_of v.limits) (client_of v operations) page victim = λ operations. may_let_go v h operations page victim m in
-    taken v h page grant version bytes victim Filled e may (with_page v page (copy_at v.copies page) bytes victim) refl
+    let may : (operations : List Operation) → MayLetGo (limits_of v.limits) (client_of v operations) page victim = λ operations. may_let_go v h operations page victim (away_bare v page grant version e) m in
+    taken v h page grant version bytes victim Filled e (λ operations b. may operations) (with_page v page (copy_at v.copies page) bytes victim) refl
     (λ operations. ap (λ (ss : List ClientStep). client_after false (client_of v operations) (ss ++ rest)) (goes_bare v h operations page victim (may operations)) ∙ filled v h operations page grant bytes victim lt m)
 
 pub installs : (v : ClientState) (page grant version : ℕ) (bytes : Bytes) (victim : Option ℕ) → IsClient v → page < v.limits.pages → MayGo v.pool page victim → Installed ≡ case_of v page grant version
     → Takes v (Granted page grant version bytes) (replies (gives_back v page grant) page grant) (with_page v page (new_copy (record { grant = grant; version = version })) bytes victim)
 installs v page grant version bytes victim h lt m e =
     let rest : List ClientStep = SetAsk NoAsk ∷ ChangeCache (Install page grant version bytes) ∷ ChangeCache (Lock page) ∷ [] in
-    let may : (operations : List Operation) → MayLetGo (limits_of v.limits) (client_of v operations) page victim = λ operations. may_let_go v h operations page victim m in
-    taken v h page grant version bytes victim Installed e may (with_page v page (new_copy (record { grant = grant; version = version })) bytes victim) refl
+    let may : (operations : List Operation) → MayLetGo (limits_of v.limits) (client_of v operations) page victim = λ operations. may_let_go v h operations page victim (away_new v h page grant version e) m in
+    taken v h page grant version bytes victim Installed e (λ operations b. may operations) (with_page v page (new_copy (record { grant = grant; version = version })) bytes victim) refl
     (λ operations. ap (λ (ss : List ClientStep). client_after false (client_of v operations) (ss ++ rest)) (goes_bare v h operations page victim (may operations))
     ∙ installed v h operations page (record { grant = grant; version = version }) bytes victim lt m)

@@ -7,7 +7,9 @@ use Rattle.cb_protocol.specs.Answers.{Asked, ClientFault, NotWritable, PageRange
 use Rattle.cb_protocol.specs.Basics.{is_exactly, Bytes, Limits, is_none, update}
 use Rattle.cb_protocol.specs.ClientCalls.{CallAgain, CallBegin, Call, Cause, CallDrop, CallFinish, CallHello, CallPeek, CallRead, CallWant, CallWrite, accept_call, page_causes, client_again, client_call, cause_of, causes, first_refusal, read_causes, read_page, accept_or_refuse, reply_with, open_causes, say_ask, say_ask_write, say_commit, say_drop}
 use Rattle.cb_protocol.specs.ClientEnd.{drop_transaction, end_page, end_pages, give_back, refuse_grant}
-use Rattle.cb_protocol.specs.ClientMessages.{ChoiceAllowed, MayLetGo, take_callback, take_downgrade, take_granted, take_granted_held, take_welcomed, let_page_go, of_committing_txn, of_open_txn, client_take}
+use Rattle.std.specs.Prelude.{⊤}
+use Rattle.cb_protocol.proofs.PageComes.{brings_after, steps_granted, steps_held, steps_kept}
+use Rattle.cb_protocol.specs.ClientMessages.{brings_page, ChoiceAllowed, MayLetGo, take_callback, take_downgrade, take_granted, take_welcomed, let_page_go, of_committing_txn, of_open_txn, client_take}
 use Rattle.cb_protocol.specs.Messages.{AbortNow, AskRead, Body, Callback, Done, Downgrade, Downgraded, GiveBack, Granted, InUse, MayWrite, Welcome, Hello}
 use Rattle.cb_protocol.specs.ClientAlone.{Arises, StartsNew, ClientInput, Continues, ReceivesCall, ReceivesMessage, InputAllowed, after_input}
 use Rattle.cb_protocol.specs.ClientCalls.{call_fault}
@@ -288,23 +290,28 @@ tidy_install L k p g v b let_go h u r = let a = lets_go_keeps L k p let_go u in
 tidy_refuse : (L : Limits) (k : Client) (p g : ℕ) → ClientKeeps L k → ClientKeeps L (client_after L.keep_write k (refuse_grant p g))
 tidy_refuse L k p g h = tidy_all L k (refuse_grant p g) h (tt, (tt, tt))
 
-tidy_granted : (L : Limits) (k : Client) (p g v : ℕ) (b : Bytes) (let_go : Option ℕ) → ClientKeeps L k → MayLetGo L k p let_go → ClientKeeps L (client_after L.keep_write k (take_granted k p g v b let_go (k.cache.held p)))
-tidy_granted L k p g v b let_go h u = go (k.cache.held p) refl (nat_lt (k.cache.seen p) g && asks_to_read k.ask p) refl
+tidy_granted : (L : Limits) (k : Client) (p g v : ℕ) (b : Bytes) (let_go : Option ℕ) → ClientKeeps L k
+    → (brings_page (take_granted k p g v b let_go (k.cache.held p)) ≡ true → MayLetGo L k p let_go)
+    → ClientKeeps L (client_after L.keep_write k (take_granted k p g v b let_go (k.cache.held p)))
+tidy_granted L k p g v b let_go h u = go (k.cache.held p) refl (nat_lt (k.cache.seen p) g && asks_to_read k.ask p) refl u
   where
-    held : k.cache.held p ≢ None → (o : Option Bytes) (q : Bool) → ClientKeeps L (client_after L.keep_write k (elim o [ Some y ↦ [] | None ↦ if q then let_page_go k let_go ++ SetAsk NoAsk ∷ ChangeCache (Fill p g b) ∷ [] else [] ]))
-    held n (Some y) q = h
-    held n None true = tidy_fill L k p g b let_go h u n
-    held n None false = h
+    held : k.cache.held p ≢ None → (o : Option Bytes) (q : Bool) → (brings_page (steps_held k p g b let_go o q) ≡ true → MayLetGo L k p let_go)
+        → ClientKeeps L (client_after L.keep_write k (steps_held k p g b let_go o q))
+    held n (Some y) q u = h
+    held n None true u = tidy_fill L k p g b let_go h (u (brings_after k let_go (SetAsk NoAsk ∷ ChangeCache (Fill p g b) ∷ []) refl)) n
+    held n None false u = h
 
-    match : k.cache.held p ≢ None → (q : Bool) → ClientKeeps L (client_after L.keep_write k (if q then take_granted_held k p g v b let_go (k.cache.content p) else refuse_grant p g))
-    match n true = held n (k.cache.content p) ((k.cache.version p == v) && asks_to_read k.ask p)
-    match n false = tidy_refuse L k p g h
+    match : k.cache.held p ≢ None → (q : Bool) → (brings_page (steps_kept k p g v b let_go q) ≡ true → MayLetGo L k p let_go)
+        → ClientKeeps L (client_after L.keep_write k (steps_kept k p g v b let_go q))
+    match n true u = held n (k.cache.content p) ((k.cache.version p == v) && asks_to_read k.ask p) u
+    match n false u = tidy_refuse L k p g h
 
     go : (x : Option ℕ) → k.cache.held p ≡ x → (q : Bool) → (nat_lt (k.cache.seen p) g && asks_to_read k.ask p) ≡ q
-        → ClientKeeps L (client_after L.keep_write k (elim x [ Some y ↦ (if y == g then take_granted_held k p g v b let_go (k.cache.content p) else refuse_grant p g) | None ↦ (if q then let_page_go k let_go ++ SetAsk NoAsk ∷ ChangeCache (Install p g v b) ∷ ChangeCache (Lock p) ∷ [] else refuse_grant p g) ]))
-    go (Some y) e q f = match (λ z. absurd (let w : Some y ≡ None = sym e ∙ z in cc)) (y == g)
-    go None e true f = tidy_install L k p g v b let_go h u (grind arith)
-    go None e false f = tidy_refuse L k p g h
+        → (brings_page (steps_granted k p g v b let_go x q) ≡ true → MayLetGo L k p let_go)
+        → ClientKeeps L (client_after L.keep_write k (steps_granted k p g v b let_go x q))
+    go (Some y) e q f u = match (λ z. absurd (let w : Some y ≡ None = sym e ∙ z in cc)) (y == g) u
+    go None e true f u = tidy_install L k p g v b let_go h (u (brings_after k let_go (SetAsk NoAsk ∷ ChangeCache (Install p g v b) ∷ ChangeCache (Lock p) ∷ []) refl)) (grind arith)
+    go None e false f u = tidy_refuse L k p g h
 
 tidy_called_back : (L : Limits) (k : Client) (p g : ℕ) → ClientKeeps L k → ClientKeeps L (client_after L.keep_write k (take_callback k p g))
 tidy_called_back L k p g h = go (is_exactly (k.cache.held p) g) (k.cache.locked p) refl
@@ -327,7 +334,17 @@ tidy_may_write : (L : Limits) (k : Client) (p g : ℕ) (r : Bool) → ClientKeep
 tidy_may_write L k p g true h = tidy_all L k (SetAsk NoAsk ∷ ChangeCache (TakePermission p g) ∷ []) h (tt, (tt, tt))
 tidy_may_write L k p g false h = h
 
-tidy_hears : (L : Limits) (k : Client) (b : Body) (let_go : Option ℕ) → ClientKeeps L k → ChoiceAllowed L k b let_go → ClientKeeps L (client_after L.keep_write k (take_welcomed L k b let_go))
+-- the choice, where a welcomed client takes the message
+abbrev pub WelcomedChoice : Limits → Client → Body → Option ℕ → Type 0
+WelcomedChoice L k (Granted p g v b) let_go = brings_page (take_granted k p g v b let_go (k.cache.held p)) ≡ true → MayLetGo L k p let_go
+WelcomedChoice L k _ let_go = ⊤
+
+pub welcomed_choice : (L : Limits) (k : Client) (b : Body) (let_go : Option ℕ) → k.cache.welcomed ≡ true → ChoiceAllowed L k b let_go → WelcomedChoice L k b let_go
+unfolding client_take
+welcomed_choice L k (Granted p g v b) let_go e u = λ f. u (rw e f)
+welcomed_choice L k _ let_go e u = tt
+
+tidy_hears : (L : Limits) (k : Client) (b : Body) (let_go : Option ℕ) → ClientKeeps L k → WelcomedChoice L k b let_go → ClientKeeps L (client_after L.keep_write k (take_welcomed L k b let_go))
 tidy_hears L k (Granted p g v b) let_go h u = tidy_granted L k p g v b let_go h u
 tidy_hears L k (MayWrite t p g) let_go h u = tidy_may_write L k p g (of_open_txn k t && asks_to_write k.ask p && is_exactly (k.cache.held p) g) h
 tidy_hears L k (Callback p g) let_go h u = tidy_called_back L k p g h
@@ -351,11 +368,11 @@ tidy_hears L k _ let_go h u = h
 pub tidy_takes : (L : Limits) (k : Client) (b : Body) (let_go : Option ℕ) → ClientKeeps L k → ChoiceAllowed L k b let_go → ClientKeeps L (client_after L.keep_write k (client_take L k b let_go))
 unfolding client_take
 tidy_takes L k Welcome let_go h u = tidy_all L k (ChangeCache TakeWelcome ∷ []) h (tt, tt)
-tidy_takes L k b let_go h u = go k.cache.welcomed
+tidy_takes L k b let_go h u = go k.cache.welcomed refl
   where
-    go : (q : Bool) → ClientKeeps L (client_after L.keep_write k (if q then take_welcomed L k b let_go else []))
-    go true = tidy_hears L k b let_go h u
-    go false = h
+    go : (q : Bool) → k.cache.welcomed ≡ q → ClientKeeps L (client_after L.keep_write k (if q then take_welcomed L k b let_go else []))
+    go true e = tidy_hears L k b let_go h (welcomed_choice L k b let_go e u)
+    go false e = h
 
 pub tidy_input : (L : Limits) (k : Client) (i : ClientInput) → ClientKeeps L k → InputAllowed L k i → ClientKeeps L (after_input L k i)
 tidy_input L k (ReceivesCall c) h u = tidy_calls L k c h

@@ -1,5 +1,5 @@
 -- What a step of the server makes of the disk, and of the Dones that are said.
-use Rattle.std.proofs.Common.{List, [], arith, subst, sym, true, Bool, ℕ, ◌∷◌, ◌≡◌, ◌≤◌}
+use Rattle.std.proofs.Common.{List, [], arith, subst, sym, true, ℕ, ◌∷◌, ◌≡◌, ◌≤◌}
 use Rattle.cb_protocol.proofs.ServedSteps.{done_from_disk}
 use Rattle.cb_protocol.specs.AnyMessages.{Input, MessageComes, ReachesDisk, SendsAgain, input_steps}
 use Rattle.cb_protocol.specs.CommitLaws.{DonesUpTo, flushed_by}
@@ -34,7 +34,7 @@ from_disk cycle s i up made = let a = done_from_disk cycle s i in let l = last_r
 pub taken_from_disk : (cycle : DeadlockTest) (s : Server) (c i : ℕ) (b : Body) → FromDisk s (server_take cycle s c i b)
 taken_from_disk cycle s c i b = from_disk cycle s (MessageComes c i b) (omega arith) (λ l. l)
 
-nobody_waits : Server → ℕ → Bool
+nobody_waits : DeadlockTest
 nobody_waits s c = true
 
 pub again_from_disk : (s : Server) → FromDisk s (server_again s)

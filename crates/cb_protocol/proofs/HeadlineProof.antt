@@ -48,7 +48,7 @@ call_step L o v w c x m l = let k = v.client c in let q = calls_marks L v.transc
       (calls_may L (SentBy v c (v.incarnation c)) k x (welcomed_apt L o v w c m) (m.ready c)) (calls_fit L (SentBy v c (v.incarnation c)) k x) q.performed q.mine q.others q.restarts,
 )
 
-deliver_step : (L : Limits) (cycle : DeadlockTest) (o : Opening) (v : World) (w : Machine) (n : ℕ) (f : Message) (let_go : Option ℕ) → Mirrors L o v w → IsIn f v.packets → ChoiceAllowed L (v.client f.client) f.body let_go
+deliver_step : (L : Limits) (cycle : DeadlockTest) (o : Opening) (v : World) (w : Machine) (n : ℕ) (f : Message) (let_go : Option ℕ) → Mirrors L o v w → IsIn f v.packets → (f.incarnation ≡ v.incarnation f.client → ChoiceAllowed L (v.client f.client) f.body let_go)
     → Reached L o (deliver L cycle v (TakePacket n) f let_go).world
 deliver_step L cycle o v w n f let_go m i u = go (to_server f.body) (is_exhausted v.server f.client f.incarnation f.body) (f.incarnation == v.incarnation f.client) refl
   where
@@ -73,7 +73,7 @@ deliver_step L cycle o v w n f let_go m i u = go (to_server f.body) (is_exhauste
     go false r true e = let k = v.client f.client in (
       run (client_machine_steps f.client (client_take L k f.body let_go)) w,
       client_step L o v w f.client (TakePacket n) Taken (client_take L k f.body let_go) m (m.addressed f i)
-          (takes_may L (SentBy v f.client (v.incarnation f.client)) k f.body let_go (welcomed_apt L o v w f.client m) (m.ready f.client) u (came e))
+          (takes_may L (SentBy v f.client (v.incarnation f.client)) k f.body let_go (welcomed_apt L o v w f.client m) (m.ready f.client) (u (same e)) (came e))
           (takes_fit L (SentBy v f.client (v.incarnation f.client)) k f.body let_go (came e))
           (sym (still_lines L.keep_write (transcript_operations v.transcript) f.client (incarnation_at v.transcript f.client) k.cache (client_take L k f.body let_go) still))
           (m.begins f.client ∙ sym (still_number L.keep_write k (client_take L k f.body let_go) still)) (λ d ne. refl) (λ d. refl),

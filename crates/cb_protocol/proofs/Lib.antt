@@ -13,6 +13,7 @@ pub mod HistoryKept
 pub mod SerialHistories
 pub mod TranscriptKept
 -- a client's tables make allowed steps
+pub mod PageComes
 pub mod ClientSteps
 pub mod ClientReady
 pub mod ClientTakes
@@ -59,10 +60,12 @@ pub mod GrantNumbers
 pub mod MessagesSent
 pub mod MarksKept
 pub mod Permissions
+pub mod DowngradesSent
 -- computed schedules
 pub mod ScheduleText
 pub mod WorkedSchedules
 pub mod WorkedSides
+pub mod WorkedServers
 pub mod Short00To03
 pub mod Short04To07
 pub mod Short08To11

@@ -12,7 +12,7 @@ use Rattle.cb_protocol.proofs.SettlingClears.{Exact, StuckBy, Stuck, put_there, 
 use Rattle.cb_protocol.proofs.NoCycles.{between_steps}
 use Rattle.cb_protocol.proofs.ServerOrder.{after_append}
 
-append_nil : {A : Type 0} (xs : List A) → xs ++ [] ≡ xs
+pub append_nil : {A : Type 0} (xs : List A) → xs ++ [] ≡ xs
 append_nil [] = refl
 append_nil (x ∷ xs) = ap (λ (y : List _). x ∷ y) (append_nil xs)
 

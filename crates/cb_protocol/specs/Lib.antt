@@ -28,3 +28,4 @@ pub mod CommitLaws
 pub mod HelloLaws
 pub mod Numbers
 pub mod Marks
+pub mod Downgrades

@@ -210,11 +210,13 @@ step limits cycle world FlushAll let_go =
     flush_up_to world FlushAll world.server.store.last_commit
 step limits cycle world (FlushTo number) let_go = flush_up_to world (FlushTo number) number
 
--- the law of the pool's choice, where a client takes a packet; at other events nothing is chosen
+-- the law of the pool's choice, where a client takes a packet of its incarnation; at other events
+-- nothing is chosen
 abbrev pub MessageChoiceAllowed : Limits → World → Option Message → (let_go : Option ℕ) → Type 0
 MessageChoiceAllowed limits world None let_go = ⊤
 MessageChoiceAllowed limits world (Some message) let_go =
-    ChoiceAllowed limits (world.client message.client) message.body let_go
+    message.incarnation ≡ world.incarnation message.client
+    → ChoiceAllowed limits (world.client message.client) message.body let_go
 
 abbrev pub EventChoiceAllowed : Limits → World → Event → (let_go : Option ℕ) → Type 0
 EventChoiceAllowed limits world (TakePacket packet) let_go =

@@ -1,5 +1,6 @@
 //! Laws of in-use marks and write permissions at the server.
 
+ghost use Rattle.cb_protocol.specs.Downgrades.{DowngradesRise, HolderStaysWhileReadWaits};
 ghost use Rattle.cb_protocol.specs.Marks.{DroppedHoldNothing, KeptHoldersHaveRows, KeptHoldsUp, MarksLive, MarksSetAndTaken};
 
 /// A mark is of a client with a copy of the page and a live transaction. It is there exactly from
@@ -21,4 +22,11 @@ pub fn dropped_hold_nothing()
 pub fn kept_permissions_have_rows()
     ensures rows { KeptHoldersHaveRows }
     ensures holds_up { KeptHoldsUp }
+{}
+
+/// Downgrades for one ask are of rising tags, so each permission is called down once for it: while
+/// a read ask waits as first, the page's holder stays the same, and its tag rises.
+pub fn downgrades_rise()
+    ensures once { DowngradesRise }
+    ensures holder_stays { HolderStaysWhileReadWaits }
 {}

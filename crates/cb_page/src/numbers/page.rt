@@ -6,7 +6,7 @@ use crate::Limits;
 use std::marker::Model;
 
 /// The number of a page, counted from 0.
-#[derive(Clone, Copy, Debug, PartialEq, Eq, PartialOrd, Ord)]
+#[derive(Clone, Copy, Debug, PartialEq, Eq, PartialOrd, Ord, Hash)]
 pub struct PageNo {
     value: u32,
 }
