@@ -1,1 +1,4 @@
 pub mod Stores
+pub mod Batches
+pub mod History
+pub mod Changes

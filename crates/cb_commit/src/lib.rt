@@ -1,9 +1,17 @@
-//! The page store of a server: pages with versions, and the number of the last commit in it.
+//! What a server has committed: the page store, the list of commits that made it, and how much of it is on disk.
+//!
+//! A [`Store`] is the pages with their versions and the number of the last commit in it. [`Commits`] keeps the opening
+//! store, the store, every commit since, and the number of the last commit that is on disk: the store is always the
+//! opening store with the commits written over it, in order. [`Commits::batch`] says what is to be written next. Once a
+//! batch is on disk, [`Commits::flushed`] answers a Done for each commit in it that wasn't reported yet.
 #![tactic(auto)]
 
+mod batch;
+mod commit;
+mod commits;
 mod store;
 
+pub use batch::{Batch, BatchPage};
+pub use commit::Commit;
+pub use commits::Commits;
 pub use store::{Store, StoredPage};
-
-#[cfg(test)]
-mod tests;

@@ -1,7 +1,10 @@
-ghost use Rattle.std.specs.Prelude.{◌≡◌, ℕ, ◌<◌, ◌≤◌, ◌^◌, ◌↔◌, length, replicate, IfOk, IsTrue};
-ghost use Rattle.cb_commit.specs.Stores.{IsSound, IsOf, zeros, zero_page, version_at, bytes_at};
+ghost use Rattle.std.specs.Prelude.{◌≡◌, ℕ, ◌+◌, ◌<◌, ◌≤◌, ◌^◌, ◌↔◌, length, replicate, slice_index_or, IfOk, IsTrue};
+ghost use Rattle.std.specs.List.{All};
+ghost use Rattle.cb_commit.specs.Stores.{IsSound, IsStored, IsOf, zeros, zero_page, no_page, version_at, bytes_at};
+ghost use Rattle.cb_commit.specs.History.{WritesInto, rewritten};
 
-use cb_page::{Limits, Page, PageNo, Version};
+use cb_frame::Write;
+use cb_page::{CommitNo, Limits, Page, PageNo, Version};
 use std::alloc::{AllocError, Global};
 use std::marker::Model;
 
@@ -48,6 +51,32 @@ impl Store {
         })
     }
 
+    /// The store of these limits with these pages, in the order of their numbers, and this last commit. The pages are
+    /// not copied.
+    pub fn from_rows(limits: &Limits, pages: Vec<StoredPage>, number: u64) -> Store
+        requires count { length pages.items ≡ limits.now.pages }
+        requires pages { All (IsStored limits.now.page_size number) pages.items }
+        requires number { number < 2 ^ 62 }
+        ensures { result ≡ record { page_size = limits.now.page_size; pages = pages.items; number = number } }
+    {
+        Store {
+            page_size: limits.page_size(),
+            pages,
+            number,
+        }
+    }
+
+    /// A copy of the store. `AllocError` only where memory was refused.
+    pub fn copy(&self, alloc: Global) -> Result<Store, AllocError>
+        ensures { IfOk result (λ store. store ≡ self.now) }
+    {
+        Ok(Store {
+            page_size: self.page_size,
+            pages: copy_pages(alloc, &self.pages)?,
+            number: self.number,
+        })
+    }
+
     /// Whether the store has the limits' count of pages, of the limits' size.
     pub fn is_of(&self, limits: &Limits) -> bool
         ensures { IsTrue result ↔ IsOf limits.now self.now }
@@ -81,6 +110,35 @@ impl Store {
     {
         self.pages[page.index()].bytes.as_slice()
     }
+
+    /// Writes the pages of the next commit. It takes no memory.
+    #[tactic(auto, using(crate::proofs::Rewriting::rewritten_push, crate::proofs::Rewriting::stored_later))]
+    pub(crate) fn write(&mut self, number: CommitNo, writes: &[Write])
+        requires next { number ≡ self.old.number + 1 }
+        requires fit { All (WritesInto self.old) writes.now }
+        ensures { self.new ≡ record self.old { pages = rewritten number self.old.pages writes.now; number = number } }
+    {
+        for write in writes {
+            let stored = &mut self.pages[write.page.index()];
+            stored.version = number.version();
+            stored.bytes.write(write.bytes.as_slice());
+        }
+        self.number = number.get();
+    }
+}
+
+/// A copy of each page.
+fn copy_pages(alloc: Global, pages: &[StoredPage]) -> Result<Vec<StoredPage>, AllocError>
+    ensures { IfOk result (λ copies. copies.items ≡ pages.now) }
+{
+    let mut copies = Vec::with_capacity(alloc, pages.len())?;
+    for page in pages {
+        copies.push(StoredPage {
+            version: page.version,
+            bytes: Page::copy_of(alloc, page.bytes.as_slice())?,
+        })?;
+    }
+    Ok(copies)
 }
 
 /// That many pages of zeros.
@@ -96,4 +154,23 @@ fn zero_pages(alloc: Global, count: usize, page_size: usize) -> Result<Vec<Store
         })?;
     }
     Ok(pages)
+}
+
+/// What the calls that only read show of a store of these rows. The function does nothing; its contract is this law.
+fn shows(
+    limits: &Limits,
+    pages: Vec<StoredPage>,
+    number: u64,
+    page: PageNo,
+) -> (u64, Version, usize)
+    requires count { length pages.items ≡ limits.now.pages }
+    requires pages { All (IsStored limits.now.page_size number) pages.items }
+    requires number { number < 2 ^ 62 }
+    requires page { page < limits.now.pages }
+    ensures number { result.0 ≡ number }
+    ensures version { result.1 ≡ (slice_index_or pages.items page no_page).version }
+    ensures bytes { result.2 ≡ limits.now.page_size }
+{
+    let store = Store::from_rows(limits, pages, number);
+    (store.number(), store.version(page), store.bytes(page).len())
 }

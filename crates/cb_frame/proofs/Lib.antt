@@ -1,4 +1,4 @@
-pub mod Fields
+pub mod ReadAgain
 pub mod Entries
 pub mod Found
 pub mod Again

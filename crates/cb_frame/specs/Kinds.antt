@@ -1,5 +1,5 @@
 -- The kinds of frames (this project's rule): their codes, their names, and which way they go.
-use Rattle.std.specs.Prelude.{ℕ, Bool, true, false, List, codes}
+use Rattle.std.specs.Prelude.{ℕ, Bool, true, false, nat_lt, List, codes}
 use Rattle.cb_frame.specs.declared.kind.Kind.{Kind}
 use Rattle.cb_frame.specs.declared.kind.Kind.TheVariants as kind
 use Rattle.cb_frame.specs.declared.frame.Body.{Body}
@@ -7,6 +7,7 @@ use Rattle.cb_frame.specs.declared.frame.Body.TheVariants as body
 use Rattle.cb_frame.specs.declared.frame.ShortBody.{ShortBody}
 use Rattle.cb_frame.specs.declared.frame.ShortBody.TheVariants as short
 
+-- the kind of a body
 abbrev pub kind_of_short : ShortBody → Kind
 kind_of_short short.Hello = kind.Hello
 kind_of_short (short.AskRead txn page) = kind.AskRead
@@ -19,6 +20,8 @@ kind_of_short (short.MayWrite txn page grant) = kind.MayWrite
 kind_of_short (short.Callback page grant) = kind.Callback
 kind_of_short (short.Done txn number) = kind.Done
 kind_of_short (short.AbortNow txn) = kind.AbortNow
+kind_of_short (short.Downgraded page grant txn) = kind.Downgraded
+kind_of_short (short.Downgrade page grant txn) = kind.Downgrade
 
 abbrev pub kind_of_body : Body → Kind
 kind_of_body (body.Short b) = kind_of_short b
@@ -34,12 +37,14 @@ code_of kind.GiveBack = 4
 code_of kind.InUse = 5
 code_of kind.Commit = 6
 code_of kind.Drop = 7
+code_of kind.Downgraded = 8
 code_of kind.Welcome = 65
 code_of kind.Granted = 66
 code_of kind.MayWrite = 67
 code_of kind.Callback = 68
 code_of kind.Done = 69
 code_of kind.AbortNow = 70
+code_of kind.Downgrade = 71
 
 -- as it is printed
 abbrev pub name_of : Kind → List ℕ
@@ -56,19 +61,16 @@ name_of kind.MayWrite = codes "MayWrite"
 name_of kind.Callback = codes "Callback"
 name_of kind.Done = codes "Done"
 name_of kind.AbortNow = codes "AbortNow"
+name_of kind.Downgraded = codes "Downgraded"
+name_of kind.Downgrade = codes "Downgrade"
 
--- whether a frame of this kind goes from its client to the server, and not the other way
+-- whether a frame of this kind goes from its client to the server, and not the other way: by its
+-- code
 abbrev pub goes_to_server : Kind → Bool
-goes_to_server kind.Hello = true
-goes_to_server kind.AskRead = true
-goes_to_server kind.AskWrite = true
-goes_to_server kind.GiveBack = true
-goes_to_server kind.InUse = true
-goes_to_server kind.Commit = true
-goes_to_server kind.Drop = true
-goes_to_server kind.Welcome = false
-goes_to_server kind.Granted = false
-goes_to_server kind.MayWrite = false
-goes_to_server kind.Callback = false
-goes_to_server kind.Done = false
-goes_to_server kind.AbortNow = false
+goes_to_server kind = nat_lt (code_of kind) 64
+
+-- whether bodies of this kind have no page bytes
+abbrev pub is_short : Kind → Bool
+is_short kind.Commit = false
+is_short kind.Granted = false
+is_short _ = true

@@ -1,7 +1,10 @@
 pub mod Kinds
+pub mod Fields
+pub mod Versions
 pub mod Spelling
 pub mod Grammar
 pub mod Checks
 pub use Rattle.cb_page.specs.Bounds
 pub use Rattle.cb_page.specs.Faults
 pub use Rattle.cb_page.specs.Numbers
+pub use Rattle.cb_page.specs.Rising

@@ -5,9 +5,11 @@ ghost use Rattle.std.specs.List.{flat_map, All};
 ghost use Rattle.cb_frame.specs.Grammar.{FitsSome, BodyFitsSome, WritesFitSome};
 ghost use Rattle.cb_frame.specs.declared.frame.Body.TheVariants.{Granted};
 ghost use Rattle.cb_frame.specs.Kinds.{code_of, kind_of_body};
-ghost use Rattle.cb_frame.specs.Spelling.{word, spelling, body_spelling, short_spelling, write_spelling, page_spelling};
+ghost use Rattle.cb_frame.specs.declared.version.FrameVersion.TheVariants.{Two};
+ghost use Rattle.cb_frame.specs.Fields.{word};
+ghost use Rattle.cb_frame.specs.Spelling.{spelling, body_spelling, write_spelling, page_spelling};
 
-use crate::{Body, Frame, Kind, ShortBody, Write};
+use crate::{Body, Frame, FrameVersion, Kind, Write};
 use cb_page::{ClientNo, GrantNo, Incarnation, PageNo, Version};
 use std::alloc::{AllocError, Global};
 
@@ -15,7 +17,7 @@ use std::alloc::{AllocError, Global};
 const HEADER: usize = 16;
 
 /// The bytes of a frame. It is refused only where memory is; it takes what the bytes need, at once.
-#[tactic(auto, unfolding(crate::specs::Spelling::spelling))]
+#[tactic(auto, unfolding(crate::specs::Spelling::spelling, crate::specs::Spelling::spelling_in))]
 pub fn encode(alloc: Global, frame: &Frame) -> Result<Vec<u8>, AllocError>
     requires { FitsSome frame.now }
     ensures { IfOk result (λ v. v.items ≡ spelling frame.now) }
@@ -33,10 +35,11 @@ pub fn encode(alloc: Global, frame: &Frame) -> Result<Vec<u8>, AllocError>
     Ok(out)
 }
 
-/// The bytes of a frame that grants a page, whose own bytes are lent: what [`encode`] writes, with no copy of the page before it.
+/// The bytes of a frame that grants a page, whose own bytes are lent: what [`encode`] writes, with
+/// no copy of the page before it.
 ///
 /// It is refused only where memory is; it takes what the bytes need, at once.
-#[tactic(auto, using(crate::proofs::Sizes::granted_length, std::proofs::Common::append_assoc), unfolding(crate::specs::Spelling::spelling))]
+#[tactic(auto, using(crate::proofs::Sizes::granted_length, std::proofs::Common::append_assoc), unfolding(crate::specs::Spelling::spelling, crate::specs::Spelling::spelling_in))]
 pub fn encode_granted(
     alloc: Global,
     client: ClientNo,
@@ -46,7 +49,7 @@ pub fn encode_granted(
     version: Version,
     bytes: &[u8],
 ) -> Result<Vec<u8>, AllocError>
-    requires { length bytes.now ≤ 4096 }
+    requires { length bytes.now ≤ 65536 }
     ensures { IfOk result (λ v. v.items ≡ spelling (record {
       client = client;
       incarnation = incarnation;
@@ -61,14 +64,14 @@ pub fn encode_granted(
 }
 
 /// The length of the body's bytes.
-#[tactic(auto, unfolding(crate::specs::Spelling::word, crate::specs::Spelling::page_spelling, crate::specs::Spelling::body_spelling))]
+#[tactic(auto, unfolding(crate::specs::Fields::word, crate::specs::Spelling::page_spelling, crate::specs::Spelling::body_spelling))]
 fn body_size(body: &Body) -> usize
     requires { BodyFitsSome body.now }
-    ensures value { result ≡ length (body_spelling body.now) }
+    ensures value { result ≡ length (body_spelling Two body.now) }
     ensures small { result < 2 ^ 32 }
 {
     match body {
-        Body::Short(body) => short_size(*body),
+        Body::Short(body) => body.fields().len(),
         Body::Commit { writes, .. } => 10 + writes_size(writes.as_slice()),
         Body::Granted { bytes, .. } => granted_size(bytes.as_slice()),
     }
@@ -76,45 +79,31 @@ fn body_size(body: &Body) -> usize
 
 /// The length of the body of a frame that grants a page.
 fn granted_size(bytes: &[u8]) -> usize
-    requires { length bytes.now ≤ 4096 }
-    ensures { result ≡ 22 + length bytes.now }
+    requires { length bytes.now ≤ 65536 }
+    ensures { result ≡ 24 + length bytes.now }
 {
-    22 + bytes.len()
-}
-
-#[tactic(auto, unfolding(crate::specs::Spelling::word, crate::specs::Spelling::short_spelling))]
-fn short_size(body: ShortBody) -> usize
-    ensures value { result ≡ length (short_spelling body) }
-    ensures small { result ≤ 20 }
-{
-    match body {
-        ShortBody::Hello | ShortBody::Welcome => 0,
-        ShortBody::Drop { .. } | ShortBody::AbortNow { .. } => 8,
-        ShortBody::AskRead { .. } | ShortBody::GiveBack { .. } | ShortBody::Callback { .. } => 12,
-        ShortBody::Done { .. } => 16,
-        ShortBody::AskWrite { .. } | ShortBody::InUse { .. } | ShortBody::MayWrite { .. } => 20,
-    }
+    24 + bytes.len()
 }
 
 /// The length of the bytes of a commit's pages. They have one size, since they fit.
 fn writes_size(writes: &[Write]) -> usize
     requires { WritesFitSome writes.now }
-    ensures value { result ≡ length (flat_map write_spelling writes.now) }
-    ensures small { result ≤ 4096 * 4110 }
+    ensures value { result ≡ length (flat_map (write_spelling Two) writes.now) }
+    ensures small { result ≤ 4096 * 65552 }
 {
     match writes.first() {
         None => 0,
-        Some(write) => writes.len() * (14 + write.bytes.len()),
+        Some(write) => writes.len() * (16 + write.bytes.len()),
     }
 }
 
 #[tactic(auto, using(std::proofs::Common::append_assoc), unfolding(crate::specs::Spelling::body_spelling))]
 fn put_body(out: &mut Vec<u8>, body: &Body) -> Result<(), AllocError>
     requires { BodyFitsSome body.now }
-    ensures { OnOk result (out.new.items ≡ out.old.items ++ body_spelling body.now) }
+    ensures { OnOk result (out.new.items ≡ out.old.items ++ body_spelling Two body.now) }
 {
     match body {
-        Body::Short(body) => put_short(out, *body)?,
+        Body::Short(body) => body.fields().put(out)?,
         Body::Commit { txn, writes } => {
             put_u64(out, txn.get())?;
             put_u16(out, writes.len() as u16)?;
@@ -140,8 +129,9 @@ fn put_granted(
     version: Version,
     bytes: &[u8],
 ) -> Result<(), AllocError>
-    requires { length bytes.now < 2 ^ 16 }
-    ensures { OnOk result (out.new.items ≡ out.old.items ++ body_spelling (Granted page grant version bytes.now)) }
+    requires { length bytes.now < 2 ^ 32 }
+    ensures { OnOk result (
+        out.new.items ≡ out.old.items ++ body_spelling Two (Granted page grant version bytes.now)) }
 {
     put_page_grant(out, page, grant)?;
     put_u64(out, version.get())?;
@@ -158,45 +148,19 @@ fn put_header(
     size: u32,
 ) -> Result<(), AllocError>
     ensures { OnOk result (out.new.items ≡ out.old.items
-        ++ 1 ∷ code_of kind ∷ (word w16 client ++ (word w64 incarnation ++ word w32 size))) }
+        ++ 2 ∷ code_of kind ∷ (word w16 client ++ (word w64 incarnation ++ word w32 size))) }
 {
-    out.push(1)?;
+    out.push(FrameVersion::Two.byte())?;
     out.push(kind.code())?;
     put_u16(out, client.get())?;
     put_u64(out, incarnation.get())?;
     put_u32(out, size)
 }
 
-#[tactic(auto, using(std::proofs::Common::append_assoc), unfolding(crate::specs::Spelling::short_spelling))]
-fn put_short(out: &mut Vec<u8>, body: ShortBody) -> Result<(), AllocError>
-    ensures { OnOk result (out.new.items ≡ out.old.items ++ short_spelling body) }
-{
-    match body {
-        ShortBody::Hello | ShortBody::Welcome => Ok(()),
-        ShortBody::Drop { txn } | ShortBody::AbortNow { txn } => put_u64(out, txn.get()),
-        ShortBody::AskRead { txn, page } => {
-            put_u64(out, txn.get())?;
-            put_u32(out, page.get())
-        }
-        ShortBody::AskWrite { txn, page, grant }
-        | ShortBody::InUse { txn, page, grant }
-        | ShortBody::MayWrite { txn, page, grant } => {
-            put_u64(out, txn.get())?;
-            put_page_grant(out, page, grant)
-        }
-        ShortBody::GiveBack { page, grant } | ShortBody::Callback { page, grant } => {
-            put_page_grant(out, page, grant)
-        }
-        ShortBody::Done { txn, number } => {
-            put_u64(out, txn.get())?;
-            put_u64(out, number.get())
-        }
-    }
-}
-
 fn put_writes(out: &mut Vec<u8>, writes: &[Write]) -> Result<(), AllocError>
-    requires { All (λ w. length w.bytes < 2 ^ 16) writes.now }
-    ensures { OnOk result (out.new.items ≡ out.old.items ++ flat_map write_spelling writes.now) }
+    requires { All (λ w. length w.bytes < 2 ^ 32) writes.now }
+    ensures { OnOk result (
+        out.new.items ≡ out.old.items ++ flat_map (write_spelling Two) writes.now) }
 {
     for write in writes {
         put_write(out, write)?;
@@ -206,8 +170,8 @@ fn put_writes(out: &mut Vec<u8>, writes: &[Write]) -> Result<(), AllocError>
 
 #[tactic(auto, using(std::proofs::Common::append_assoc), unfolding(crate::specs::Spelling::write_spelling))]
 fn put_write(out: &mut Vec<u8>, write: &Write) -> Result<(), AllocError>
-    requires { length write.now.bytes < 2 ^ 16 }
-    ensures { OnOk result (out.new.items ≡ out.old.items ++ write_spelling write.now) }
+    requires { length write.now.bytes < 2 ^ 32 }
+    ensures { OnOk result (out.new.items ≡ out.old.items ++ write_spelling Two write.now) }
 {
     put_page_grant(out, write.page, write.grant)?;
     put_page(out, write.bytes.as_slice())
@@ -215,10 +179,10 @@ fn put_write(out: &mut Vec<u8>, write: &Write) -> Result<(), AllocError>
 
 #[tactic(auto, using(std::proofs::Common::append_assoc), unfolding(crate::specs::Spelling::page_spelling))]
 fn put_page(out: &mut Vec<u8>, bytes: &[u8]) -> Result<(), AllocError>
-    requires { length bytes.now < 2 ^ 16 }
-    ensures { OnOk result (out.new.items ≡ out.old.items ++ page_spelling bytes.now) }
+    requires { length bytes.now < 2 ^ 32 }
+    ensures { OnOk result (out.new.items ≡ out.old.items ++ page_spelling Two bytes.now) }
 {
-    put_u16(out, bytes.len() as u16)?;
+    put_u32(out, bytes.len() as u32)?;
     out.extend_from_slice(bytes)
 }
 
@@ -230,22 +194,22 @@ fn put_page_grant(out: &mut Vec<u8>, page: PageNo, grant: GrantNo) -> Result<(),
     put_u64(out, grant.get())
 }
 
-#[tactic(auto, unfolding(crate::specs::Spelling::word))]
-fn put_u16(out: &mut Vec<u8>, n: u16) -> Result<(), AllocError>
+#[tactic(auto, unfolding(crate::specs::Fields::word))]
+pub fn put_u16(out: &mut Vec<u8>, n: u16) -> Result<(), AllocError>
     ensures { OnOk result (out.new.items ≡ out.old.items ++ word w16 n) }
 {
     out.extend_from_slice(&n.to_be_bytes())
 }
 
-#[tactic(auto, unfolding(crate::specs::Spelling::word))]
-fn put_u32(out: &mut Vec<u8>, n: u32) -> Result<(), AllocError>
+#[tactic(auto, unfolding(crate::specs::Fields::word))]
+pub fn put_u32(out: &mut Vec<u8>, n: u32) -> Result<(), AllocError>
     ensures { OnOk result (out.new.items ≡ out.old.items ++ word w32 n) }
 {
     out.extend_from_slice(&n.to_be_bytes())
 }
 
-#[tactic(auto, unfolding(crate::specs::Spelling::word))]
-fn put_u64(out: &mut Vec<u8>, n: u64) -> Result<(), AllocError>
+#[tactic(auto, unfolding(crate::specs::Fields::word))]
+pub fn put_u64(out: &mut Vec<u8>, n: u64) -> Result<(), AllocError>
     ensures { OnOk result (out.new.items ≡ out.old.items ++ word w64 n) }
 {
     out.extend_from_slice(&n.to_be_bytes())

@@ -1,7 +1,9 @@
 //! Frames, as values.
 ghost use Rattle.std.specs.Prelude.{◌≡◌, IsTrue, ◌↔◌};
 ghost use Rattle.cb_frame.specs.Kinds.{kind_of_short, kind_of_body};
+ghost use Rattle.cb_frame.specs.declared.frame.Body.TheVariants.{Short};
 
+use crate::fields::Fields;
 use crate::{Kind, Writes};
 use cb_page::{ClientNo, CommitNo, GrantNo, Incarnation, Limits, Page, PageNo, TxnNo, Version};
 
@@ -86,10 +88,20 @@ pub enum ShortBody {
     AbortNow {
         txn: TxnNo,
     },
+    Downgraded {
+        page: PageNo,
+        grant: GrantNo,
+        txn: TxnNo,
+    },
+    Downgrade {
+        page: PageNo,
+        grant: GrantNo,
+        txn: TxnNo,
+    },
 }
 
 impl ShortBody {
-    ghost use Rattle.cb_frame.specs.Grammar.{ShortFits};
+    ghost use Rattle.cb_frame.specs.Fields.{fields_of};
 
     /// The kind of a frame with this body.
     pub fn kind(self) -> Kind
@@ -107,37 +119,29 @@ impl ShortBody {
             ShortBody::Callback { .. } => Kind::Callback,
             ShortBody::Done { .. } => Kind::Done,
             ShortBody::AbortNow { .. } => Kind::AbortNow,
+            ShortBody::Downgraded { .. } => Kind::Downgraded,
+            ShortBody::Downgrade { .. } => Kind::Downgrade,
         }
     }
 
-    // The other numbers are in range by their types, as `get` says.
-    fn fits(self, limits: &Limits) -> bool
-        ensures { IsTrue result ↔ ShortFits limits.now self }
+    /// The numbers that the body has.
+    pub(crate) fn fields(self) -> Fields
+        ensures { result ≡ fields_of self }
     {
         match self {
-            ShortBody::Hello | ShortBody::Welcome => true,
-            ShortBody::Drop { txn } | ShortBody::AbortNow { txn } => {
-                let _in_range = txn.get();
-                true
-            }
-            ShortBody::AskRead { txn, page } => {
-                let _in_range = txn.get();
-                limits.has_page(page.get())
-            }
-            ShortBody::AskWrite { txn, page, grant }
-            | ShortBody::InUse { txn, page, grant }
-            | ShortBody::MayWrite { txn, page, grant } => {
-                let _in_range = (txn.get(), grant.get());
-                limits.has_page(page.get())
-            }
-            ShortBody::GiveBack { page, grant } | ShortBody::Callback { page, grant } => {
-                let _in_range = grant.get();
-                limits.has_page(page.get())
-            }
-            ShortBody::Done { txn, number } => {
-                let _in_range = (txn.get(), number.get());
-                true
-            }
+            ShortBody::Hello => Fields::Nothing,
+            ShortBody::AskRead { txn, page } => Fields::TxnPage(txn, page),
+            ShortBody::AskWrite { txn, page, grant } => Fields::TxnPageGrant(txn, page, grant),
+            ShortBody::GiveBack { page, grant } => Fields::PageGrant(page, grant),
+            ShortBody::InUse { txn, page, grant } => Fields::TxnPageGrant(txn, page, grant),
+            ShortBody::Drop { txn } => Fields::Txn(txn),
+            ShortBody::Welcome => Fields::Nothing,
+            ShortBody::MayWrite { txn, page, grant } => Fields::TxnPageGrant(txn, page, grant),
+            ShortBody::Callback { page, grant } => Fields::PageGrant(page, grant),
+            ShortBody::Done { txn, number } => Fields::TxnCommit(txn, number),
+            ShortBody::AbortNow { txn } => Fields::Txn(txn),
+            ShortBody::Downgraded { page, grant, txn } => Fields::PageGrantTxn(page, grant, txn),
+            ShortBody::Downgrade { page, grant, txn } => Fields::PageGrantTxn(page, grant, txn),
         }
     }
 }
@@ -160,7 +164,7 @@ impl Body {
         ensures { IsTrue result ↔ BodyFits limits.now self.now }
     {
         match self {
-            Body::Short(body) => body.fits(limits),
+            Body::Short(body) => body.fields().fit(limits),
             Body::Commit { txn, writes } => {
                 let _in_range = txn.get();
                 writes.fit(limits)
@@ -189,8 +193,8 @@ impl Frame {
         self.body.kind()
     }
 
-    /// Whether the frame is one under these limits: its numbers are in range, its pages have the store's size, and a
-    /// commit's pages rise.
+    /// Whether the frame is one under these limits: its numbers are in range, its pages have the
+    /// store's size, and a commit's pages rise.
     pub fn fits(&self, limits: &Limits) -> bool
         ensures value { IsTrue result ↔ Fits limits.now self.now }
         ensures range { AreInRange limits.now }
@@ -203,7 +207,11 @@ impl Frame {
 impl From<ShortFrame> for Frame {
     ghost use Rattle.cb_frame.specs.declared.frame.Body.TheVariants as body;
 
-    ghost from_gives = { λ s f. f ≡ record { client = s.client; incarnation = s.incarnation; body = body.Short s.body } };
+    ghost from_gives = { λ short frame. frame ≡ record {
+      client = short.client;
+      incarnation = short.incarnation;
+      body = body.Short short.body;
+    } };
 
     fn from(frame: ShortFrame) -> Frame {
         Frame {
@@ -212,4 +220,18 @@ impl From<ShortFrame> for Frame {
             body: Body::Short(frame.body),
         }
     }
+}
+
+/// The law of these calls: a frame without page bytes keeps its sender and its body, and a frame's
+/// kind is its body's.
+fn law(short: ShortFrame, frame: &Frame) -> (Frame, Kind, Kind)
+    ensures { result ≡ (
+      record { client = short.client; incarnation = short.incarnation; body = Short short.body },
+      kind_of_short short.body,
+      kind_of_body frame.now.body,
+    ) }
+{
+    let made = Frame::from(short);
+    let kind = made.kind();
+    (made, kind, frame.body.kind())
 }

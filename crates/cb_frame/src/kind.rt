@@ -4,7 +4,8 @@ ghost use Rattle.cb_frame.specs.Kinds.{code_of, name_of, goes_to_server};
 
 use std::fmt;
 
-/// What a frame is for. The first seven kinds go from a client to the server, the others from the server to a client.
+/// What a frame is for. The first eight kinds go from a client to the server, the others from the
+/// server to a client.
 #[derive(Clone, Copy, Debug, PartialEq, Eq)]
 pub enum Kind {
     /// A client has started an incarnation.
@@ -21,6 +22,8 @@ pub enum Kind {
     Commit,
     /// A transaction ends without a commit.
     Drop,
+    /// A client gives a kept permission to write a page up.
+    Downgraded,
     /// The server knows the client's incarnation.
     Welcome,
     /// The server grants a page, with its bytes.
@@ -33,6 +36,9 @@ pub enum Kind {
     Done,
     /// A transaction is to be aborted, since it lies on a cycle of waiting.
     AbortNow,
+    /// The server asks for a kept permission to write a page, which was last given for a
+    /// transaction.
+    Downgrade,
 }
 
 impl Kind {
@@ -48,12 +54,14 @@ impl Kind {
             Kind::InUse => 5,
             Kind::Commit => 6,
             Kind::Drop => 7,
+            Kind::Downgraded => 8,
             Kind::Welcome => 65,
             Kind::Granted => 66,
             Kind::MayWrite => 67,
             Kind::Callback => 68,
             Kind::Done => 69,
             Kind::AbortNow => 70,
+            Kind::Downgrade => 71,
         }
     }
 
@@ -69,12 +77,14 @@ impl Kind {
             Kind::InUse => "InUse",
             Kind::Commit => "Commit",
             Kind::Drop => "Drop",
+            Kind::Downgraded => "Downgraded",
             Kind::Welcome => "Welcome",
             Kind::Granted => "Granted",
             Kind::MayWrite => "MayWrite",
             Kind::Callback => "Callback",
             Kind::Done => "Done",
             Kind::AbortNow => "AbortNow",
+            Kind::Downgrade => "Downgrade",
         }
     }
 

@@ -1,7 +1,8 @@
 //! The pages that a commit writes.
 ghost use Rattle.std.specs.Prelude.{◌≡◌, ◌∷◌, [], ◌++◌, length, map, IsTrue, ◌↔◌, OnOk, OnErr};
 ghost use Rattle.std.specs.List.{AllByRecursion};
-ghost use Rattle.cb_frame.specs.Grammar.{WriteFits, IsRising, page_of};
+ghost use Rattle.cb_page.specs.Rising.{IsRising};
+ghost use Rattle.cb_frame.specs.Grammar.{WriteFits, page_of};
 
 use cb_page::{GrantNo, Limits, Page, PageNo};
 use std::alloc::AllocError;
@@ -71,10 +72,22 @@ impl Writes {
     }
 
     pub(crate) fn fit(&self, limits: &Limits) -> bool
-        ensures { IsTrue result ↔ (AllByRecursion (WriteFits limits.now) self.now × IsRising (map page_of self.now)) }
+        ensures { IsTrue result ↔
+            (AllByRecursion (WriteFits limits.now) self.now × IsRising (map page_of self.now)) }
     {
         all_fit(limits, self.as_slice()) && rise(self.as_slice())
     }
+}
+
+/// The law of these calls: writes are the list that they were made of, and as long.
+fn law(items: Vec<Write>) -> (usize, usize, Vec<Write>)
+    ensures len { result.0 ≡ length items.items }
+    ensures shown { result.1 ≡ length items.items }
+    ensures items { result.2.items ≡ items.items }
+{
+    let writes = Writes::from_vec(items);
+    let shown = writes.as_slice().len();
+    (writes.len(), shown, writes.into_vec())
 }
 
 fn fits(limits: &Limits, write: &Write) -> bool

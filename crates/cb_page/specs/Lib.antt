@@ -1,5 +1,6 @@
 pub mod Faults
 pub mod Numbers
+pub mod Rising
 pub mod Bounds
 pub mod Limits
 pub mod Flags

@@ -1,5 +1,6 @@
-//! The limits of one store: how many clients and pages it has, and how its clients' pools are sized.
-ghost use Rattle.std.specs.Prelude.{◌≡◌, ℕ, ◌^◌, ◌<◌, ◌≤◌, ◌-◌, ◌↔◌, Some, None, IfOk, IfErr, IsTrue, IsOk};
+//! The limits of one store: how many clients and pages it has, and how its clients' pools are
+//! sized.
+ghost use Rattle.std.specs.Prelude.{◌≡◌, ℕ, ◌^◌, ◌<◌, ◌≤◌, ◌-◌, ◌↔◌, true, false, Some, None, IfOk, IfErr, IsTrue, IsOk};
 ghost use Rattle.cb_page.specs.Faults.{first_fault};
 ghost use Rattle.cb_page.specs.Limits.{limit_causes, is_outside};
 ghost use Rattle.cb_page.specs.Bounds.{Bounds, AreInRange};
@@ -7,8 +8,8 @@ ghost use Rattle.cb_page.specs.Bounds.{Bounds, AreInRange};
 use std::marker::Model;
 use thiserror::Error;
 
-/// What is wrong with proposed limits. The text is the fault's number and name; where several are wrong, the lowest
-/// number is answered.
+/// What is wrong with proposed limits. The text is the fault's number and name; where several are
+/// wrong, the lowest number is answered.
 #[derive(Clone, Copy, Debug, PartialEq, Eq, Error)]
 pub enum LimitFault {
     /// The number of clients isn't from 1 to 32.
@@ -17,7 +18,7 @@ pub enum LimitFault {
     /// The number of pages isn't from 1 to 4,096.
     #[error("2 Pages")]
     Pages,
-    /// The page size isn't from 16 to 4,096 bytes in steps of 16.
+    /// The page size isn't from 16 to 65,536 bytes in steps of 16.
     #[error("3 PageSize")]
     PageSize,
     /// The number of slots isn't from 2 to 1,024.
@@ -31,15 +32,17 @@ pub enum LimitFault {
     Kout,
 }
 
-/// The limits of one store and its clients, all in range. In contracts they are the record of the six numbers.
+/// The limits of one store and its clients, all in range. In contracts they are the record of the
+/// six numbers and of whether write permission is kept.
 #[derive(Clone, Copy, Debug, PartialEq, Eq)]
 pub struct Limits {
     clients: u16,
     pages: u32,
-    page_size: u16,
+    page_size: u32,
     slots: u16,
     kin: u16,
     kout: u16,
+    keep_write: bool,
 }
 
 impl Model for Limits {
@@ -54,6 +57,7 @@ impl Model for Limits {
       slots = a.slots;
       kin = a.kin;
       kout = a.kout;
+      keep_write = a.keep_write;
     } };
 
     ghost invariant = { λ a. AreInRange (record {
@@ -63,6 +67,7 @@ impl Model for Limits {
       slots = a.slots;
       kin = a.kin;
       kout = a.kout;
+      keep_write = a.keep_write;
     }) };
 
     ghost inverse = { λ b. record {
@@ -72,11 +77,13 @@ impl Model for Limits {
       slots = b.slots;
       kin = b.kin;
       kout = b.kout;
+      keep_write = b.keep_write;
     } };
 }
 
 impl Limits {
-    /// The limits of these numbers, or the first fault.
+    /// The limits of these numbers, or the first fault. Write permission isn't kept:
+    /// [`Limits::keeping`] changes that.
     pub fn new(
         clients: u64,
         pages: u64,
@@ -92,6 +99,7 @@ impl Limits {
           slots = slots;
           kin = kin;
           kout = kout;
+          keep_write = false;
         }) }
         ensures in_range { IfOk result AreInRange }
         ensures succeeds { IsOk result
@@ -105,7 +113,7 @@ impl Limits {
         if is_outside(1, 4096, pages) {
             return Err(LimitFault::Pages);
         }
-        if is_outside(16, 4096, page_size) || page_size % 16 != 0 {
+        if is_outside(16, 65_536, page_size) || page_size % 16 != 0 {
             return Err(LimitFault::PageSize);
         }
         if is_outside(2, 1024, slots) {
@@ -120,10 +128,11 @@ impl Limits {
         Ok(Limits {
             clients: clients as u16,
             pages: pages as u32,
-            page_size: page_size as u16,
+            page_size: page_size as u32,
             slots: slots as u16,
             kin: kin as u16,
             kout: kout as u16,
+            keep_write: false,
         })
     }
 
@@ -188,7 +197,28 @@ impl Limits {
         ensures value { result ≡ self.now.page_size }
         ensures in_range { AreInRange self.now }
     {
-        usize::from(self.page_size)
+        self.page_size as usize
+    }
+
+    /// The same limits, under which a client keeps its permission to write a page after the
+    /// transaction that it was given for, until the server asks for it.
+    pub fn keeping(self) -> Limits
+        ensures value { result ≡ record self { keep_write = true } }
+        ensures in_range { AreInRange result }
+    {
+        Limits {
+            keep_write: true,
+            ..self
+        }
+    }
+
+    /// Whether a client keeps its permission to write a page after the transaction that it was
+    /// given for.
+    pub fn keep_write(&self) -> bool
+        ensures value { result ≡ self.now.keep_write }
+        ensures in_range { AreInRange self.now }
+    {
+        self.keep_write
     }
 }
 
@@ -196,4 +226,19 @@ fn is_outside(least: u64, greatest: u64, n: u64) -> bool
     ensures { result ≡ is_outside least greatest n }
 {
     n < least || n > greatest
+}
+
+/// The law of the accessors: what they give makes up the same limits.
+fn law(limits: &Limits) -> Limits
+    ensures { result ≡ limits.now }
+{
+    Limits {
+        clients: limits.clients(),
+        pages: limits.pages(),
+        page_size: limits.page_size() as u32,
+        slots: limits.slots() as u16,
+        kin: limits.kin() as u16,
+        kout: limits.kout() as u16,
+        keep_write: limits.keep_write(),
+    }
 }

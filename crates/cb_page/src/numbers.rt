@@ -18,5 +18,6 @@ pub use page::PageNo;
 pub use txn::TxnNo;
 pub use version::Version;
 
-/// One more than the greatest number of a grant, a transaction, an incarnation or a commit, and than the greatest version.
-const NUMBER_END: u64 = 1 << 62;
+/// The greatest number of a grant, a transaction, an incarnation or a commit, and the greatest
+/// version: 2^62 - 1.
+pub const MAX_NUMBER: u64 = (1 << 62) - 1;

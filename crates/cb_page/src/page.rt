@@ -66,3 +66,15 @@ impl Page {
         self.bytes.as_mut_slice().copy_from_slice(bytes);
     }
 }
+
+/// The law of these calls: a page is the bytes that it was made of, and as long.
+fn law(alloc: Global, bytes: &[u8]) -> Result<(Page, usize), AllocError>
+    ensures { IfOk result (λ made. made ≡ (bytes.now, length bytes.now)) }
+{
+    let copy = Page::copy_of(alloc, bytes)?;
+    let mut other = Page::zeros(alloc, copy.len())?;
+    other.write(copy.as_slice());
+    let same = Page::from_vec(other.bytes);
+    let len = same.len();
+    Ok((same, len))
+}

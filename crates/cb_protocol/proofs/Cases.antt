@@ -8,7 +8,7 @@ use Rattle.cb_protocol.specs.ClientCalls.{Call, CallAgain, CallBegin, CallDrop, 
 use Rattle.cb_protocol.specs.ClientMessages.{client_take, take_welcomed}
 use Rattle.cb_protocol.specs.Messages.{Body, Hello, Welcome}
 use Rattle.cb_protocol.specs.Resend.{server_again}
-use Rattle.cb_protocol.specs.Server.{ChangeSession, Doom, EnterQueue, ForgetTransaction, LeaveQueue, MarkCalledBack, MarkInUse, MarkTold, RemoveAsk, Send, Server, ServerStep, SetFlushed, UnmarkInUse, after_server_step, server_after}
+use Rattle.cb_protocol.specs.Server.{DeadlockTest, ChangeSession, Doom, EnterQueue, ForgetTransaction, LeaveQueue, MarkCalledBack, MarkInUse, MarkDowngradeSent, RemoveAsk, Send, Server, ServerStep, SetFlushed, UnmarkInUse, after_server_step, server_after}
 use Rattle.cb_protocol.specs.ServerMessages.{admit_incarnation, server_take, take_current}
 use Rattle.cb_protocol.specs.World.{ClientCalls, FlushAll, FlushTo, Restart, ServerAgain, TakePacket, World, answer_only, client_does, flush_up_to, messages_sent, packet_at, restart_client, server_does, step, take_packet}
 
@@ -84,24 +84,24 @@ unfolding client_take
 takes_welcomed L k b v e n = grind arith
 
 -- Hello, by its incarnation
-pub serves_new_hello : (cycle : Server → ℕ → Bool) (s : Server) (c i : ℕ) → (s.session c).current < i → server_take cycle s c i Hello ≡ admit_incarnation cycle s c i
+pub serves_new_hello : (cycle : DeadlockTest) (s : Server) (c i : ℕ) → (s.session c).current < i → server_take cycle s c i Hello ≡ admit_incarnation cycle s c i
 unfolding server_take
 serves_new_hello cycle s c i l = grind arith
 
-pub serves_hello_again : (cycle : Server → ℕ → Bool) (s : Server) (c i : ℕ) → i ≡ (s.session c).current → server_take cycle s c i Hello ≡ Send c i Welcome ∷ []
+pub serves_hello_again : (cycle : DeadlockTest) (s : Server) (c i : ℕ) → i ≡ (s.session c).current → server_take cycle s c i Hello ≡ Send c i Welcome ∷ []
 unfolding server_take
 serves_hello_again cycle s c i e = grind arith
 
-pub serves_no_old_hello : (cycle : Server → ℕ → Bool) (s : Server) (c i : ℕ) → i < (s.session c).current → server_take cycle s c i Hello ≡ []
+pub serves_no_old_hello : (cycle : DeadlockTest) (s : Server) (c i : ℕ) → i < (s.session c).current → server_take cycle s c i Hello ≡ []
 unfolding server_take
 serves_no_old_hello cycle s c i l = grind arith
 
 -- another message counts only at the current incarnation
-pub serves_no_other_incarnation : (cycle : Server → ℕ → Bool) (s : Server) (c i : ℕ) (b : Body) → b ≢ Hello → i ≢ (s.session c).current → server_take cycle s c i b ≡ []
+pub serves_no_other_incarnation : (cycle : DeadlockTest) (s : Server) (c i : ℕ) (b : Body) → b ≢ Hello → i ≢ (s.session c).current → server_take cycle s c i b ≡ []
 unfolding server_take
 serves_no_other_incarnation cycle s c i b n e = grind arith
 
-pub serves_current : (cycle : Server → ℕ → Bool) (s : Server) (c i : ℕ) (b : Body) → b ≢ Hello → i ≡ (s.session c).current → server_take cycle s c i b ≡ take_current cycle s c b
+pub serves_current : (cycle : DeadlockTest) (s : Server) (c i : ℕ) (b : Body) → b ≢ Hello → i ≡ (s.session c).current → server_take cycle s c i b ≡ take_current cycle s c b
 unfolding server_take
 serves_current cycle s c i b n e = grind arith
 
@@ -131,7 +131,7 @@ sent_append (ChangeSession c m ∷ xs) ys = sent_append xs ys
 sent_append (EnterQueue p a ∷ xs) ys = sent_append xs ys
 sent_append (LeaveQueue p ∷ xs) ys = sent_append xs ys
 sent_append (MarkCalledBack p ∷ xs) ys = sent_append xs ys
-sent_append (MarkTold p t ∷ xs) ys = sent_append xs ys
+sent_append (MarkDowngradeSent p t ∷ xs) ys = sent_append xs ys
 sent_append (MarkInUse c p ∷ xs) ys = sent_append xs ys
 sent_append (UnmarkInUse c p ∷ xs) ys = sent_append xs ys
 sent_append (RemoveAsk c ∷ xs) ys = sent_append xs ys
@@ -140,35 +140,35 @@ sent_append (ForgetTransaction c ∷ xs) ys = sent_append xs ys
 sent_append (SetFlushed n ∷ xs) ys = sent_append xs ys
 
 -- the events of a world
-pub step_call : (L : Limits) (cycle : Server → ℕ → Bool) (w : World) (c : ℕ) (x : Call) (v : Option ℕ) → c < L.clients
+pub step_call : (L : Limits) (cycle : DeadlockTest) (w : World) (c : ℕ) (x : Call) (v : Option ℕ) → c < L.clients
     → step L cycle w (ClientCalls c x) v ≡ client_does L w (ClientCalls c x) c (client_call L (w.client c) x).word (client_call L (w.client c) x).steps
 unfolding step
 step_call L cycle w c x v l = grind arith
 
-pub step_call_no_client : (L : Limits) (cycle : Server → ℕ → Bool) (w : World) (c : ℕ) (x : Call) (v : Option ℕ) → nat_lt c L.clients ≡ false → step L cycle w (ClientCalls c x) v ≡ answer_only w (ClientCalls c x) NoClient
+pub step_call_no_client : (L : Limits) (cycle : DeadlockTest) (w : World) (c : ℕ) (x : Call) (v : Option ℕ) → nat_lt c L.clients ≡ false → step L cycle w (ClientCalls c x) v ≡ answer_only w (ClientCalls c x) NoClient
 unfolding step
 step_call_no_client L cycle w c x v l = grind arith
 
-pub step_take : (L : Limits) (cycle : Server → ℕ → Bool) (w : World) (n : ℕ) (v : Option ℕ) → step L cycle w (TakePacket n) v ≡ take_packet L cycle w (TakePacket n) (packet_at w.packets n) v
+pub step_take : (L : Limits) (cycle : DeadlockTest) (w : World) (n : ℕ) (v : Option ℕ) → step L cycle w (TakePacket n) v ≡ take_packet L cycle w (TakePacket n) (packet_at w.packets n) v
 unfolding step
 step_take L cycle w n v = refl
 
-pub step_restart : (L : Limits) (cycle : Server → ℕ → Bool) (w : World) (c : ℕ) (v : Option ℕ) → c < L.clients → step L cycle w (Restart c) v ≡ restart_client w (Restart c) c
+pub step_restart : (L : Limits) (cycle : DeadlockTest) (w : World) (c : ℕ) (v : Option ℕ) → c < L.clients → step L cycle w (Restart c) v ≡ restart_client w (Restart c) c
 unfolding step
 step_restart L cycle w c v l = grind arith
 
-pub step_restart_no_client : (L : Limits) (cycle : Server → ℕ → Bool) (w : World) (c : ℕ) (v : Option ℕ) → nat_lt c L.clients ≡ false → step L cycle w (Restart c) v ≡ answer_only w (Restart c) NoClient
+pub step_restart_no_client : (L : Limits) (cycle : DeadlockTest) (w : World) (c : ℕ) (v : Option ℕ) → nat_lt c L.clients ≡ false → step L cycle w (Restart c) v ≡ answer_only w (Restart c) NoClient
 unfolding step
 step_restart_no_client L cycle w c v l = grind arith
 
-pub step_again : (L : Limits) (cycle : Server → ℕ → Bool) (w : World) (v : Option ℕ) → step L cycle w ServerAgain v ≡ server_does w ServerAgain AnsweredOk (server_again w.server)
+pub step_again : (L : Limits) (cycle : DeadlockTest) (w : World) (v : Option ℕ) → step L cycle w ServerAgain v ≡ server_does w ServerAgain AnsweredOk (server_again w.server)
 unfolding step
 step_again L cycle w v = refl
 
-pub step_flush_all : (L : Limits) (cycle : Server → ℕ → Bool) (w : World) (v : Option ℕ) → step L cycle w FlushAll v ≡ flush_up_to w FlushAll w.server.store.last_commit
+pub step_flush_all : (L : Limits) (cycle : DeadlockTest) (w : World) (v : Option ℕ) → step L cycle w FlushAll v ≡ flush_up_to w FlushAll w.server.store.last_commit
 unfolding step
 step_flush_all L cycle w v = refl
 
-pub step_flush_to : (L : Limits) (cycle : Server → ℕ → Bool) (w : World) (n : ℕ) (v : Option ℕ) → step L cycle w (FlushTo n) v ≡ flush_up_to w (FlushTo n) n
+pub step_flush_to : (L : Limits) (cycle : DeadlockTest) (w : World) (n : ℕ) (v : Option ℕ) → step L cycle w (FlushTo n) v ≡ flush_up_to w (FlushTo n) n
 unfolding step
 step_flush_to L cycle w n v = refl

@@ -8,7 +8,7 @@ use Rattle.cb_protocol.proofs.ClientTakes.{Apt, drops_may, may_append}
 use Rattle.cb_protocol.specs.Cache.{Cache, Committing, Fill, Finish, Idle, Install, Lock, Open, TransactionState, TakeDone, TakePermission, YieldPermission, is_committing}
 use Rattle.cb_protocol.specs.Client.{Aborted, ClientStep, Ask, SetAsk, Client, EndTransaction, Committed, Dropped, LastOutcome, ChangeCache, NoAsk, NoneEnded, MarkDue, MarkDueDowngrade, ReadAsk, Say, MarkWanted, WriteAsk, asks_to_write, has_room, is_fixed, is_asking, asks_to_read}
 use Rattle.cb_protocol.specs.Answers.{Asked, ClientFault, NotWritable, PageRange, Permitted, PoolFull, Waiting, WrongLength}
-use Rattle.cb_protocol.specs.ClientCalls.{CallAgain, CallBegin, Call, Cause, CallDrop, CallFinish, CallHello, CallPeek, CallRead, CallWant, CallWrite, accept_call, page_causes, client_again, client_call, cause_of, causes, first_fault, read_causes, read_page, accept_or_refuse, reply_with, open_causes, say_ask, say_ask_write, say_commit, say_drop}
+use Rattle.cb_protocol.specs.ClientCalls.{CallAgain, CallBegin, Call, Cause, CallDrop, CallFinish, CallHello, CallPeek, CallRead, CallWant, CallWrite, accept_call, page_causes, client_again, client_call, cause_of, causes, first_refusal, read_causes, read_page, accept_or_refuse, reply_with, open_causes, say_ask, say_ask_write, say_commit, say_drop}
 use Rattle.cb_protocol.specs.ClientEnd.{drop_transaction, end_pages, give_back, refuse_grant}
 use Rattle.cb_protocol.specs.ClientMessages.{take_downgrade, take_granted, take_granted_held, take_welcomed, let_page_go, of_committing_txn, of_open_txn, client_take}
 use Rattle.cb_protocol.specs.Basics.{is_exactly, Bytes, Limits, is_none}
@@ -16,10 +16,10 @@ use Rattle.cb_protocol.specs.Messages.{AbortNow, Body, Callback, Done, Downgrade
 use Rattle.cb_protocol.specs.ClientCalls.{call_fault}
 
 -- the checks of a call that was not refused
-none_first : (c : Cause) (cs : List Cause) → first_fault (c ∷ cs) ≡ None → (c.stands ≡ false) × (first_fault cs ≡ None)
+none_first : (c : Cause) (cs : List Cause) → first_refusal (c ∷ cs) ≡ None → (c.holds ≡ false) × (first_refusal cs ≡ None)
 none_first c cs e = grind arith
 
-first_append : (xs ys : List Cause) → first_fault (xs ++ ys) ≡ None → (first_fault xs ≡ None) × (first_fault ys ≡ None)
+first_append : (xs ys : List Cause) → first_refusal (xs ++ ys) ≡ None → (first_refusal xs ≡ None) × (first_refusal ys ≡ None)
 first_append [] ys e = (refl, e)
 first_append (x ∷ xs) ys e = grind (arith, first_append xs ys)
 
@@ -27,7 +27,7 @@ record Runs (k : Client) : Type 0 where
   welcomed : k.cache.welcomed ≡ true
   open_now : k.cache.status ≡ Open
 
-runs : (k : Client) → first_fault (open_causes k) ≡ None → Runs k
+runs : (k : Client) → first_refusal (open_causes k) ≡ None → Runs k
 runs k e = record { welcomed = grind arith; open_now = grind arith }
 
 record Free (L : Limits) (k : Client) (p : ℕ) : Type 0 where
@@ -35,16 +35,16 @@ record Free (L : Limits) (k : Client) (p : ℕ) : Type 0 where
   quiet : is_asking k.ask ≡ false
   within : p < L.pages
 
-free : (L : Limits) (k : Client) (p : ℕ) → first_fault (page_causes L k p) ≡ None → Free L k p
+free : (L : Limits) (k : Client) (p : ℕ) → first_refusal (page_causes L k p) ≡ None → Free L k p
 free L k p e = let a = first_append (open_causes k) (cause_of (is_asking k.ask) Waiting ∷ cause_of (nat_le L.pages p) PageRange ∷ []) e in
-    let f : first_fault (cause_of (is_asking k.ask) Waiting ∷ cause_of (nat_le L.pages p) PageRange ∷ []) ≡ None = a.1 in
+    let f : first_refusal (cause_of (is_asking k.ask) Waiting ∷ cause_of (nat_le L.pages p) PageRange ∷ []) ≡ None = a.1 in
     record { running = runs k a.0; quiet = grind arith; within = grind arith }
 
 record HasRead (k : Client) (p : ℕ) : Type 0 where
   locked : k.cache.locked p ≡ true
   here : k.cache.content p ≢ None
 
-has_read : (k : Client) (p : ℕ) → first_fault (read_causes k p) ≡ None → HasRead k p
+has_read : (k : Client) (p : ℕ) → first_refusal (read_causes k p) ≡ None → HasRead k p
 has_read k p e = record { locked = grind arith; here = grind arith }
 
 says_ask_write_may : (L : Limits) (Came : Body → Type 0) (k : Client) (p : ℕ) (r : Option ℕ) → k.cache.welcomed ≡ true → k.cache.status ≡ Open → k.cache.may_write p ≡ false → ClientStepsMay L.keep_write Came k.cache (say_ask_write k p r)
@@ -116,7 +116,7 @@ again_may L Came k h r = go k.cache.welcomed refl
         (spoken_append L.keep_write Came k.cache (say_ask k k.ask) (if is_committing k.cache.status then say_commit L k else []) (says_ask_may L Came k k.ask refl r w, same_ask L.keep_write k k.ask) (commits (is_committing k.cache.status) refl w))
     go false w = ((tt, tt), tt)
 
-accepts_may : (L : Limits) (Came : Body → Type 0) (k : Client) (x : Call) → (k.cache.welcomed ≡ true → Apt k.cache) → Ready L Came k → first_fault (causes L k x) ≡ None → ClientStepsMay L.keep_write Came k.cache (accept_call L k x).steps
+accepts_may : (L : Limits) (Came : Body → Type 0) (k : Client) (x : Call) → (k.cache.welcomed ≡ true → Apt k.cache) → Ready L Came k → first_refusal (causes L k x) ≡ None → ClientStepsMay L.keep_write Came k.cache (accept_call L k x).steps
 accepts_may L Came k CallHello h r e = ((tt, tt), tt)
 accepts_may L Came k CallBegin h r e = ((grind arith, grind arith), tt)
 accepts_may L Came k (CallRead p) h r e = go (k.cache.content p) refl
@@ -140,10 +140,10 @@ accepts_may L Came k (CallWrite p b) h r e = ((f.running.welcomed, f.running.ope
     last : List Cause
     last = cause_of (not (k.cache.may_write p)) NotWritable ∷ cause_of (not (length b == L.page_size)) WrongLength ∷ []
 
-    a : (first_fault (page_causes L k p) ≡ None) × (first_fault (read_causes k p ++ cause_of (not (k.cache.may_write p)) NotWritable ∷ cause_of (not (length b == L.page_size)) WrongLength ∷ []) ≡ None)
+    a : (first_refusal (page_causes L k p) ≡ None) × (first_refusal (read_causes k p ++ cause_of (not (k.cache.may_write p)) NotWritable ∷ cause_of (not (length b == L.page_size)) WrongLength ∷ []) ≡ None)
     a = first_append (page_causes L k p) (read_causes k p ++ cause_of (not (k.cache.may_write p)) NotWritable ∷ cause_of (not (length b == L.page_size)) WrongLength ∷ []) e
 
-    d : (first_fault (read_causes k p) ≡ None) × (first_fault (cause_of (not (k.cache.may_write p)) NotWritable ∷ cause_of (not (length b == L.page_size)) WrongLength ∷ []) ≡ None)
+    d : (first_refusal (read_causes k p) ≡ None) × (first_refusal (cause_of (not (k.cache.may_write p)) NotWritable ∷ cause_of (not (length b == L.page_size)) WrongLength ∷ []) ≡ None)
     d = first_append (read_causes k p) (cause_of (not (k.cache.may_write p)) NotWritable ∷ cause_of (not (length b == L.page_size)) WrongLength ∷ []) a.1
 
     f : Free L k p
@@ -153,7 +153,7 @@ accepts_may L Came k (CallWrite p b) h r e = ((f.running.welcomed, f.running.ope
     i = has_read k p d.0
 
     permitted : k.cache.may_write p ≡ true
-    permitted = let z : first_fault (cause_of (not (k.cache.may_write p)) NotWritable ∷ cause_of (not (length b == L.page_size)) WrongLength ∷ []) ≡ None = d.1 in grind arith
+    permitted = let z : first_refusal (cause_of (not (k.cache.may_write p)) NotWritable ∷ cause_of (not (length b == L.page_size)) WrongLength ∷ []) ≡ None = d.1 in grind arith
 
     some : (o : Option Bytes) → k.cache.content p ≡ o → (y : Bytes) × (k.cache.content p ≡ Some y)
     some None q = absurd (i.here q)
@@ -165,9 +165,9 @@ accepts_may L Came k (CallPeek p) h r e = tt
 
 pub calls_may : (L : Limits) (Came : Body → Type 0) (k : Client) (x : Call) → (k.cache.welcomed ≡ true → Apt k.cache) → Ready L Came k → ClientStepsMay L.keep_write Came k.cache (client_call L k x).steps
 unfolding call_fault client_call
-calls_may L Came k x h r = go (first_fault (causes L k x)) refl
+calls_may L Came k x h r = go (first_refusal (causes L k x)) refl
   where
-    go : (f : Option ClientFault) → first_fault (causes L k x) ≡ f → ClientStepsMay L.keep_write Came k.cache (accept_or_refuse L k x f).steps
+    go : (f : Option ClientFault) → first_refusal (causes L k x) ≡ f → ClientStepsMay L.keep_write Came k.cache (accept_or_refuse L k x f).steps
     go (Some y) e = tt
     go None e = accepts_may L Came k x h r e
 
@@ -208,7 +208,7 @@ plain_fit L Came k steps a = subst (λ (x : List ClientStep). AllFit L Came k x)
 pub drops_fit : (L : Limits) (Came : Body → Type 0) (k : Client) (x : LastOutcome) → AllFit L Came k (drop_transaction L k x)
 drops_fit L Came k x = (tt, (refl, (tt, plain_fit L Came _ (end_pages k true L.pages) (plain_pages k true L.pages))))
 
-accepts_fit : (L : Limits) (Came : Body → Type 0) (k : Client) (x : Call) → first_fault (causes L k x) ≡ None → AllFit L Came k (accept_call L k x).steps
+accepts_fit : (L : Limits) (Came : Body → Type 0) (k : Client) (x : Call) → first_refusal (causes L k x) ≡ None → AllFit L Came k (accept_call L k x).steps
 accepts_fit L Came k CallHello e = (tt, tt)
 accepts_fit L Came k CallBegin e = (tt, tt)
 accepts_fit L Came k (CallRead p) e = go (k.cache.content p)
@@ -231,16 +231,16 @@ accepts_fit L Came k (CallWrite p b) e = ((free L k p (first_append (page_causes
 accepts_fit L Came k CallFinish e = (quiet, (tt, tt))
   where
     quiet : is_asking k.ask ≡ false
-    quiet = let a = (first_append (open_causes k) (cause_of (is_asking k.ask) Waiting ∷ []) e).1 in let f : first_fault (cause_of (is_asking k.ask) Waiting ∷ []) ≡ None = a in grind arith
+    quiet = let a = (first_append (open_causes k) (cause_of (is_asking k.ask) Waiting ∷ []) e).1 in let f : first_refusal (cause_of (is_asking k.ask) Waiting ∷ []) ≡ None = a in grind arith
 accepts_fit L Came k CallDrop e = drops_fit L Came k Dropped
 accepts_fit L Came k CallAgain e = plain_fit L Came k (client_again L k) (plain_append_ask L k)
 accepts_fit L Came k (CallPeek p) e = tt
 
 pub calls_fit : (L : Limits) (Came : Body → Type 0) (k : Client) (x : Call) → AllFit L Came k (client_call L k x).steps
 unfolding call_fault client_call
-calls_fit L Came k x = go (first_fault (causes L k x)) refl
+calls_fit L Came k x = go (first_refusal (causes L k x)) refl
   where
-    go : (f : Option ClientFault) → first_fault (causes L k x) ≡ f → AllFit L Came k (accept_or_refuse L k x f).steps
+    go : (f : Option ClientFault) → first_refusal (causes L k x) ≡ f → AllFit L Came k (accept_or_refuse L k x f).steps
     go (Some y) e = tt
     go None e = accepts_fit L Came k x e
 

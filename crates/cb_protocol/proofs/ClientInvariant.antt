@@ -5,9 +5,11 @@ use Rattle.cb_protocol.specs.Cache.{Begin, Fill, Finish, Abandon, Idle, Install,
 use Rattle.cb_protocol.specs.Client.{Aborted, ClientStep, Ask, SetAsk, Client, EndTransaction, Committed, Dropped, LastOutcome, ChangeCache, NoAsk, NoneEnded, DueDowngrade, MarkDue, MarkDueDowngrade, ReadAsk, Say, MarkWanted, WriteAsk, client_after, asks_to_write, after_client_step, has_room, is_fixed, is_asking, new_client, asks_to_read}
 use Rattle.cb_protocol.specs.Answers.{Asked, ClientFault, NotWritable, PageRange, Permitted, PoolFull, Waiting, WrongLength}
 use Rattle.cb_protocol.specs.Basics.{is_exactly, Bytes, Limits, is_none, update}
-use Rattle.cb_protocol.specs.ClientCalls.{CallAgain, CallBegin, Call, Cause, CallDrop, CallFinish, CallHello, CallPeek, CallRead, CallWant, CallWrite, accept_call, page_causes, client_again, client_call, cause_of, causes, first_fault, read_causes, read_page, accept_or_refuse, reply_with, open_causes, say_ask, say_ask_write, say_commit, say_drop}
+use Rattle.cb_protocol.specs.ClientCalls.{CallAgain, CallBegin, Call, Cause, CallDrop, CallFinish, CallHello, CallPeek, CallRead, CallWant, CallWrite, accept_call, page_causes, client_again, client_call, cause_of, causes, first_refusal, read_causes, read_page, accept_or_refuse, reply_with, open_causes, say_ask, say_ask_write, say_commit, say_drop}
 use Rattle.cb_protocol.specs.ClientEnd.{drop_transaction, end_page, end_pages, give_back, refuse_grant}
-use Rattle.cb_protocol.specs.ClientMessages.{ChoiceAllowed, MayLetGo, take_callback, take_downgrade, take_granted, take_granted_held, take_welcomed, let_page_go, of_committing_txn, of_open_txn, client_take}
+use Rattle.std.specs.Prelude.{⊤}
+use Rattle.cb_protocol.proofs.PageComes.{brings_after, steps_granted, steps_held, steps_kept}
+use Rattle.cb_protocol.specs.ClientMessages.{brings_page, ChoiceAllowed, MayLetGo, take_callback, take_downgrade, take_granted, take_welcomed, let_page_go, of_committing_txn, of_open_txn, client_take}
 use Rattle.cb_protocol.specs.Messages.{AbortNow, AskRead, Body, Callback, Done, Downgrade, Downgraded, GiveBack, Granted, InUse, MayWrite, Welcome, Hello}
 use Rattle.cb_protocol.specs.ClientAlone.{Arises, StartsNew, ClientInput, Continues, ReceivesCall, ReceivesMessage, InputAllowed, after_input}
 use Rattle.cb_protocol.specs.ClientCalls.{call_fault}
@@ -185,7 +187,7 @@ tidy_drops : (L : Limits) (k : Client) (l : LastOutcome) → ClientKeeps L k →
 tidy_drops L k l h o = tidy_pages L k _ true (tidy_give_up L k l h o) (λ q. refl)
 
 -- a call that was not refused
-pub not_first : (xs ys : List Cause) → first_fault (xs ++ ys) ≡ None → (first_fault xs ≡ None) × (first_fault ys ≡ None)
+pub not_first : (xs ys : List Cause) → first_refusal (xs ++ ys) ≡ None → (first_refusal xs ≡ None) × (first_refusal ys ≡ None)
 not_first [] ys e = (refl, e)
 not_first (x ∷ xs) ys e = grind (arith, not_first xs ys)
 
@@ -193,7 +195,7 @@ pub record Runs (k : Client) : Type 0 where
   pub welcomed : k.cache.welcomed ≡ true
   pub open_now : k.cache.status ≡ Open
 
-pub runs : (k : Client) → first_fault (open_causes k) ≡ None → Runs k
+pub runs : (k : Client) → first_refusal (open_causes k) ≡ None → Runs k
 runs k e = record { welcomed = grind arith; open_now = grind arith }
 
 pub record Free (L : Limits) (k : Client) (p : ℕ) : Type 0 where
@@ -201,15 +203,15 @@ pub record Free (L : Limits) (k : Client) (p : ℕ) : Type 0 where
   pub quiet : is_asking k.ask ≡ false
   pub within : p < L.pages
 
-pub free : (L : Limits) (k : Client) (p : ℕ) (more : List Cause) → first_fault (page_causes L k p ++ more) ≡ None → Free L k p
+pub free : (L : Limits) (k : Client) (p : ℕ) (more : List Cause) → first_refusal (page_causes L k p ++ more) ≡ None → Free L k p
 free L k p more e = let a = not_first (page_causes L k p) more e in
     let b = not_first (open_causes k) (cause_of (is_asking k.ask) Waiting ∷ cause_of (nat_le L.pages p) PageRange ∷ []) a.0 in
-    let f : first_fault (cause_of (is_asking k.ask) Waiting ∷ cause_of (nat_le L.pages p) PageRange ∷ []) ≡ None = b.1 in
+    let f : first_refusal (cause_of (is_asking k.ask) Waiting ∷ cause_of (nat_le L.pages p) PageRange ∷ []) ≡ None = b.1 in
     record { running = runs k b.0; quiet = grind arith; within = grind arith }
 
 -- the page is in the pool
-pub there : (L : Limits) (k : Client) (p : ℕ) (more : List Cause) → first_fault (page_causes L k p ++ (read_causes k p ++ more)) ≡ None → k.cache.content p ≢ None
-there L k p more e = let a = not_first (page_causes L k p) (read_causes k p ++ more) e in let b = not_first (read_causes k p) more a.1 in let f : first_fault (read_causes k p) ≡ None = b.0 in grind arith
+pub there : (L : Limits) (k : Client) (p : ℕ) (more : List Cause) → first_refusal (page_causes L k p ++ (read_causes k p ++ more)) ≡ None → k.cache.content p ≢ None
+there L k p more e = let a = not_first (page_causes L k p) (read_causes k p ++ more) e in let b = not_first (read_causes k p) more a.1 in let f : first_refusal (read_causes k p) ≡ None = b.0 in grind arith
 
 pub not_idle : (k : Client) → k.cache.status ≡ Open → k.cache.status ≢ Idle
 not_idle k e f = absurd (let z : Open ≡ Idle = sym e ∙ f in cc)
@@ -217,7 +219,7 @@ not_idle k e f = absurd (let z : Open ≡ Idle = sym e ∙ f in cc)
 tidy_asks_write : (L : Limits) (k : Client) (p : ℕ) → ClientKeeps L k → k.cache.status ≡ Open → p < L.pages → ClientKeeps L (client_after L.keep_write k (MarkWanted p ∷ SetAsk (WriteAsk p) ∷ say_ask_write k p (k.cache.held p)))
 tidy_asks_write L k p h o l = subst (λ (x : Client). ClientKeeps L x) (sym (says_same L.keep_write _ (say_ask_write k p (k.cache.held p)) (only_ask_write k p (k.cache.held p)))) (tidy_all L k (MarkWanted p ∷ SetAsk (WriteAsk p) ∷ []) h (not_idle k o, ((o, l), tt)))
 
-tidy_accepts : (L : Limits) (k : Client) (x : Call) → ClientKeeps L k → first_fault (causes L k x) ≡ None → ClientKeeps L (client_after L.keep_write k (accept_call L k x).steps)
+tidy_accepts : (L : Limits) (k : Client) (x : Call) → ClientKeeps L k → first_refusal (causes L k x) ≡ None → ClientKeeps L (client_after L.keep_write k (accept_call L k x).steps)
 tidy_accepts L k CallHello h e = h
 tidy_accepts L k CallBegin h e = tidy_all L k (ChangeCache Begin ∷ []) h ((grind arith, grind arith), tt)
 tidy_accepts L k (CallRead p) h e = go (k.cache.content p) refl
@@ -241,16 +243,16 @@ tidy_accepts L k (CallWrite p b) h e = tidy_all L k (ChangeCache (WriteBytes p b
     f : Free L k p
     f = free L k p (read_causes k p ++ cause_of (not (k.cache.may_write p)) NotWritable ∷ cause_of (not (length b == L.page_size)) WrongLength ∷ []) e
 tidy_accepts L k CallFinish h e = let a = not_first (open_causes k) (cause_of (is_asking k.ask) Waiting ∷ []) e in let r = runs k a.0 in
-    let f : first_fault (cause_of (is_asking k.ask) Waiting ∷ []) ≡ None = a.1 in tidy_all L k (ChangeCache Finish ∷ say_commit L k) h ((r.open_now, grind arith), (tt, tt))
+    let f : first_refusal (cause_of (is_asking k.ask) Waiting ∷ []) ≡ None = a.1 in tidy_all L k (ChangeCache Finish ∷ say_commit L k) h ((r.open_now, grind arith), (tt, tt))
 tidy_accepts L k CallDrop h e = tidy_drops L k Dropped h (not_idle k (runs k e).open_now)
 tidy_accepts L k CallAgain h e = subst (λ (x : Client). ClientKeeps L x) (sym (says_same L.keep_write k (client_again L k) (only_again L k))) h
 tidy_accepts L k (CallPeek p) h e = h
 
 pub tidy_calls : (L : Limits) (k : Client) (x : Call) → ClientKeeps L k → ClientKeeps L (client_after L.keep_write k (client_call L k x).steps)
 unfolding call_fault client_call
-tidy_calls L k x h = go (first_fault (causes L k x)) refl
+tidy_calls L k x h = go (first_refusal (causes L k x)) refl
   where
-    go : (f : Option ClientFault) → first_fault (causes L k x) ≡ f → ClientKeeps L (client_after L.keep_write k (accept_or_refuse L k x f).steps)
+    go : (f : Option ClientFault) → first_refusal (causes L k x) ≡ f → ClientKeeps L (client_after L.keep_write k (accept_or_refuse L k x f).steps)
     go (Some y) e = h
     go None e = tidy_accepts L k x h e
 
@@ -288,23 +290,28 @@ tidy_install L k p g v b let_go h u r = let a = lets_go_keeps L k p let_go u in
 tidy_refuse : (L : Limits) (k : Client) (p g : ℕ) → ClientKeeps L k → ClientKeeps L (client_after L.keep_write k (refuse_grant p g))
 tidy_refuse L k p g h = tidy_all L k (refuse_grant p g) h (tt, (tt, tt))
 
-tidy_granted : (L : Limits) (k : Client) (p g v : ℕ) (b : Bytes) (let_go : Option ℕ) → ClientKeeps L k → MayLetGo L k p let_go → ClientKeeps L (client_after L.keep_write k (take_granted k p g v b let_go (k.cache.held p)))
-tidy_granted L k p g v b let_go h u = go (k.cache.held p) refl (nat_lt (k.cache.seen p) g && asks_to_read k.ask p) refl
+tidy_granted : (L : Limits) (k : Client) (p g v : ℕ) (b : Bytes) (let_go : Option ℕ) → ClientKeeps L k
+    → (brings_page (take_granted k p g v b let_go (k.cache.held p)) ≡ true → MayLetGo L k p let_go)
+    → ClientKeeps L (client_after L.keep_write k (take_granted k p g v b let_go (k.cache.held p)))
+tidy_granted L k p g v b let_go h u = go (k.cache.held p) refl (nat_lt (k.cache.seen p) g && asks_to_read k.ask p) refl u
   where
-    held : k.cache.held p ≢ None → (o : Option Bytes) (q : Bool) → ClientKeeps L (client_after L.keep_write k (elim o [ Some y ↦ [] | None ↦ if q then let_page_go k let_go ++ SetAsk NoAsk ∷ ChangeCache (Fill p g b) ∷ [] else [] ]))
-    held n (Some y) q = h
-    held n None true = tidy_fill L k p g b let_go h u n
-    held n None false = h
+    held : k.cache.held p ≢ None → (o : Option Bytes) (q : Bool) → (brings_page (steps_held k p g b let_go o q) ≡ true → MayLetGo L k p let_go)
+        → ClientKeeps L (client_after L.keep_write k (steps_held k p g b let_go o q))
+    held n (Some y) q u = h
+    held n None true u = tidy_fill L k p g b let_go h (u (brings_after k let_go (SetAsk NoAsk ∷ ChangeCache (Fill p g b) ∷ []) refl)) n
+    held n None false u = h
 
-    match : k.cache.held p ≢ None → (q : Bool) → ClientKeeps L (client_after L.keep_write k (if q then take_granted_held k p g v b let_go (k.cache.content p) else refuse_grant p g))
-    match n true = held n (k.cache.content p) ((k.cache.version p == v) && asks_to_read k.ask p)
-    match n false = tidy_refuse L k p g h
+    match : k.cache.held p ≢ None → (q : Bool) → (brings_page (steps_kept k p g v b let_go q) ≡ true → MayLetGo L k p let_go)
+        → ClientKeeps L (client_after L.keep_write k (steps_kept k p g v b let_go q))
+    match n true u = held n (k.cache.content p) ((k.cache.version p == v) && asks_to_read k.ask p) u
+    match n false u = tidy_refuse L k p g h
 
     go : (x : Option ℕ) → k.cache.held p ≡ x → (q : Bool) → (nat_lt (k.cache.seen p) g && asks_to_read k.ask p) ≡ q
-        → ClientKeeps L (client_after L.keep_write k (elim x [ Some y ↦ (if y == g then take_granted_held k p g v b let_go (k.cache.content p) else refuse_grant p g) | None ↦ (if q then let_page_go k let_go ++ SetAsk NoAsk ∷ ChangeCache (Install p g v b) ∷ ChangeCache (Lock p) ∷ [] else refuse_grant p g) ]))
-    go (Some y) e q f = match (λ z. absurd (let w : Some y ≡ None = sym e ∙ z in cc)) (y == g)
-    go None e true f = tidy_install L k p g v b let_go h u (grind arith)
-    go None e false f = tidy_refuse L k p g h
+        → (brings_page (steps_granted k p g v b let_go x q) ≡ true → MayLetGo L k p let_go)
+        → ClientKeeps L (client_after L.keep_write k (steps_granted k p g v b let_go x q))
+    go (Some y) e q f u = match (λ z. absurd (let w : Some y ≡ None = sym e ∙ z in cc)) (y == g) u
+    go None e true f u = tidy_install L k p g v b let_go h (u (brings_after k let_go (SetAsk NoAsk ∷ ChangeCache (Install p g v b) ∷ ChangeCache (Lock p) ∷ []) refl)) (grind arith)
+    go None e false f u = tidy_refuse L k p g h
 
 tidy_called_back : (L : Limits) (k : Client) (p g : ℕ) → ClientKeeps L k → ClientKeeps L (client_after L.keep_write k (take_callback k p g))
 tidy_called_back L k p g h = go (is_exactly (k.cache.held p) g) (k.cache.locked p) refl
@@ -327,7 +334,17 @@ tidy_may_write : (L : Limits) (k : Client) (p g : ℕ) (r : Bool) → ClientKeep
 tidy_may_write L k p g true h = tidy_all L k (SetAsk NoAsk ∷ ChangeCache (TakePermission p g) ∷ []) h (tt, (tt, tt))
 tidy_may_write L k p g false h = h
 
-tidy_hears : (L : Limits) (k : Client) (b : Body) (let_go : Option ℕ) → ClientKeeps L k → ChoiceAllowed L k b let_go → ClientKeeps L (client_after L.keep_write k (take_welcomed L k b let_go))
+-- the choice, where a welcomed client takes the message
+abbrev pub WelcomedChoice : Limits → Client → Body → Option ℕ → Type 0
+WelcomedChoice L k (Granted p g v b) let_go = brings_page (take_granted k p g v b let_go (k.cache.held p)) ≡ true → MayLetGo L k p let_go
+WelcomedChoice L k _ let_go = ⊤
+
+pub welcomed_choice : (L : Limits) (k : Client) (b : Body) (let_go : Option ℕ) → k.cache.welcomed ≡ true → ChoiceAllowed L k b let_go → WelcomedChoice L k b let_go
+unfolding client_take
+welcomed_choice L k (Granted p g v b) let_go e u = λ f. u (rw e f)
+welcomed_choice L k _ let_go e u = tt
+
+tidy_hears : (L : Limits) (k : Client) (b : Body) (let_go : Option ℕ) → ClientKeeps L k → WelcomedChoice L k b let_go → ClientKeeps L (client_after L.keep_write k (take_welcomed L k b let_go))
 tidy_hears L k (Granted p g v b) let_go h u = tidy_granted L k p g v b let_go h u
 tidy_hears L k (MayWrite t p g) let_go h u = tidy_may_write L k p g (of_open_txn k t && asks_to_write k.ask p && is_exactly (k.cache.held p) g) h
 tidy_hears L k (Callback p g) let_go h u = tidy_called_back L k p g h
@@ -351,11 +368,11 @@ tidy_hears L k _ let_go h u = h
 pub tidy_takes : (L : Limits) (k : Client) (b : Body) (let_go : Option ℕ) → ClientKeeps L k → ChoiceAllowed L k b let_go → ClientKeeps L (client_after L.keep_write k (client_take L k b let_go))
 unfolding client_take
 tidy_takes L k Welcome let_go h u = tidy_all L k (ChangeCache TakeWelcome ∷ []) h (tt, tt)
-tidy_takes L k b let_go h u = go k.cache.welcomed
+tidy_takes L k b let_go h u = go k.cache.welcomed refl
   where
-    go : (q : Bool) → ClientKeeps L (client_after L.keep_write k (if q then take_welcomed L k b let_go else []))
-    go true = tidy_hears L k b let_go h u
-    go false = h
+    go : (q : Bool) → k.cache.welcomed ≡ q → ClientKeeps L (client_after L.keep_write k (if q then take_welcomed L k b let_go else []))
+    go true e = tidy_hears L k b let_go h (welcomed_choice L k b let_go e u)
+    go false e = h
 
 pub tidy_input : (L : Limits) (k : Client) (i : ClientInput) → ClientKeeps L k → InputAllowed L k i → ClientKeeps L (after_input L k i)
 tidy_input L k (ReceivesCall c) h u = tidy_calls L k c h

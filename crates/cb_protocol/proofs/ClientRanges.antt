@@ -7,7 +7,7 @@ use Rattle.cb_protocol.specs.Cache.{Begin, CacheChange, Fill, Finish, Idle, Inst
 use Rattle.cb_protocol.specs.Client.{Aborted, ClientStep, Ask, SetAsk, Client, EndTransaction, Committed, Dropped, LastOutcome, ChangeCache, NoAsk, NoneEnded, DueDowngrade, MarkDue, MarkDueDowngrade, ReadAsk, Say, MarkWanted, WriteAsk, client_after, asks_to_write, after_client_step, has_room, is_fixed, is_asking, new_client, asks_to_read, bodies_said}
 use Rattle.cb_protocol.specs.Answers.{Asked, ClientFault, NotWritable, Permitted, PoolFull, Waiting, WrongLength}
 use Rattle.cb_protocol.specs.Basics.{is_exactly, Bytes, Limits, is_none, max_number}
-use Rattle.cb_protocol.specs.ClientCalls.{CallAgain, CallBegin, Call, Cause, CallDrop, CallFinish, CallHello, CallPeek, CallRead, CallWant, CallWrite, accept_call, page_causes, client_again, client_call, cause_of, causes, first_fault, read_causes, read_page, accept_or_refuse, reply_with, open_causes, say_ask, say_ask_write, say_commit, say_drop, written_page, written_pages}
+use Rattle.cb_protocol.specs.ClientCalls.{CallAgain, CallBegin, Call, Cause, CallDrop, CallFinish, CallHello, CallPeek, CallRead, CallWant, CallWrite, accept_call, page_causes, client_again, client_call, cause_of, causes, first_refusal, read_causes, read_page, accept_or_refuse, reply_with, open_causes, say_ask, say_ask_write, say_commit, say_drop, written_page, written_pages}
 use Rattle.cb_protocol.specs.ClientEnd.{drop_transaction, end_page, end_pages, give_back, refuse_grant}
 use Rattle.cb_protocol.specs.ClientMessages.{take_callback, take_downgrade, take_granted, take_granted_held, take_welcomed, let_page_go, of_committing_txn, of_open_txn, client_take}
 use Rattle.cb_protocol.specs.Messages.{AbortNow, Body, Callback, Done, Downgrade, Downgraded, GiveBack, Granted, Hello, InUse, MayWrite, Welcome, PageWrite}
@@ -235,7 +235,7 @@ slight_again L k t h = go k.cache.welcomed (is_committing k.cache.status) refl
     go false u e = (tt, tt)
 
 -- calls
-small_accepts : (L : Limits) (k : Client) (c : Call) → ClientKeeps L k → Sized L k → first_fault (causes L k c) ≡ None → AllSmall L k (accept_call L k c).steps
+small_accepts : (L : Limits) (k : Client) (c : Call) → ClientKeeps L k → Sized L k → first_refusal (causes L k c) ≡ None → AllSmall L k (accept_call L k c).steps
 small_accepts L k CallHello t h e = (tt, tt)
 small_accepts L k CallBegin t h e = (grind arith, tt)
 small_accepts L k (CallRead p) t h e = go (k.cache.content p)
@@ -262,7 +262,7 @@ small_accepts L k (CallWrite p b) t h e = (long, tt)
     long : IsPageBytes L b
     long = let a = not_first (page_causes L k p) (read_causes k p ++ cause_of (not (k.cache.may_write p)) NotWritable ∷ cause_of (not (length b == L.page_size)) WrongLength ∷ []) e in
         let d = not_first (read_causes k p) (cause_of (not (k.cache.may_write p)) NotWritable ∷ cause_of (not (length b == L.page_size)) WrongLength ∷ []) a.1 in
-        let z : first_fault (cause_of (not (k.cache.may_write p)) NotWritable ∷ cause_of (not (length b == L.page_size)) WrongLength ∷ []) ≡ None = d.1 in grind arith
+        let z : first_refusal (cause_of (not (k.cache.may_write p)) NotWritable ∷ cause_of (not (length b == L.page_size)) WrongLength ∷ []) ≡ None = d.1 in grind arith
 small_accepts L k CallFinish t h e = (tt, slight_small L (say_commit L k) (after_client_step L.keep_write k (ChangeCache Finish)) (commit_fits L k t h (not_idle k (runs k (not_first (open_causes k) (cause_of (is_asking k.ask) Waiting ∷ []) e).0).open_now)))
 small_accepts L k CallDrop t h e = slight_small L (drop_transaction L k Dropped) k (slight_drops L k Dropped t h (not_idle k (runs k e).open_now))
 small_accepts L k CallAgain t h e = slight_small L (client_again L k) k (slight_again L k t h)
@@ -270,9 +270,9 @@ small_accepts L k (CallPeek p) t h e = tt
 
 small_calls : (L : Limits) (k : Client) (c : Call) → ClientKeeps L k → Sized L k → AllSmall L k (client_call L k c).steps
 unfolding call_fault client_call
-small_calls L k c t h = go (first_fault (causes L k c)) refl
+small_calls L k c t h = go (first_refusal (causes L k c)) refl
   where
-    go : (f : Option ClientFault) → first_fault (causes L k c) ≡ f → AllSmall L k (accept_or_refuse L k c f).steps
+    go : (f : Option ClientFault) → first_refusal (causes L k c) ≡ f → AllSmall L k (accept_or_refuse L k c f).steps
     go (Some y) e = tt
     go None e = small_accepts L k c t h e
 

@@ -6,7 +6,9 @@ use Rattle.cb_protocol.proofs.Invariant.{SessionFacts}
 use Rattle.cb_protocol.specs.Cache.{Cache, Committing, Fill, Abandon, Idle, Install, LetGo, Lock, MakeBare, Open, TakeDone, TakePermission, YieldPermission, cache_after}
 use Rattle.cb_protocol.specs.Client.{Aborted, ClientStep, Ask, SetAsk, Client, EndTransaction, Committed, LastOutcome, ChangeCache, NoAsk, DueDowngrade, MarkDue, MarkDueDowngrade, Say, MarkWanted, asks_to_write, is_fixed, is_asking, asks_to_read}
 use Rattle.cb_protocol.specs.ClientEnd.{drop_transaction, end_page, end_pages, give_back, refuse_grant}
-use Rattle.cb_protocol.specs.ClientMessages.{ChoiceAllowed, MayLetGo, take_callback, take_downgrade, take_granted, take_granted_held, take_welcomed, let_page_go, of_committing_txn, of_open_txn, client_take}
+use Rattle.cb_protocol.proofs.ClientInvariant.{welcomed_choice}
+use Rattle.cb_protocol.proofs.PageComes.{brings_after, steps_granted, steps_held, steps_kept}
+use Rattle.cb_protocol.specs.ClientMessages.{brings_page, ChoiceAllowed, MayLetGo, take_callback, take_downgrade, take_granted, take_welcomed, let_page_go, of_committing_txn, of_open_txn, client_take}
 use Rattle.cb_protocol.specs.Basics.{is_exactly, Bytes, Limits, is_none, update}
 use Rattle.cb_protocol.specs.Messages.{AbortNow, Body, Callback, Done, Downgrade, Downgraded, GiveBack, Granted, InUse, MayWrite, Welcome}
 use Rattle.cb_protocol.specs.Session.{Session, Store}
@@ -176,24 +178,28 @@ fill_may L Came k p g v b let_go h w u c e f n =
 is_reading : (a : Ask) (p : ℕ) → asks_to_read a p ≡ true → is_asking a ≡ true
 is_reading a p e = grind arith
 
-granted_may : (L : Limits) (Came : Body → Type 0) (k : Client) (p g v : ℕ) (b : Bytes) (let_go : Option ℕ) → Apt k.cache → Ready L Came k → k.cache.welcomed ≡ true → MayLetGo L k p let_go → Came (Granted p g v b) → ClientStepsMay L.keep_write Came k.cache (take_granted k p g v b let_go (k.cache.held p))
-granted_may L Came k p g v b let_go h r w u c = go (k.cache.held p) refl (nat_lt (k.cache.seen p) g && asks_to_read k.ask p) refl
+granted_may : (L : Limits) (Came : Body → Type 0) (k : Client) (p g v : ℕ) (b : Bytes) (let_go : Option ℕ) → Apt k.cache → Ready L Came k → k.cache.welcomed ≡ true
+    → (brings_page (take_granted k p g v b let_go (k.cache.held p)) ≡ true → MayLetGo L k p let_go) → Came (Granted p g v b) → ClientStepsMay L.keep_write Came k.cache (take_granted k p g v b let_go (k.cache.held p))
+granted_may L Came k p g v b let_go h r w u c = go (k.cache.held p) refl (nat_lt (k.cache.seen p) g && asks_to_read k.ask p) refl u
   where
     held : (o : Option Bytes) → k.cache.content p ≡ o → (q : Bool) → ((k.cache.version p == v) && asks_to_read k.ask p) ≡ q → k.cache.held p ≡ Some g
-        → ClientStepsMay L.keep_write Came k.cache (elim o [ Some y ↦ [] | None ↦ if q then let_page_go k let_go ++ SetAsk NoAsk ∷ ChangeCache (Fill p g b) ∷ [] else [] ])
-    held (Some y) e q f i = tt
-    held None e true f i = fill_may L Came k p g v b let_go h w u c i (grind arith) e
-    held None e false f i = tt
+        → (brings_page (steps_held k p g b let_go o q) ≡ true → MayLetGo L k p let_go)
+        → ClientStepsMay L.keep_write Came k.cache (steps_held k p g b let_go o q)
+    held (Some y) e q f i u = tt
+    held None e true f i u = fill_may L Came k p g v b let_go h w (u (brings_after k let_go (SetAsk NoAsk ∷ ChangeCache (Fill p g b) ∷ []) refl)) c i (grind arith) e
+    held None e false f i u = tt
 
-    match : (x : ℕ) → k.cache.held p ≡ Some x → (q : Bool) → (x == g) ≡ q → ClientStepsMay L.keep_write Came k.cache (if q then take_granted_held k p g v b let_go (k.cache.content p) else refuse_grant p g)
-    match x e true f = held (k.cache.content p) refl ((k.cache.version p == v) && asks_to_read k.ask p) refl (grind arith)
-    match x e false f = may_refuse L.keep_write Came k.cache p g w (grind arith)
+    match : (x : ℕ) → k.cache.held p ≡ Some x → (q : Bool) → (x == g) ≡ q → (brings_page (steps_kept k p g v b let_go q) ≡ true → MayLetGo L k p let_go)
+        → ClientStepsMay L.keep_write Came k.cache (steps_kept k p g v b let_go q)
+    match x e true f u = held (k.cache.content p) refl ((k.cache.version p == v) && asks_to_read k.ask p) refl (grind arith) u
+    match x e false f u = may_refuse L.keep_write Came k.cache p g w (grind arith)
 
     go : (x : Option ℕ) → k.cache.held p ≡ x → (q : Bool) → (nat_lt (k.cache.seen p) g && asks_to_read k.ask p) ≡ q
-        → ClientStepsMay L.keep_write Came k.cache (elim x [ Some y ↦ (if y == g then take_granted_held k p g v b let_go (k.cache.content p) else refuse_grant p g) | None ↦ (if q then let_page_go k let_go ++ SetAsk NoAsk ∷ ChangeCache (Install p g v b) ∷ ChangeCache (Lock p) ∷ [] else refuse_grant p g) ])
-    go (Some y) e q f = match y e (y == g) refl
-    go None e true f = install_may L Came k p g v b let_go h w (r.asking (is_reading k.ask p (grind arith))) u c e (grind arith)
-    go None e false f = may_refuse L.keep_write Came k.cache p g w (grind arith)
+        → (brings_page (steps_granted k p g v b let_go x q) ≡ true → MayLetGo L k p let_go)
+        → ClientStepsMay L.keep_write Came k.cache (steps_granted k p g v b let_go x q)
+    go (Some y) e q f u = match y e (y == g) refl u
+    go None e true f u = install_may L Came k p g v b let_go h w (r.asking (is_reading k.ask p (grind arith))) (u (brings_after k let_go (SetAsk NoAsk ∷ ChangeCache (Install p g v b) ∷ ChangeCache (Lock p) ∷ []) refl)) c e (grind arith)
+    go None e false f u = may_refuse L.keep_write Came k.cache p g w (grind arith)
 
 is_held_is : (r : Option ℕ) (g : ℕ) → is_exactly r g ≡ true → r ≡ Some g
 is_held_is r g e = grind arith
@@ -235,7 +241,7 @@ may_write_may L Came k t p g w c = go (of_open_txn k t && asks_to_write k.ask p 
     go false e = tt
 
 hears_may : (L : Limits) (Came : Body → Type 0) (k : Client) (y : Body) (let_go : Option ℕ) → Apt k.cache → Ready L Came k → k.cache.welcomed ≡ true → ChoiceAllowed L k y let_go → Came y → ClientStepsMay L.keep_write Came k.cache (take_welcomed L k y let_go)
-hears_may L Came k (Granted p g v b) let_go h r w u c = granted_may L Came k p g v b let_go h r w u c
+hears_may L Came k (Granted p g v b) let_go h r w u c = granted_may L Came k p g v b let_go h r w (welcomed_choice L k (Granted p g v b) let_go w u) c
 hears_may L Came k (MayWrite t p g) let_go h r w u c = may_write_may L Came k t p g w c
 hears_may L Came k (Callback p g) let_go h r w u c = called_back_may L Came k p g h w
 hears_may L Came k (Done t n) let_go h r w u c = go (of_committing_txn k t) refl

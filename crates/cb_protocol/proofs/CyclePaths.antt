@@ -90,7 +90,7 @@ module _ (queue : ℕ → List WaitingAsk) (Holds : ℕ → WaitingAsk → ℕ �
     | inl b ↦ inl ((has_behind c d (queue p) b).1, behind_place c d (queue p) (one.here p c) (one.here p d) b)
     | inr f ↦ let g = subst (λ (x : List WaitingAsk). FirstAsk (Holds p) c d x) e f in inr (OneEdge (subst (λ (x : ℕ). WaitsBy queue Holds x d) (sym g.0) w))
   ]
-  reach p a q e c d (MoreEdges {d = m} w v) h = elim (here c m p h w) [
+  reach p a q e c d (MoreEdges {next = m} w v) h = elim (here c m p h w) [
     | inl b ↦ elim (reach p a q e m d v (has_behind c m (queue p) b).1) [
       | inl i ↦ inl (i.0, let l = behind_place c m (queue p) (one.here p c) (one.here p m) b in let k = i.1 in omega arith)
       | inr r ↦ inr r
@@ -118,7 +118,7 @@ module _ (queue : ℕ → List WaitingAsk) (Holds : ℕ → WaitingAsk → ℕ �
   -- who waits has an ask
   pub waits_has : (c d : ℕ) → Path (WaitsBy queue Holds) c d → (p : ℕ) × HasAsk c (queue p)
   waits_has c d (OneEdge w) = (w.1.0, elim w.1.1 [ inl b ↦ (has_behind c d (queue w.1.0) b).0 | inr f ↦ has_first c d w.1.0 f ])
-  waits_has c d (MoreEdges {d = m} w v) = (w.1.0, elim w.1.1 [ inl b ↦ (has_behind c m (queue w.1.0) b).0 | inr f ↦ has_first c m w.1.0 f ])
+  waits_has c d (MoreEdges {next = m} w v) = (w.1.0, elim w.1.1 [ inl b ↦ (has_behind c m (queue w.1.0) b).0 | inr f ↦ has_first c m w.1.0 f ])
 
   -- where each first ask lies on no cycle, there is none
   pub none_where_clear : ((p : ℕ) → Clear (WaitsBy queue Holds) (queue p)) → (c : ℕ) → LiesOnCycle (WaitsBy queue Holds) c → ⊥
@@ -151,7 +151,7 @@ module _ (queue old : ℕ → List WaitingAsk) (Holds Held : ℕ → WaitingAsk 
     -- a path is old, or meets an ask of page q
     old_path : (c d : ℕ) → Path (WaitsBy queue Holds) c d → Path (WaitsBy old Held) c d ⊎ ((m : ℕ) × HasAsk m (queue q) × ((c ≡ m) ⊎ Path (WaitsBy queue Holds) c m) × Path (WaitsBy queue Holds) m d)
     old_path c d (OneEdge w) = elim (old_edge c d w) [ inl o ↦ inl (OneEdge o) | inr h ↦ inr (c, h, inl refl, OneEdge w) ]
-    old_path c d (MoreEdges {d = m} w v) = elim (old_edge c m w) [
+    old_path c d (MoreEdges {next = m} w v) = elim (old_edge c m w) [
       | inl o ↦ elim (old_path m d v) [
         | inl u ↦ inl (MoreEdges o u)
         | inr k ↦ inr (k.0, k.1, inr (elim k.2 [ inl e ↦ OneEdge (subst (λ (x : ℕ). WaitsBy queue Holds c x) e w) | inr u ↦ MoreEdges w u ]), k.3)

@@ -2,7 +2,7 @@
 use Rattle.std.proofs.Common.{◌≡◌, ◌↔◌, ℕ, zero, suc, ◌<◌, Bool, true, false, ◌==◌, ◌&&◌, ◌||◌, not, ◌≢◌, ◌⊎◌, List, [], ◌∷◌, Option, Some, None, arith, refl, subst, inl, inr}
 use Rattle.cb_protocol.specs.Basics.{is_none, is_exactly}
 use Rattle.cb_protocol.specs.Server.{WaitingAsk, Server, has_ask, is_live_permission}
-use Rattle.cb_protocol.specs.WaitsFor.{HasAsk, Behind, FirstAsk, HoldsUp, WaitsFor, Path, OneEdge, MoreEdges, LiesOnCycle, AsksInRange, is_behind, holds_up, first_waits_for, waits_for_below, waits_for, by_way, on_cycle}
+use Rattle.cb_protocol.specs.WaitsFor.{HasAsk, Behind, FirstAsk, HoldsUp, WaitsFor, Path, OneEdge, MoreEdges, LiesOnCycle, AsksInRange, is_behind, holds_up, first_waits_for, waits_for_below, waits_for, has_path_through, on_cycle}
 use Rattle.cb_protocol.proofs.CyclePaths.{along, has_behind}
 
 -- the tests of a queue say what the relations say
@@ -49,12 +49,8 @@ writes w e = grind arith
 is_write : (w : Option ℕ) → w ≢ None → not (is_none w) ≡ true
 is_write w n = grind arith
 
--- d holds up the ask a, as a test
-abbrev delays : Server → ℕ → WaitingAsk → ℕ → Bool
-delays s p a d = holds_up s p d || (not (is_none a.write_grant) && s.in_use d p)
-
-delays_is : (s : Server) (p : ℕ) (a : WaitingAsk) (d : ℕ) → (delays s p a d ≡ true) ↔ HoldsUp s p a d
-delays_is s p a d = (to (is_exactly (s.store.holder p) d) (is_live_permission s d p) (s.in_use d p) (not (is_none a.write_grant)) refl refl refl refl, from)
+holds_up_is : (s : Server) (p : ℕ) (a : WaitingAsk) (d : ℕ) → (holds_up s p a d ≡ true) ↔ HoldsUp s p a d
+holds_up_is s p a d = (to (is_exactly (s.store.holder p) d) (is_live_permission s d p) (s.in_use d p) (not (is_none a.write_grant)) refl refl refl refl, from)
   where
     to : (w l m v : Bool) → is_exactly (s.store.holder p) d ≡ w → is_live_permission s d p ≡ l → s.in_use d p ≡ m → not (is_none a.write_grant) ≡ v → ((w && (l || m)) || (v && m)) ≡ true → HoldsUp s p a d
     to true true m v i j k x e = inl (some_is (s.store.holder p) d i, inl j)
@@ -72,13 +68,13 @@ delays_is s p a d = (to (is_exactly (s.store.holder p) d) (is_live_permission s 
     yes_marked : (w l m v : Bool) → v ≡ true → m ≡ true → ((w && (l || m)) || (v && m)) ≡ true
     yes_marked w l m v e f = grind arith
 
-    from : HoldsUp s p a d → delays s p a d ≡ true
+    from : HoldsUp s p a d → holds_up s p a d ≡ true
     from (inl h) = yes (is_exactly (s.store.holder p) d) (is_live_permission s d p) (s.in_use d p) (not (is_none a.write_grant)) (rw h.0 (is_some_self d), h.1)
     from (inr h) = yes_marked (is_exactly (s.store.holder p) d) (is_live_permission s d p) (s.in_use d p) (not (is_none a.write_grant)) (is_write a.write_grant h.0) h.1
 
 first_is : (s : Server) (p c d : ℕ) (q : List WaitingAsk) → (first_waits_for s p q c d ≡ true) ↔ FirstAsk (HoldsUp s p) c d q
 first_is s p c d [] = ((λ e. absurd cc), (λ h. absurd h))
-first_is s p c d (a ∷ q) = (to (a.client == c) (delays s p a d) refl refl, λ f. both (a.client == c) (delays s p a d) (at f.0) ((delays_is s p a d).1 f.1))
+first_is s p c d (a ∷ q) = (to (a.client == c) (holds_up s p a d) refl refl, λ f. both (a.client == c) (holds_up s p a d) (at f.0) ((holds_up_is s p a d).1 f.1))
   where
     same : (a.client == c) ≡ true → a.client ≡ c
     same e = grind arith
@@ -86,8 +82,8 @@ first_is s p c d (a ∷ q) = (to (a.client == c) (delays s p a d) refl refl, λ 
     at : a.client ≡ c → (a.client == c) ≡ true
     at e = grind arith
 
-    to : (r h : Bool) → (a.client == c) ≡ r → delays s p a d ≡ h → (r && h) ≡ true → FirstAsk (HoldsUp s p) c d (a ∷ q)
-    to true true i j e = (same i, (delays_is s p a d).0 j)
+    to : (r h : Bool) → (a.client == c) ≡ r → holds_up s p a d ≡ h → (r && h) ≡ true → FirstAsk (HoldsUp s p) c d (a ∷ q)
+    to true true i j e = (same i, (holds_up_is s p a d).0 j)
     to true false i j e = absurd cc
     to false h i j e = absurd cc
 
@@ -154,37 +150,37 @@ waits_is s r c d = (to (c == d) (waits_for_below s c d s.pages) refl refl, from)
     from w = both (c == d) (waits_for_below s c d s.pages) (apart w.0) ((below_is s c d s.pages).1 (w.1.0, (r w.1.0 c (asks_at s c d w.1.0 w.1.1)).1, w.1.1))
 
 module _ (r : ℕ → ℕ → Bool) where
-  way_more : (n c d : ℕ) → r c d ≡ true → by_way r n c d ≡ true
+  way_more : (n c d : ℕ) → r c d ≡ true → has_path_through r n c d ≡ true
   way_more zero c d e = e
   way_more (suc n) c d e = let u = way_more n c d e in grind arith
 
-  way_join : (n c m d : ℕ) → m < n → by_way r n c m ≡ true → by_way r n m d ≡ true → by_way r n c d ≡ true
+  way_join : (n c m d : ℕ) → m < n → has_path_through r n c m ≡ true → has_path_through r n m d ≡ true → has_path_through r n c d ≡ true
   way_join zero c m d l u v = absurd (omega arith)
   way_join (suc n) c m d l u v = grind (arith, way_join n c m d, way_join n c m n, way_join n n m d)
 
-  way_is : (n c d : ℕ) → by_way r n c d ≡ true → Path (λ x y. r x y ≡ true) c d
+  way_is : (n c d : ℕ) → has_path_through r n c d ≡ true → Path (λ x y. r x y ≡ true) c d
   way_is zero c d e = OneEdge e
-  way_is (suc n) c d e = go (way_is n c d) (way_is n c n) (way_is n n d) (by_way r n c d) (by_way r n c n) (by_way r n n d) refl refl refl e
+  way_is (suc n) c d e = go (way_is n c d) (way_is n c n) (way_is n n d) (has_path_through r n c d) (has_path_through r n c n) (has_path_through r n n d) refl refl refl e
     where
-      go : (by_way r n c d ≡ true → Path (λ x y. r x y ≡ true) c d) → (by_way r n c n ≡ true → Path (λ x y. r x y ≡ true) c n) → (by_way r n n d ≡ true → Path (λ x y. r x y ≡ true) n d)
-          → (u v w : Bool) → by_way r n c d ≡ u → by_way r n c n ≡ v → by_way r n n d ≡ w → (u || (v && w)) ≡ true → Path (λ x y. r x y ≡ true) c d
+      go : (has_path_through r n c d ≡ true → Path (λ x y. r x y ≡ true) c d) → (has_path_through r n c n ≡ true → Path (λ x y. r x y ≡ true) c n) → (has_path_through r n n d ≡ true → Path (λ x y. r x y ≡ true) n d)
+          → (u v w : Bool) → has_path_through r n c d ≡ u → has_path_through r n c n ≡ v → has_path_through r n n d ≡ w → (u || (v && w)) ≡ true → Path (λ x y. r x y ≡ true) c d
       go f g h true v w i j k e = f i
       go f g h false true true i j k e = along (g j) (h k)
       go f g h false true false i j k e = absurd cc
       go f g h false false w i j k e = absurd cc
 
-  way_has : (n : ℕ) → ((c d : ℕ) → r c d ≡ true → c < n) → (c d : ℕ) → Path (λ x y. r x y ≡ true) c d → by_way r n c d ≡ true
+  way_has : (n : ℕ) → ((c d : ℕ) → r c d ≡ true → c < n) → (c d : ℕ) → Path (λ x y. r x y ≡ true) c d → has_path_through r n c d ≡ true
   way_has n f c d (OneEdge e) = way_more n c d e
-  way_has n f c d (MoreEdges {d = m} e w) = way_join n c m d (source m d w) (way_more n c m e) (way_has n f m d w)
+  way_has n f c d (MoreEdges {next = m} e w) = way_join n c m d (source m d w) (way_more n c m e) (way_has n f m d w)
     where
       source : (m d : ℕ) → Path (λ x y. r x y ≡ true) m d → m < n
       source m d (OneEdge e) = f m d e
-      source m d (MoreEdges {d = k} e w) = f m k e
+      source m d (MoreEdges {next = k} e w) = f m k e
 
 -- a path of one relation is a path of another that holds it
 pub carry : {R S : ℕ → ℕ → Type 0} → ((c d : ℕ) → R c d → S c d) → (c d : ℕ) → Path R c d → Path S c d
 carry f c d (OneEdge r) = OneEdge (f c d r)
-carry f c e (MoreEdges {d = d} r w) = MoreEdges (f c d r) (carry f d e w)
+carry f c e (MoreEdges {next = d} r w) = MoreEdges (f c d r) (carry f d e w)
 
 -- the law
 pub test_is_exact : (s : Server) → AsksInRange s → (c : ℕ) → (on_cycle s c ≡ true) ↔ LiesOnCycle (WaitsFor s) c

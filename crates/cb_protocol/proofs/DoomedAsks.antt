@@ -7,7 +7,7 @@ use Rattle.cb_protocol.specs.Deadlock.{ask_count, AskInRange, InputInRange, Reac
 use Rattle.cb_protocol.specs.Flush.{dones_between}
 use Rattle.cb_protocol.specs.Messages.{Body, Hello, AskRead, AskWrite, GiveBack, InUse, Commit, Drop, Downgraded, AbortNow, Done, MayWrite, Welcome}
 use Rattle.cb_protocol.specs.Resend.{again_pages, again_doomed, server_again}
-use Rattle.cb_protocol.specs.Server.{WaitingAsk, Server, ServerStep, ChangeSession, Send, EnterQueue, LeaveQueue, MarkCalledBack, MarkTold, MarkInUse, UnmarkInUse, RemoveAsk, Doom, ForgetTransaction, SetFlushed, after_first, without_client, set_called_back, add_told, after_server_step, server_after}
+use Rattle.cb_protocol.specs.Server.{DeadlockTest, WaitingAsk, Server, ServerStep, ChangeSession, Send, EnterQueue, LeaveQueue, MarkCalledBack, MarkDowngradeSent, MarkInUse, UnmarkInUse, RemoveAsk, Doom, ForgetTransaction, SetFlushed, after_first, without_client, set_called_back, set_downgrade_sent, after_server_step, server_after}
 use Rattle.cb_protocol.specs.ServerMessages.{begin_transaction, is_empty, enter_queue, has_waiting_ask, new_ask, take_ask_read, take_ask_write, if_live, commit_allowed, repeat_done, direct_answer, named_txn, take_current, admit_incarnation, server_take}
 use Rattle.cb_protocol.specs.Session.{Admit, BeginTransaction, DropTransaction, PermitWrite, RemoveRow, EndPermission, ApplyCommit}
 use Rattle.cb_protocol.specs.Settling.{send_to, doom_client, settle_pages}
@@ -59,7 +59,7 @@ quiet_step N s (Send c i y) n a b d = d
 quiet_step N s (EnterQueue p w) n a b d = let l = b.0 in record { quiet = λ c e q. grind (arith, count_push c w (s.queue p), d.quiet c e) }
 quiet_step N s (LeaveQueue p) n a b d = quiet_fewer s (after_server_step s (LeaveQueue p)) d (fewer_put s.queue p (after_first (s.queue p)) (λ c. count_rest c (s.queue p))) (λ c e. e)
 quiet_step N s (MarkCalledBack p) n a b d = quiet_fewer s (after_server_step s (MarkCalledBack p)) d (fewer_put s.queue p (set_called_back (s.queue p)) (λ c. count_called c (s.queue p))) (λ c e. e)
-quiet_step N s (MarkTold p t) n a b d = quiet_fewer s (after_server_step s (MarkTold p t)) d (fewer_put s.queue p (add_told t (s.queue p)) (λ c. count_told t c (s.queue p))) (λ c e. e)
+quiet_step N s (MarkDowngradeSent p t) n a b d = quiet_fewer s (after_server_step s (MarkDowngradeSent p t)) d (fewer_put s.queue p (set_downgrade_sent t (s.queue p)) (λ c. count_told t c (s.queue p))) (λ c e. e)
 quiet_step N s (MarkInUse c p) n a b d = record { quiet = d.quiet }
 quiet_step N s (UnmarkInUse c p) n a b d = record { quiet = d.quiet }
 quiet_step N s (RemoveAsk c) n a b d = quiet_fewer s (after_server_step s (RemoveAsk c)) d (record { less = λ p e. count_without c e (s.queue p) }) (λ e f. f)
@@ -77,14 +77,14 @@ quiet_steps : (N : ℕ → Type 0) (s : Server) (ds : List ServerStep) → ((c :
 quiet_steps N s [] n a b d = d
 quiet_steps N s (x ∷ ds) n a b d = quiet_steps (Next s x) (after_server_step s x) ds (next_none s x) a.1 b.1 (quiet_step N s x n a.0 b.0 d)
 
-enters_queue : (cycle : Server → ℕ → Bool) (s : Server) (p : ℕ) (a : WaitingAsk) → EnterRight s (EnterQueue p a) → EntersRight s (enter_queue cycle s p a)
+enters_queue : (cycle : DeadlockTest) (s : Server) (p : ℕ) (a : WaitingAsk) → EnterRight s (EnterQueue p a) → EntersRight s (enter_queue cycle s p a)
 enters_queue cycle s p a e = go (not (is_empty (s.queue p)) && cycle (after_server_step s (EnterQueue p a)) a.client)
   where
     go : (r : Bool) → EntersRight s (if r then EnterQueue p a ∷ doom_client (after_server_step s (EnterQueue p a)) a.client else EnterQueue p a ∷ [])
     go true = (e, (tt, (tt, (tt, tt))))
     go false = (e, tt)
 
-enters_ask_read : (cycle : Server → ℕ → Bool) (s : Server) (c p : ℕ) (r : Option ℕ) → SoundAsks s → c < s.clients → p < s.pages → s.doomed c ≡ false → EntersRight s (take_ask_read cycle s c p r)
+enters_ask_read : (cycle : DeadlockTest) (s : Server) (c p : ℕ) (r : Option ℕ) → SoundAsks s → c < s.clients → p < s.pages → s.doomed c ≡ false → EntersRight s (take_ask_read cycle s c p r)
 enters_ask_read cycle s c p (Some g) o l m e = (tt, tt)
 enters_ask_read cycle s c p None o l m e = go (has_waiting_ask s c s.pages) refl
   where
@@ -92,7 +92,7 @@ enters_ask_read cycle s c p None o l m e = go (has_waiting_ask s c s.pages) refl
     go true f = tt
     go false f = enters_queue cycle s p (new_ask c None) (e, none_waits s c o f, l, m)
 
-enters_ask_write : (cycle : Server → ℕ → Bool) (s : Server) (c p g : ℕ) → SoundAsks s → c < s.clients → p < s.pages → s.doomed c ≡ false → EntersRight s (take_ask_write cycle s c p g)
+enters_ask_write : (cycle : DeadlockTest) (s : Server) (c p g : ℕ) → SoundAsks s → c < s.clients → p < s.pages → s.doomed c ≡ false → EntersRight s (take_ask_write cycle s c p g)
 enters_ask_write cycle s c p g o l m e = go (is_exactly ((s.session c).row p) g) (is_exactly (s.store.holder p) c) (has_waiting_ask s c s.pages) refl
   where
     go : (r u v : Bool) → has_waiting_ask s c s.pages ≡ v → EntersRight s (if not r then [] else if u then ChangeSession c (PermitWrite p g) ∷ send_to s c (MayWrite (s.session c).txn p g) ∷ [] else if v then [] else enter_queue cycle s p (new_ask c (Some g)))
@@ -110,7 +110,7 @@ enters_live s c t ds f = go (nat_lt (s.session c).ended t) (s.doomed c) refl
     go false u e = tt
 
 -- the direct answer lets in asks of clients that are not doomed alone
-enters_answer : (cycle : Server → ℕ → Bool) (s : Server) (c : ℕ) (b : Body) → SoundAsks s → c < s.clients → AskInRange s.pages b → EntersRight s (direct_answer cycle s c b)
+enters_answer : (cycle : DeadlockTest) (s : Server) (c : ℕ) (b : Body) → SoundAsks s → c < s.clients → AskInRange s.pages b → EntersRight s (direct_answer cycle s c b)
 enters_answer cycle s c (AskRead t p) o l m = enters_live s c t _ (enters_ask_read cycle s c p ((s.session c).row p) o l m)
 enters_answer cycle s c (AskWrite t p g) o l m = enters_live s c t _ (enters_ask_write cycle s c p g o l m)
 enters_answer cycle s c (GiveBack p g) o l m = go (is_exactly ((s.session c).row p) g)
@@ -160,15 +160,15 @@ enters_begin s c t = go (nat_lt (s.session c).txn t)
     go true = (tt, (tt, tt))
     go false = tt
 
-enters_settled : (cycle : Server → ℕ → Bool) (s k : Server) → EntersRight k (settle_pages cycle s s.pages)
+enters_settled : (cycle : DeadlockTest) (s k : Server) → EntersRight k (settle_pages cycle s s.pages)
 enters_settled cycle s k = enters_none k (settle_pages cycle s s.pages) (none_settles cycle s s.pages)
 
-enters_current : (cycle : Server → ℕ → Bool) (s : Server) (c : ℕ) (b : Body) → SoundAsks s → c < s.clients → AskInRange s.pages b → EntersRight s (take_current cycle s c b)
+enters_current : (cycle : DeadlockTest) (s : Server) (c : ℕ) (b : Body) → SoundAsks s → c < s.clients → AskInRange s.pages b → EntersRight s (take_current cycle s c b)
 enters_current cycle s c b o l m = let k = server_after s (begin_transaction s c (named_txn b)) in let a = server_after k (direct_answer cycle k c b) in let z = same_size s c (named_txn b) in
     enters_append s (begin_transaction s c (named_txn b)) (direct_answer cycle k c b ++ settle_pages cycle a a.pages) (enters_begin s c (named_txn b)) (enters_append k (direct_answer cycle k c b) (settle_pages cycle a a.pages)
     (enters_answer cycle k c b (asks_begin s c (named_txn b) o).0 (rw z.0 l) (rw z.1 m)) (enters_settled cycle a a))
 
-enters_take : (cycle : Server → ℕ → Bool) (s : Server) (c i : ℕ) (b : Body) → SoundAsks s → c < s.clients → AskInRange s.pages b → EntersRight s (server_take cycle s c i b)
+enters_take : (cycle : DeadlockTest) (s : Server) (c i : ℕ) (b : Body) → SoundAsks s → c < s.clients → AskInRange s.pages b → EntersRight s (server_take cycle s c i b)
 unfolding server_take
 enters_take cycle s c i Hello o l m = go (nat_lt (s.session c).current i) (i == (s.session c).current)
   where
@@ -182,7 +182,7 @@ enters_take cycle s c i b o l m = go (i == (s.session c).current)
     go true = enters_current cycle s c b o l m
     go false = tt
 
-enters_input : (cycle : Server → ℕ → Bool) (s : Server) (i : Input) → SoundAsks s → InputInRange s i → EntersRight s (input_steps cycle s i)
+enters_input : (cycle : DeadlockTest) (s : Server) (i : Input) → SoundAsks s → InputInRange s i → EntersRight s (input_steps cycle s i)
 enters_input cycle s (MessageComes c i b) o f = enters_take cycle s c i b o f.0 f.1
 enters_input cycle s SendsAgain o f = enters_sends s (server_again s) (sends_append (again_pages s s.pages) (again_doomed s s.clients) (sends_pages s s.pages) (sends_doomed s s.clients))
 enters_input cycle s (ReachesDisk n) o f = enters_append s (dones_between s.commits s.flushed n) (SetFlushed n ∷ []) (enters_sends s (dones_between s.commits s.flushed n) (sends_dones s.commits s.flushed n)) (tt, tt)
@@ -194,7 +194,7 @@ sound_step s (Send c i y) b o = o
 sound_step s (EnterQueue p w) b o = sound_enter s p w o b.3 b.2 b.1
 sound_step s (LeaveQueue p) b o = sound_fewer s (after_server_step s (LeaveQueue p)) o (fewer_put s.queue p (after_first (s.queue p)) (λ c. count_rest c (s.queue p))) refl refl
 sound_step s (MarkCalledBack p) b o = sound_fewer s (after_server_step s (MarkCalledBack p)) o (fewer_put s.queue p (set_called_back (s.queue p)) (λ c. count_called c (s.queue p))) refl refl
-sound_step s (MarkTold p t) b o = sound_fewer s (after_server_step s (MarkTold p t)) o (fewer_put s.queue p (add_told t (s.queue p)) (λ c. count_told t c (s.queue p))) refl refl
+sound_step s (MarkDowngradeSent p t) b o = sound_fewer s (after_server_step s (MarkDowngradeSent p t)) o (fewer_put s.queue p (set_downgrade_sent t (s.queue p)) (λ c. count_told t c (s.queue p))) refl refl
 sound_step s (MarkInUse c p) b o = record { one = o.one; known = o.known }
 sound_step s (UnmarkInUse c p) b o = record { one = o.one; known = o.known }
 sound_step s (RemoveAsk c) b o = sound_fewer s (after_server_step s (RemoveAsk c)) o (record { less = λ p e. count_without c e (s.queue p) }) refl refl

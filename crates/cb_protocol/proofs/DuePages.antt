@@ -6,7 +6,7 @@ use Rattle.cb_protocol.specs.Cache.{Begin, CacheChange, Fill, Abandon, Idle, Ins
 use Rattle.cb_protocol.specs.Client.{Aborted, ClientStep, Ask, SetAsk, Client, EndTransaction, Committed, Dropped, LastOutcome, ChangeCache, NoAsk, NoneEnded, MarkDue, MarkDueDowngrade, ReadAsk, Say, MarkWanted, WriteAsk, client_after, asks_to_write, after_client_step, is_fixed, asks_to_read, bodies_said}
 use Rattle.cb_protocol.specs.Answers.{Asked, ClientFault, Permitted}
 use Rattle.cb_protocol.specs.Basics.{is_exactly, Bytes, IsIn, Limits, update}
-use Rattle.cb_protocol.specs.ClientCalls.{CallAgain, CallBegin, Call, CallDrop, CallFinish, CallHello, CallPeek, CallRead, CallWant, CallWrite, accept_call, client_again, client_call, causes, first_fault, read_page, accept_or_refuse, reply_with, say_ask, say_ask_write, say_commit, say_drop}
+use Rattle.cb_protocol.specs.ClientCalls.{CallAgain, CallBegin, Call, CallDrop, CallFinish, CallHello, CallPeek, CallRead, CallWant, CallWrite, accept_call, client_again, client_call, causes, first_refusal, read_page, accept_or_refuse, reply_with, say_ask, say_ask_write, say_commit, say_drop}
 use Rattle.cb_protocol.specs.ClientEnd.{drop_transaction, end_pages, give_back, refuse_grant}
 use Rattle.cb_protocol.specs.ClientMessages.{take_callback, take_downgrade, take_granted, take_granted_held, take_welcomed, let_page_go, of_committing_txn, of_open_txn, client_take}
 use Rattle.cb_protocol.specs.Messages.{AbortNow, Body, Callback, Done, Downgrade, Downgraded, GiveBack, Granted, Hello, InUse, MayWrite, Welcome}
@@ -32,7 +32,7 @@ unfolding client_take
 heard L k p g let_go w = grind arith
 
 pub callback_answered_at_once : (L : Limits) → CallbackAnsweredAtOnce L
-callback_answered_at_once L k p g let_go w = (yes, no)
+callback_answered_at_once L k p g let_go w = record { in_use = yes; back = no }
   where
     yes : Reading k p g → (bodies_said (client_take L k (Callback p g) let_go) ≡ InUse k.cache.number p g ∷ []) × (after_input L k (ReceivesMessage (Callback p g) let_go) ≡ record k { due = λ q. if q == p then true else k.due q })
     yes r = let e : client_take L k (Callback p g) let_go ≡ MarkDue p ∷ Say (InUse k.cache.number p g) ∷ [] = heard L k p g let_go w ∙ called_reading k p g r in
@@ -78,7 +78,7 @@ down_other keep_write k p g t n = subst (λ (x : List ClientStep). (bodies_said 
     refused = grind arith
 
 pub downgrade_answered_at_once : (L : Limits) → DowngradeAnsweredAtOnce L
-downgrade_answered_at_once L k p g t let_go w = (off, using_it, held, other)
+downgrade_answered_at_once L k p g t let_go w = (off, λ e. record { in_use = using_it e; down = held e; back = other e })
   where
     off : L.keep_write ≡ false → (bodies_said (client_take L k (Downgrade p g t) let_go) ≡ []) × (after_input L k (ReceivesMessage (Downgrade p g t) let_go) ≡ k)
     off e = let z : client_take L k (Downgrade p g t) let_go ≡ [] = heard_down L k p g t let_go w ∙ grind arith in (ap bodies_said z, ap (λ (x : List ClientStep). client_after L.keep_write k x) z)
@@ -198,7 +198,7 @@ spare_wants : (p g : ℕ) (k : Client) (q : ℕ) (u : Bool) → AllSpare p g (if
 spare_wants p g k q true = (tt, tt)
 spare_wants p g k q false = (tt, (tt, spare_ask_write p g k q (k.cache.held q)))
 
-goes_on_call : (L : Limits) (k : Client) (c : Call) (p g : ℕ) → ClientKeeps L k → k.due p ≡ true → k.cache.held p ≡ Some g → first_fault (causes L k c) ≡ None → c ≢ CallDrop → AllSpare p g (accept_call L k c).steps
+goes_on_call : (L : Limits) (k : Client) (c : Call) (p g : ℕ) → ClientKeeps L k → k.due p ≡ true → k.cache.held p ≡ Some g → first_refusal (causes L k c) ≡ None → c ≢ CallDrop → AllSpare p g (accept_call L k c).steps
 goes_on_call L k CallHello p g h d e f n = (tt, tt)
 goes_on_call L k CallBegin p g h d e f n = absurd ((due_reading L k p h d).0 (grind arith))
 goes_on_call L k (CallRead q) p g h d e f n = spare_reads p g k q (k.cache.content q)
@@ -211,9 +211,9 @@ goes_on_call L k (CallPeek q) p g h d e f n = tt
 
 pub call_stays : (L : Limits) (k : Client) (c : Call) (p g : ℕ) → ClientKeeps L k → k.due p ≡ true → k.cache.held p ≡ Some g → c ≢ CallDrop → StaysDue k (client_after L.keep_write k (client_call L k c).steps) (bodies_said (client_call L k c).steps) p g
 unfolding call_fault client_call
-call_stays L k c p g h d e n = go (first_fault (causes L k c)) refl
+call_stays L k c p g h d e n = go (first_refusal (causes L k c)) refl
   where
-    go : (f : Option ClientFault) → first_fault (causes L k c) ≡ f → StaysDue k (client_after L.keep_write k (accept_or_refuse L k c f).steps) (bodies_said (accept_or_refuse L k c f).steps) p g
+    go : (f : Option ClientFault) → first_refusal (causes L k c) ≡ f → StaysDue k (client_after L.keep_write k (accept_or_refuse L k c f).steps) (bodies_said (accept_or_refuse L k c f).steps) p g
     go (Some y) f = stays L k p g [] h d e tt
     go None f = stays L k p g (accept_call L k c).steps h d e (goes_on_call L k c p g h d e f n)
 

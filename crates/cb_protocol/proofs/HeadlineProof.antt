@@ -1,6 +1,7 @@
 -- Every world that is reached keeps the promise.
 use Rattle.std.proofs.Common.{Bool, List, None, Option, Some, [], ap, arith, false, if◌then◌else◌, inl, inr, nat_le, nat_lt, refl, subst, suc, sym, true, zero, ℕ, ◌+◌, ◌<◌, ◌==◌, ◌∙◌, ◌∷◌, ◌≡◌, ◌≢◌}
 use Rattle.cb_protocol.proofs.ClientSteps.{client_machine_steps}
+use Rattle.cb_protocol.proofs.DoneOnDisk.{again_from_disk, flushed_to_disk, taken_from_disk}
 use Rattle.cb_protocol.proofs.ClientCalls.{calls_fit, calls_may, takes_fit}
 use Rattle.cb_protocol.proofs.MachineSteps.{present_good, present_now}
 use Rattle.cb_protocol.proofs.HistoryKept.{history_operations}
@@ -23,7 +24,7 @@ use Rattle.cb_protocol.specs.Basics.{Bytes, IsIn, Limits, max_number, update}
 use Rattle.cb_protocol.specs.Messages.{Message, GiveBack, to_server}
 use Rattle.cb_protocol.specs.Serial.{Operation, IsSerial, PerformedOperation, TransactionName, store_left, committed_operations}
 use Rattle.cb_protocol.specs.Headline.{BackedByServer, Headline, Promise, Promises, MayWritePage}
-use Rattle.cb_protocol.specs.Server.{Server}
+use Rattle.cb_protocol.specs.Server.{DeadlockTest}
 use Rattle.cb_protocol.specs.Session.{Session, Store}
 use Rattle.cb_protocol.specs.Flush.{can_flush, server_flush}
 use Rattle.cb_protocol.specs.Resend.{server_again}
@@ -47,7 +48,7 @@ call_step L o v w c x m l = let k = v.client c in let q = calls_marks L v.transc
       (calls_may L (SentBy v c (v.incarnation c)) k x (welcomed_apt L o v w c m) (m.ready c)) (calls_fit L (SentBy v c (v.incarnation c)) k x) q.performed q.mine q.others q.restarts,
 )
 
-deliver_step : (L : Limits) (cycle : Server → ℕ → Bool) (o : Opening) (v : World) (w : Machine) (n : ℕ) (f : Message) (let_go : Option ℕ) → Mirrors L o v w → IsIn f v.packets → ChoiceAllowed L (v.client f.client) f.body let_go
+deliver_step : (L : Limits) (cycle : DeadlockTest) (o : Opening) (v : World) (w : Machine) (n : ℕ) (f : Message) (let_go : Option ℕ) → Mirrors L o v w → IsIn f v.packets → (f.incarnation ≡ v.incarnation f.client → ChoiceAllowed L (v.client f.client) f.body let_go)
     → Reached L o (deliver L cycle v (TakePacket n) f let_go).world
 deliver_step L cycle o v w n f let_go m i u = go (to_server f.body) (is_exhausted v.server f.client f.incarnation f.body) (f.incarnation == v.incarnation f.client) refl
   where
@@ -68,11 +69,11 @@ deliver_step L cycle o v w n f let_go m i u = go (to_server f.body) (is_exhauste
         else if q then client_does L v (TakePacket n) f.client Taken (client_take L (v.client f.client) f.body let_go) else answer_only v (TakePacket n) Taken).world
     go true true q e = (w, only_step L o v w (TakePacket n) ServerExhausted m refl (λ d. refl) (λ d. refl))
     go true false q e = let ds = server_take cycle v.server f.client f.incarnation f.body in
-        (run (server_machine_steps ds) w, server_step L o v w (TakePacket n) Taken ds m (right_server_take (SentBy v) cycle v.server f.client f.incarnation f.body m.orderly (rw m.clients (m.addressed f i)) i) refl (λ d. refl) (λ d. refl))
+        (run (server_machine_steps ds) w, server_step L o v w (TakePacket n) Taken ds m (right_server_take (SentBy v) cycle v.server f.client f.incarnation f.body m.orderly (rw m.clients (m.addressed f i)) i) (taken_from_disk cycle v.server f.client f.incarnation f.body) refl (λ d. refl) (λ d. refl))
     go false r true e = let k = v.client f.client in (
       run (client_machine_steps f.client (client_take L k f.body let_go)) w,
       client_step L o v w f.client (TakePacket n) Taken (client_take L k f.body let_go) m (m.addressed f i)
-          (takes_may L (SentBy v f.client (v.incarnation f.client)) k f.body let_go (welcomed_apt L o v w f.client m) (m.ready f.client) u (came e))
+          (takes_may L (SentBy v f.client (v.incarnation f.client)) k f.body let_go (welcomed_apt L o v w f.client m) (m.ready f.client) (u (same e)) (came e))
           (takes_fit L (SentBy v f.client (v.incarnation f.client)) k f.body let_go (came e))
           (sym (still_lines L.keep_write (transcript_operations v.transcript) f.client (incarnation_at v.transcript f.client) k.cache (client_take L k f.body let_go) still))
           (m.begins f.client ∙ sym (still_number L.keep_write k (client_take L k f.body let_go) still)) (λ d ne. refl) (λ d. refl),
@@ -84,7 +85,7 @@ nth_in [] n f e = absurd cc
 nth_in (g ∷ fs) zero f e = inl cc
 nth_in (g ∷ fs) (suc n) f e = inr (nth_in fs n f e)
 
-take_step : (L : Limits) (cycle : Server → ℕ → Bool) (o : Opening) (v : World) (w : Machine) (n : ℕ) (let_go : Option ℕ) (r : Option Message) → packet_at v.packets n ≡ r → Mirrors L o v w → MessageChoiceAllowed L v r let_go
+take_step : (L : Limits) (cycle : DeadlockTest) (o : Opening) (v : World) (w : Machine) (n : ℕ) (let_go : Option ℕ) (r : Option Message) → packet_at v.packets n ≡ r → Mirrors L o v w → MessageChoiceAllowed L v r let_go
     → Reached L o (take_packet L cycle v (TakePacket n) r let_go).world
 take_step L cycle o v w n let_go None e m u = (w, only_step L o v w (TakePacket n) NoPacket m refl (λ d. refl) (λ d. refl))
 take_step L cycle o v w n let_go (Some f) e m u = deliver_step L cycle o v w n f let_go m (nth_in v.packets n f e) u
@@ -102,11 +103,11 @@ flush_step : (L : Limits) (o : Opening) (v : World) (w : Machine) (e : Event) (n
     → ((word : AnswerWord) (d : ℕ) → transaction_at (record { event = e; word = word } ∷ v.transcript) d ≡ transaction_at v.transcript d)
     → ((word : AnswerWord) (d : ℕ) → incarnation_at (record { event = e; word = word } ∷ v.transcript) d ≡ incarnation_at v.transcript d)
     → Reached L o (flush_up_to v e n).world
-flush_step L o v w e n m ln bg rs = go (can_flush v.server n)
+flush_step L o v w e n m ln bg rs = go (can_flush v.server n) refl
   where
-    go : (r : Bool) → Reached L o (if r then server_does v e (Flushed n) (server_flush v.server n) else answer_only v e Nothing).world
-    go true = (run (server_machine_steps (server_flush v.server n)) w, server_step L o v w e (Flushed n) (server_flush v.server n) m (right_flushes (SentBy v) v.server n m.orderly) (ln (Flushed n)) (bg (Flushed n)) (rs (Flushed n)))
-    go false = (w, only_step L o v w e Nothing m (ln Nothing) (bg Nothing) (rs Nothing))
+    go : (r : Bool) → can_flush v.server n ≡ r → Reached L o (if r then server_does v e (Flushed n) (server_flush v.server n) else answer_only v e Nothing).world
+    go true f = (run (server_machine_steps (server_flush v.server n)) w, server_step L o v w e (Flushed n) (server_flush v.server n) m (right_flushes (SentBy v) v.server n m.orderly) (flushed_to_disk v.server n f) (ln (Flushed n)) (bg (Flushed n)) (rs (Flushed n)))
+    go false f = (w, only_step L o v w e Nothing m (ln Nothing) (bg Nothing) (rs Nothing))
 
 no_client : (L : Limits) (o : Opening) (v : World) (w : Machine) (c : ℕ) (x : Call) → Mirrors L o v w → Reached L o (answer_only v (ClientCalls c x) NoClient).world
 no_client L o v w c x m = (w, only_step L o v w (ClientCalls c x) NoClient m (quiet x) (silent_begun x) (λ d. refl))
@@ -134,7 +135,7 @@ no_client L o v w c x m = (w, only_step L o v w (ClientCalls c x) NoClient m (qu
     silent_begun (CallPeek p) d = refl
 
 -- each event
-pub any_step : (L : Limits) (cycle : Server → ℕ → Bool) (o : Opening) (v : World) (w : Machine) (e : Event) (let_go : Option ℕ) → Mirrors L o v w → EventChoiceAllowed L v e let_go → Reached L o (step L cycle v e let_go).world
+pub any_step : (L : Limits) (cycle : DeadlockTest) (o : Opening) (v : World) (w : Machine) (e : Event) (let_go : Option ℕ) → Mirrors L o v w → EventChoiceAllowed L v e let_go → Reached L o (step L cycle v e let_go).world
 unfolding step
 any_step L cycle o v w (ClientCalls c x) let_go m u = go (nat_lt c L.clients) refl
   where
@@ -151,11 +152,11 @@ any_step L cycle o v w (Restart c) let_go m u = go (nat_lt c L.clients)
     go true = restarts_step L o v w c m
     go false = (w, only_step L o v w (Restart c) NoClient m refl (λ d. refl) (λ d. refl))
 any_step L cycle o v w ServerAgain let_go m u =
-    (run (server_machine_steps (server_again v.server)) w, server_step L o v w ServerAgain AnsweredOk (server_again v.server) m (right_again (SentBy v) v.server m.orderly) refl (λ d. refl) (λ d. refl))
+    (run (server_machine_steps (server_again v.server)) w, server_step L o v w ServerAgain AnsweredOk (server_again v.server) m (right_again (SentBy v) v.server m.orderly) (again_from_disk v.server) refl (λ d. refl) (λ d. refl))
 any_step L cycle o v w FlushAll let_go m u = flush_step L o v w FlushAll v.server.store.last_commit m (λ x. refl) (λ x d. refl) (λ x d. refl)
 any_step L cycle o v w (FlushTo n) let_go m u = flush_step L o v w (FlushTo n) n m (λ x. refl) (λ x d. refl) (λ x d. refl)
 
-pub becomes_step : (L : Limits) (cycle : Server → ℕ → Bool) (o : Opening) (v : World) (e : Event) (a : Answer) (u : World) → Reached L o v → Becomes L cycle v e a u → Reached L o u
+pub becomes_step : (L : Limits) (cycle : DeadlockTest) (o : Opening) (v : World) (e : Event) (a : Answer) (u : World) → Reached L o v → Becomes L cycle v e a u → Reached L o u
 becomes_step L cycle o v e a u r b = subst (λ (x : StepResult). Reached L o x.world) b.2 (any_step L cycle o v r.0 e b.0 r.1 b.1)
 
 -- a client that holds a grant is of the server's current incarnation
@@ -200,6 +201,8 @@ backed L o v w m = record {
 pub promised : (L : Limits) (o : Opening) (v : World) → Reached L o v → Promise o v
 promised L o v r = record {
   backed = backed L o v r.0 r.1;
+  directory = record { sole = λ p c d g x y. sym (r.1.orderly.sole p d g c y x); distinct = r.1.books.distinct };
+  disk = r.1.disk;
   ledger = record { numbered = r.1.books.numbered; bytes = r.1.books.bytes; version = r.1.books.version; once = r.1.books.once };
   dones = λ c i t n x. r.1.books.known c i t n (r.1.dones c i t n x);
   once = r.1.books.once;
@@ -229,9 +232,9 @@ promised L o v r = record {
     operations : history_operations (r.0).history ≡ committed_operations (committed_names v.server.commits) (transcript_operations v.transcript)
     operations = sym (told_operations r.0 m.recorded) ∙ (ap (λ (ns : List TransactionName). committed_operations ns (r.0).performed) m.names ∙ ap (λ (ls : List PerformedOperation). committed_operations (committed_names v.server.commits) ls) m.performed)
 
-all_promised : (L : Limits) (cycle : Server → ℕ → Bool) (o : Opening) (v : World) (ms : List Moment) → Reached L o v → Plays L cycle v ms → Promises o ms
+all_promised : (L : Limits) (cycle : DeadlockTest) (o : Opening) (v : World) (ms : List Moment) → Reached L o v → Plays L cycle v ms → Promises o ms
 all_promised L cycle o v [] r p = tt
 all_promised L cycle o v (m ∷ ms) r p = let q = becomes_step L cycle o v m.event m.answer m.world r p.0 in (promised L o m.world q, all_promised L cycle o m.world ms q p.1)
 
-pub headline : (L : Limits) (cycle : Server → ℕ → Bool) → Headline L cycle
+pub headline : (L : Limits) (cycle : DeadlockTest) → Headline L cycle
 headline L cycle o ms s p = let r : Reached L o (new_world L o) = (start L o, mirrors_start L o s) in (promised L o (new_world L o) r, all_promised L cycle o (new_world L o) ms r p)

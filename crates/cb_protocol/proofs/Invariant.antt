@@ -98,15 +98,15 @@ pub record Invariant (w : Machine) : Type 0 where
   pub fine : (f : Message) → IsIn f w.packets → MessageHolds f.client w.store (w.session f.client) (cache_at_session w f.client) (w.incarnation f.client) f.incarnation f.body
 
 -- client c has a readable copy of page p
-abbrev pub Copies : Machine → ℕ → ℕ → Bytes → Type 0
-Copies w c p b = (present_cache w c).content p ≡ Some b
+abbrev pub HasCopy : Machine → ℕ → ℕ → Bytes → Type 0
+HasCopy w c p b = (present_cache w c).content p ≡ Some b
 
 -- client c may write page p
 abbrev pub MayPut : Machine → ℕ → ℕ → Type 0
 MayPut w c p = ((present_cache w c).status ≡ Open) × ((present_cache w c).may_write p ≡ true)
 
 abbrev pub LoneWriter : Machine → Type 0
-LoneWriter w = (c d p : ℕ) (b : Bytes) → MayPut w c p → Copies w d p b → d ≡ c
+LoneWriter w = (c d p : ℕ) (b : Bytes) → MayPut w c p → HasCopy w d p b → d ≡ c
 
 abbrev pub SameCopies : Machine → Type 0
-SameCopies w = (c d p : ℕ) (b e : Bytes) → Copies w c p b → Copies w d p e → b ≡ e
+SameCopies w = (c d p : ℕ) (b e : Bytes) → HasCopy w c p b → HasCopy w d p e → b ≡ e

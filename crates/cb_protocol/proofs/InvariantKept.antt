@@ -1,7 +1,7 @@
 -- Each event keeps the invariant of the whole world.
 use Rattle.std.proofs.Common.{Bool, List, arith, false, if◌then◌else◌, inl, inr, refl, subst, sym, true, ℕ, ◌<◌, ◌==◌, ◌∷◌, ◌≡◌, ◌≢◌, ◌≤◌}
 use Rattle.cb_protocol.proofs.Machine.{CommittedTransaction, Machine, ClientRestarts, ServerChanges, WasSent, happens, present_cache, put_client, start}
-use Rattle.cb_protocol.proofs.Invariant.{Copies, MessageHolds, SessionFacts, LoneWriter, HasCommitNumber, MessageFact, Invariant, SameCopies, cache_at_session}
+use Rattle.cb_protocol.proofs.Invariant.{HasCopy, MessageHolds, SessionFacts, LoneWriter, HasCommitNumber, MessageFact, Invariant, SameCopies, cache_at_session}
 use Rattle.cb_protocol.proofs.SessionChanges.{good_admit, good_other_admit, now_other_admit}
 use Rattle.cb_protocol.specs.Cache.{Cache}
 use Rattle.cb_protocol.specs.Basics.{Bytes, Limits, update}
@@ -16,7 +16,7 @@ pub up_to_date : (w : Machine) (c : ℕ) → Invariant w → (present_cache w c)
 up_to_date w c h e = grind (arith, h.behind c, h.ahead c (w.incarnation c))
 
 -- client c's state, where it has a readable copy or may write
-pub readable : (w : Machine) (c p : ℕ) (b : Bytes) → Invariant w → Copies w c p b → (w.session c).current ≡ w.incarnation c
+pub readable : (w : Machine) (c p : ℕ) (b : Bytes) → Invariant w → HasCopy w c p b → (w.session c).current ≡ w.incarnation c
 readable w c p b h e = grind (arith, up_to_date, h.behind c, h.ahead c (w.incarnation c))
 
 pub safe_start : (L : Limits) (o : Opening) → SoundOpening o → Invariant (start L o)

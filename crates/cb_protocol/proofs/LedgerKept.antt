@@ -1,15 +1,15 @@
 -- The directory rule and the ledger, whatever messages come.
-use Rattle.std.proofs.Common.{Bool, List, None, Option, Some, [], ap, arith, inl, inr, refl, subst, sym, ℕ, ◌+◌, ◌<◌, ◌∙◌, ◌∷◌, ◌≡◌, ◌≤◌, ◌⊎◌}
+use Rattle.std.proofs.Common.{List, None, Option, Some, [], ap, arith, inl, inr, refl, subst, sym, ℕ, ◌+◌, ◌<◌, ◌∙◌, ◌∷◌, ◌≡◌, ◌≤◌, ◌⊎◌}
 use Rattle.std.specs.Prelude.{⊤}
 use Rattle.cb_protocol.proofs.Machine.{ServerMayChange, ServerMaySend}
 use Rattle.cb_protocol.proofs.ServerOrder.{ServerStepMay, ServerStepsMay, Fresh, Orderly, StepsRight, orderly_start}
 use Rattle.cb_protocol.proofs.ServerTakes.{right_again, right_flushes, right_server_take}
 use Rattle.cb_protocol.proofs.SettlingRight.{clients_served}
-use Rattle.cb_protocol.specs.AnyMessages.{MessageComes, InputFits, RulesAlwaysHold, Input, IsCommit, KeepsRules, Numbered, ReachesDisk, SendsAgain, committed_names, input_steps, version_after, bytes_after}
+use Rattle.cb_protocol.specs.AnyMessages.{MessageComes, ComesFromClient, RulesAlwaysHold, Input, IsCommit, KeepsRules, Numbered, ReachesDisk, SendsAgain, committed_names, input_steps, version_after, bytes_after}
 use Rattle.cb_protocol.specs.Basics.{IsIn, Limits, update}
 use Rattle.cb_protocol.specs.Messages.{Body, Done, Message, PageWrite, write_of_page}
 use Rattle.cb_protocol.specs.Serial.{TransactionName, EachOnce}
-use Rattle.cb_protocol.specs.Server.{AppliedCommit, MarkCalledBack, ServerStep, Doom, EnterQueue, SetFlushed, LeaveQueue, MarkInUse, ForgetTransaction, Server, Send, MarkTold, ChangeSession, RemoveAsk, UnmarkInUse, new_server, server_after, after_server_step}
+use Rattle.cb_protocol.specs.Server.{DeadlockTest, AppliedCommit, MarkCalledBack, ServerStep, Doom, EnterQueue, SetFlushed, LeaveQueue, MarkInUse, ForgetTransaction, Server, Send, MarkDowngradeSent, ChangeSession, RemoveAsk, UnmarkInUse, new_server, server_after, after_server_step}
 use Rattle.cb_protocol.specs.Session.{Admit, ApplyCommit, DropTransaction, GrantRow, BeginTransaction, PermitWrite, RemoveRow, Session, SessionChange, Store, EndPermission, new_bytes, new_version, set_commit_number, session_after, store_after}
 use Rattle.cb_protocol.specs.World.{Opening, messages_sent, opening_store}
 
@@ -223,7 +223,7 @@ books_all o Came s (Send c i y ∷ ds) b a = books_all o Came s ds b a.1
 books_all o Came s (EnterQueue p w ∷ ds) b a = books_all o Came (after_server_step s (EnterQueue p w)) ds (books_other o s (after_server_step s (EnterQueue p w)) b refl refl refl refl) a.1
 books_all o Came s (LeaveQueue p ∷ ds) b a = books_all o Came (after_server_step s (LeaveQueue p)) ds (books_other o s (after_server_step s (LeaveQueue p)) b refl refl refl refl) a.1
 books_all o Came s (MarkCalledBack p ∷ ds) b a = books_all o Came (after_server_step s (MarkCalledBack p)) ds (books_other o s (after_server_step s (MarkCalledBack p)) b refl refl refl refl) a.1
-books_all o Came s (MarkTold p t ∷ ds) b a = books_all o Came (after_server_step s (MarkTold p t)) ds (books_other o s (after_server_step s (MarkTold p t)) b refl refl refl refl) a.1
+books_all o Came s (MarkDowngradeSent p t ∷ ds) b a = books_all o Came (after_server_step s (MarkDowngradeSent p t)) ds (books_other o s (after_server_step s (MarkDowngradeSent p t)) b refl refl refl refl) a.1
 books_all o Came s (MarkInUse c p ∷ ds) b a = books_all o Came (after_server_step s (MarkInUse c p)) ds (books_other o s (after_server_step s (MarkInUse c p)) b refl refl refl refl) a.1
 books_all o Came s (UnmarkInUse c p ∷ ds) b a = books_all o Came (after_server_step s (UnmarkInUse c p)) ds (books_other o s (after_server_step s (UnmarkInUse c p)) b refl refl refl refl) a.1
 books_all o Came s (RemoveAsk c ∷ ds) b a = books_all o Came (after_server_step s (RemoveAsk c)) ds (books_other o s (after_server_step s (RemoveAsk c)) b refl refl refl refl) a.1
@@ -267,7 +267,7 @@ made_stays o Came s (d ∷ ds) c i x n b a e = made_stays o Came (after_server_s
     one (EnterQueue p w) a = e
     one (LeaveQueue p) a = e
     one (MarkCalledBack p) a = e
-    one (MarkTold p t) a = e
+    one (MarkDowngradeSent p t) a = e
     one (MarkInUse k p) a = e
     one (UnmarkInUse k p) a = e
     one (RemoveAsk k) a = e
@@ -286,7 +286,7 @@ told_done o Came s (Send k l y ∷ ds) c i t n b a j = elim j [
 told_done o Came s (EnterQueue p w ∷ ds) c i t n b a j = told_done o Came (after_server_step s (EnterQueue p w)) ds c i t n (books_other o s (after_server_step s (EnterQueue p w)) b refl refl refl refl) a.1 j
 told_done o Came s (LeaveQueue p ∷ ds) c i t n b a j = told_done o Came (after_server_step s (LeaveQueue p)) ds c i t n (books_other o s (after_server_step s (LeaveQueue p)) b refl refl refl refl) a.1 j
 told_done o Came s (MarkCalledBack p ∷ ds) c i t n b a j = told_done o Came (after_server_step s (MarkCalledBack p)) ds c i t n (books_other o s (after_server_step s (MarkCalledBack p)) b refl refl refl refl) a.1 j
-told_done o Came s (MarkTold p x ∷ ds) c i t n b a j = told_done o Came (after_server_step s (MarkTold p x)) ds c i t n (books_other o s (after_server_step s (MarkTold p x)) b refl refl refl refl) a.1 j
+told_done o Came s (MarkDowngradeSent p x ∷ ds) c i t n b a j = told_done o Came (after_server_step s (MarkDowngradeSent p x)) ds c i t n (books_other o s (after_server_step s (MarkDowngradeSent p x)) b refl refl refl refl) a.1 j
 told_done o Came s (MarkInUse k p ∷ ds) c i t n b a j = told_done o Came (after_server_step s (MarkInUse k p)) ds c i t n (books_other o s (after_server_step s (MarkInUse k p)) b refl refl refl refl) a.1 j
 told_done o Came s (UnmarkInUse k p ∷ ds) c i t n b a j = told_done o Came (after_server_step s (UnmarkInUse k p)) ds c i t n (books_other o s (after_server_step s (UnmarkInUse k p)) b refl refl refl refl) a.1 j
 told_done o Came s (RemoveAsk k ∷ ds) c i t n b a j = told_done o Came (after_server_step s (RemoveAsk k)) ds c i t n (books_other o s (after_server_step s (RemoveAsk k)) b refl refl refl refl) a.1 j
@@ -298,17 +298,17 @@ told_done o Came s (SetFlushed m ∷ ds) c i t n b a j = told_done o Came (after
 abbrev All_come : ℕ → ℕ → Body → Type 0
 All_come c i b = ⊤
 
-right_fed : (L : Limits) (cycle : Server → ℕ → Bool) (s : Server) (i : Input) → Orderly All_come s → s.clients ≡ L.clients → InputFits L i → StepsRight All_come s (input_steps cycle s i)
+right_fed : (L : Limits) (cycle : DeadlockTest) (s : Server) (i : Input) → Orderly All_come s → s.clients ≡ L.clients → ComesFromClient L i → StepsRight All_come s (input_steps cycle s i)
 right_fed L cycle s (MessageComes c i b) o e f = right_server_take All_come cycle s c i b o (rw e f) tt
 right_fed L cycle s SendsAgain o e f = right_again All_come s o
 right_fed L cycle s (ReachesDisk n) o e f = right_flushes All_come s n o
 
-books_keep : (L : Limits) (cycle : Server → ℕ → Bool) (o : Opening) (s : Server) (is : List Input) → Orderly All_come s → Books o s → s.clients ≡ L.clients → KeepsRules L cycle o s is
+books_keep : (L : Limits) (cycle : DeadlockTest) (o : Opening) (s : Server) (is : List Input) → Orderly All_come s → Books o s → s.clients ≡ L.clients → KeepsRules L cycle o s is
 books_keep L cycle o s [] h b e = (record { sole = λ p c d g x y. sym (h.sole p d g c y x); distinct = b.distinct }, record { numbered = b.numbered; bytes = b.bytes; version = b.version; once = b.once })
 books_keep L cycle o s (i ∷ is) h b e = (
   (record { sole = λ p c d g x y. sym (h.sole p d g c y x); distinct = b.distinct }, record { numbered = b.numbered; bytes = b.bytes; version = b.version; once = b.once }),
   λ f. let r = right_fed L cycle s i h e f in books_keep L cycle o (server_after s (input_steps cycle s i)) is r.1 (books_all o All_come s (input_steps cycle s i) b r.0) (clients_served s (input_steps cycle s i) ∙ e),
 )
 
-pub holds_always : (L : Limits) (cycle : Server → ℕ → Bool) → RulesAlwaysHold L cycle
+pub holds_always : (L : Limits) (cycle : DeadlockTest) → RulesAlwaysHold L cycle
 holds_always L cycle o is = books_keep L cycle o (new_server L.clients L.pages (opening_store L o)) is (orderly_start All_come L o) (books_start L o) refl

@@ -13,6 +13,7 @@ pub mod HistoryKept
 pub mod SerialHistories
 pub mod TranscriptKept
 -- a client's tables make allowed steps
+pub mod PageComes
 pub mod ClientSteps
 pub mod ClientReady
 pub mod ClientTakes
@@ -25,6 +26,13 @@ pub mod SettlingRight
 pub mod ServerTakes
 pub mod ServerSteps
 pub mod LedgerKept
+-- single steps of the server
+pub mod ServerWalks
+pub mod FirstAsks
+pub mod ServedSteps
+pub mod CommitsApplied
+pub mod HelloStarts
+pub mod DoneOnDisk
 -- worlds
 pub mod Mirrors
 pub mod HeadlineProof
@@ -36,6 +44,7 @@ pub mod NoCycles
 pub mod SettlingAgain
 pub mod LivePermissions
 pub mod DoomedAsks
+pub mod NoneWaits
 -- one side alone
 pub mod ClientInvariant
 pub mod DuePages
@@ -46,10 +55,17 @@ pub mod ClientRanges
 pub mod ReadAsksWaiting
 pub mod ServerRanges
 pub mod ServerRangesKept
+-- numbers, room and marks of the server
+pub mod GrantNumbers
+pub mod MessagesSent
+pub mod MarksKept
+pub mod Permissions
+pub mod DowngradesSent
 -- computed schedules
 pub mod ScheduleText
 pub mod WorkedSchedules
 pub mod WorkedSides
+pub mod WorkedServers
 pub mod Short00To03
 pub mod Short04To07
 pub mod Short08To11

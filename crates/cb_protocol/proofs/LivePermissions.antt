@@ -1,10 +1,10 @@
 -- Without kept write permission each permission is of its holder's live transaction.
-use Rattle.std.proofs.Common.{◌≡◌, ℕ, ◌<◌, Bool, true, false, ◌≢◌, ◌⊎◌, List, [], ◌∷◌, Some, None, arith, inl, inr}
+use Rattle.std.proofs.Common.{◌≡◌, ℕ, ◌<◌, true, false, ◌≢◌, ◌⊎◌, List, [], ◌∷◌, Some, None, arith, inl, inr}
 use Rattle.std.specs.Prelude.{⊤}
 use Rattle.cb_protocol.specs.AnyMessages.{Input, MessageComes, SendsAgain, ReachesDisk, input_steps}
 use Rattle.cb_protocol.specs.Deadlock.{InputInRange, ReachedServer, Opened, AfterInput, PermissionsLive, PlainHoldsUp}
 use Rattle.cb_protocol.specs.Messages.{Body}
-use Rattle.cb_protocol.specs.Server.{Server, ServerStep, ChangeSession, Send, EnterQueue, LeaveQueue, MarkCalledBack, MarkTold, MarkInUse, UnmarkInUse, RemoveAsk, Doom, ForgetTransaction, SetFlushed, after_server_step, server_after, is_live_permission}
+use Rattle.cb_protocol.specs.Server.{DeadlockTest, Server, ServerStep, ChangeSession, Send, EnterQueue, LeaveQueue, MarkCalledBack, MarkDowngradeSent, MarkInUse, UnmarkInUse, RemoveAsk, Doom, ForgetTransaction, SetFlushed, after_server_step, server_after, is_live_permission}
 use Rattle.cb_protocol.specs.Session.{SessionChange, Admit, BeginTransaction, DropTransaction, GrantRow, PermitWrite, RemoveRow, EndPermission, ApplyCommit}
 use Rattle.cb_protocol.specs.WaitsFor.{HoldsUp, on_cycle}
 use Rattle.cb_protocol.proofs.Machine.{ServerMayChange}
@@ -12,7 +12,7 @@ use Rattle.cb_protocol.proofs.ServerOrder.{Orderly, ServerStepMay, ServerStepsMa
 use Rattle.cb_protocol.proofs.ServerTakes.{right_server_take, right_again, right_flushes}
 
 -- whatever messages come
-abbrev AnyMessage : ℕ → ℕ → Body → Type 0
+abbrev pub AnyMessage : ℕ → ℕ → Body → Type 0
 AnyMessage c i b = ⊤
 
 record Live (s : Server) : Type 0 where
@@ -35,7 +35,7 @@ live_step s (Send c i b) a l = l
 live_step s (EnterQueue p w) a l = record { live = l.live }
 live_step s (LeaveQueue p) a l = record { live = l.live }
 live_step s (MarkCalledBack p) a l = record { live = l.live }
-live_step s (MarkTold p t) a l = record { live = l.live }
+live_step s (MarkDowngradeSent p t) a l = record { live = l.live }
 live_step s (MarkInUse c p) a l = record { live = l.live }
 live_step s (UnmarkInUse c p) a l = record { live = l.live }
 live_step s (RemoveAsk c) a l = record { live = l.live }
@@ -47,7 +47,7 @@ live_steps : (s : Server) (ds : List ServerStep) → ServerStepsMay AnyMessage s
 live_steps s [] a l = l
 live_steps s (x ∷ ds) a l = live_steps (after_server_step s x) ds a.1 (live_step s x a.0 l)
 
-right_input : (cycle : Server → ℕ → Bool) (s : Server) (i : Input) → Orderly AnyMessage s → InputInRange s i → StepsRight AnyMessage s (input_steps cycle s i)
+pub right_input : (cycle : DeadlockTest) (s : Server) (i : Input) → Orderly AnyMessage s → InputInRange s i → StepsRight AnyMessage s (input_steps cycle s i)
 right_input cycle s (MessageComes c i b) o f = right_server_take AnyMessage cycle s c i b o f.0 tt
 right_input cycle s SendsAgain o f = right_again AnyMessage s o
 right_input cycle s (ReachesDisk n) o f = right_flushes AnyMessage s n o

@@ -4,6 +4,7 @@ use Rattle.cb_protocol.proofs.ClientSteps.{ClientStepped, ClientStepsMay, client
 use Rattle.cb_protocol.proofs.HistoryKept.{Kept, Recorded, history_names}
 use Rattle.cb_protocol.proofs.LedgerKept.{Books, books_all, books_start, made_stays, told_done}
 use Rattle.cb_protocol.proofs.Machine.{Machine, ClientRestarts, WasSent, happens, present_cache, run, start}
+use Rattle.cb_protocol.proofs.DoneOnDisk.{FromDisk}
 use Rattle.cb_protocol.proofs.ServerOrder.{Orderly, StepsRight, orderly_start}
 use Rattle.cb_protocol.proofs.ClientReady.{AllFit, Ready, ready_all, ready_more, ready_new}
 use Rattle.cb_protocol.proofs.Invariant.{Invariant}
@@ -17,7 +18,7 @@ use Rattle.cb_protocol.specs.Client.{ClientStep, Client, client_after, new_clien
 use Rattle.cb_protocol.specs.Answers.{AnsweredOk, AnswerWord}
 use Rattle.cb_protocol.specs.Basics.{IsIn, Limits, update}
 use Rattle.cb_protocol.specs.Messages.{Body, Done, Message}
-use Rattle.cb_protocol.specs.Headline.{SoundOpening}
+use Rattle.cb_protocol.specs.Headline.{DonesOnDisk, SoundOpening}
 use Rattle.cb_protocol.specs.Serial.{PerformedOperation}
 use Rattle.cb_protocol.specs.Server.{ServerStep, Server, server_after, after_server_step}
 use Rattle.cb_protocol.specs.Session.{Store}
@@ -48,6 +49,7 @@ pub record Mirrors (L : Limits) (o : Opening) (v : World) (w : Machine) : Type 0
   pub orderly : Orderly (SentBy v) v.server
   pub books : Books o v.server
   pub dones : (c i t n : ℕ) → SentBy v c i (Done t n) → v.server.store.commit_number c i t ≡ Some n
+  pub disk : DonesOnDisk v
 
 in_left : {A : Type 0} (x : A) (xs ys : List A) → IsIn x xs → IsIn x (xs ++ ys)
 in_left x [] ys i = absurd i
@@ -113,6 +115,7 @@ only_step L o v w e word m ln bg rs = record {
   ready = λ c. ready_more L (SentBy v c (v.incarnation c)) _ (v.client c) (λ b i. in_left _ v.packets [] i) (m.ready c);
   books = m.books;
   dones = λ c i t n x. m.dones c i t n (back _ x);
+  disk = record { committed = m.disk.committed; on_disk = λ c i t n x. m.disk.on_disk c i t n (back _ x) };
   orderly = orderly_more (SentBy v) _ v.server (λ c i b j. in_left _ v.packets [] j) m.orderly;
 }
   where
@@ -149,6 +152,7 @@ client_step L o v w c e word steps m near may fit ln mine others rs = record {
       (λ d ne. ready_more L (SentBy v d (v.incarnation d)) (SentBy v' d (v.incarnation d)) (v.client d) (λ b i. in_left _ v.packets new i) (m.ready d));
   books = m.books;
   dones = λ d i t n x. elim (in_append _ v.packets new x) [ inl y ↦ m.dones d i t n y | inr y ↦ absurd (says_no_done L.keep_write (SentBy v c (v.incarnation c)) (v.client c).cache steps d i c (v.incarnation c) t n may y) ];
+  disk = record { committed = m.disk.committed; on_disk = λ d i t n x. elim (in_append _ v.packets new x) [ inl y ↦ m.disk.on_disk d i t n y | inr y ↦ absurd (says_no_done L.keep_write (SentBy v c (v.incarnation c)) (v.client c).cache steps d i c (v.incarnation c) t n may y) ] };
   orderly = orderly_more (SentBy v) (SentBy v') v.server (λ d i b j. in_left _ v.packets new j) m.orderly;
 }
   where
@@ -197,11 +201,11 @@ keep_served s [] = refl
 keep_served s (d ∷ ds) = keep_served (after_server_step s d) ds ∙ keep_after s d
 
 -- the server makes steps
-pub server_step : (L : Limits) (o : Opening) (v : World) (w : Machine) (e : Event) (word : AnswerWord) (ds : List ServerStep) → Mirrors L o v w → StepsRight (SentBy v) v.server ds
+pub server_step : (L : Limits) (o : Opening) (v : World) (w : Machine) (e : Event) (word : AnswerWord) (ds : List ServerStep) → Mirrors L o v w → StepsRight (SentBy v) v.server ds → FromDisk v.server ds
     → transcript_operations (record { event = e; word = word } ∷ v.transcript) ≡ transcript_operations v.transcript
     → ((d : ℕ) → transaction_at (record { event = e; word = word } ∷ v.transcript) d ≡ transaction_at v.transcript d) → ((d : ℕ) → incarnation_at (record { event = e; word = word } ∷ v.transcript) d ≡ incarnation_at v.transcript d)
     → Mirrors L o (server_does v e word ds).world (run (server_machine_steps ds) w)
-server_step L o v w e word ds m right ln bg rs = record {
+server_step L o v w e word ds m right disk ln bg rs = record {
   safe = all.0;
   kept = all.1;
   recorded = all.2;
@@ -220,6 +224,10 @@ server_step L o v w e word ds m right ln bg rs = record {
   ready = λ d. ready_more L (SentBy v d (v.incarnation d)) (SentBy v' d (v.incarnation d)) (v.client d) (λ b i. in_left _ v.packets (messages_sent ds) i) (m.ready d);
   books = books_all o (SentBy v) v.server ds m.books right.0;
   dones = λ d i t n x. elim (in_append _ v.packets (messages_sent ds) x) [ inl y ↦ made_stays o (SentBy v) v.server ds d i t n m.books right.0 (m.dones d i t n y) | inr y ↦ told_done o (SentBy v) v.server ds d i t n m.books right.0 y ];
+  disk = record {
+    committed = disk.committed m.disk.committed;
+    on_disk = λ d i t n x. elim (in_append _ v.packets (messages_sent ds) x) [ inl y ↦ (let l = m.disk.on_disk d i t n y in let k = disk.rises in omega arith) | inr y ↦ disk.told d i t n y ];
+  };
   orderly = orderly_more (SentBy v) (SentBy v') (server_after v.server ds) (λ d i b j. in_left _ v.packets (messages_sent ds) j) right.1;
 }
   where
@@ -258,6 +266,7 @@ restart_step L o v w c m = record {
       (λ d ne. ready_more L (SentBy v d (v.incarnation d)) _ (v.client d) (λ b i. in_left _ v.packets [] (subst (λ (j : ℕ). SentBy v d j b) (sym (other d ne)) i)) (m.ready d));
   books = m.books;
   dones = λ d i t n x. m.dones d i t n (back _ x);
+  disk = record { committed = m.disk.committed; on_disk = λ d i t n x. m.disk.on_disk d i t n (back _ x) };
   orderly = orderly_more (SentBy v) (SentBy v') v.server (λ d i b j. in_left _ v.packets [] j) m.orderly;
 }
   where
@@ -324,4 +333,5 @@ mirrors_start L o s = record {
   orderly = orderly_start _ L o;
   books = books_start L o;
   dones = λ c i t n x. absurd x;
+  disk = record { committed = omega arith; on_disk = λ c i t n x. absurd x };
 }

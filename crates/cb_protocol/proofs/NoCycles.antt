@@ -2,7 +2,7 @@
 use Rattle.std.proofs.Common.{◌≡◌, ℕ, zero, suc, ◌+◌, ◌<◌, Bool, true, false, not, ◌==◌, ◌&&◌, nat_lt, nat_le, if◌then◌else◌, ◌≢◌, List, [], ◌∷◌, ◌++◌, Option, Some, None, arith, refl, sym, subst}
 use Rattle.cb_protocol.specs.Basics.{update, is_none, Limits, is_exactly}
 use Rattle.cb_protocol.specs.Messages.{Body, Hello, AskRead, AskWrite, GiveBack, InUse, Commit, Drop, Downgraded, Welcome, MayWrite, Done, AbortNow}
-use Rattle.cb_protocol.specs.Server.{WaitingAsk, AppliedCommit, Server, ServerStep, ChangeSession, Send, EnterQueue, MarkInUse, UnmarkInUse, ForgetTransaction, SetFlushed, new_server, after_server_step, server_after, has_ask}
+use Rattle.cb_protocol.specs.Server.{DeadlockTest, WaitingAsk, AppliedCommit, Server, ServerStep, ChangeSession, Send, EnterQueue, MarkInUse, UnmarkInUse, ForgetTransaction, SetFlushed, new_server, after_server_step, server_after, has_ask}
 use Rattle.cb_protocol.specs.Session.{SessionChange, Admit, BeginTransaction, DropTransaction, PermitWrite, RemoveRow, EndPermission, ApplyCommit}
 use Rattle.cb_protocol.specs.Flush.{dones_between, server_flush}
 use Rattle.cb_protocol.specs.Resend.{again_page, again_pages, again_doomed, server_again}
@@ -54,7 +54,7 @@ sound_enter s p a o l m none = record {
 pub sound_dooms : (s : Server) (c : ℕ) → SoundAsks s → SoundAsks (server_after s (doom_client s c))
 sound_dooms s c o = sound_fewer s (server_after s (doom_client s c)) o (record { less = λ p d. count_without c d (s.queue p) }) refl refl
 
-pub asks_enter : (cycle : Server → ℕ → Bool) → Exact cycle → (s : Server) (p : ℕ) (a : WaitingAsk) → SoundAsks s → p < s.pages → a.client < s.clients → has_waiting_ask s a.client s.pages ≡ false → AsksRight s (enter_queue cycle s p a)
+pub asks_enter : (cycle : DeadlockTest) → Exact cycle → (s : Server) (p : ℕ) (a : WaitingAsk) → SoundAsks s → p < s.pages → a.client < s.clients → has_waiting_ask s a.client s.pages ≡ false → AsksRight s (enter_queue cycle s p a)
 asks_enter cycle x s p a o l m e = go (is_empty (s.queue p)) (cycle (after_server_step s (EnterQueue p a)) a.client) refl
   where
     entered : SoundAsks (after_server_step s (EnterQueue p a))
@@ -65,7 +65,7 @@ asks_enter cycle x s p a o l m e = go (is_empty (s.queue p)) (cycle (after_serve
     go false true f = (sound_dooms (after_server_step s (EnterQueue p a)) a.client entered, (tt, (tt, ((refl, (x (after_server_step s (EnterQueue p a)) entered.known a.client).0 f), (tt, tt)))))
     go false false f = (entered, (tt, tt))
 
-asks_read : (cycle : Server → ℕ → Bool) → Exact cycle → (s : Server) (c p : ℕ) (r : Option ℕ) → SoundAsks s → c < s.clients → p < s.pages → AsksRight s (take_ask_read cycle s c p r)
+asks_read : (cycle : DeadlockTest) → Exact cycle → (s : Server) (c p : ℕ) (r : Option ℕ) → SoundAsks s → c < s.clients → p < s.pages → AsksRight s (take_ask_read cycle s c p r)
 asks_read cycle x s c p (Some g) o l m = (o, (tt, tt))
 asks_read cycle x s c p None o l m = go (has_waiting_ask s c s.pages) refl
   where
@@ -73,7 +73,7 @@ asks_read cycle x s c p None o l m = go (has_waiting_ask s c s.pages) refl
     go true e = (o, tt)
     go false e = asks_enter cycle x s p (new_ask c None) o m l e
 
-asks_write : (cycle : Server → ℕ → Bool) → Exact cycle → (s : Server) (c p g : ℕ) → SoundAsks s → c < s.clients → p < s.pages → AsksRight s (take_ask_write cycle s c p g)
+asks_write : (cycle : DeadlockTest) → Exact cycle → (s : Server) (c p g : ℕ) → SoundAsks s → c < s.clients → p < s.pages → AsksRight s (take_ask_write cycle s c p g)
 asks_write cycle x s c p g o l m = go (is_exactly ((s.session c).row p) g) (is_exactly (s.store.holder p) c) (has_waiting_ask s c s.pages) refl
   where
     go : (r u v : Bool) → has_waiting_ask s c s.pages ≡ v → AsksRight s (if not r then [] else if u then ChangeSession c (PermitWrite p g) ∷ send_to s c (MayWrite (s.session c).txn p g) ∷ [] else if v then [] else enter_queue cycle s p (new_ask c (Some g)))
@@ -91,7 +91,7 @@ asks_live s c t ds o f = go (nat_lt (s.session c).ended t) (s.doomed c)
     go false u = (o, tt)
 
 -- the direct answer, before settling
-pub asks_answer : (cycle : Server → ℕ → Bool) → Exact cycle → (s : Server) (c : ℕ) (b : Body) → SoundAsks s → c < s.clients → AskInRange s.pages b → AsksRight s (direct_answer cycle s c b)
+pub asks_answer : (cycle : DeadlockTest) → Exact cycle → (s : Server) (c : ℕ) (b : Body) → SoundAsks s → c < s.clients → AskInRange s.pages b → AsksRight s (direct_answer cycle s c b)
 asks_answer cycle x s c (AskRead t p) o l f = asks_live s c t _ o (asks_read cycle x s c p ((s.session c).row p) o l f)
 asks_answer cycle x s c (AskWrite t p g) o l f = asks_live s c t _ o (asks_write cycle x s c p g o l f)
 asks_answer cycle x s c (GiveBack p g) o l f = go (is_exactly ((s.session c).row p) g)
@@ -160,14 +160,14 @@ right_then s ds f a w = record {
   dooms = dooms_append NoOne s ds (f (server_after s ds)) a w.dooms;
 }
 
-right_settles : (cycle : Server → ℕ → Bool) → Exact cycle → (s : Server) → SoundAsks s → StepRight s (settle_pages cycle s s.pages)
+right_settles : (cycle : DeadlockTest) → Exact cycle → (s : Server) → SoundAsks s → StepRight s (settle_pages cycle s s.pages)
 right_settles cycle x s o = let t = settled_stands cycle x s o in record { between = t.0; dooms = t.1 }
 
 right_sends : (s : Server) (ds : List ServerStep) → BetweenSteps s → OnlySends ds → StepRight s ds
 right_sends s ds n a = record { between = subst (λ (k : Server). BetweenSteps k) (sym (after_sends s ds a)) n; dooms = dooms_sends NoOne s ds a }
 
 -- a message of the current incarnation
-right_message : (cycle : Server → ℕ → Bool) → Exact cycle → (s : Server) (c i : ℕ) (b : Body) → BetweenSteps s → c < s.clients → AskInRange s.pages b → StepRight s (if i == (s.session c).current then take_current cycle s c b else [])
+right_message : (cycle : DeadlockTest) → Exact cycle → (s : Server) (c i : ℕ) (b : Body) → BetweenSteps s → c < s.clients → AskInRange s.pages b → StepRight s (if i == (s.session c).current then take_current cycle s c b else [])
 right_message cycle x s c i b n l f = go (i == (s.session c).current)
   where
     go : (r : Bool) → StepRight s (if r then take_current cycle s c b else [])
@@ -179,7 +179,7 @@ right_message cycle x s c i b n l f = go (i == (s.session c).current)
     go false = right_sends s [] n tt
 
 -- any message
-pub right_take : (cycle : Server → ℕ → Bool) → Exact cycle → (s : Server) (c i : ℕ) (b : Body) → BetweenSteps s → c < s.clients → AskInRange s.pages b → StepRight s (server_take cycle s c i b)
+pub right_take : (cycle : DeadlockTest) → Exact cycle → (s : Server) (c i : ℕ) (b : Body) → BetweenSteps s → c < s.clients → AskInRange s.pages b → StepRight s (server_take cycle s c i b)
 unfolding server_take
 right_take cycle x s c i Hello n l f = go (nat_lt (s.session c).current i) (i == (s.session c).current)
   where
@@ -240,7 +240,7 @@ right_flush s n t = let d = sends_dones s.commits s.flushed n in record {
 }
 
 -- one input
-pub right_input : (cycle : Server → ℕ → Bool) → Exact cycle → (s : Server) (i : Input) → BetweenSteps s → InputInRange s i → StepRight s (input_steps cycle s i)
+pub right_input : (cycle : DeadlockTest) → Exact cycle → (s : Server) (i : Input) → BetweenSteps s → InputInRange s i → StepRight s (input_steps cycle s i)
 right_input cycle x s (MessageComes c i b) n f = right_take cycle x s c i b n f.0 f.1
 right_input cycle x s SendsAgain n f = right_sends s (server_again s) n (sends_append (again_pages s s.pages) (again_doomed s s.clients) (sends_pages s s.pages) (sends_doomed s s.clients))
 right_input cycle x s (ReachesDisk m) n f = right_flush s m n

@@ -3,16 +3,16 @@ use Rattle.std.proofs.Common.{Bool, List, None, Option, Some, [], arith, false, 
 use Rattle.std.specs.Prelude.{⊤}
 use Rattle.cb_protocol.specs.Basics.{is_none, update, is_exactly}
 use Rattle.cb_protocol.specs.Messages.{AbortNow, AskRead, AskWrite, Body, Commit, Done, Downgraded, Drop, GiveBack, Hello, InUse, MayWrite, Welcome}
-use Rattle.cb_protocol.specs.StepsLeave.{Leaves, OthersKeepRowsAndPermissions}
-use Rattle.cb_protocol.specs.Server.{AppliedCommit, MarkCalledBack, ServerStep, Doom, EnterQueue, SetFlushed, LeaveQueue, MarkInUse, ForgetTransaction, Server, Send, MarkTold, ChangeSession, RemoveAsk, UnmarkInUse, WaitingAsk, is_live_permission, server_after, after_server_step}
+use Rattle.cb_protocol.specs.StepsKeep.{KeepsClient, OthersKeepRowsAndPermissions}
+use Rattle.cb_protocol.specs.Server.{DeadlockTest, AppliedCommit, MarkCalledBack, ServerStep, Doom, EnterQueue, SetFlushed, LeaveQueue, MarkInUse, ForgetTransaction, Server, Send, MarkDowngradeSent, ChangeSession, RemoveAsk, UnmarkInUse, WaitingAsk, server_after, after_server_step}
 use Rattle.cb_protocol.specs.Session.{Admit, ApplyCommit, DropTransaction, GrantRow, BeginTransaction, PermitWrite, RemoveRow, SessionChange, EndPermission}
 use Rattle.cb_protocol.specs.Flush.{dones_between, server_flush}
 use Rattle.cb_protocol.specs.Resend.{again_doomed, again_page, again_pages, server_again}
 use Rattle.cb_protocol.specs.ServerMessages.{admit_incarnation, commit_allowed, direct_answer, take_ask_read, take_ask_write, has_waiting_ask, repeat_done, enter_queue, take_current, is_empty, if_live, begin_transaction, named_txn, new_ask, server_take}
-use Rattle.cb_protocol.specs.Settling.{Decided, Settled, Decision, downgrade_once, send_callback, send_callbacks, call_back_once, decide, decide_read, decide_write, decision_steps, doom_client, send_downgrade, send_downgrades, grant_row, keeps_permission, is_listed, no_other_holder, nobody, permit_write, wait_or_doom, settle_page, settle_pages, sole_row, send_to}
+use Rattle.cb_protocol.specs.Settling.{Decided, Settled, Decision, downgrade_once, send_callback, send_callbacks, call_back_once, decide, decide_read, decide_write, decision_steps, doom_client, send_downgrade, send_downgrades, grant_row, keeps_permission, no_other_holder, nobody, permit_write, wait_or_doom, settle_page, settle_pages, sole_row, send_to}
 
 -- what a step of the server needs to leave what client d has
-abbrev Gentle : ℕ → Server → ServerStep → Type 0
+abbrev pub Gentle : ℕ → Server → ServerStep → Type 0
 Gentle d s (ChangeSession c (GrantRow p g)) = ((s.session c).row p ≡ None) × (g ≡ s.next_grant)
 Gentle d s (ChangeSession c (PermitWrite p g)) = (no_other_holder (s.store.holder p) c ≡ true) × ((s.session c).row p ≡ Some g)
 Gentle d s (ChangeSession c m) = d ≢ c
@@ -21,14 +21,14 @@ Gentle d s (UnmarkInUse c p) = d ≢ c
 Gentle d s (ForgetTransaction c) = d ≢ c
 Gentle d s _ = ⊤
 
-abbrev AllGentle : ℕ → Server → List ServerStep → Type 0
+abbrev pub AllGentle : ℕ → Server → List ServerStep → Type 0
 AllGentle d s [] = ⊤
 AllGentle d s (x ∷ xs) = Gentle d s x × AllGentle d (after_server_step s x) xs
 
-leaves_same : (s : Server) (d : ℕ) → Leaves s s d
+leaves_same : (s : Server) (d : ℕ) → KeepsClient s s d
 leaves_same s d = record { incarnation = refl; begun = refl; ended = refl; outcome = refl; doomed = λ e. e; mark = λ p. refl; row = λ p g e. e; new_row = λ p g e. inl e; permission = λ p e. e; new_permission = λ p e. inl e; next_grant = omega arith }
 
-leaves_more : (s t u : Server) (d : ℕ) → Leaves s t d → Leaves t u d → Leaves s u d
+pub leaves_more : (s t u : Server) (d : ℕ) → KeepsClient s t d → KeepsClient t u d → KeepsClient s u d
 leaves_more s t u d a b = record {
   incarnation = b.incarnation ∙ a.incarnation;
   begun = b.begun ∙ a.begun;
@@ -60,7 +60,7 @@ permit_new s d c p g q r e = go (q == p) refl e
     go true f z = inr (g, there f z)
     go false f z = inl z
 
-leaves_move : (s : Server) (d c : ℕ) (m : SessionChange) → Gentle d s (ChangeSession c m) → Leaves s (after_server_step s (ChangeSession c m)) d
+leaves_move : (s : Server) (d c : ℕ) (m : SessionChange) → Gentle d s (ChangeSession c m) → KeepsClient s (after_server_step s (ChangeSession c m)) d
 leaves_move s d c (Admit i) f = grind arith
 leaves_move s d c (BeginTransaction x) f = grind arith
 leaves_move s d c (DropTransaction x) f = grind arith
@@ -82,13 +82,13 @@ leaves_move s d c (RemoveRow p g) f = grind arith
 leaves_move s d c (EndPermission p g x) f = grind arith
 leaves_move s d c (ApplyCommit x ws) f = grind arith
 
-leaves_after : (s : Server) (d : ℕ) (x : ServerStep) → Gentle d s x → Leaves s (after_server_step s x) d
+leaves_after : (s : Server) (d : ℕ) (x : ServerStep) → Gentle d s x → KeepsClient s (after_server_step s x) d
 leaves_after s d (ChangeSession c m) f = leaves_move s d c m f
 leaves_after s d (Send c i b) f = leaves_same s d
 leaves_after s d (EnterQueue p a) f = grind arith
 leaves_after s d (LeaveQueue p) f = grind arith
 leaves_after s d (MarkCalledBack p) f = grind arith
-leaves_after s d (MarkTold p t) f = grind arith
+leaves_after s d (MarkDowngradeSent p t) f = grind arith
 leaves_after s d (MarkInUse c p) f = grind arith
 leaves_after s d (UnmarkInUse c p) f = grind arith
 leaves_after s d (RemoveAsk c) f = grind arith
@@ -96,11 +96,11 @@ leaves_after s d (Doom c) f = grind arith
 leaves_after s d (ForgetTransaction c) f = grind arith
 leaves_after s d (SetFlushed n) f = grind arith
 
-leaves_all : (s : Server) (d : ℕ) (xs : List ServerStep) → AllGentle d s xs → Leaves s (server_after s xs) d
+pub leaves_all : (s : Server) (d : ℕ) (xs : List ServerStep) → AllGentle d s xs → KeepsClient s (server_after s xs) d
 leaves_all s d [] f = leaves_same s d
 leaves_all s d (x ∷ xs) f = leaves_more s (after_server_step s x) (server_after (after_server_step s x) xs) d (leaves_after s d x f.0) (leaves_all (after_server_step s x) d xs f.1)
 
-gentle_append : (d : ℕ) (s : Server) (xs ys : List ServerStep) → AllGentle d s xs → AllGentle d (server_after s xs) ys → AllGentle d s (xs ++ ys)
+pub gentle_append : (d : ℕ) (s : Server) (xs ys : List ServerStep) → AllGentle d s xs → AllGentle d (server_after s xs) ys → AllGentle d s (xs ++ ys)
 gentle_append d s [] ys a b = b
 gentle_append d s (x ∷ xs) ys a b = (a.0, gentle_append d (after_server_step s x) xs ys a.1 b)
 
@@ -111,7 +111,7 @@ Mild (Send c i b ∷ ds) = Mild ds
 Mild (EnterQueue p a ∷ ds) = Mild ds
 Mild (LeaveQueue p ∷ ds) = Mild ds
 Mild (MarkCalledBack p ∷ ds) = Mild ds
-Mild (MarkTold p t ∷ ds) = Mild ds
+Mild (MarkDowngradeSent p t ∷ ds) = Mild ds
 Mild (RemoveAsk c ∷ ds) = Mild ds
 Mild (Doom c ∷ ds) = Mild ds
 Mild (SetFlushed n ∷ ds) = Mild ds
@@ -127,7 +127,7 @@ mild_gentle d (Send c i b ∷ xs) s f = (tt, mild_gentle d xs _ f)
 mild_gentle d (EnterQueue p a ∷ xs) s f = (tt, mild_gentle d xs _ f)
 mild_gentle d (LeaveQueue p ∷ xs) s f = (tt, mild_gentle d xs _ f)
 mild_gentle d (MarkCalledBack p ∷ xs) s f = (tt, mild_gentle d xs _ f)
-mild_gentle d (MarkTold p t ∷ xs) s f = (tt, mild_gentle d xs _ f)
+mild_gentle d (MarkDowngradeSent p t ∷ xs) s f = (tt, mild_gentle d xs _ f)
 mild_gentle d (RemoveAsk c ∷ xs) s f = (tt, mild_gentle d xs _ f)
 mild_gentle d (Doom c ∷ xs) s f = (tt, mild_gentle d xs _ f)
 mild_gentle d (SetFlushed n ∷ xs) s f = (tt, mild_gentle d xs _ f)
@@ -142,7 +142,7 @@ mild_append (Send c i y ∷ xs) ys a b = mild_append xs ys a b
 mild_append (EnterQueue p x ∷ xs) ys a b = mild_append xs ys a b
 mild_append (LeaveQueue p ∷ xs) ys a b = mild_append xs ys a b
 mild_append (MarkCalledBack p ∷ xs) ys a b = mild_append xs ys a b
-mild_append (MarkTold p t ∷ xs) ys a b = mild_append xs ys a b
+mild_append (MarkDowngradeSent p t ∷ xs) ys a b = mild_append xs ys a b
 mild_append (RemoveAsk c ∷ xs) ys a b = mild_append xs ys a b
 mild_append (Doom c ∷ xs) ys a b = mild_append xs ys a b
 mild_append (SetFlushed n ∷ xs) ys a b = mild_append xs ys a b
@@ -161,7 +161,7 @@ mild_callbacks s skip p c (suc n) = mild_append (send_callbacks s skip p c n) _ 
 
 mild_downgrades : (s : Server) (skip : ℕ → Bool) (p c : ℕ) (w : Option ℕ) → Mild (send_downgrades s skip p c w)
 mild_downgrades s skip p c None = tt
-mild_downgrades s skip p c (Some d) = go (not (d == c) && not (is_live_permission s d p) && not (skip d))
+mild_downgrades s skip p c (Some d) = go (keeps_permission s p c (Some d) && not (skip d))
   where
     one : (r : Option ℕ) → Mild (send_downgrade s d p r)
     one None = tt
@@ -179,13 +179,13 @@ mild_calls_back s p a = go a.called_back
     go false = mild_append (send_callbacks s nobody p a.client s.clients) (MarkCalledBack p ∷ []) (mild_callbacks s nobody p a.client s.clients) tt
 
 mild_brings_down : (s : Server) (p : ℕ) (a : WaitingAsk) → Mild (downgrade_once s p a)
-mild_brings_down s p a = go (s.store.keep_write && keeps_permission s p a.client (s.store.holder p) && not (is_listed (s.store.tag p) a.told_tags))
+mild_brings_down s p a = go (s.store.keep_write && keeps_permission s p a.client (s.store.holder p) && not (is_exactly a.downgrade_sent (s.store.tag p)))
   where
-    go : (r : Bool) → Mild (if r then send_downgrades s nobody p a.client (s.store.holder p) ++ MarkTold p (s.store.tag p) ∷ [] else [])
-    go true = mild_append (send_downgrades s nobody p a.client (s.store.holder p)) (MarkTold p (s.store.tag p) ∷ []) (mild_downgrades s nobody p a.client (s.store.holder p)) tt
+    go : (r : Bool) → Mild (if r then send_downgrades s nobody p a.client (s.store.holder p) ++ MarkDowngradeSent p (s.store.tag p) ∷ [] else [])
+    go true = mild_append (send_downgrades s nobody p a.client (s.store.holder p)) (MarkDowngradeSent p (s.store.tag p) ∷ []) (mild_downgrades s nobody p a.client (s.store.holder p)) tt
     go false = tt
 
-mild_refuses : (cycle : Server → ℕ → Bool) (s : Server) (c : ℕ) (ds : List ServerStep) → Mild ds → Mild (decision_steps (wait_or_doom cycle s c ds))
+mild_refuses : (cycle : DeadlockTest) (s : Server) (c : ℕ) (ds : List ServerStep) → Mild ds → Mild (decision_steps (wait_or_doom cycle s c ds))
 mild_refuses cycle s c ds f = go (cycle (server_after s ds) c)
   where
     go : (r : Bool) → Mild (decision_steps (if r then Decided (ds ++ doom_client (server_after s ds) c) else Settled ds))
@@ -193,13 +193,13 @@ mild_refuses cycle s c ds f = go (cycle (server_after s ds) c)
     go false = f
 
 -- settling
-none_is : (r : Option ℕ) → is_none r ≡ true → r ≡ None
+pub none_is : (r : Option ℕ) → is_none r ≡ true → r ≡ None
 none_is r e = grind arith
 
-some_is : (r : Option ℕ) (g : ℕ) → is_exactly r g ≡ true → r ≡ Some g
+pub some_is : (r : Option ℕ) (g : ℕ) → is_exactly r g ≡ true → r ≡ Some g
 some_is r g e = grind arith
 
-gentle_decide : (d : ℕ) (cycle : Server → ℕ → Bool) (s : Server) (p : ℕ) (q : List WaitingAsk) → AllGentle d s (decision_steps (decide cycle s p q))
+gentle_decide : (d : ℕ) (cycle : DeadlockTest) (s : Server) (p : ℕ) (q : List WaitingAsk) → AllGentle d s (decision_steps (decide cycle s p q))
 gentle_decide d cycle s p [] = tt
 gentle_decide d cycle s p (a ∷ q) = kind_of a.write_grant
   where
@@ -216,7 +216,7 @@ gentle_decide d cycle s p (a ∷ q) = kind_of a.write_grant
     kind_of None = reads (no_other_holder (s.store.holder p) a.client && is_none ((s.session a.client).row p)) refl
     kind_of (Some g) = writes g (no_other_holder (s.store.holder p) a.client && is_exactly ((s.session a.client).row p) g && sole_row s p a.client s.clients) refl
 
-gentle_settle : (d : ℕ) (cycle : Server → ℕ → Bool) (n : ℕ) (s : Server) (p : ℕ) → AllGentle d s (settle_page cycle n s p)
+gentle_settle : (d : ℕ) (cycle : DeadlockTest) (n : ℕ) (s : Server) (p : ℕ) → AllGentle d s (settle_page cycle n s p)
 gentle_settle d cycle zero s p = tt
 gentle_settle d cycle (suc n) s p = go (λ k. gentle_settle d cycle n k p) (decide cycle s p (s.queue p)) (gentle_decide d cycle s p (s.queue p))
   where
@@ -224,19 +224,19 @@ gentle_settle d cycle (suc n) s p = go (λ k. gentle_settle d cycle n k p) (deci
     go f (Settled ds) a = a
     go f (Decided ds) a = gentle_append d s ds _ a (f (server_after s ds))
 
-gentle_settles : (d : ℕ) (cycle : Server → ℕ → Bool) (s : Server) (n : ℕ) → AllGentle d s (settle_pages cycle s n)
+pub gentle_settles : (d : ℕ) (cycle : DeadlockTest) (s : Server) (n : ℕ) → AllGentle d s (settle_pages cycle s n)
 gentle_settles d cycle s zero = tt
 gentle_settles d cycle s (suc n) = gentle_append d s (settle_pages cycle s n) _ (gentle_settles d cycle s n) (gentle_settle d cycle (length (s.queue n) + 1) (server_after s (settle_pages cycle s n)) n)
 
 -- the direct answers
-gentle_enters : (d : ℕ) (cycle : Server → ℕ → Bool) (s : Server) (p : ℕ) (a : WaitingAsk) → AllGentle d s (enter_queue cycle s p a)
+gentle_enters : (d : ℕ) (cycle : DeadlockTest) (s : Server) (p : ℕ) (a : WaitingAsk) → AllGentle d s (enter_queue cycle s p a)
 gentle_enters d cycle s p a = mild_gentle d _ s (go (not (is_empty (s.queue p)) && cycle (after_server_step s (EnterQueue p a)) a.client))
   where
     go : (r : Bool) → Mild (if r then EnterQueue p a ∷ doom_client (after_server_step s (EnterQueue p a)) a.client else EnterQueue p a ∷ [])
     go true = tt
     go false = tt
 
-gentle_ask_read : (d : ℕ) (cycle : Server → ℕ → Bool) (s : Server) (c p : ℕ) (r : Option ℕ) → AllGentle d s (take_ask_read cycle s c p r)
+pub gentle_ask_read : (d : ℕ) (cycle : DeadlockTest) (s : Server) (c p : ℕ) (r : Option ℕ) → AllGentle d s (take_ask_read cycle s c p r)
 gentle_ask_read d cycle s c p (Some g) = (tt, tt)
 gentle_ask_read d cycle s c p None = go (has_waiting_ask s c s.pages)
   where
@@ -244,7 +244,7 @@ gentle_ask_read d cycle s c p None = go (has_waiting_ask s c s.pages)
     go true = tt
     go false = gentle_enters d cycle s p (new_ask c None)
 
-gentle_ask_write : (d : ℕ) (cycle : Server → ℕ → Bool) (s : Server) (c p g : ℕ) → AllGentle d s (take_ask_write cycle s c p g)
+pub gentle_ask_write : (d : ℕ) (cycle : DeadlockTest) (s : Server) (c p g : ℕ) → AllGentle d s (take_ask_write cycle s c p g)
 gentle_ask_write d cycle s c p g = go (is_exactly ((s.session c).row p) g) refl (is_exactly (s.store.holder p) c) refl (has_waiting_ask s c s.pages)
   where
     go : (r : Bool) → is_exactly ((s.session c).row p) g ≡ r → (u : Bool) → is_exactly (s.store.holder p) c ≡ u → (v : Bool)
@@ -254,7 +254,7 @@ gentle_ask_write d cycle s c p g = go (is_exactly ((s.session c).row p) g) refl 
     go true e false f true = tt
     go true e false f false = gentle_enters d cycle s p (new_ask c (Some g))
 
-gentle_live : (d : ℕ) (s : Server) (c t : ℕ) (ds : List ServerStep) → AllGentle d s ds → AllGentle d s (if_live s c t ds)
+pub gentle_live : (d : ℕ) (s : Server) (c t : ℕ) (ds : List ServerStep) → AllGentle d s ds → AllGentle d s (if_live s c t ds)
 gentle_live d s c t ds a = go (nat_lt (s.session c).ended t) (s.doomed c)
   where
     go : (r u : Bool) → AllGentle d s (if r then (if u then send_to s c (AbortNow t) ∷ [] else ds) else [])
@@ -270,7 +270,7 @@ gentle_again d s c t (Some n) = go (nat_le n s.flushed)
     go true = (tt, tt)
     go false = tt
 
-gentle_answers : (d : ℕ) (cycle : Server → ℕ → Bool) (s : Server) (c : ℕ) (b : Body) → d ≢ c → AllGentle d s (direct_answer cycle s c b)
+pub gentle_answers : (d : ℕ) (cycle : DeadlockTest) (s : Server) (c : ℕ) (b : Body) → d ≢ c → AllGentle d s (direct_answer cycle s c b)
 gentle_answers d cycle s c (AskRead t p) n = gentle_live d s c t _ (gentle_ask_read d cycle s c p ((s.session c).row p))
 gentle_answers d cycle s c (AskWrite t p g) n = gentle_live d s c t _ (gentle_ask_write d cycle s c p g)
 gentle_answers d cycle s c (GiveBack p g) n = go (is_exactly ((s.session c).row p) g)
@@ -310,7 +310,7 @@ gentle_meets d s c t n = go (nat_lt (s.session c).txn t)
     go true = (n, (n, tt))
     go false = tt
 
-gentle_frame : (d : ℕ) (cycle : Server → ℕ → Bool) (s : Server) (c i : ℕ) (b : Body) → d ≢ c → AllGentle d s (if i == (s.session c).current then take_current cycle s c b else [])
+gentle_frame : (d : ℕ) (cycle : DeadlockTest) (s : Server) (c i : ℕ) (b : Body) → d ≢ c → AllGentle d s (if i == (s.session c).current then take_current cycle s c b else [])
 gentle_frame d cycle s c i b n = go (i == (s.session c).current)
   where
     m : Server
@@ -323,7 +323,7 @@ gentle_frame d cycle s c i b n = go (i == (s.session c).current)
     go true = gentle_append d s (begin_transaction s c (named_txn b)) _ (gentle_meets d s c (named_txn b) n) (gentle_append d m (direct_answer cycle m c b) _ (gentle_answers d cycle m c b n) (gentle_settles d cycle a a.pages))
     go false = tt
 
-gentle_hello : (d : ℕ) (cycle : Server → ℕ → Bool) (s : Server) (c i : ℕ) → d ≢ c → AllGentle d s (server_take cycle s c i Hello)
+gentle_hello : (d : ℕ) (cycle : DeadlockTest) (s : Server) (c i : ℕ) → d ≢ c → AllGentle d s (server_take cycle s c i Hello)
 unfolding server_take
 gentle_hello d cycle s c i n = go (nat_lt (s.session c).current i) (i == (s.session c).current)
   where
@@ -332,7 +332,7 @@ gentle_hello d cycle s c i n = go (nat_lt (s.session c).current i) (i == (s.sess
     go false true = (tt, tt)
     go false false = tt
 
-gentle_serves : (d : ℕ) (cycle : Server → ℕ → Bool) (s : Server) (c i : ℕ) (b : Body) → d ≢ c → AllGentle d s (server_take cycle s c i b)
+gentle_serves : (d : ℕ) (cycle : DeadlockTest) (s : Server) (c i : ℕ) (b : Body) → d ≢ c → AllGentle d s (server_take cycle s c i b)
 unfolding server_take
 gentle_serves d cycle s c i Hello n = gentle_hello d cycle s c i n
 gentle_serves d cycle s c i b n = gentle_frame d cycle s c i b n
@@ -367,7 +367,7 @@ mild_dones (x ∷ xs) m n = mild_append (dones_between xs m n) _ (mild_dones xs 
     go true = tt
     go false = tt
 
-pub others_keep_rows_and_permissions : (cycle : Server → ℕ → Bool) → OthersKeepRowsAndPermissions cycle
+pub others_keep_rows_and_permissions : (cycle : DeadlockTest) → OthersKeepRowsAndPermissions cycle
 others_keep_rows_and_permissions cycle s = (
   (λ c i b d n. leaves_all s d (server_take cycle s c i b) (gentle_serves d cycle s c i b n)),
   (λ d. leaves_all s d (server_again s) (mild_gentle d _ s (mild_append (again_pages s s.pages) (again_doomed s s.clients) (mild_again_pages s s.pages) (mild_again_doomed s s.clients)))),

@@ -1,7 +1,7 @@
 -- How many read asks wait, as the queues change.
 use Rattle.std.proofs.Common.{Bool, List, [], ap, arith, false, if◌then◌else◌, refl, subst, suc, true, zero, ℕ, ◌++◌, ◌+◌, ◌<◌, ◌==◌, ◌∷◌, ◌≡◌, ◌≢◌, ◌≤◌}
 use Rattle.cb_protocol.specs.Basics.{is_none}
-use Rattle.cb_protocol.specs.Server.{Server, WaitingAsk, set_called_back, add_told, without_client}
+use Rattle.cb_protocol.specs.Server.{Server, WaitingAsk, set_called_back, set_downgrade_sent, without_client}
 use Rattle.cb_protocol.specs.ServerMessages.{read_asks_in, read_asks_below}
 
 pub count_without : (c : ℕ) (q : List WaitingAsk) → read_asks_in (without_client c q) ≤ read_asks_in q
@@ -24,7 +24,7 @@ pub count_called : (q : List WaitingAsk) → read_asks_in (set_called_back q) �
 count_called [] = refl
 count_called (a ∷ q) = refl
 
-pub count_told : (t : ℕ) (q : List WaitingAsk) → read_asks_in (add_told t q) ≡ read_asks_in q
+pub count_told : (t : ℕ) (q : List WaitingAsk) → read_asks_in (set_downgrade_sent t q) ≡ read_asks_in q
 count_told t [] = refl
 count_told t (a ∷ q) = refl
 

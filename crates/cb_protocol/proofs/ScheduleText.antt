@@ -1,10 +1,10 @@
 -- Schedules as their text has them, line by line, with the answers that are stated for them.
-use Rattle.std.proofs.Common.{Bool, List, None, Option, Some, [], ap, arith, length, map, nat_le, not, refl, true, ℕ, ◌&&◌, ◌==◌, ◌∙◌, ◌∷◌, ◌≡◌}
+use Rattle.std.proofs.Common.{Bool, List, None, Option, Some, [], ap, arith, length, map, nat_le, not, refl, true, ℕ, ◌&&◌, ◌==◌, ◌∙◌, ◌∷◌, ◌≡◌, nat_lt, ◌||◌}
 use Rattle.cb_protocol.specs.Answers.{AnswerWord}
 use Rattle.cb_protocol.specs.Basics.{Bytes, Limits, is_none}
 use Rattle.cb_protocol.specs.Client.{Client, is_fixed, pages_in_pool}
 use Rattle.cb_protocol.specs.ClientCalls.{CallAgain, CallBegin, CallDrop, CallFinish, CallHello, CallPeek, CallRead, CallWant, CallWrite}
-use Rattle.cb_protocol.specs.ClientMessages.{ChoiceAllowed, MayLetGo}
+use Rattle.cb_protocol.specs.ClientMessages.{ChoiceAllowed, MayLetGo, brings_page, client_take}
 use Rattle.cb_protocol.specs.Messages.{Body, Granted, Message}
 use Rattle.cb_protocol.specs.WaitsFor.{on_cycle}
 use Rattle.cb_protocol.specs.World.{Answer, ClientCalls, Event, EventChoiceAllowed, FlushAll, FlushTo, MessageChoiceAllowed, Moment, Opening, Plays, Restart, SentPacket, ServerAgain, TakePacket, World, new_world, packet_at, step}
@@ -79,16 +79,16 @@ letting_go p e w s = record { event = e; let_go = Some p; answer = record { word
 
 -- the pool may let that page go, as its law has it
 abbrev pub may_let_go : Limits → Client → ℕ → Option ℕ → Bool
-may_let_go L k p None = true
+may_let_go L k p None = nat_lt (pages_in_pool k L.pages) L.slots
 may_let_go L k p (Some q) = not (q == p) && not (is_none (k.cache.content q)) && not (is_fixed k q) && nat_le L.slots (pages_in_pool k L.pages)
 
 abbrev pub body_choice : Limits → Client → Body → Option ℕ → Bool
-body_choice L k (Granted p g v b) let_go = may_let_go L k p let_go
+body_choice L k (Granted p g v b) let_go = not (brings_page (client_take L k (Granted p g v b) let_go)) || may_let_go L k p let_go
 body_choice L k _ let_go = true
 
 abbrev pub message_choice : Limits → World → Option Message → Option ℕ → Bool
 message_choice L w None let_go = true
-message_choice L w (Some f) let_go = body_choice L (w.client f.client) f.body let_go
+message_choice L w (Some f) let_go = not (f.incarnation == w.incarnation f.client) || body_choice L (w.client f.client) f.body let_go
 
 abbrev pub event_choice : Limits → World → Event → Option ℕ → Bool
 event_choice L w (TakePacket n) let_go = message_choice L w (packet_at w.packets n) let_go
@@ -136,17 +136,23 @@ and_left a b e = grind arith
 and_right : (a b : Bool) → (a && b) ≡ true → b ≡ true
 and_right a b e = grind arith
 
+or_then : (a b : Bool) → (not a || b) ≡ true → a ≡ true → b ≡ true
+or_then a b e f = grind arith
+
 may_is : (L : Limits) (k : Client) (p : ℕ) (o : Option ℕ) → may_let_go L k p o ≡ true → MayLetGo L k p o
-may_is L k p None e = tt
+may_is L k p None e = grind arith
 may_is L k p (Some q) e = (λ z. grind arith, grind arith, grind arith, grind arith)
 
 choice_is : (L : Limits) (k : Client) (b : Body) (o : Option ℕ) → body_choice L k b o ≡ true → ChoiceAllowed L k b o
-choice_is L k (Granted p g v b) o e = may_is L k p o e
+choice_is L k (Granted p g v b) o e = λ f. may_is L k p o (or_then (brings_page (client_take L k (Granted p g v b) o)) (may_let_go L k p o) e f)
 choice_is L k _ o e = tt
 
 message_is : (L : Limits) (w : World) (r : Option Message) (o : Option ℕ) → message_choice L w r o ≡ true → MessageChoiceAllowed L w r o
 message_is L w None o e = tt
-message_is L w (Some f) o e = choice_is L (w.client f.client) f.body o e
+message_is L w (Some f) o e = λ i. choice_is L (w.client f.client) f.body o (or_then (f.incarnation == w.incarnation f.client) (body_choice L (w.client f.client) f.body o) e (same f i))
+  where
+    same : (f : Message) → f.incarnation ≡ w.incarnation f.client → (f.incarnation == w.incarnation f.client) ≡ true
+    same f i = grind arith
 
 event_is : (L : Limits) (w : World) (x : Event) (o : Option ℕ) → event_choice L w x o ≡ true → EventChoiceAllowed L w x o
 event_is L w (TakePacket n) o e = message_is L w (packet_at w.packets n) o e

@@ -4,7 +4,7 @@ use Rattle.std.specs.Prelude.{⊤}
 use Rattle.cb_protocol.proofs.Machine.{NoOther, ServerMayChange, ServerMaySend}
 use Rattle.cb_protocol.specs.Basics.{IsIn, Limits, update}
 use Rattle.cb_protocol.specs.Messages.{AskWrite, Body, PageWrite}
-use Rattle.cb_protocol.specs.Server.{AppliedCommit, MarkCalledBack, ServerStep, EnterQueue, LeaveQueue, ForgetTransaction, Server, Send, MarkTold, ChangeSession, RemoveAsk, WaitingAsk, new_server, without_marks, after_first, server_after, after_server_step, set_called_back, add_told, without_client}
+use Rattle.cb_protocol.specs.Server.{AppliedCommit, MarkCalledBack, ServerStep, EnterQueue, LeaveQueue, ForgetTransaction, Server, Send, MarkDowngradeSent, ChangeSession, RemoveAsk, WaitingAsk, new_server, without_marks, after_first, server_after, after_server_step, set_called_back, set_downgrade_sent, without_client}
 use Rattle.cb_protocol.specs.Session.{Admit, ApplyCommit, DropTransaction, GrantRow, BeginTransaction, PermitWrite, RemoveRow, SessionChange, EndPermission, set_commit_number, session_after}
 use Rattle.cb_protocol.specs.World.{Opening, opening_store}
 
@@ -97,10 +97,10 @@ orderly_called Came s p o = orderly_put Came s p (set_called_back (s.queue p)) o
     go [] f a i = absurd i
     go (b ∷ q) f a i = elim i [ inl e ↦ subst (λ (x : WaitingAsk). WaitsWell Came s p x.client x.write_grant) e (f b (inl refl)) | inr j ↦ f a (inr j) ]
 
-pub orderly_told : (Came : ℕ → ℕ → Body → Type 0) (s : Server) (p t : ℕ) → Orderly Came s → Orderly Came (after_server_step s (MarkTold p t))
-orderly_told Came s p t o = orderly_put Came s p (add_told t (s.queue p)) o (λ a i. go (s.queue p) (λ b j. o.asking p b j) a i)
+pub orderly_told : (Came : ℕ → ℕ → Body → Type 0) (s : Server) (p t : ℕ) → Orderly Came s → Orderly Came (after_server_step s (MarkDowngradeSent p t))
+orderly_told Came s p t o = orderly_put Came s p (set_downgrade_sent t (s.queue p)) o (λ a i. go (s.queue p) (λ b j. o.asking p b j) a i)
   where
-    go : (q : List WaitingAsk) → ((a : WaitingAsk) → IsIn a q → WaitsWell Came s p a.client a.write_grant) → (a : WaitingAsk) → IsIn a (add_told t q) → WaitsWell Came s p a.client a.write_grant
+    go : (q : List WaitingAsk) → ((a : WaitingAsk) → IsIn a q → WaitsWell Came s p a.client a.write_grant) → (a : WaitingAsk) → IsIn a (set_downgrade_sent t q) → WaitsWell Came s p a.client a.write_grant
     go [] f a i = absurd i
     go (b ∷ q) f a i = elim i [ inl e ↦ subst (λ (x : WaitingAsk). WaitsWell Came s p x.client x.write_grant) e (f b (inl refl)) | inr j ↦ f a (inr j) ]
 

@@ -4,7 +4,7 @@ use Rattle.std.specs.Prelude.{⊤}
 use Rattle.cb_protocol.specs.Basics.{Bytes, IsIn, Limits, max_number, update}
 use Rattle.cb_protocol.specs.Messages.{PageWrite, write_of_page}
 use Rattle.cb_protocol.specs.Ranges.{AllMessagesFit, IsNumber, IsPage, IsPageBytes, MessageFits, StoreFits, WritesFit}
-use Rattle.cb_protocol.specs.Server.{AppliedCommit, MarkCalledBack, ServerStep, Doom, EnterQueue, SetFlushed, LeaveQueue, MarkInUse, ForgetTransaction, Server, Send, MarkTold, ChangeSession, RemoveAsk, UnmarkInUse, WaitingAsk, new_server, after_first, after_server_step, set_called_back, add_told, without_client}
+use Rattle.cb_protocol.specs.Server.{AppliedCommit, MarkCalledBack, ServerStep, Doom, EnterQueue, SetFlushed, LeaveQueue, MarkInUse, ForgetTransaction, Server, Send, MarkDowngradeSent, ChangeSession, RemoveAsk, UnmarkInUse, WaitingAsk, new_server, after_first, after_server_step, set_called_back, set_downgrade_sent, without_client}
 use Rattle.cb_protocol.specs.Session.{Admit, ApplyCommit, DropTransaction, GrantRow, BeginTransaction, PermitWrite, RemoveRow, SessionChange, EndPermission, new_bytes, new_version}
 use Rattle.cb_protocol.specs.ServerMessages.{read_asks_below}
 use Rattle.cb_protocol.specs.World.{Opening, messages_sent, opening_store}
@@ -140,10 +140,10 @@ bounded_called L s p h = bounded_put L s p (set_called_back (s.queue p)) h (λ a
     go [] f a i = absurd i
     go (b ∷ q) f a i = elim i [ inl e ↦ subst (λ (x : WaitingAsk). AskFits L s p x) e (f b (inl refl)) | inr j ↦ f a (inr j) ]
 
-bounded_told : (L : Limits) (s : Server) (p t : ℕ) → Bounded L s → Bounded L (after_server_step s (MarkTold p t))
-bounded_told L s p t h = bounded_put L s p (add_told t (s.queue p)) h (λ a i. go (s.queue p) (λ b j. h.asking p b j) a i)
+bounded_told : (L : Limits) (s : Server) (p t : ℕ) → Bounded L s → Bounded L (after_server_step s (MarkDowngradeSent p t))
+bounded_told L s p t h = bounded_put L s p (set_downgrade_sent t (s.queue p)) h (λ a i. go (s.queue p) (λ b j. h.asking p b j) a i)
   where
-    go : (q : List WaitingAsk) → ((a : WaitingAsk) → IsIn a q → AskFits L s p a) → (a : WaitingAsk) → IsIn a (add_told t q) → AskFits L s p a
+    go : (q : List WaitingAsk) → ((a : WaitingAsk) → IsIn a q → AskFits L s p a) → (a : WaitingAsk) → IsIn a (set_downgrade_sent t q) → AskFits L s p a
     go [] f a i = absurd i
     go (b ∷ q) f a i = elim i [ inl e ↦ subst (λ (x : WaitingAsk). AskFits L s p x) e (f b (inl refl)) | inr j ↦ f a (inr j) ]
 
@@ -159,7 +159,7 @@ bounded_after L s (Send c i b) h f = h
 bounded_after L s (EnterQueue p b) h f = bounded_put L s p (s.queue p ++ b ∷ []) h (λ a i. elim (in_push a b (s.queue p) i) [ inl j ↦ h.asking p a j | inr e ↦ subst (λ (x : WaitingAsk). AskFits L s p x) e f ])
 bounded_after L s (LeaveQueue p) h f = bounded_put L s p (after_first (s.queue p)) h (λ a i. h.asking p a (in_rest a (s.queue p) i))
 bounded_after L s (MarkCalledBack p) h f = bounded_called L s p h
-bounded_after L s (MarkTold p t) h f = bounded_told L s p t h
+bounded_after L s (MarkDowngradeSent p t) h f = bounded_told L s p t h
 bounded_after L s (MarkInUse c p) h f = bounded_mark L s _ h
 bounded_after L s (UnmarkInUse c p) h f = bounded_mark L s _ h
 bounded_after L s (RemoveAsk c) h f = bounded_queue L s (λ p. without_client c (s.queue p)) h (λ p a i. h.asking p a (in_without c a (s.queue p) i))
@@ -192,7 +192,7 @@ told_fit L (ChangeSession c m ∷ ds) s f = told_fit L ds _ f.1
 told_fit L (EnterQueue p a ∷ ds) s f = told_fit L ds _ f.1
 told_fit L (LeaveQueue p ∷ ds) s f = told_fit L ds _ f.1
 told_fit L (MarkCalledBack p ∷ ds) s f = told_fit L ds _ f.1
-told_fit L (MarkTold p t ∷ ds) s f = told_fit L ds _ f.1
+told_fit L (MarkDowngradeSent p t ∷ ds) s f = told_fit L ds _ f.1
 told_fit L (MarkInUse c p ∷ ds) s f = told_fit L ds _ f.1
 told_fit L (UnmarkInUse c p ∷ ds) s f = told_fit L ds _ f.1
 told_fit L (RemoveAsk c ∷ ds) s f = told_fit L ds _ f.1

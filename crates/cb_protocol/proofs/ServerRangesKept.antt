@@ -8,12 +8,12 @@ use Rattle.cb_protocol.specs.AnyMessages.{MessageComes, Input, ReachesDisk, Send
 use Rattle.cb_protocol.specs.Basics.{IsIn, Limits, is_none, max_number, update, is_exactly}
 use Rattle.cb_protocol.specs.Messages.{AbortNow, AskRead, AskWrite, Body, Commit, Done, Downgraded, Drop, GiveBack, Granted, Hello, InUse, MayWrite, Welcome, PageWrite}
 use Rattle.cb_protocol.specs.Ranges.{BodyFits, InputTaken, IsNumber, IsPage, MessageFits, OpensServer, ServerArises, ServerMessagesInRange, ServesInput, StoreFits}
-use Rattle.cb_protocol.specs.Server.{AppliedCommit, MarkCalledBack, ServerStep, Doom, EnterQueue, SetFlushed, LeaveQueue, MarkInUse, ForgetTransaction, Server, Send, MarkTold, ChangeSession, RemoveAsk, UnmarkInUse, WaitingAsk, is_live_permission, new_server, after_first, server_after, after_server_step, set_called_back, add_told, without_client}
+use Rattle.cb_protocol.specs.Server.{DeadlockTest, AppliedCommit, MarkCalledBack, ServerStep, Doom, EnterQueue, SetFlushed, LeaveQueue, MarkInUse, ForgetTransaction, Server, Send, MarkDowngradeSent, ChangeSession, RemoveAsk, UnmarkInUse, WaitingAsk, new_server, after_first, server_after, after_server_step, set_called_back, set_downgrade_sent, without_client}
 use Rattle.cb_protocol.specs.Session.{Admit, ApplyCommit, DropTransaction, GrantRow, BeginTransaction, PermitWrite, RemoveRow, EndPermission}
 use Rattle.cb_protocol.specs.Flush.{dones_between, server_flush}
 use Rattle.cb_protocol.specs.Resend.{again_doomed, again_page, again_pages, server_again}
 use Rattle.cb_protocol.specs.ServerMessages.{admit_incarnation, commit_allowed, direct_answer, take_ask_read, take_ask_write, has_waiting_ask, read_asks_in, repeat_done, enter_queue, is_exhausted, take_current, is_empty, lacks_number, if_live, begin_transaction, named_txn, new_ask, read_asks_below, server_take}
-use Rattle.cb_protocol.specs.Settling.{Decided, Settled, Decision, downgrade_once, send_callback, send_callbacks, call_back_once, decide, decide_read, decide_write, decision_steps, doom_client, send_downgrade, send_downgrades, grant_row, keeps_permission, is_listed, no_other_holder, nobody, permit_write, wait_or_doom, settle_page, settle_pages, sole_row, send_to, send_granted}
+use Rattle.cb_protocol.specs.Settling.{Decided, Settled, Decision, downgrade_once, send_callback, send_callbacks, call_back_once, decide, decide_read, decide_write, decision_steps, doom_client, send_downgrade, send_downgrades, grant_row, keeps_permission, no_other_holder, nobody, permit_write, wait_or_doom, settle_page, settle_pages, sole_row, send_to, send_granted}
 use Rattle.cb_protocol.specs.World.{Opening, opening_store}
 
 -- what holds of a server between messages
@@ -70,7 +70,7 @@ room_easy L s (Send c i b) f r = r
 room_easy L s (EnterQueue p a) f r = absurd f
 room_easy L s (LeaveQueue p) f r = room_queue s (after_server_step s (LeaveQueue p)) refl refl (put_count s p (after_first (s.queue p)) (count_rest (s.queue p))) r
 room_easy L s (MarkCalledBack p) f r = room_queue s (after_server_step s (MarkCalledBack p)) refl refl (put_count s p (set_called_back (s.queue p)) (let e = count_called (s.queue p) in omega arith)) r
-room_easy L s (MarkTold p t) f r = room_queue s (after_server_step s (MarkTold p t)) refl refl (put_count s p (add_told t (s.queue p)) (let e = count_told t (s.queue p) in omega arith)) r
+room_easy L s (MarkDowngradeSent p t) f r = room_queue s (after_server_step s (MarkDowngradeSent p t)) refl refl (put_count s p (set_downgrade_sent t (s.queue p)) (let e = count_told t (s.queue p) in omega arith)) r
 room_easy L s (MarkInUse c p) f r = room_queue s (after_server_step s (MarkInUse c p)) refl refl (λ p. omega arith) r
 room_easy L s (UnmarkInUse c p) f r = room_queue s (after_server_step s (UnmarkInUse c p)) refl refl (λ p. omega arith) r
 room_easy L s (RemoveAsk c) f r = room_queue s (after_server_step s (RemoveAsk c)) refl refl (λ p. count_without c (s.queue p)) r
@@ -91,7 +91,7 @@ easy_ok L s (Send c i b) f = f
 easy_ok L s (EnterQueue p a) f = absurd f
 easy_ok L s (LeaveQueue p) f = f
 easy_ok L s (MarkCalledBack p) f = f
-easy_ok L s (MarkTold p t) f = f
+easy_ok L s (MarkDowngradeSent p t) f = f
 easy_ok L s (MarkInUse c p) f = f
 easy_ok L s (UnmarkInUse c p) f = f
 easy_ok L s (RemoveAsk c) f = f
@@ -136,7 +136,7 @@ right_callbacks L s skip p c (suc n) h = right_append L s (send_callbacks s skip
 
 right_downgrades : (L : Limits) (s : Server) (skip : ℕ → Bool) (p c : ℕ) (w : Option ℕ) → Bounded L s → s.store.holder p ≡ w → SaysRight L s (send_downgrades s skip p c w)
 right_downgrades L s skip p c None h e = (tt, refl)
-right_downgrades L s skip p c (Some d) h e = go (not (d == c) && not (is_live_permission s d p) && not (skip d))
+right_downgrades L s skip p c (Some d) h e = go (keeps_permission s p c (Some d) && not (skip d))
   where
     one : (r : Option ℕ) → (s.session d).row p ≡ r → SaysRight L s (send_downgrade s d p r)
     one None f = (tt, refl)
@@ -154,10 +154,10 @@ easy_calls_back L s p a h = go a.called_back
     go false = right_then L s (send_callbacks s nobody p a.client s.clients) (MarkCalledBack p) (right_callbacks L s nobody p a.client s.clients h) tt
 
 easy_brings_down : (L : Limits) (s : Server) (p : ℕ) (a : WaitingAsk) → Bounded L s → AllEasy L s (downgrade_once s p a)
-easy_brings_down L s p a h = go (s.store.keep_write && keeps_permission s p a.client (s.store.holder p) && not (is_listed (s.store.tag p) a.told_tags))
+easy_brings_down L s p a h = go (s.store.keep_write && keeps_permission s p a.client (s.store.holder p) && not (is_exactly a.downgrade_sent (s.store.tag p)))
   where
-    go : (r : Bool) → AllEasy L s (if r then send_downgrades s nobody p a.client (s.store.holder p) ++ MarkTold p (s.store.tag p) ∷ [] else [])
-    go true = right_then L s (send_downgrades s nobody p a.client (s.store.holder p)) (MarkTold p (s.store.tag p)) (right_downgrades L s nobody p a.client (s.store.holder p) h refl) tt
+    go : (r : Bool) → AllEasy L s (if r then send_downgrades s nobody p a.client (s.store.holder p) ++ MarkDowngradeSent p (s.store.tag p) ∷ [] else [])
+    go true = right_then L s (send_downgrades s nobody p a.client (s.store.holder p)) (MarkDowngradeSent p (s.store.tag p)) (right_downgrades L s nobody p a.client (s.store.holder p) h refl) tt
     go false = tt
 
 -- a client's ask stays of a client and a transaction that there are
@@ -173,14 +173,14 @@ abbrev Notes : List ServerStep → Type 0
 Notes [] = ⊤
 Notes (Send c i b ∷ ds) = Notes ds
 Notes (MarkCalledBack p ∷ ds) = Notes ds
-Notes (MarkTold p t ∷ ds) = Notes ds
+Notes (MarkDowngradeSent p t ∷ ds) = Notes ds
 Notes (_ ∷ ds) = ⊥
 
 notes_seat : (ds : List ServerStep) (s : Server) → Notes ds → (server_after s ds).session ≡ s.session
 notes_seat [] s f = refl
 notes_seat (Send c i b ∷ ds) s f = notes_seat ds _ f
 notes_seat (MarkCalledBack p ∷ ds) s f = notes_seat ds _ f
-notes_seat (MarkTold p t ∷ ds) s f = notes_seat ds _ f
+notes_seat (MarkDowngradeSent p t ∷ ds) s f = notes_seat ds _ f
 notes_seat (ChangeSession c m ∷ ds) s f = absurd f
 notes_seat (EnterQueue p a ∷ ds) s f = absurd f
 notes_seat (LeaveQueue p ∷ ds) s f = absurd f
@@ -195,7 +195,7 @@ notes_append : (xs ys : List ServerStep) → Notes xs → Notes ys → Notes (xs
 notes_append [] ys a b = b
 notes_append (Send c i y ∷ xs) ys a b = notes_append xs ys a b
 notes_append (MarkCalledBack p ∷ xs) ys a b = notes_append xs ys a b
-notes_append (MarkTold p t ∷ xs) ys a b = notes_append xs ys a b
+notes_append (MarkDowngradeSent p t ∷ xs) ys a b = notes_append xs ys a b
 notes_append (ChangeSession c m ∷ xs) ys a b = absurd a
 notes_append (EnterQueue p x ∷ xs) ys a b = absurd a
 notes_append (LeaveQueue p ∷ xs) ys a b = absurd a
@@ -226,7 +226,7 @@ notes_calls_back s p a = go a.called_back
     go false = notes_append (send_callbacks s nobody p a.client s.clients) (MarkCalledBack p ∷ []) (notes_callbacks s nobody p a.client s.clients) tt
 
 notes_brings_down : (s : Server) (p : ℕ) (a : WaitingAsk) → Notes (downgrade_once s p a)
-notes_brings_down s p a = go (s.store.keep_write && keeps_permission s p a.client (s.store.holder p) && not (is_listed (s.store.tag p) a.told_tags))
+notes_brings_down s p a = go (s.store.keep_write && keeps_permission s p a.client (s.store.holder p) && not (is_exactly a.downgrade_sent (s.store.tag p)))
   where
     one : (d : ℕ) (r : Option ℕ) → Notes (send_downgrade s d p r)
     one d None = tt
@@ -238,13 +238,13 @@ notes_brings_down s p a = go (s.store.keep_write && keeps_permission s p a.clien
 
     down : (w : Option ℕ) → Notes (send_downgrades s nobody p a.client w)
     down None = tt
-    down (Some d) = some d (not (d == a.client) && not (is_live_permission s d p) && not (nobody d))
+    down (Some d) = some d (keeps_permission s p a.client (Some d) && not (nobody d))
 
-    go : (r : Bool) → Notes (if r then send_downgrades s nobody p a.client (s.store.holder p) ++ MarkTold p (s.store.tag p) ∷ [] else [])
-    go true = notes_append (send_downgrades s nobody p a.client (s.store.holder p)) (MarkTold p (s.store.tag p) ∷ []) (down (s.store.holder p)) tt
+    go : (r : Bool) → Notes (if r then send_downgrades s nobody p a.client (s.store.holder p) ++ MarkDowngradeSent p (s.store.tag p) ∷ [] else [])
+    go true = notes_append (send_downgrades s nobody p a.client (s.store.holder p)) (MarkDowngradeSent p (s.store.tag p) ∷ []) (down (s.store.holder p)) tt
     go false = tt
 
-even_refuses : (L : Limits) (cycle : Server → ℕ → Bool) (s : Server) (c : ℕ) (ds : List ServerStep) → Steady L s → Known L s c → AllEasy L s ds → Notes ds → Even L s (decision_steps (wait_or_doom cycle s c ds))
+even_refuses : (L : Limits) (cycle : DeadlockTest) (s : Server) (c : ℕ) (ds : List ServerStep) → Steady L s → Known L s c → AllEasy L s ds → Notes ds → Even L s (decision_steps (wait_or_doom cycle s c ds))
 even_refuses L cycle s c ds h k a n = go (cycle (server_after s ds) c)
   where
     same : (server_after s ds).session ≡ s.session
@@ -297,7 +297,7 @@ even_grants L s p c a q h e l k r = (((k, l, n), (told, (tt, tt))), record { bou
     rest_room : Room (after_server_step m (LeaveQueue p))
     rest_room = let x = reads_change s (after_server_step m (LeaveQueue p)) p s.pages near others in let y = h.room in let z = one in let w = left in omega arith
 
-even_decide : (L : Limits) (cycle : Server → ℕ → Bool) (s : Server) (p : ℕ) (q : List WaitingAsk) → s.queue p ≡ q → Steady L s → IsPage L p → Even L s (decision_steps (decide cycle s p q))
+even_decide : (L : Limits) (cycle : DeadlockTest) (s : Server) (p : ℕ) (q : List WaitingAsk) → s.queue p ≡ q → Steady L s → IsPage L p → Even L s (decision_steps (decide cycle s p q))
 even_decide L cycle s p [] e h l = (tt, h)
 even_decide L cycle s p (a ∷ q) e h l = kind_of a.write_grant refl
   where
@@ -316,7 +316,7 @@ even_decide L cycle s p (a ∷ q) e h l = kind_of a.write_grant refl
     kind_of None w = reads (rw w refl) (no_other_holder (s.store.holder p) a.client && is_none ((s.session a.client).row p))
     kind_of (Some g) w = writes g w (no_other_holder (s.store.holder p) a.client && is_exactly ((s.session a.client).row p) g && sole_row s p a.client s.clients)
 
-even_settle : (L : Limits) (cycle : Server → ℕ → Bool) (n : ℕ) (s : Server) (p : ℕ) → Steady L s → IsPage L p → Even L s (settle_page cycle n s p)
+even_settle : (L : Limits) (cycle : DeadlockTest) (n : ℕ) (s : Server) (p : ℕ) → Steady L s → IsPage L p → Even L s (settle_page cycle n s p)
 even_settle L cycle zero s p h l = (tt, h)
 even_settle L cycle (suc n) s p h l = go (λ k q. even_settle L cycle n k p q l) (decide cycle s p (s.queue p)) (even_decide L cycle s p (s.queue p) refl h l)
   where
@@ -324,7 +324,7 @@ even_settle L cycle (suc n) s p h l = go (λ k q. even_settle L cycle n k p q l)
     go f (Settled ds) a = a
     go f (Decided ds) a = even_append L ds _ s a (f (server_after s ds) a.1)
 
-even_settles : (L : Limits) (cycle : Server → ℕ → Bool) (s : Server) (n : ℕ) → Steady L s → n ≤ L.pages → Even L s (settle_pages cycle s n)
+even_settles : (L : Limits) (cycle : DeadlockTest) (s : Server) (n : ℕ) → Steady L s → n ≤ L.pages → Even L s (settle_pages cycle s n)
 even_settles L cycle s zero h l = (tt, h)
 even_settles L cycle s (suc n) h l = let a = even_settles L cycle s n h (omega arith) in
     even_append L (settle_pages cycle s n) _ s a (even_settle L cycle (length (s.queue n) + 1) (server_after s (settle_pages cycle s n)) n a.1 (omega arith))
@@ -349,7 +349,7 @@ entered_room s p a l r f = go (is_none a.write_grant) refl
     go true e = let x = reads_change s t p s.pages l others in let y : read_asks_in (t.queue p) ≡ read_asks_in (s.queue p) + 1 = rw e at count in let z = f e in omega arith
     go false e = let x = reads_change s t p s.pages l others in let y : read_asks_in (t.queue p) ≡ read_asks_in (s.queue p) = rw e at count in omega arith
 
-even_enters : (L : Limits) (cycle : Server → ℕ → Bool) (s : Server) (p : ℕ) (a : WaitingAsk) → Steady L s → AskFits L s p a → (is_none a.write_grant ≡ true → s.next_grant + read_asks_below s s.pages ≤ max_number) → Even L s (enter_queue cycle s p a)
+even_enters : (L : Limits) (cycle : DeadlockTest) (s : Server) (p : ℕ) (a : WaitingAsk) → Steady L s → AskFits L s p a → (is_none a.write_grant ≡ true → s.next_grant + read_asks_below s s.pages ≤ max_number) → Even L s (enter_queue cycle s p a)
 even_enters L cycle s p a h f r = go (not (is_empty (s.queue p)) && cycle (after_server_step s (EnterQueue p a)) a.client)
   where
     after : Steady L (after_server_step s (EnterQueue p a))
@@ -380,7 +380,7 @@ even_live L s c t ds h k n f = go (nat_lt (s.session c).ended t) refl (s.doomed 
     go true e false d = f (below e) d
     go false e u d = (tt, h)
 
-even_ask_read : (L : Limits) (cycle : Server → ℕ → Bool) (s : Server) (c t p : ℕ) (r : Option ℕ) → (s.session c).row p ≡ r → Steady L s → Here L s c → IsPage L p → IsNumber (s.session c).txn → (r ≡ None → has_waiting_ask s c s.pages ≡ false → s.next_grant + read_asks_below s s.pages ≤ max_number) → Even L s (take_ask_read cycle s c p r)
+even_ask_read : (L : Limits) (cycle : DeadlockTest) (s : Server) (c t p : ℕ) (r : Option ℕ) → (s.session c).row p ≡ r → Steady L s → Here L s c → IsPage L p → IsNumber (s.session c).txn → (r ≡ None → has_waiting_ask s c s.pages ≡ false → s.next_grant + read_asks_below s s.pages ≤ max_number) → Even L s (take_ask_read cycle s c p r)
 even_ask_read L cycle s c t p (Some g) e h k l n f = let a = h.bounded.row c p g e in even_easy L (send_granted s c p g ∷ []) s h ((k.0, k.1, (l, a.2, h.bounded.version p l, h.bounded.bytes p l)), tt)
 even_ask_read L cycle s c t p None e h k l n f = go (has_waiting_ask s c s.pages) refl
   where
@@ -388,7 +388,7 @@ even_ask_read L cycle s c t p None e h k l n f = go (has_waiting_ask s c s.pages
     go true q = (tt, h)
     go false q = even_enters L cycle s p (new_ask c None) h (l, k, n, λ g z. absurd cc) (λ z. f refl q)
 
-even_ask_write : (L : Limits) (cycle : Server → ℕ → Bool) (s : Server) (c p g : ℕ) → Steady L s → Here L s c → IsPage L p → IsNumber g → IsNumber (s.session c).txn → Even L s (take_ask_write cycle s c p g)
+even_ask_write : (L : Limits) (cycle : DeadlockTest) (s : Server) (c p g : ℕ) → Steady L s → Here L s c → IsPage L p → IsNumber g → IsNumber (s.session c).txn → Even L s (take_ask_write cycle s c p g)
 even_ask_write L cycle s c p g h k l m n = go (is_exactly ((s.session c).row p) g) (is_exactly (s.store.holder p) c) (has_waiting_ask s c s.pages)
   where
     same : (x y : ℕ) → Some x ≡ Some y → x ≡ y
@@ -437,7 +437,7 @@ even_commit L s c t ws h m = go (nat_lt (s.session c).ended t) refl (s.doomed c)
     go false e u f v g true = again_fits L s c t (s.outcome c) h m.here m.fits.0 refl
     go false e u f v g false = (tt, h)
 
-even_answers : (L : Limits) (cycle : Server → ℕ → Bool) (s : Server) (c : ℕ) (b : Body) → Steady L s → MeetsTransaction L s c b → Even L s (direct_answer cycle s c b)
+even_answers : (L : Limits) (cycle : DeadlockTest) (s : Server) (c : ℕ) (b : Body) → Steady L s → MeetsTransaction L s c b → Even L s (direct_answer cycle s c b)
 even_answers L cycle s c (AskRead t p) h m = even_live L s c t _ h m.here m.fits.0 (λ e d. even_ask_read L cycle s c t p ((s.session c).row p) refl h m.here m.fits.1 (txn_number L s c t h.bounded e m.reached) (λ q f. left e d q f))
   where
     left : (s.session c).ended < t → s.doomed c ≡ false → (s.session c).row p ≡ None → has_waiting_ask s c s.pages ≡ false → s.next_grant + read_asks_below s s.pages ≤ max_number
@@ -490,7 +490,7 @@ even_meets L s c b h k f = go (nat_lt (s.session c).txn (named_txn b)) refl
     go true e = let l = below e in (even_easy L (ForgetTransaction c ∷ ChangeSession c (BeginTransaction (named_txn b)) ∷ []) s h (tt, (named L b f (omega arith), tt)), record { here = (k.0, subst (λ (x : ℕ). IsNumber x) (sym current) k.1); reached = reached })
     go false e = ((tt, h), record { here = k; reached = grind arith })
 
-even_handles : (L : Limits) (cycle : Server → ℕ → Bool) (s : Server) (c : ℕ) (b : Body) → Steady L s → Here L s c → BodyFits L b → lacks_number (server_after s (begin_transaction s c (named_txn b))) c b ≡ false → Even L s (take_current cycle s c b)
+even_handles : (L : Limits) (cycle : DeadlockTest) (s : Server) (c : ℕ) (b : Body) → Steady L s → Here L s c → BodyFits L b → lacks_number (server_after s (begin_transaction s c (named_txn b))) c b ≡ false → Even L s (take_current cycle s c b)
 even_handles L cycle s c b h k f z =
     let m = even_meets L s c b h k f in
     let t : Server = server_after s (begin_transaction s c (named_txn b)) in
@@ -500,7 +500,7 @@ even_handles L cycle s c b h k f z =
     settled : (k : Server) → Steady L k → Even L k (settle_pages cycle k k.pages)
     settled k q = even_settles L cycle k k.pages q (let e = q.bounded.pages in omega arith)
 
-even_frame : (L : Limits) (cycle : Server → ℕ → Bool) (s : Server) (c i : ℕ) (b : Body) → Steady L s → c < L.clients → IsNumber i → BodyFits L b → is_exhausted s c i b ≡ false → Even L s (if i == (s.session c).current then take_current cycle s c b else [])
+even_frame : (L : Limits) (cycle : DeadlockTest) (s : Server) (c i : ℕ) (b : Body) → Steady L s → c < L.clients → IsNumber i → BodyFits L b → is_exhausted s c i b ≡ false → Even L s (if i == (s.session c).current then take_current cycle s c b else [])
 even_frame L cycle s c i b h l n f z = go (i == (s.session c).current) refl
   where
     same : (i == (s.session c).current) ≡ true → i ≡ (s.session c).current
@@ -513,7 +513,7 @@ even_frame L cycle s c i b h l n f z = go (i == (s.session c).current) refl
     go true e = even_handles L cycle s c b h (l, subst (λ (x : ℕ). IsNumber x) (same e) n) f (taken e)
     go false e = (tt, h)
 
-even_hello : (L : Limits) (cycle : Server → ℕ → Bool) (s : Server) (c i : ℕ) → Steady L s → c < L.clients → IsNumber i → Even L s (server_take cycle s c i Hello)
+even_hello : (L : Limits) (cycle : DeadlockTest) (s : Server) (c i : ℕ) → Steady L s → c < L.clients → IsNumber i → Even L s (server_take cycle s c i Hello)
 unfolding server_take
 even_hello L cycle s c i h l n = go (nat_lt (s.session c).current i) (i == (s.session c).current)
   where
@@ -534,7 +534,7 @@ even_hello L cycle s c i h l n = go (nat_lt (s.session c).current i) (i == (s.se
     go false true = even_easy L (Send c i Welcome ∷ []) s h ((l, n, tt), tt)
     go false false = (tt, h)
 
-even_serves : (L : Limits) (cycle : Server → ℕ → Bool) (s : Server) (c i : ℕ) (b : Body) → Steady L s → c < L.clients → IsNumber i → BodyFits L b → is_exhausted s c i b ≡ false → Even L s (server_take cycle s c i b)
+even_serves : (L : Limits) (cycle : DeadlockTest) (s : Server) (c i : ℕ) (b : Body) → Steady L s → c < L.clients → IsNumber i → BodyFits L b → is_exhausted s c i b ≡ false → Even L s (server_take cycle s c i b)
 unfolding server_take
 even_serves L cycle s c i Hello h l n f z = even_hello L cycle s c i h l n
 even_serves L cycle s c i b h l n f z = even_frame L cycle s c i b h l n f z
@@ -569,7 +569,7 @@ right_dones L s (x ∷ xs) m n h f = right_append L s (dones_between xs m n) (if
     go true = let a = h.commits x (f x (inl refl)) in (((a.0, a.1, (a.2, a.3)), tt), refl)
     go false = (tt, refl)
 
-even_fed : (L : Limits) (cycle : Server → ℕ → Bool) (s : Server) (i : Input) → Steady L s → InputTaken L s i → Even L s (input_steps cycle s i)
+even_fed : (L : Limits) (cycle : DeadlockTest) (s : Server) (i : Input) → Steady L s → InputTaken L s i → Even L s (input_steps cycle s i)
 even_fed L cycle s (MessageComes c i b) h f = even_serves L cycle s c i b h f.0.0 f.0.1 f.0.2 f.1
 even_fed L cycle s SendsAgain h f = even_easy L (server_again s) s h (right_append L s (again_pages s s.pages) (again_doomed s s.clients) (right_pages L s s.pages h.bounded) (right_doomed L s s.clients h.bounded)).0
 even_fed L cycle s (ReachesDisk n) h f = even_easy L (server_flush s n) s h (right_then L s (dones_between s.commits s.flushed n) (SetFlushed n) (right_dones L s s.commits s.flushed n h.bounded (λ x i. i)) tt)
@@ -578,9 +578,9 @@ reads_none : (L : Limits) (o : Opening) (n : ℕ) → read_asks_below (new_serve
 reads_none L o zero = refl
 reads_none L o (suc n) = let a = reads_none L o n in omega arith
 
-pub steady : (L : Limits) (cycle : Server → ℕ → Bool) (o : Opening) (s : Server) → StoreFits L o → ServerArises L cycle o s → Steady L s
+pub steady : (L : Limits) (cycle : DeadlockTest) (o : Opening) (s : Server) → StoreFits L o → ServerArises L cycle o s → Steady L s
 steady L cycle o s f OpensServer = record { bounded = bounded_start L o f; room = let a = reads_none L o L.pages in omega arith }
 steady L cycle o s f (ServesInput t i a u) = (even_fed L cycle t i (steady L cycle o t f a) u).1
 
-pub server_messages_in_range : (L : Limits) (cycle : Server → ℕ → Bool) → ServerMessagesInRange L cycle
+pub server_messages_in_range : (L : Limits) (cycle : DeadlockTest) → ServerMessagesInRange L cycle
 server_messages_in_range L cycle o s i f a u = told_fit L (input_steps cycle s i) s (even_fed L cycle s i (steady L cycle o s f a) u).0

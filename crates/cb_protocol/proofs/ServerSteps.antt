@@ -8,7 +8,7 @@ use Rattle.cb_protocol.specs.AnyMessages.{committed_names}
 use Rattle.cb_protocol.specs.Basics.{IsIn, update}
 use Rattle.cb_protocol.specs.Messages.{Body, Message}
 use Rattle.cb_protocol.specs.Serial.{Operation, TransactionName}
-use Rattle.cb_protocol.specs.Server.{AppliedCommit, MarkCalledBack, ServerStep, Doom, EnterQueue, SetFlushed, LeaveQueue, MarkInUse, ForgetTransaction, Server, Send, MarkTold, ChangeSession, RemoveAsk, UnmarkInUse, commits_after, server_after, after_server_step}
+use Rattle.cb_protocol.specs.Server.{AppliedCommit, MarkCalledBack, ServerStep, Doom, EnterQueue, SetFlushed, LeaveQueue, MarkInUse, ForgetTransaction, Server, Send, MarkDowngradeSent, ChangeSession, RemoveAsk, UnmarkInUse, commits_after, server_after, after_server_step}
 use Rattle.cb_protocol.specs.Session.{Admit, ApplyCommit, DropTransaction, GrantRow, BeginTransaction, PermitWrite, RemoveRow, Session, SessionChange, Store, EndPermission, session_after, store_after}
 use Rattle.cb_protocol.specs.World.{messages_sent}
 
@@ -35,7 +35,7 @@ server_steps_more Came Came' f s (Send c i b ∷ ds) a = (a.0, server_steps_more
 server_steps_more Came Came' f s (EnterQueue p w ∷ ds) a = (tt, server_steps_more Came Came' f (after_server_step s (EnterQueue p w)) ds a.1)
 server_steps_more Came Came' f s (LeaveQueue p ∷ ds) a = (tt, server_steps_more Came Came' f (after_server_step s (LeaveQueue p)) ds a.1)
 server_steps_more Came Came' f s (MarkCalledBack p ∷ ds) a = (tt, server_steps_more Came Came' f (after_server_step s (MarkCalledBack p)) ds a.1)
-server_steps_more Came Came' f s (MarkTold p t ∷ ds) a = (tt, server_steps_more Came Came' f (after_server_step s (MarkTold p t)) ds a.1)
+server_steps_more Came Came' f s (MarkDowngradeSent p t ∷ ds) a = (tt, server_steps_more Came Came' f (after_server_step s (MarkDowngradeSent p t)) ds a.1)
 server_steps_more Came Came' f s (MarkInUse c p ∷ ds) a = (tt, server_steps_more Came Came' f (after_server_step s (MarkInUse c p)) ds a.1)
 server_steps_more Came Came' f s (UnmarkInUse c p ∷ ds) a = (tt, server_steps_more Came Came' f (after_server_step s (UnmarkInUse c p)) ds a.1)
 server_steps_more Came Came' f s (RemoveAsk c ∷ ds) a = (tt, server_steps_more Came Came' f (after_server_step s (RemoveAsk c)) ds a.1)
@@ -97,7 +97,7 @@ server_steps_leave w s (Send c i b ∷ ds) e f n a =
 server_steps_leave w s (EnterQueue p q ∷ ds) e f n a = let r = server_steps_leave w (after_server_step s (EnterQueue p q)) ds e f n a.1 in record { allowed = r.allowed; store = r.store; session = r.session; names = r.names; client = r.client; incarnation = r.incarnation; packets = r.packets; performed = r.performed }
 server_steps_leave w s (LeaveQueue p ∷ ds) e f n a = let r = server_steps_leave w (after_server_step s (LeaveQueue p)) ds e f n a.1 in record { allowed = r.allowed; store = r.store; session = r.session; names = r.names; client = r.client; incarnation = r.incarnation; packets = r.packets; performed = r.performed }
 server_steps_leave w s (MarkCalledBack p ∷ ds) e f n a = let r = server_steps_leave w (after_server_step s (MarkCalledBack p)) ds e f n a.1 in record { allowed = r.allowed; store = r.store; session = r.session; names = r.names; client = r.client; incarnation = r.incarnation; packets = r.packets; performed = r.performed }
-server_steps_leave w s (MarkTold p t ∷ ds) e f n a = let r = server_steps_leave w (after_server_step s (MarkTold p t)) ds e f n a.1 in record { allowed = r.allowed; store = r.store; session = r.session; names = r.names; client = r.client; incarnation = r.incarnation; packets = r.packets; performed = r.performed }
+server_steps_leave w s (MarkDowngradeSent p t ∷ ds) e f n a = let r = server_steps_leave w (after_server_step s (MarkDowngradeSent p t)) ds e f n a.1 in record { allowed = r.allowed; store = r.store; session = r.session; names = r.names; client = r.client; incarnation = r.incarnation; packets = r.packets; performed = r.performed }
 server_steps_leave w s (MarkInUse c p ∷ ds) e f n a = let r = server_steps_leave w (after_server_step s (MarkInUse c p)) ds e f n a.1 in record { allowed = r.allowed; store = r.store; session = r.session; names = r.names; client = r.client; incarnation = r.incarnation; packets = r.packets; performed = r.performed }
 server_steps_leave w s (UnmarkInUse c p ∷ ds) e f n a = let r = server_steps_leave w (after_server_step s (UnmarkInUse c p)) ds e f n a.1 in record { allowed = r.allowed; store = r.store; session = r.session; names = r.names; client = r.client; incarnation = r.incarnation; packets = r.packets; performed = r.performed }
 server_steps_leave w s (RemoveAsk c ∷ ds) e f n a = let r = server_steps_leave w (after_server_step s (RemoveAsk c)) ds e f n a.1 in record { allowed = r.allowed; store = r.store; session = r.session; names = r.names; client = r.client; incarnation = r.incarnation; packets = r.packets; performed = r.performed }
@@ -113,7 +113,7 @@ sent_near Came s (Send c j b ∷ ds) n f e a i = elim i [ inl q ↦ subst (λ (x
 sent_near Came s (EnterQueue p w ∷ ds) n f e a i = sent_near Came (after_server_step s (EnterQueue p w)) ds n f e a.1 i
 sent_near Came s (LeaveQueue p ∷ ds) n f e a i = sent_near Came (after_server_step s (LeaveQueue p)) ds n f e a.1 i
 sent_near Came s (MarkCalledBack p ∷ ds) n f e a i = sent_near Came (after_server_step s (MarkCalledBack p)) ds n f e a.1 i
-sent_near Came s (MarkTold p t ∷ ds) n f e a i = sent_near Came (after_server_step s (MarkTold p t)) ds n f e a.1 i
+sent_near Came s (MarkDowngradeSent p t ∷ ds) n f e a i = sent_near Came (after_server_step s (MarkDowngradeSent p t)) ds n f e a.1 i
 sent_near Came s (MarkInUse c p ∷ ds) n f e a i = sent_near Came (after_server_step s (MarkInUse c p)) ds n f e a.1 i
 sent_near Came s (UnmarkInUse c p ∷ ds) n f e a i = sent_near Came (after_server_step s (UnmarkInUse c p)) ds n f e a.1 i
 sent_near Came s (RemoveAsk c ∷ ds) n f e a i = sent_near Came (after_server_step s (RemoveAsk c)) ds n f e a.1 i

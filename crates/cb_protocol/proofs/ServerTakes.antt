@@ -5,14 +5,14 @@ use Rattle.cb_protocol.proofs.ServerOrder.{Fresh, Orderly, Quiet, StepsRight, Wa
 use Rattle.cb_protocol.proofs.SettlingRight.{Speaks, is_some_is, right_dooms, right_settles, speaks_append, speaks_callbacks, speaks_downgrades}
 use Rattle.cb_protocol.specs.Basics.{IsIn, is_none, update, is_exactly}
 use Rattle.cb_protocol.specs.Messages.{AbortNow, AskRead, AskWrite, Body, Callback, Commit, Done, Downgrade, Downgraded, Drop, GiveBack, Granted, Hello, InUse, MayWrite, Welcome, PageWrite, write_of_page}
-use Rattle.cb_protocol.specs.Server.{AppliedCommit, ServerStep, EnterQueue, SetFlushed, MarkInUse, ForgetTransaction, Server, Send, ChangeSession, UnmarkInUse, WaitingAsk, set_in_use, server_after, after_server_step}
+use Rattle.cb_protocol.specs.Server.{DeadlockTest, AppliedCommit, ServerStep, EnterQueue, SetFlushed, MarkInUse, ForgetTransaction, Server, Send, ChangeSession, UnmarkInUse, WaitingAsk, set_in_use, server_after, after_server_step}
 use Rattle.cb_protocol.specs.Session.{Admit, ApplyCommit, DropTransaction, BeginTransaction, PermitWrite, RemoveRow, SessionChange, EndPermission, session_after, store_after}
 use Rattle.cb_protocol.specs.Flush.{dones_between, server_flush}
 use Rattle.cb_protocol.specs.Resend.{again_doomed, again_page, again_pages, server_again}
 use Rattle.cb_protocol.specs.ServerMessages.{admit_incarnation, commit_allowed, direct_answer, take_ask_read, take_ask_write, has_waiting_ask, repeat_done, enter_queue, take_current, is_empty, if_live, begin_transaction, named_txn, new_ask, server_take, and_then}
 use Rattle.cb_protocol.specs.Settling.{send_callbacks, doom_client, send_downgrades, settle_pages, send_to}
 
-right_enters : (Came : ℕ → ℕ → Body → Type 0) (cycle : Server → ℕ → Bool) (s : Server) (p : ℕ) (b : WaitingAsk) → Orderly Came s → WaitsWell Came s p b.client b.write_grant → StepsRight Came s (enter_queue cycle s p b)
+right_enters : (Came : ℕ → ℕ → Body → Type 0) (cycle : DeadlockTest) (s : Server) (p : ℕ) (b : WaitingAsk) → Orderly Came s → WaitsWell Came s p b.client b.write_grant → StepsRight Came s (enter_queue cycle s p b)
 right_enters Came cycle s p b o w = go (not (is_empty (s.queue p)) && cycle (after_server_step s (EnterQueue p b)) b.client)
   where
     entered : Orderly Came (after_server_step s (EnterQueue p b))
@@ -22,7 +22,7 @@ right_enters Came cycle s p b o w = go (not (is_empty (s.queue p)) && cycle (aft
     go true = let a = right_dooms Came (after_server_step s (EnterQueue p b)) b.client entered w.0 in ((tt, a.0), a.1)
     go false = ((tt, tt), entered)
 
-right_ask_read : (Came : ℕ → ℕ → Body → Type 0) (cycle : Server → ℕ → Bool) (s : Server) (c p : ℕ) (r : Option ℕ) → (s.session c).row p ≡ r → Orderly Came s → c < s.clients → (s.session c).ended < (s.session c).txn → StepsRight Came s (take_ask_read cycle s c p r)
+right_ask_read : (Came : ℕ → ℕ → Body → Type 0) (cycle : DeadlockTest) (s : Server) (c p : ℕ) (r : Option ℕ) → (s.session c).row p ≡ r → Orderly Came s → c < s.clients → (s.session c).ended < (s.session c).txn → StepsRight Came s (take_ask_read cycle s c p r)
 right_ask_read Came cycle s c p (Some g) f o l e = (((l, (refl, f, refl, refl)), tt), o)
 right_ask_read Came cycle s c p None f o l e = go (has_waiting_ask s c s.pages)
   where
@@ -30,7 +30,7 @@ right_ask_read Came cycle s c p None f o l e = go (has_waiting_ask s c s.pages)
     go true = (tt, o)
     go false = right_enters Came cycle s p (new_ask c None) o (l, e, λ g q. absurd cc)
 
-right_ask_write : (Came : ℕ → ℕ → Body → Type 0) (cycle : Server → ℕ → Bool) (s : Server) (c p g : ℕ) → Orderly Came s → c < s.clients → (s.session c).ended < (s.session c).txn → Came c (s.session c).current (AskWrite (s.session c).txn p g) → StepsRight Came s (take_ask_write cycle s c p g)
+right_ask_write : (Came : ℕ → ℕ → Body → Type 0) (cycle : DeadlockTest) (s : Server) (c p g : ℕ) → Orderly Came s → c < s.clients → (s.session c).ended < (s.session c).txn → Came c (s.session c).current (AskWrite (s.session c).txn p g) → StepsRight Came s (take_ask_write cycle s c p g)
 right_ask_write Came cycle s c p g o l e came = go (is_exactly ((s.session c).row p) g) refl (is_exactly (s.store.holder p) c) refl (has_waiting_ask s c s.pages)
   where
     alone : s.store.holder p ≡ Some c → (d : ℕ) → d ≢ c → (s.session d).row p ≡ None
@@ -78,7 +78,7 @@ allowed_is s c (x ∷ xs) e p w f = grind (arith, allowed_is s c xs, is_some_is)
 right_quit : (Came : ℕ → ℕ → Body → Type 0) (s : Server) (c : ℕ) (m : SessionChange) → Orderly Came s → ServerMayChange (Came c) s.store s.session c m → Fresh (after_server_step s (ForgetTransaction c)) m → (Orderly Came (after_server_step s (ForgetTransaction c)) → Quiet (after_server_step s (ForgetTransaction c)) c → Orderly Came (after_server_step (after_server_step s (ForgetTransaction c)) (ChangeSession c m))) → StepsRight Came s (ForgetTransaction c ∷ ChangeSession c m ∷ [])
 right_quit Came s c m o a r f = ((tt, ((a, r), tt)), f (orderly_quit Came s c o) (quiet_quit s c))
 
-right_answers : (Came : ℕ → ℕ → Body → Type 0) (cycle : Server → ℕ → Bool) (s : Server) (c : ℕ) (b : Body) → Orderly Came s → c < s.clients → Came c (s.session c).current b → named_txn b ≤ (s.session c).txn → StepsRight Came s (direct_answer cycle s c b)
+right_answers : (Came : ℕ → ℕ → Body → Type 0) (cycle : DeadlockTest) (s : Server) (c : ℕ) (b : Body) → Orderly Came s → c < s.clients → Came c (s.session c).current b → named_txn b ≤ (s.session c).txn → StepsRight Came s (direct_answer cycle s c b)
 right_answers Came cycle s c (AskRead t p) o l came n = right_live Came s c t _ o l (λ e. right_ask_read Came cycle s c p ((s.session c).row p) refl o l (omega (arith, e, n)))
 right_answers Came cycle s c (AskWrite t p g) o l came n = right_live Came s c t _ o l (λ e. let z = o.step c in let q : t ≡ (s.session c).txn = omega (arith, e, n, z) in
     right_ask_write Came cycle s c p g o l (omega (arith, e, n)) (subst (λ (x : ℕ). Came c (s.session c).current (AskWrite x p g)) q came))
@@ -160,14 +160,14 @@ right_meets Came s c b o came = go (nat_lt (s.session c).txn (named_txn b)) refl
 right_then : (Came : ℕ → ℕ → Body → Type 0) (s : Server) (ds : List ServerStep) (f : Server → List ServerStep) → StepsRight Came s ds → (Orderly Came (server_after s ds) → StepsRight Came (server_after s ds) (f (server_after s ds))) → StepsRight Came s (and_then s ds f)
 right_then Came s ds f a b = right_append Came s ds (f (server_after s ds)) a (b a.1)
 
-right_handles : (Came : ℕ → ℕ → Body → Type 0) (cycle : Server → ℕ → Bool) (s : Server) (c : ℕ) (b : Body) → Orderly Came s → c < s.clients → Came c (s.session c).current b → StepsRight Came s (take_current cycle s c b)
+right_handles : (Came : ℕ → ℕ → Body → Type 0) (cycle : DeadlockTest) (s : Server) (c : ℕ) (b : Body) → Orderly Came s → c < s.clients → Came c (s.session c).current b → StepsRight Came s (take_current cycle s c b)
 right_handles Came cycle s c b o l came =
     let m = right_meets Came s c b o came in let k = server_after s (begin_transaction s c (named_txn b)) in
     right_then Came s (begin_transaction s c (named_txn b)) (λ m. and_then m (direct_answer cycle m c b) (λ a. settle_pages cycle a a.pages)) m.0 (λ p. right_then Came k (direct_answer cycle k c b) (λ a. settle_pages cycle a a.pages)
     (right_answers Came cycle k c b p (rw m.1.clients l) (subst (λ (j : ℕ). Came c j b) (sym m.1.current) came) m.1.reached)
     (λ q. right_settles Came cycle (server_after k (direct_answer cycle k c b)) (server_after k (direct_answer cycle k c b)).pages q))
 
-right_message : (Came : ℕ → ℕ → Body → Type 0) (cycle : Server → ℕ → Bool) (s : Server) (c i : ℕ) (b : Body) → Orderly Came s → c < s.clients → Came c i b → StepsRight Came s (if i == (s.session c).current then take_current cycle s c b else [])
+right_message : (Came : ℕ → ℕ → Body → Type 0) (cycle : DeadlockTest) (s : Server) (c i : ℕ) (b : Body) → Orderly Came s → c < s.clients → Came c i b → StepsRight Came s (if i == (s.session c).current then take_current cycle s c b else [])
 right_message Came cycle s c i b o l came = go (i == (s.session c).current) refl
   where
     here : (i == (s.session c).current) ≡ true → i ≡ (s.session c).current
@@ -177,7 +177,7 @@ right_message Came cycle s c i b o l came = go (i == (s.session c).current) refl
     go true e = right_handles Came cycle s c b o l (subst (λ (j : ℕ). Came c j b) (here e) came)
     go false e = (tt, o)
 
-right_hello : (Came : ℕ → ℕ → Body → Type 0) (cycle : Server → ℕ → Bool) (s : Server) (c i : ℕ) → Orderly Came s → c < s.clients → Came c i Hello → StepsRight Came s (server_take cycle s c i Hello)
+right_hello : (Came : ℕ → ℕ → Body → Type 0) (cycle : DeadlockTest) (s : Server) (c i : ℕ) → Orderly Came s → c < s.clients → Came c i Hello → StepsRight Came s (server_take cycle s c i Hello)
 unfolding server_take
 right_hello Came cycle s c i o l came = go (nat_lt (s.session c).current i) refl (i == (s.session c).current) refl
   where
@@ -199,7 +199,7 @@ right_hello Came cycle s c i o l came = go (nat_lt (s.session c).current i) refl
     go false e false f = (tt, o)
 
 -- whatever message comes
-pub right_server_take : (Came : ℕ → ℕ → Body → Type 0) (cycle : Server → ℕ → Bool) (s : Server) (c i : ℕ) (b : Body) → Orderly Came s → c < s.clients → Came c i b → StepsRight Came s (server_take cycle s c i b)
+pub right_server_take : (Came : ℕ → ℕ → Body → Type 0) (cycle : DeadlockTest) (s : Server) (c i : ℕ) (b : Body) → Orderly Came s → c < s.clients → Came c i b → StepsRight Came s (server_take cycle s c i b)
 unfolding server_take
 right_server_take Came cycle s c i Hello o l came = right_hello Came cycle s c i o l came
 right_server_take Came cycle s c i (AskRead t p) o l came = right_message Came cycle s c i (AskRead t p) o l came

@@ -2,28 +2,28 @@
 use Rattle.std.proofs.Common.{◌≡◌, ◌∙◌, ℕ, zero, suc, ◌+◌, ◌<◌, ◌≤◌, Bool, true, false, not, ◌==◌, ◌&&◌, if◌then◌else◌, ◌≢◌, ◌⊎◌, List, [], ◌∷◌, ◌++◌, length, Option, Some, None, ap, arith, add-one, append_assoc, refl, sym, subst, inl, inr}
 use Rattle.std.specs.Prelude.{⊤}
 use Rattle.cb_protocol.specs.Basics.{IsIn, update, is_none, is_exactly}
-use Rattle.cb_protocol.specs.Server.{WaitingAsk, Server, ServerStep, Send, EnterQueue, LeaveQueue, MarkCalledBack, MarkTold, RemoveAsk, ForgetTransaction, after_first, set_called_back, add_told, after_server_step, server_after}
+use Rattle.cb_protocol.specs.Server.{DeadlockTest, WaitingAsk, Server, ServerStep, Send, EnterQueue, LeaveQueue, MarkCalledBack, MarkDowngradeSent, RemoveAsk, ForgetTransaction, after_first, set_called_back, set_downgrade_sent, after_server_step, server_after}
 use Rattle.cb_protocol.specs.ServerMessages.{direct_answer}
-use Rattle.cb_protocol.specs.Settling.{no_other_holder, sole_row, send_callbacks, nobody, send_downgrades, keeps_permission, is_listed, doom_client, Decision, Settled, Decided, wait_or_doom, permit_write, grant_row, call_back_once, downgrade_once, decide_read, decide_write, decide, settle_page, settle_pages}
+use Rattle.cb_protocol.specs.Settling.{no_other_holder, sole_row, send_callbacks, nobody, send_downgrades, keeps_permission, doom_client, Decision, Settled, Decided, wait_or_doom, permit_write, grant_row, call_back_once, downgrade_once, decide_read, decide_write, decide, settle_page, settle_pages}
 use Rattle.cb_protocol.specs.WaitsFor.{on_cycle}
-use Rattle.cb_protocol.specs.Deadlock.{SettledStaysSettled, UnchangedNeedsNoSettling, settle_listed, Rising, SettlingEnds, EmptyNeedsNoSettling, EmptyPassedOver, ListedAreEnough}
+use Rattle.cb_protocol.specs.Deadlock.{SettledStaysSettled, UnchangedNeedsNoSettling, settle_listed, RisingWithin, SettlingEnds, EmptyNeedsNoSettling, EmptyPassedOver, ListedAreEnough}
 use Rattle.cb_protocol.proofs.CycleTest.{test_is_exact}
 use Rattle.cb_protocol.proofs.SettlingClears.{Exact, StuckBy, Stuck, put_there, without_shorter, OnlySends, after_sends, sends_callbacks, sends_downgrades, BetweenSteps}
 use Rattle.cb_protocol.proofs.NoCycles.{between_steps}
 use Rattle.cb_protocol.proofs.ServerOrder.{after_append}
 
-append_nil : {A : Type 0} (xs : List A) → xs ++ [] ≡ xs
+pub append_nil : {A : Type 0} (xs : List A) → xs ++ [] ≡ xs
 append_nil [] = refl
 append_nil (x ∷ xs) = ap (λ (y : List _). x ∷ y) (append_nil xs)
 
 -- the first ask can not be met: nothing is done
-decide_stuck : (cycle : Server → ℕ → Bool) (s : Server) (p : ℕ) (a : WaitingAsk) (w : Option ℕ) → StuckBy s p a w → cycle s a.client ≡ false
+decide_stuck : (cycle : DeadlockTest) (s : Server) (p : ℕ) (a : WaitingAsk) (w : Option ℕ) → StuckBy s p a w → cycle s a.client ≡ false
     → (elim w as (λ _. Decision) [ None ↦ decide_read cycle s p a | Some g ↦ decide_write cycle s p a g ]) ≡ Settled []
 decide_stuck cycle s p a None b c = rw (b.0, b.1, c) refl
 decide_stuck cycle s p a (Some g) b c = rw (b.0, b.1, c) refl
 
 -- between two steps each page is settled
-settle_stuck : (cycle : Server → ℕ → Bool) → Exact cycle → (s : Server) → BetweenSteps s → (n p : ℕ) → settle_page cycle n s p ≡ []
+settle_stuck : (cycle : DeadlockTest) → Exact cycle → (s : Server) → BetweenSteps s → (n p : ℕ) → settle_page cycle n s p ≡ []
 settle_stuck cycle x s t zero p = refl
 settle_stuck cycle x s t (suc n) p = go (s.queue p) (t.stuck p)
   where
@@ -38,7 +38,7 @@ settle_stuck cycle x s t (suc n) p = go (s.queue p) (t.stuck p)
     go [] b = refl
     go (a ∷ q) b = rw (decide_stuck cycle s p a a.write_grant b (same a.client)) refl
 
-settles_nothing : (cycle : Server → ℕ → Bool) → Exact cycle → (s : Server) → BetweenSteps s → (n : ℕ) → settle_pages cycle s n ≡ []
+settles_nothing : (cycle : DeadlockTest) → Exact cycle → (s : Server) → BetweenSteps s → (n : ℕ) → settle_pages cycle s n ≡ []
 settles_nothing cycle x s t zero = refl
 settles_nothing cycle x s t (suc n) = rw (settles_nothing cycle x s t n) (settle_stuck cycle x s t (length (s.queue n) + 1) n)
 
@@ -86,7 +86,7 @@ called_shorter : (q : List WaitingAsk) → length (set_called_back q) ≤ length
 called_shorter [] = omega arith
 called_shorter (a ∷ q) = omega arith
 
-told_shorter : (t : ℕ) (q : List WaitingAsk) → length (add_told t q) ≤ length q
+told_shorter : (t : ℕ) (q : List WaitingAsk) → length (set_downgrade_sent t q) ≤ length q
 told_shorter t [] = omega arith
 told_shorter t (a ∷ q) = omega arith
 
@@ -94,7 +94,7 @@ one_shorter : (s : Server) (x : ServerStep) (p : ℕ) → NoAskEnters (x ∷ [])
 one_shorter s (EnterQueue q a) p n = absurd n
 one_shorter s (LeaveQueue q) p n = put_shorter s.queue q p (after_first (s.queue q)) (rest_shorter (s.queue q))
 one_shorter s (MarkCalledBack q) p n = put_shorter s.queue q p (set_called_back (s.queue q)) (called_shorter (s.queue q))
-one_shorter s (MarkTold q t) p n = put_shorter s.queue q p (add_told t (s.queue q)) (told_shorter t (s.queue q))
+one_shorter s (MarkDowngradeSent q t) p n = put_shorter s.queue q p (set_downgrade_sent t (s.queue q)) (told_shorter t (s.queue q))
 one_shorter s (RemoveAsk c) p n = without_shorter c (s.queue p)
 one_shorter s (ForgetTransaction c) p n = without_shorter c (s.queue p)
 one_shorter s _ p n = omega arith
@@ -131,7 +131,7 @@ record Stays (p : ℕ) (s k : Server) (a : WaitingAsk) : Type 0 where
   queue : k.queue p ≡ first ∷ others
   client : first.client ≡ a.client
 
-shrinks_refuses : (cycle : Server → ℕ → Bool) (s : Server) (p : ℕ) (a : WaitingAsk) (ds : List ServerStep) → NoAskEnters ds → Stays p s (server_after s ds) a → DecisionShrinks p s (wait_or_doom cycle s a.client ds)
+shrinks_refuses : (cycle : DeadlockTest) (s : Server) (p : ℕ) (a : WaitingAsk) (ds : List ServerStep) → NoAskEnters ds → Stays p s (server_after s ds) a → DecisionShrinks p s (wait_or_doom cycle s a.client ds)
 shrinks_refuses cycle s p a ds n t = go (cycle (server_after s ds) a.client)
   where
     k : Server
@@ -147,7 +147,7 @@ shrinks_refuses cycle s p a ds n t = go (cycle (server_after s ds) a.client)
 stays_noted : (s : Server) (p : ℕ) (a b : WaitingAsk) (q : List WaitingAsk) (ds : List ServerStep) (x : ServerStep) → OnlySends ds → (after_server_step s x).queue p ≡ b ∷ q → b.client ≡ a.client → Stays p s (server_after s (ds ++ x ∷ [])) a
 stays_noted s p a b q ds x sends e f = record { first = b; others = q; queue = subst (λ (k : Server). k.queue p ≡ b ∷ q) (sym (after_append s ds (x ∷ []) ∙ ap (λ (k : Server). after_server_step k x) (after_sends s ds sends))) e; client = f }
 
-shrinks_decide : (cycle : Server → ℕ → Bool) (s : Server) (p : ℕ) (q : List WaitingAsk) → s.queue p ≡ q → DecisionShrinks p s (decide cycle s p q)
+shrinks_decide : (cycle : DeadlockTest) (s : Server) (p : ℕ) (q : List WaitingAsk) → s.queue p ≡ q → DecisionShrinks p s (decide cycle s p q)
 shrinks_decide cycle s p [] e = tt
 shrinks_decide cycle s p (a ∷ q) e = kind_of a.write_grant
   where
@@ -160,14 +160,14 @@ shrinks_decide cycle s p (a ∷ q) e = kind_of a.write_grant
     back : List ServerStep
     back = send_callbacks s nobody p a.client s.clients
 
-    told : Stays p s (server_after s (down ++ MarkTold p (s.store.tag p) ∷ [])) a
-    told = stays_noted s p a (record a { told_tags = s.store.tag p ∷ a.told_tags }) q down (MarkTold p (s.store.tag p)) (sends_downgrades s nobody p a.client (s.store.holder p)) (rw (put_there s.queue p (add_told (s.store.tag p) (s.queue p)), e) refl) refl
+    told : Stays p s (server_after s (down ++ MarkDowngradeSent p (s.store.tag p) ∷ [])) a
+    told = stays_noted s p a (record a { downgrade_sent = Some (s.store.tag p) }) q down (MarkDowngradeSent p (s.store.tag p)) (sends_downgrades s nobody p a.client (s.store.holder p)) (rw (put_there s.queue p (set_downgrade_sent (s.store.tag p) (s.queue p)), e) refl) refl
 
     called : Stays p s (server_after s (back ++ MarkCalledBack p ∷ [])) a
     called = stays_noted s p a (record a { called_back = true }) q back (MarkCalledBack p) (sends_callbacks s nobody p a.client s.clients) (rw (put_there s.queue p (set_called_back (s.queue p)), e) refl) refl
 
-    brings : (r : Bool) → DecisionShrinks p s (wait_or_doom cycle s a.client (if r then down ++ MarkTold p (s.store.tag p) ∷ [] else []))
-    brings true = shrinks_refuses cycle s p a (down ++ MarkTold p (s.store.tag p) ∷ []) (none_append down (MarkTold p (s.store.tag p) ∷ []) (none_sends down (sends_downgrades s nobody p a.client (s.store.holder p))) tt) told
+    brings : (r : Bool) → DecisionShrinks p s (wait_or_doom cycle s a.client (if r then down ++ MarkDowngradeSent p (s.store.tag p) ∷ [] else []))
+    brings true = shrinks_refuses cycle s p a (down ++ MarkDowngradeSent p (s.store.tag p) ∷ []) (none_append down (MarkDowngradeSent p (s.store.tag p) ∷ []) (none_sends down (sends_downgrades s nobody p a.client (s.store.holder p))) tt) told
     brings false = shrinks_refuses cycle s p a [] tt stays
 
     calls : (r : Bool) → DecisionShrinks p s (wait_or_doom cycle s a.client (if r then [] else back ++ MarkCalledBack p ∷ []))
@@ -176,7 +176,7 @@ shrinks_decide cycle s p (a ∷ q) e = kind_of a.write_grant
 
     reads : (u : Bool) → DecisionShrinks p s (if u then Decided (grant_row s p a.client) else wait_or_doom cycle s a.client (downgrade_once s p a))
     reads true = record { none = tt; fewer = leaves s (server_after s (grant_row s p a.client)) p a q e refl }
-    reads false = brings (s.store.keep_write && keeps_permission s p a.client (s.store.holder p) && not (is_listed (s.store.tag p) a.told_tags))
+    reads false = brings (s.store.keep_write && keeps_permission s p a.client (s.store.holder p) && not (is_exactly a.downgrade_sent (s.store.tag p)))
 
     writes : (g : ℕ) (u : Bool) → DecisionShrinks p s (if u then Decided (permit_write s p a.client g) else wait_or_doom cycle s a.client (call_back_once s p a))
     writes g true = record { none = tt; fewer = leaves s (server_after s (permit_write s p a.client g)) p a q e refl }
@@ -187,7 +187,7 @@ shrinks_decide cycle s p (a ∷ q) e = kind_of a.write_grant
     kind_of (Some g) = writes g (no_other_holder (s.store.holder p) a.client && is_exactly ((s.session a.client).row p) g && sole_row s p a.client s.clients)
 
 -- settling lets no ask in
-none_settle : (cycle : Server → ℕ → Bool) (n : ℕ) (s : Server) (p : ℕ) → NoAskEnters (settle_page cycle n s p)
+none_settle : (cycle : DeadlockTest) (n : ℕ) (s : Server) (p : ℕ) → NoAskEnters (settle_page cycle n s p)
 none_settle cycle zero s p = tt
 none_settle cycle (suc n) s p = go (λ k. none_settle cycle n k p) (decide cycle s p (s.queue p)) (shrinks_decide cycle s p (s.queue p) refl)
   where
@@ -195,12 +195,12 @@ none_settle cycle (suc n) s p = go (λ k. none_settle cycle n k p) (decide cycle
     go f (Settled ds) m = m
     go f (Decided ds) m = none_append ds (settle_page cycle n (server_after s ds) p) m.none (f (server_after s ds))
 
-pub none_settles : (cycle : Server → ℕ → Bool) (s : Server) (n : ℕ) → NoAskEnters (settle_pages cycle s n)
+pub none_settles : (cycle : DeadlockTest) (s : Server) (n : ℕ) → NoAskEnters (settle_pages cycle s n)
 none_settles cycle s zero = tt
 none_settles cycle s (suc n) = none_append (settle_pages cycle s n) _ (none_settles cycle s n) (none_settle cycle (length (s.queue n) + 1) (server_after s (settle_pages cycle s n)) n)
 
 -- how many steps are allowed does not matter, where there are more than asks
-same_steps : (cycle : Server → ℕ → Bool) (m n : ℕ) (s : Server) (p : ℕ) → length (s.queue p) < m → length (s.queue p) < n → settle_page cycle m s p ≡ settle_page cycle n s p
+same_steps : (cycle : DeadlockTest) (m n : ℕ) (s : Server) (p : ℕ) → length (s.queue p) < m → length (s.queue p) < n → settle_page cycle m s p ≡ settle_page cycle n s p
 same_steps cycle zero n s p l k = absurd (omega arith)
 same_steps cycle (suc m) zero s p l k = absurd (omega arith)
 same_steps cycle (suc m) (suc n) s p l k = go (λ z i j. same_steps cycle m n z p i j) (decide cycle s p (s.queue p)) (shrinks_decide cycle s p (s.queue p) refl)
@@ -218,7 +218,7 @@ none_left [] l = refl
 none_left (a ∷ q) l = absurd (omega arith)
 
 -- a page with no ask has none after these pages are settled
-still_empty : (cycle : Server → ℕ → Bool) (s : Server) (n p : ℕ) → s.queue p ≡ [] → (server_after s (settle_pages cycle s n)).queue p ≡ []
+still_empty : (cycle : DeadlockTest) (s : Server) (n p : ℕ) → s.queue p ≡ [] → (server_after s (settle_pages cycle s n)).queue p ≡ []
 still_empty cycle s n p e = none_left _ (let l = shorter s (settle_pages cycle s n) p (none_settles cycle s n) in let z : length (s.queue p) ≡ 0 = ap length e in omega arith)
 
 pub passed_over : EmptyPassedOver
@@ -235,15 +235,15 @@ empty_or : (q : List WaitingAsk) → (q ≡ []) ⊎ (q ≢ [])
 empty_or [] = inl refl
 empty_or (a ∷ q) = inr (λ e. absurd cc)
 
-above : (m n : ℕ) (ps : List ℕ) → Rising m n ps → (p : ℕ) → IsIn p ps → m ≤ p
+above : (m n : ℕ) (ps : List ℕ) → RisingWithin m n ps → (p : ℕ) → IsIn p ps → m ≤ p
 above m n [] r p i = absurd i
 above m n (x ∷ ps) r p (inl e) = let a = r.0 in omega arith
 above m n (x ∷ ps) r p (inr i) = let a = r.0 in let b = above (x + 1) n ps r.2 p i in omega arith
 
 -- the pages from m on
-listed_from : (cycle : Server → ℕ → Bool) (s : Server) (m n : ℕ) (ps : List ℕ) → m ≤ n → Rising m n ps → ((p : ℕ) → m ≤ p → p < n → s.queue p ≢ [] → IsIn p ps) → settle_pages cycle s n ≡ settle_pages cycle s m ++ settle_listed cycle (server_after s (settle_pages cycle s m)) ps
+listed_from : (cycle : DeadlockTest) (s : Server) (m n : ℕ) (ps : List ℕ) → m ≤ n → RisingWithin m n ps → ((p : ℕ) → m ≤ p → p < n → s.queue p ≢ [] → IsIn p ps) → settle_pages cycle s n ≡ settle_pages cycle s m ++ settle_listed cycle (server_after s (settle_pages cycle s m)) ps
 listed_from cycle s m n [] l r f = passed_over cycle s m n l (λ p i j. elim (empty_or (s.queue p)) [ inl e ↦ e | inr k ↦ absurd (f p i j k) ]) ∙ sym (append_nil (settle_pages cycle s m))
-listed_from cycle s m n (p ∷ ps) l r f = listed_from cycle s (suc p) n ps (let a = r.1 in omega arith) (subst (λ (x : ℕ). Rising x n ps) (add-one p) r.2) later ∙ here
+listed_from cycle s m n (p ∷ ps) l r f = listed_from cycle s (suc p) n ps (let a = r.1 in omega arith) (subst (λ (x : ℕ). RisingWithin x n ps) (add-one p) r.2) later ∙ here
   where
     -- below p there is no ask
     nothing : (q : ℕ) → m ≤ q → q < p → s.queue q ≡ []

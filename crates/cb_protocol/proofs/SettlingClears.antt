@@ -2,16 +2,16 @@
 use Rattle.std.proofs.Common.{◌≡◌, ◌↔◌, ◌∙◌, ℕ, zero, suc, ◌+◌, ◌<◌, ◌≤◌, Bool, true, false, not, ◌==◌, ◌&&◌, ◌||◌, if◌then◌else◌, ◌≢◌, ◌⊎◌, List, [], ◌∷◌, ◌++◌, length, Option, Some, None, ap, arith, add-one, refl, sym, subst, inl, inr}
 use Rattle.std.specs.Prelude.{⊤}
 use Rattle.cb_protocol.specs.Basics.{update, is_none, is_exactly}
-use Rattle.cb_protocol.specs.Server.{WaitingAsk, Server, ServerStep, Send, MarkCalledBack, MarkTold, RemoveAsk, Doom, after_first, without_client, set_called_back, add_told, after_server_step, server_after, is_live_permission}
+use Rattle.cb_protocol.specs.Server.{DeadlockTest, WaitingAsk, Server, ServerStep, Send, MarkCalledBack, MarkDowngradeSent, RemoveAsk, Doom, after_first, without_client, set_called_back, set_downgrade_sent, after_server_step, server_after, is_live_permission}
 use Rattle.cb_protocol.specs.Session.{Session, GrantRow, session_after}
-use Rattle.cb_protocol.specs.Settling.{no_other_holder, sole_row, send_callback, send_callbacks, nobody, send_downgrade, keeps_permission, send_downgrades, doom_client, Decision, Settled, Decided, wait_or_doom, permit_write, grant_row, is_listed, call_back_once, downgrade_once, decide_read, decide_write, decide, settle_page, settle_pages}
+use Rattle.cb_protocol.specs.Settling.{no_other_holder, sole_row, send_callback, send_callbacks, nobody, send_downgrade, keeps_permission, send_downgrades, doom_client, Decision, Settled, Decided, wait_or_doom, permit_write, grant_row, call_back_once, downgrade_once, decide_read, decide_write, decide, settle_page, settle_pages}
 use Rattle.cb_protocol.specs.WaitsFor.{WaitsFor, HoldsUp, LiesOnCycle, NoCycle, AsksInRange}
 use Rattle.cb_protocol.specs.Deadlock.{ask_count, OneAsk, DoomsOnCycle}
 use Rattle.cb_protocol.proofs.CyclePaths.{Clear, has_count, count_has, stays_clear, none_where_clear, below_or_not, same_or_not}
 use Rattle.cb_protocol.proofs.ServerOrder.{after_append}
 
 -- a test of who lies on a cycle that is exact
-abbrev pub Exact : (Server → ℕ → Bool) → Type 0
+abbrev pub Exact : DeadlockTest → Type 0
 Exact cycle = (s : Server) → AsksInRange s → (c : ℕ) → (cycle s c ≡ true) ↔ LiesOnCycle (WaitsFor s) c
 
 pub record SoundAsks (s : Server) : Type 0 where
@@ -42,7 +42,7 @@ pub count_called : (c : ℕ) (q : List WaitingAsk) → ask_count c (set_called_b
 count_called c [] = omega arith
 count_called c (a ∷ q) = omega arith
 
-pub count_told : (t c : ℕ) (q : List WaitingAsk) → ask_count c (add_told t q) ≤ ask_count c q
+pub count_told : (t c : ℕ) (q : List WaitingAsk) → ask_count c (set_downgrade_sent t q) ≤ ask_count c q
 count_told t c [] = omega arith
 count_told t c (a ∷ q) = omega arith
 
@@ -97,7 +97,7 @@ held_same n h k o p a d m (inr e) = inr (e.0, sym (o.marks d p) ∙ e.1)
 -- the first ask of page p can't be met, and what is to be sent for it was sent
 abbrev pub StuckBy : Server → ℕ → WaitingAsk → Option ℕ → Type 0
 StuckBy s p a None = ((no_other_holder (s.store.holder p) a.client && is_none ((s.session a.client).row p)) ≡ false)
-    × ((s.store.keep_write && keeps_permission s p a.client (s.store.holder p) && not (is_listed (s.store.tag p) a.told_tags)) ≡ false)
+    × ((s.store.keep_write && keeps_permission s p a.client (s.store.holder p) && not (is_exactly a.downgrade_sent (s.store.tag p))) ≡ false)
 StuckBy s p a (Some g) = ((no_other_holder (s.store.holder p) a.client && is_exactly ((s.session a.client).row p) g && sole_row s p a.client s.clients) ≡ false) × (a.called_back ≡ true)
 
 abbrev pub Stuck : Server → ℕ → List WaitingAsk → Type 0
@@ -118,7 +118,7 @@ stuck_by_same n p h k a None o m b = (same ∙ b.0, more ∙ b.1)
     same : (no_other_holder (k.store.holder p) a.client && is_none ((k.session a.client).row p)) ≡ (no_other_holder (h.store.holder p) a.client && is_none ((h.session a.client).row p))
     same = let e = o.writers p m in let f = o.rows a.client p m in cc
 
-    more : (k.store.keep_write && keeps_permission k p a.client (k.store.holder p) && not (is_listed (k.store.tag p) a.told_tags)) ≡ (h.store.keep_write && keeps_permission h p a.client (h.store.holder p) && not (is_listed (h.store.tag p) a.told_tags))
+    more : (k.store.keep_write && keeps_permission k p a.client (k.store.holder p) && not (is_exactly a.downgrade_sent (k.store.tag p))) ≡ (h.store.keep_write && keeps_permission h p a.client (h.store.holder p) && not (is_exactly a.downgrade_sent (h.store.tag p)))
     more = let e = o.writers p m in let f = o.tags p m in let g = o.keep_write in let i = keeps_same n p a.client h k (h.store.holder p) o m in cc
 stuck_by_same n p h k a (Some g) o m b = (same ∙ b.0, b.1)
   where
@@ -210,7 +210,7 @@ sends_callbacks s skip p c (suc n) = sends_append (send_callbacks s skip p c n) 
 
 pub sends_downgrades : (s : Server) (skip : ℕ → Bool) (p c : ℕ) (w : Option ℕ) → OnlySends (send_downgrades s skip p c w)
 sends_downgrades s skip p c None = tt
-sends_downgrades s skip p c (Some d) = go (not (d == c) && not (is_live_permission s d p) && not (skip d)) ((s.session d).row p)
+sends_downgrades s skip p c (Some d) = go (keeps_permission s p c (Some d) && not (skip d)) ((s.session d).row p)
   where
     go : (u : Bool) (r : Option ℕ) → OnlySends (if u then send_downgrade s d p r else [])
     go true None = tt
@@ -295,7 +295,7 @@ record Noted (p : ℕ) (h k : Server) (a : WaitingAsk) : Type 0 where
   stuck : StuckBy k p first first.write_grant
 
 -- the first ask is refused
-right_refuses : (cycle : Server → ℕ → Bool) → Exact cycle → (h : Server) (p : ℕ) (a : WaitingAsk) (ds : List ServerStep) → DoomsRight NoOne h ds → Noted p h (server_after h ds) a → DecisionRight p h (wait_or_doom cycle h a.client ds)
+right_refuses : (cycle : DeadlockTest) → Exact cycle → (h : Server) (p : ℕ) (a : WaitingAsk) (ds : List ServerStep) → DoomsRight NoOne h ds → Noted p h (server_after h ds) a → DecisionRight p h (wait_or_doom cycle h a.client ds)
 right_refuses cycle x h p a ds m n = go (cycle (server_after h ds) a.client) refl
   where
     went : WentOn p h (server_after h (ds ++ doom_client (server_after h ds) a.client))
@@ -328,10 +328,10 @@ noted_first h p a b q e s f t = record {
 }
 
 -- messages, and then a note of them
-after_noted : (h : Server) (ds : List ServerStep) (x : ServerStep) → OnlySends ds → server_after h (ds ++ x ∷ []) ≡ after_server_step h x
+pub after_noted : (h : Server) (ds : List ServerStep) (x : ServerStep) → OnlySends ds → server_after h (ds ++ x ∷ []) ≡ after_server_step h x
 after_noted h ds x a = after_append h ds (x ∷ []) ∙ ap (λ (k : Server). after_server_step k x) (after_sends h ds a)
 
-right_calls_back : (cycle : Server → ℕ → Bool) → Exact cycle → (h : Server) (p : ℕ) (a : WaitingAsk) (q : List WaitingAsk) (g : ℕ) → h.queue p ≡ a ∷ q → SoundAsks h → a.write_grant ≡ Some g
+right_calls_back : (cycle : DeadlockTest) → Exact cycle → (h : Server) (p : ℕ) (a : WaitingAsk) (q : List WaitingAsk) (g : ℕ) → h.queue p ≡ a ∷ q → SoundAsks h → a.write_grant ≡ Some g
     → (no_other_holder (h.store.holder p) a.client && is_exactly ((h.session a.client).row p) g && sole_row h p a.client h.clients) ≡ false → DecisionRight p h (wait_or_doom cycle h a.client (call_back_once h p a))
 right_calls_back cycle x h p a q g e s w n = go a.called_back refl
   where
@@ -351,12 +351,12 @@ right_calls_back cycle x h p a q g e s w n = go a.called_back refl
     go true f = right_refuses cycle x h p a [] tt (noted_none h p a q e s (subst (λ (v : Option ℕ). StuckBy h p a v) (sym w) (n, f)))
     go false f = right_refuses cycle x h p a (ds ++ MarkCalledBack p ∷ []) (dooms_append NoOne h ds (MarkCalledBack p ∷ []) (dooms_sends NoOne h ds (sends_callbacks h nobody p a.client h.clients)) (tt, tt)) (subst (λ (k : Server). Noted p h k a) (sym same) noted)
 
-listed_first : (t : ℕ) (xs : List ℕ) → is_listed t (t ∷ xs) ≡ true
-listed_first t xs = grind arith
+sent_there : (t : ℕ) → is_exactly (Some t) t ≡ true
+sent_there t = grind arith
 
-right_brings_down : (cycle : Server → ℕ → Bool) → Exact cycle → (h : Server) (p : ℕ) (a : WaitingAsk) (q : List WaitingAsk) → h.queue p ≡ a ∷ q → SoundAsks h → a.write_grant ≡ None
+right_brings_down : (cycle : DeadlockTest) → Exact cycle → (h : Server) (p : ℕ) (a : WaitingAsk) (q : List WaitingAsk) → h.queue p ≡ a ∷ q → SoundAsks h → a.write_grant ≡ None
     → (no_other_holder (h.store.holder p) a.client && is_none ((h.session a.client).row p)) ≡ false → DecisionRight p h (wait_or_doom cycle h a.client (downgrade_once h p a))
-right_brings_down cycle x h p a q e s w n = go (h.store.keep_write && keeps_permission h p a.client (h.store.holder p) && not (is_listed (h.store.tag p) a.told_tags)) refl
+right_brings_down cycle x h p a q e s w n = go (h.store.keep_write && keeps_permission h p a.client (h.store.holder p) && not (is_exactly a.downgrade_sent (h.store.tag p))) refl
   where
     ds : List ServerStep
     ds = send_downgrades h nobody p a.client (h.store.holder p)
@@ -365,20 +365,20 @@ right_brings_down cycle x h p a q e s w n = go (h.store.keep_write && keeps_perm
     t = h.store.tag p
 
     b : WaitingAsk
-    b = record a { told_tags = t ∷ a.told_tags }
+    b = record a { downgrade_sent = Some t }
 
     noted_before : (u v z : Bool) → z ≡ true → (u && v && not z) ≡ false
     noted_before u v z i = grind arith
 
     noted : Noted p h (record h { queue = update h.queue p (b ∷ q) }) a
-    noted = noted_first h p a b q e s refl (subst (λ (v : Option ℕ). StuckBy (record h { queue = update h.queue p (b ∷ q) }) p b v) (sym w) (n, noted_before h.store.keep_write (keeps_permission (record h { queue = update h.queue p (b ∷ q) }) p a.client (h.store.holder p)) (is_listed t (t ∷ a.told_tags)) (listed_first t a.told_tags)))
+    noted = noted_first h p a b q e s refl (subst (λ (v : Option ℕ). StuckBy (record h { queue = update h.queue p (b ∷ q) }) p b v) (sym w) (n, noted_before h.store.keep_write (keeps_permission (record h { queue = update h.queue p (b ∷ q) }) p a.client (h.store.holder p)) (is_exactly (Some t) t) (sent_there t)))
 
-    same : server_after h (ds ++ MarkTold p t ∷ []) ≡ record h { queue = update h.queue p (b ∷ q) }
-    same = after_noted h ds (MarkTold p t) (sends_downgrades h nobody p a.client (h.store.holder p)) ∙ ap (λ (z : List WaitingAsk). record h { queue = update h.queue p (add_told t z) }) e
+    same : server_after h (ds ++ MarkDowngradeSent p t ∷ []) ≡ record h { queue = update h.queue p (b ∷ q) }
+    same = after_noted h ds (MarkDowngradeSent p t) (sends_downgrades h nobody p a.client (h.store.holder p)) ∙ ap (λ (z : List WaitingAsk). record h { queue = update h.queue p (set_downgrade_sent t z) }) e
 
-    go : (r : Bool) → (h.store.keep_write && keeps_permission h p a.client (h.store.holder p) && not (is_listed (h.store.tag p) a.told_tags)) ≡ r → DecisionRight p h (wait_or_doom cycle h a.client (if r then ds ++ MarkTold p t ∷ [] else []))
+    go : (r : Bool) → (h.store.keep_write && keeps_permission h p a.client (h.store.holder p) && not (is_exactly a.downgrade_sent (h.store.tag p))) ≡ r → DecisionRight p h (wait_or_doom cycle h a.client (if r then ds ++ MarkDowngradeSent p t ∷ [] else []))
     go false f = right_refuses cycle x h p a [] tt (noted_none h p a q e s (subst (λ (v : Option ℕ). StuckBy h p a v) (sym w) (n, f)))
-    go true f = right_refuses cycle x h p a (ds ++ MarkTold p t ∷ []) (dooms_append NoOne h ds (MarkTold p t ∷ []) (dooms_sends NoOne h ds (sends_downgrades h nobody p a.client (h.store.holder p))) (tt, tt)) (subst (λ (k : Server). Noted p h k a) (sym same) noted)
+    go true f = right_refuses cycle x h p a (ds ++ MarkDowngradeSent p t ∷ []) (dooms_append NoOne h ds (MarkDowngradeSent p t ∷ []) (dooms_sends NoOne h ds (sends_downgrades h nobody p a.client (h.store.holder p))) (tt, tt)) (subst (λ (k : Server). Noted p h k a) (sym same) noted)
 
 put_row : (f : ℕ → Session) (c p g d q : ℕ) → q ≢ p → (update f c (session_after (f c) (GrantRow p g)) d).row q ≡ (f d).row q
 put_row f c p g d q n = grind arith
@@ -427,7 +427,7 @@ right_grants h p a q e s = (
 )
 
 -- each decision about page p: what it leaves, and that it dooms only who lies on a cycle
-pub right_decide : (cycle : Server → ℕ → Bool) → Exact cycle → (h : Server) (p : ℕ) (q : List WaitingAsk) → h.queue p ≡ q → SoundAsks h → DecisionRight p h (decide cycle h p q)
+pub right_decide : (cycle : DeadlockTest) → Exact cycle → (h : Server) (p : ℕ) (q : List WaitingAsk) → h.queue p ≡ q → SoundAsks h → DecisionRight p h (decide cycle h p q)
 right_decide cycle x h p [] e s = (record { sound = s; same = same_refl p h; clear = rw e tt; stuck = rw e tt }, tt)
 right_decide cycle x h p (a ∷ q) e s = kind_of a.write_grant refl
   where
@@ -445,7 +445,7 @@ right_decide cycle x h p (a ∷ q) e s = kind_of a.write_grant refl
     kind_of (Some g) w = writes g w (no_other_holder (h.store.holder p) a.client && is_exactly ((h.session a.client).row p) g && sole_row h p a.client h.clients) refl
 
 -- so settling page p leaves its first ask on no cycle, with nothing to be done
-pub right_settle : (cycle : Server → ℕ → Bool) → Exact cycle → (n : ℕ) (h : Server) (p : ℕ) → length (h.queue p) < n → SoundAsks h → Stopped p h (server_after h (settle_page cycle n h p)) × DoomsRight NoOne h (settle_page cycle n h p)
+pub right_settle : (cycle : DeadlockTest) → Exact cycle → (n : ℕ) (h : Server) (p : ℕ) → length (h.queue p) < n → SoundAsks h → Stopped p h (server_after h (settle_page cycle n h p)) × DoomsRight NoOne h (settle_page cycle n h p)
 right_settle cycle x zero h p l s = absurd (omega arith)
 right_settle cycle x (suc n) h p l s = go (λ k m t. right_settle cycle x n k p m t) (decide cycle h p (h.queue p)) (right_decide cycle x h p (h.queue p) refl s)
   where
@@ -480,7 +480,7 @@ tidy_more n h k l t s = record {
 }
 
 -- and settling the pages below n leaves all of them so
-pub right_settles : (cycle : Server → ℕ → Bool) → Exact cycle → (h : Server) (n : ℕ) → SoundAsks h → SettledBelow n h (server_after h (settle_pages cycle h n)) × DoomsRight NoOne h (settle_pages cycle h n)
+pub right_settles : (cycle : DeadlockTest) → Exact cycle → (h : Server) (n : ℕ) → SoundAsks h → SettledBelow n h (server_after h (settle_pages cycle h n)) × DoomsRight NoOne h (settle_pages cycle h n)
 right_settles cycle x h zero s = (record { sound = s; clear = λ p l. absurd (omega arith); stuck = λ p l. absurd (omega arith); later = λ p l. refl; clients = refl; pages = refl }, tt)
 right_settles cycle x h (suc n) s = let a = right_settles cycle x h n s in
     let k = server_after h (settle_pages cycle h n) in
@@ -494,7 +494,7 @@ pub record BetweenSteps (s : Server) : Type 0 where
   pub stuck : (p : ℕ) → Stuck s p (s.queue p)
 
 -- settling all pages leaves such a server, and dooms only who lies on a cycle
-pub settled_stands : (cycle : Server → ℕ → Bool) → Exact cycle → (h : Server) → SoundAsks h → BetweenSteps (server_after h (settle_pages cycle h h.pages)) × DoomsRight NoOne h (settle_pages cycle h h.pages)
+pub settled_stands : (cycle : DeadlockTest) → Exact cycle → (h : Server) → SoundAsks h → BetweenSteps (server_after h (settle_pages cycle h h.pages)) × DoomsRight NoOne h (settle_pages cycle h h.pages)
 settled_stands cycle x h s = let t = right_settles cycle x h h.pages s in (
   record {
     sound = t.0.sound;

@@ -4,21 +4,21 @@ use Rattle.cb_protocol.proofs.Machine.{NoOther, ServerMaySend}
 use Rattle.cb_protocol.proofs.ServerOrder.{ServerStepMay, Orderly, StepsRight, WaitsWell, after_append, orderly_called, orderly_doom, orderly_grant, orderly_leave, orderly_permit, orderly_told, orderly_unask, right_append}
 use Rattle.cb_protocol.specs.Basics.{IsIn, is_none, update, is_exactly}
 use Rattle.cb_protocol.specs.Messages.{Body, Granted, MayWrite}
-use Rattle.cb_protocol.specs.Server.{MarkCalledBack, ServerStep, Server, MarkTold, RemoveAsk, WaitingAsk, is_live_permission, server_after, after_server_step}
+use Rattle.cb_protocol.specs.Server.{DeadlockTest, MarkCalledBack, ServerStep, Server, MarkDowngradeSent, RemoveAsk, WaitingAsk, is_live_permission, server_after, after_server_step}
 use Rattle.cb_protocol.specs.Session.{GrantRow, PermitWrite, Store, session_after, store_after}
-use Rattle.cb_protocol.specs.Settling.{Decided, Settled, Decision, downgrade_once, send_callback, send_callbacks, call_back_once, decide, decide_read, decide_write, decision_steps, doom_client, send_downgrade, send_downgrades, grant_row, keeps_permission, is_listed, no_other_holder, nobody, permit_write, wait_or_doom, settle_page, settle_pages, sole_row}
+use Rattle.cb_protocol.specs.Settling.{Decided, Settled, Decision, downgrade_once, send_callback, send_callbacks, call_back_once, decide, decide_read, decide_write, decision_steps, doom_client, send_downgrade, send_downgrades, grant_row, keeps_permission, no_other_holder, nobody, permit_write, wait_or_doom, settle_page, settle_pages, sole_row}
 
-no_other_is : (s : Store) (p c : ℕ) → no_other_holder (s.holder p) c ≡ true → NoOther s c p
+pub no_other_is : (s : Store) (p c : ℕ) → no_other_holder (s.holder p) c ≡ true → NoOther s c p
 no_other_is s p c h = grind arith
 
-sole_is : (s : Server) (p c n : ℕ) → sole_row s p c n ≡ true → (d : ℕ) → d < n → d ≢ c → (s.session d).row p ≡ None
+pub sole_is : (s : Server) (p c n : ℕ) → sole_row s p c n ≡ true → (d : ℕ) → d < n → d ≢ c → (s.session d).row p ≡ None
 sole_is s p c zero h d l ne = absurd (omega arith)
 sole_is s p c (suc n) h d l ne = grind (arith, sole_is s p c n)
 
 pub is_some_is : (r : Option ℕ) (g : ℕ) → is_exactly r g ≡ true → r ≡ Some g
 is_some_is r g e = grind arith
 
-is_none_is : (r : Option ℕ) → is_none r ≡ true → r ≡ None
+pub is_none_is : (r : Option ℕ) → is_none r ≡ true → r ≡ None
 is_none_is r e = grind arith
 
 -- messages that change nothing
@@ -56,20 +56,20 @@ below Came s d p g o e = go (nat_lt d s.clients) refl
 
 pub speaks_downgrades : (Came : ℕ → ℕ → Body → Type 0) (s : Server) (skip : ℕ → Bool) (p c : ℕ) (r : Option ℕ) → s.store.holder p ≡ r → Orderly Came s → Speaks Came s (send_downgrades s skip p c r)
 speaks_downgrades Came s skip p c None e o = ((tt, o), refl)
-speaks_downgrades Came s skip p c (Some d) e o = go (not (d == c) && not (is_live_permission s d p) && not (skip d)) refl
+speaks_downgrades Came s skip p c (Some d) e o = go (keeps_permission s p c (Some d) && not (skip d)) refl
   where
     one : (r : Option ℕ) → (s.session d).row p ≡ r → is_live_permission s d p ≡ false → Speaks Came s (send_downgrade s d p r)
     one None f k = ((tt, o), refl)
     one (Some g) f k = ((((below Came s d p g o f, (refl, kept_ended Came s d p o e k)), tt), o), refl)
 
-    go : (u : Bool) → (not (d == c) && not (is_live_permission s d p) && not (skip d)) ≡ u → Speaks Came s (if u then send_downgrade s d p ((s.session d).row p) else [])
+    go : (u : Bool) → (keeps_permission s p c (Some d) && not (skip d)) ≡ u → Speaks Came s (if u then send_downgrade s d p ((s.session d).row p) else [])
     go true f = one ((s.session d).row p) refl (grind arith)
     go false f = ((tt, o), refl)
 
 pub right_dooms : (Came : ℕ → ℕ → Body → Type 0) (s : Server) (c : ℕ) → Orderly Came s → c < s.clients → StepsRight Came s (doom_client s c)
 right_dooms Came s c o l = ((tt, (tt, ((l, refl), tt))), orderly_doom Came (after_server_step s (RemoveAsk c)) (update s.doomed c true) (orderly_unask Came s c o))
 
-right_refuses : (Came : ℕ → ℕ → Body → Type 0) (cycle : Server → ℕ → Bool) (s : Server) (c : ℕ) (ds : List ServerStep) → StepsRight Came s ds → c < (server_after s ds).clients → StepsRight Came s (decision_steps (wait_or_doom cycle s c ds))
+right_refuses : (Came : ℕ → ℕ → Body → Type 0) (cycle : DeadlockTest) (s : Server) (c : ℕ) (ds : List ServerStep) → StepsRight Came s ds → c < (server_after s ds).clients → StepsRight Came s (decision_steps (wait_or_doom cycle s c ds))
 right_refuses Came cycle s c ds a l = go (cycle (server_after s ds) c)
   where
     go : (r : Bool) → StepsRight Came s (decision_steps (if r then Decided (ds ++ doom_client (server_after s ds) c) else Settled ds))
@@ -107,13 +107,13 @@ right_calls_back Came s p a o = go a.called_back
     go false = right_then_one Came s (send_callbacks s nobody p a.client s.clients) (MarkCalledBack p) (speaks_callbacks Came s nobody p a.client s.clients (omega arith) o) tt (orderly_called Came s p o)
 
 right_brings_down : (Came : ℕ → ℕ → Body → Type 0) (s : Server) (p : ℕ) (a : WaitingAsk) → Orderly Came s → StepsRight Came s (downgrade_once s p a)
-right_brings_down Came s p a o = go (s.store.keep_write && keeps_permission s p a.client (s.store.holder p) && not (is_listed (s.store.tag p) a.told_tags))
+right_brings_down Came s p a o = go (s.store.keep_write && keeps_permission s p a.client (s.store.holder p) && not (is_exactly a.downgrade_sent (s.store.tag p)))
   where
-    go : (r : Bool) → StepsRight Came s (if r then send_downgrades s nobody p a.client (s.store.holder p) ++ MarkTold p (s.store.tag p) ∷ [] else [])
-    go true = right_then_one Came s (send_downgrades s nobody p a.client (s.store.holder p)) (MarkTold p (s.store.tag p)) (speaks_downgrades Came s nobody p a.client (s.store.holder p) refl o) tt (orderly_told Came s p (s.store.tag p) o)
+    go : (r : Bool) → StepsRight Came s (if r then send_downgrades s nobody p a.client (s.store.holder p) ++ MarkDowngradeSent p (s.store.tag p) ∷ [] else [])
+    go true = right_then_one Came s (send_downgrades s nobody p a.client (s.store.holder p)) (MarkDowngradeSent p (s.store.tag p)) (speaks_downgrades Came s nobody p a.client (s.store.holder p) refl o) tt (orderly_told Came s p (s.store.tag p) o)
     go false = (tt, o)
 
-right_decide : (Came : ℕ → ℕ → Body → Type 0) (cycle : Server → ℕ → Bool) (s : Server) (p : ℕ) (q : List WaitingAsk) → s.queue p ≡ q → Orderly Came s → StepsRight Came s (decision_steps (decide cycle s p q))
+right_decide : (Came : ℕ → ℕ → Body → Type 0) (cycle : DeadlockTest) (s : Server) (p : ℕ) (q : List WaitingAsk) → s.queue p ≡ q → Orderly Came s → StepsRight Came s (decision_steps (decide cycle s p q))
 right_decide Came cycle s p [] e o = (tt, o)
 right_decide Came cycle s p (a ∷ q) e o = kind_of a.write_grant refl
   where
@@ -149,7 +149,7 @@ right_decide Came cycle s p (a ∷ q) e o = kind_of a.write_grant refl
     kind_of None f = reads (no_other_holder (s.store.holder p) a.client && is_none ((s.session a.client).row p)) refl
     kind_of (Some g) f = writes g f (no_other_holder (s.store.holder p) a.client && is_exactly ((s.session a.client).row p) g && sole_row s p a.client s.clients) refl
 
-right_settle : (Came : ℕ → ℕ → Body → Type 0) (cycle : Server → ℕ → Bool) (n : ℕ) (s : Server) (p : ℕ) → Orderly Came s → StepsRight Came s (settle_page cycle n s p)
+right_settle : (Came : ℕ → ℕ → Body → Type 0) (cycle : DeadlockTest) (n : ℕ) (s : Server) (p : ℕ) → Orderly Came s → StepsRight Came s (settle_page cycle n s p)
 right_settle Came cycle zero s p o = (tt, o)
 right_settle Came cycle (suc n) s p o = go (λ k q. right_settle Came cycle n k p q) (decide cycle s p (s.queue p)) (right_decide Came cycle s p (s.queue p) refl o)
   where
@@ -157,7 +157,7 @@ right_settle Came cycle (suc n) s p o = go (λ k q. right_settle Came cycle n k 
     go f (Settled ds) a = a
     go f (Decided ds) a = right_append Came s ds _ a (f (server_after s ds) a.1)
 
-pub right_settles : (Came : ℕ → ℕ → Body → Type 0) (cycle : Server → ℕ → Bool) (s : Server) (n : ℕ) → Orderly Came s → StepsRight Came s (settle_pages cycle s n)
+pub right_settles : (Came : ℕ → ℕ → Body → Type 0) (cycle : DeadlockTest) (s : Server) (n : ℕ) → Orderly Came s → StepsRight Came s (settle_pages cycle s n)
 right_settles Came cycle s zero o = (tt, o)
 right_settles Came cycle s (suc n) o = let a = right_settles Came cycle s n o in
     right_append Came s (settle_pages cycle s n) _ a (right_settle Came cycle (length (s.queue n) + 1) (server_after s (settle_pages cycle s n)) n a.1)

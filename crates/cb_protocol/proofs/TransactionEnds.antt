@@ -6,7 +6,7 @@ use Rattle.cb_protocol.proofs.ClientInvariant.{ClientKeeps, acted_append, tidy}
 use Rattle.cb_protocol.specs.Cache.{Abandon, LetGo, TakeDone, YieldPermission}
 use Rattle.cb_protocol.specs.Client.{Aborted, ClientStep, SetAsk, Client, EndTransaction, Committed, Dropped, LastOutcome, ChangeCache, DueDowngrade, MarkDue, MarkDueDowngrade, Say, MarkWanted, client_after, bodies_said}
 use Rattle.cb_protocol.specs.Answers.{ClientFault}
-use Rattle.cb_protocol.specs.ClientCalls.{CallAgain, CallBegin, Call, CallDrop, CallFinish, CallHello, CallPeek, CallRead, CallWant, CallWrite, client_call, first_fault, accept_or_refuse, open_causes}
+use Rattle.cb_protocol.specs.ClientCalls.{CallAgain, CallBegin, Call, CallDrop, CallFinish, CallHello, CallPeek, CallRead, CallWant, CallWrite, client_call, first_refusal, accept_or_refuse, open_causes}
 use Rattle.cb_protocol.specs.ClientEnd.{drop_transaction, end_page, end_pages}
 use Rattle.cb_protocol.specs.ClientMessages.{of_committing_txn, of_open_txn, client_take}
 use Rattle.cb_protocol.specs.Basics.{IsIn, Limits, is_none}
@@ -335,7 +335,7 @@ done_ends L k n h = record {
 -- a call
 ends_drop_call : (L : Limits) (k : Client) → ClientKeeps L k → EndsRight k (after_input L k (ReceivesCall CallDrop)) (bodies_said (client_steps_at L k (ReceivesCall CallDrop))) (ending L k (ReceivesCall CallDrop))
 unfolding call_fault client_call
-ends_drop_call L k h = go (first_fault (open_causes k))
+ends_drop_call L k h = go (first_refusal (open_causes k))
   where
     go : (f : Option ClientFault) → EndsRight k (client_after L.keep_write k (accept_or_refuse L k CallDrop f).steps) (bodies_said (accept_or_refuse L k CallDrop f).steps) (if is_none f then EndsDropped else GoesOn)
     go (Some y) = λ p g d e. call_refused p g d e
@@ -386,7 +386,7 @@ ends_message L k (AbortNow t) let_go h = ends_abort L k t let_go h
 ends_message L k b let_go h = λ p g d e. message_stays L k b let_go p g h d e refl
 
 pub in_use_given_back_once : (L : Limits) (Allowed : ClientInput → Type 0) → InUseGivenBackOnce L Allowed
-in_use_given_back_once L Allowed k a = (λ p e. due_reading L k p (tidy L Allowed k a) e, ends)
+in_use_given_back_once L Allowed k a = record { due = λ p e. due_reading L k p (tidy L Allowed k a) e; ends = ends }
   where
     ends : (i : ClientInput) → EndsRight k (after_input L k i) (bodies_said (client_steps_at L k i)) (ending L k i)
     ends (ReceivesCall c) = ends_call L k c (tidy L Allowed k a)

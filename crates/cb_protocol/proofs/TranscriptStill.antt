@@ -8,7 +8,7 @@ use Rattle.cb_protocol.proofs.ClientReady.{Plain, PlainChange, plain_lets_go, pl
 use Rattle.cb_protocol.specs.Cache.{Begin, Cache, CacheChange, Fill, Install, Lock, WriteBytes, Read, TakeDone, TakePermission, YieldPermission, cache_after}
 use Rattle.cb_protocol.specs.Client.{Aborted, ClientStep, SetAsk, Client, EndTransaction, Committed, Dropped, LastOutcome, ChangeCache, NoAsk, MarkDue, MarkDueDowngrade, Say, MarkWanted, WriteAsk, client_after, asks_to_write, is_fixed, asks_to_read}
 use Rattle.cb_protocol.specs.Answers.{Asked, ClientFault, AnsweredBytes, AnsweredOk, Nothing, Permitted, Refused, AnswerWord}
-use Rattle.cb_protocol.specs.ClientCalls.{CallAgain, CallBegin, Call, CallDrop, CallFinish, CallHello, CallPeek, CallRead, CallWant, CallWrite, accept_call, client_again, client_call, causes, first_fault, peek_word, read_page, accept_or_refuse, reply_with, say_ask_write}
+use Rattle.cb_protocol.specs.ClientCalls.{CallAgain, CallBegin, Call, CallDrop, CallFinish, CallHello, CallPeek, CallRead, CallWant, CallWrite, accept_call, client_again, client_call, causes, first_refusal, peek_word, read_page, accept_or_refuse, reply_with, say_ask_write}
 use Rattle.cb_protocol.specs.ClientEnd.{drop_transaction, end_pages, give_back, refuse_grant}
 use Rattle.cb_protocol.specs.ClientMessages.{take_downgrade, take_granted, take_granted_held, take_welcomed, let_page_go, of_committing_txn, of_open_txn, client_take}
 use Rattle.cb_protocol.specs.Basics.{is_exactly, Bytes, Limits}
@@ -210,7 +210,7 @@ accepts_marks L hs c k (CallPeek p) n = go (k.cache.content p)
 
 pub calls_marks : (L : Limits) (hs : List TranscriptEntry) (c : ℕ) (k : Client) (x : Call) → transaction_at hs c ≡ k.cache.number → Marks L hs c k x (client_call L k x).word (client_call L k x).steps
 unfolding call_fault client_call
-calls_marks L hs c k x n = go (first_fault (causes L k x))
+calls_marks L hs c k x n = go (first_refusal (causes L k x))
   where
     go : (f : Option ClientFault) → Marks L hs c k x (accept_or_refuse L k x f).word (accept_or_refuse L k x f).steps
     go (Some f) = silent L hs c k x (Refused f) [] n (refused_silent hs c x f) tt

@@ -2,7 +2,8 @@
 use Rattle.std.specs.Prelude.{ℕ}
 use Rattle.cb_protocol.specs.Basics.{Bytes}
 
--- Why a call is refused, by rising number, from 1: where several causes stand the lowest is answered.
+-- Why a call is refused, by rising number, from 1: where several causes stand the lowest is
+-- answered.
 pub data ClientFault : Type 0 where
   NotWelcome : ClientFault  -- the server's Welcome has not come
   NoTransaction : ClientFault

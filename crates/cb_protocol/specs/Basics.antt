@@ -1,17 +1,19 @@
--- Words that every other file uses. Where a definition of this crate names no source, it is this project's rule.
-use Rattle.std.specs.Prelude.{◌≡◌, ℕ, Bool, true, false, if◌then◌else◌, ◌==◌, ◌⊎◌, List, [], ◌∷◌, Option, Some, None}
+-- Words that every other file uses. Where a definition of this crate names no source, it is this
+-- project's rule.
+use Rattle.std.specs.Prelude.{◌≡◌, ℕ, Bool, true, false, ◌&&◌, if◌then◌else◌, ◌==◌, ◌⊎◌, List, [], ◌∷◌, Option, Some, None}
 
 -- the bytes of a page
 abbrev pub Bytes : Type 0
 Bytes = List ℕ
 
--- What client, server and network agree on. Clients and pages are numbered from 0; `slots`: pages that a client's pool can hold;
--- `keep_write`: a client keeps its write permissions after a commit (Callback-All), else they end with the transaction (Callback-Read) (TODS 1997).
+-- What client, server and network agree on. Clients and pages are numbered from 0.
 pub record Limits : Type 0 where
   pub clients : ℕ
   pub pages : ℕ
   pub page_size : ℕ
-  pub slots : ℕ
+  pub slots : ℕ  -- the pages that a client's pool can hold
+  -- a client keeps its write permissions after a commit (Callback-All), else they end with the
+  -- transaction (Callback-Read) (TODS 1997)
   pub keep_write : Bool
 
 -- the greatest transaction, grant and commit number and incarnation, 2^62 - 1
@@ -20,12 +22,12 @@ max_number = 4611686018427387903
 
 -- a map with one entry replaced
 abbrev pub update : {A : Type 0} → (ℕ → A) → ℕ → A → ℕ → A
-update f k v q = if q == k then v else f q
+update entries place value at = if at == place then value else entries at
 
 -- x is an element of the list
 abbrev pub IsIn : {A : Type 0} → A → List A → Type 0
 IsIn x [] = ⊥
-IsIn x (y ∷ ys) = (y ≡ x) ⊎ IsIn x ys
+IsIn x (first ∷ rest) = (first ≡ x) ⊎ IsIn x rest
 
 -- nothing is there
 abbrev pub is_none : {A : Type 0} → Option A → Bool
@@ -34,5 +36,11 @@ is_none (Some a) = false
 
 -- exactly that number is there
 abbrev pub is_exactly : Option ℕ → ℕ → Bool
-is_exactly None n = false
-is_exactly (Some m) n = m == n
+is_exactly None number = false
+is_exactly (Some there) number = there == number
+
+-- the two name one transaction: by client, incarnation and transaction number
+abbrev pub same_transaction : (client incarnation txn : ℕ)
+    → (other_client other_incarnation other_txn : ℕ) → Bool
+same_transaction client incarnation txn other_client other_incarnation other_txn =
+    (client == other_client) && (incarnation == other_incarnation) && (txn == other_txn)

@@ -4,18 +4,24 @@ use Rattle.cb_protocol.specs.Basics.{Bytes}
 use Rattle.cb_protocol.specs.Messages.{Done}
 use Rattle.cb_protocol.specs.Server.{AppliedCommit, Send, Server, ServerStep, SetFlushed}
 
--- commit n is made and not yet on disk
-abbrev pub can_flush : Server → ℕ → Bool
-can_flush s n = nat_lt s.flushed n && nat_le n s.store.last_commit
+-- the commit of that number is made and not yet on disk
+abbrev pub can_flush : Server → (number : ℕ) → Bool
+can_flush server number =
+    nat_lt server.flushed number && nat_le number server.store.last_commit
 
--- a Done for each commit above m up to n, in order, to its client at its incarnation; the commits come the newest first
-abbrev pub dones_between : List AppliedCommit → ℕ → ℕ → List ServerStep
-dones_between [] m n = []
-dones_between (x ∷ xs) m n = dones_between xs m n ++ (if nat_lt m x.number && nat_le x.number n then Send x.client x.incarnation (Done x.txn x.number) ∷ [] else [])
+-- a Done for each commit after the one number up to the other, in order, to its client at its
+-- incarnation; the commits come the newest first
+abbrev pub dones_between : List AppliedCommit → (after up_to : ℕ) → List ServerStep
+dones_between [] after up_to = []
+dones_between (last ∷ earlier) after up_to =
+    dones_between earlier after up_to
+    ++ (if nat_lt after last.number && nat_le last.number up_to
+    then Send last.client last.incarnation (Done last.txn last.number) ∷ [] else [])
 
--- The commits up to n are on disk: only now their clients hear Done.
-abbrev pub server_flush : Server → ℕ → List ServerStep
-server_flush s n = dones_between s.commits s.flushed n ++ SetFlushed n ∷ []
+-- The commits up to that number are on disk: only now their clients hear Done.
+abbrev pub server_flush : Server → (number : ℕ) → List ServerStep
+server_flush server number =
+    dones_between server.commits server.flushed number ++ SetFlushed number ∷ []
 
 -- a page as it is now
 pub record StoredPage : Type 0 where
@@ -28,11 +34,25 @@ pub record Batch : Type 0 where
   pub number : ℕ
   pub pages : List StoredPage
 
--- the pages below n that a commit above the last flushed one changed, rising
-abbrev pub changed_pages : Server → ℕ → List StoredPage
-changed_pages s zero = []
-changed_pages s (suc n) = changed_pages s n ++ (if nat_lt s.flushed (s.store.version n) then record { page = n; version = s.store.version n; bytes = s.store.bytes n } ∷ [] else [])
+-- the page as it is now
+abbrev pub stored_page : Server → (page : ℕ) → StoredPage
+stored_page server page =
+    record { page = page; version = server.store.version page; bytes = server.store.bytes page }
+
+-- the pages before `end` that a commit above the last flushed one changed, rising
+abbrev pub changed_pages : Server → (end : ℕ) → List StoredPage
+changed_pages server zero = []
+changed_pages server (suc page) =
+    changed_pages server page
+    ++ (if nat_lt server.flushed (server.store.version page) then stored_page server page ∷ []
+    else [])
 
 -- what is to be written next, if anything
 abbrev pub next_batch : Server → Option Batch
-next_batch s = if nat_lt s.flushed s.store.last_commit then Some (record { number = s.store.last_commit; pages = changed_pages s s.pages }) else None
+next_batch server =
+    if nat_lt server.flushed server.store.last_commit
+    then Some (record {
+      number = server.store.last_commit;
+      pages = changed_pages server server.pages;
+    })
+    else None

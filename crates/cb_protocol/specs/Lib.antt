@@ -21,5 +21,11 @@ pub mod Headline
 pub mod Laws
 pub mod Deadlock
 pub mod ClientAlone
-pub mod StepsLeave
+pub mod StepsKeep
 pub mod Ranges
+pub mod AskLaws
+pub mod CommitLaws
+pub mod HelloLaws
+pub mod Numbers
+pub mod Marks
+pub mod Downgrades

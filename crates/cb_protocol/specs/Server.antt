@@ -1,6 +1,6 @@
 -- The server: sessions, store, queues of asks, in-use marks, commits, and each step that it makes.
-use Rattle.std.specs.Prelude.{ℕ, ◌+◌, Bool, true, false, ◌&&◌, ◌||◌, if◌then◌else◌, ◌==◌, List, [], ◌∷◌, ◌++◌, Option, Some, None}
-use Rattle.cb_protocol.specs.Basics.{update}
+use Rattle.std.specs.Prelude.{ℕ, ◌+◌, nat_lt, Bool, true, false, ◌&&◌, ◌||◌, if◌then◌else◌, ◌==◌, List, [], ◌∷◌, ◌++◌, Option, Some, None}
+use Rattle.cb_protocol.specs.Basics.{is_exactly, update}
 use Rattle.cb_protocol.specs.Messages.{Body, PageWrite}
 use Rattle.cb_protocol.specs.Session.{Admit, ApplyCommit, BeginTransaction, DropTransaction, GrantRow, Session, SessionChange, Store, has_live_txn, session_after, store_after}
 
@@ -9,7 +9,8 @@ pub record WaitingAsk : Type 0 where
   pub client : ℕ
   pub write_grant : Option ℕ  -- none: it asks to read; else to write, by that grant
   pub called_back : Bool  -- the Callbacks for it were sent
-  pub told_tags : List ℕ  -- the permissions, by tag, for which a Downgrade was sent for it
+  -- the tag of the last permission for which a Downgrade was sent for it
+  pub downgrade_sent : Option ℕ
 
 -- a commit that was applied
 pub record AppliedCommit : Type 0 where
@@ -19,18 +20,26 @@ pub record AppliedCommit : Type 0 where
   pub number : ℕ
   pub writes : List PageWrite
 
+-- the server; each client's and each page's part by its number
 pub record Server : Type 0 where
   pub store : Store
   pub session : ℕ → Session  -- of each client
   pub queue : ℕ → List WaitingAsk  -- of each page, in order of arrival
-  pub in_use : ℕ → ℕ → Bool  -- the client said that its transaction reads the page, when it was called back (TODS 1997)
+  -- the client said that its transaction reads the page, when it was called back (TODS 1997)
+  pub in_use : ℕ → ℕ → Bool
   pub doomed : ℕ → Bool  -- the client's current transaction is the victim of a deadlock
-  pub outcome : ℕ → Option ℕ  -- the commit number of the client's current transaction, if it ended by a commit
+  -- the commit number of the client's current transaction, if it ended by a commit
+  pub outcome : ℕ → Option ℕ
   pub next_grant : ℕ  -- the next grant's number, over all clients and pages
   pub commits : List AppliedCommit  -- the newest first
   pub flushed : ℕ  -- the number of the last commit that is on disk
   pub clients : ℕ
   pub pages : ℕ
+
+-- A test that a client lies on a cycle of waits, as the server is. Who is picked as the victim of a
+-- deadlock is left to it.
+abbrev pub DeadlockTest : Type 0
+DeadlockTest = Server → ℕ → Bool
 
 -- One step of the server. A message makes it do a list of steps, in order.
 pub data ServerStep : Type 0 where
@@ -39,7 +48,7 @@ pub data ServerStep : Type 0 where
   EnterQueue : (page : ℕ) → WaitingAsk → ServerStep  -- an ask goes to the end of the queue
   LeaveQueue : (page : ℕ) → ServerStep  -- the first ask leaves
   MarkCalledBack : (page : ℕ) → ServerStep  -- the Callbacks for the first ask were sent
-  MarkTold : (page tag : ℕ) → ServerStep  -- a Downgrade for it was sent
+  MarkDowngradeSent : (page tag : ℕ) → ServerStep  -- a Downgrade for it was sent
   MarkInUse : (client page : ℕ) → ServerStep
   UnmarkInUse : (client page : ℕ) → ServerStep
   RemoveAsk : (client : ℕ) → ServerStep  -- the client's ask goes, wherever it waits
@@ -47,94 +56,134 @@ pub data ServerStep : Type 0 where
   ForgetTransaction : (client : ℕ) → ServerStep  -- the client's ask, marks and doom go
   SetFlushed : (number : ℕ) → ServerStep
 
--- the queue without its first ask; without the asks of client c
+-- the queue without its first ask; without the asks of a client
 abbrev pub after_first : List WaitingAsk → List WaitingAsk
 after_first [] = []
-after_first (a ∷ q) = q
+after_first (ask ∷ queue) = queue
 
 abbrev pub without_client : ℕ → List WaitingAsk → List WaitingAsk
-without_client c [] = []
-without_client c (a ∷ q) = if a.client == c then without_client c q else a ∷ without_client c q
+without_client client [] = []
+without_client client (ask ∷ queue) =
+    if ask.client == client then without_client client queue
+    else ask ∷ without_client client queue
 
--- the first ask is noted as called back; as told of a tag
+-- the first ask is noted as called back; the Downgrade of a tag as sent for it
 abbrev pub set_called_back : List WaitingAsk → List WaitingAsk
 set_called_back [] = []
-set_called_back (a ∷ q) = record a { called_back = true } ∷ q
+set_called_back (ask ∷ queue) = record ask { called_back = true } ∷ queue
 
-abbrev pub add_told : ℕ → List WaitingAsk → List WaitingAsk
-add_told t [] = []
-add_told t (a ∷ q) = record a { told_tags = t ∷ a.told_tags } ∷ q
+abbrev pub set_downgrade_sent : ℕ → List WaitingAsk → List WaitingAsk
+set_downgrade_sent tag [] = []
+set_downgrade_sent tag (ask ∷ queue) = record ask { downgrade_sent = Some tag } ∷ queue
 
--- the in-use marks with one set or taken off; without those of client c
+-- the in-use marks with that of a client on a page set or taken off; without those of a client
 abbrev pub set_in_use : (ℕ → ℕ → Bool) → ℕ → ℕ → Bool → ℕ → ℕ → Bool
-set_in_use f c p b d q = if d == c then (if q == p then b else f d q) else f d q
+set_in_use marks client page marked at_client at_page =
+    if (at_client == client) && (at_page == page) then marked else marks at_client at_page
 
 abbrev pub without_marks : (ℕ → ℕ → Bool) → ℕ → ℕ → ℕ → Bool
-without_marks f c d q = if d == c then false else f d q
+without_marks marks client at_client at_page =
+    if at_client == client then false else marks at_client at_page
 
 -- what a change makes of the next grant number, of its client's outcome and of the list of commits
 abbrev pub next_grant_after : ℕ → SessionChange → ℕ
-next_grant_after n (GrantRow p g) = n + 1
-next_grant_after n _ = n
+next_grant_after next_grant (GrantRow page grant) = next_grant + 1
+next_grant_after next_grant _ = next_grant
 
-abbrev pub outcome_after : Option ℕ → ℕ → SessionChange → Option ℕ
-outcome_after o n (Admit i) = None
-outcome_after o n (BeginTransaction x) = None
-outcome_after o n (DropTransaction x) = None
-outcome_after o n (ApplyCommit x ws) = Some (n + 1)
-outcome_after o n _ = o
+abbrev pub outcome_after : Option ℕ → (last_commit : ℕ) → SessionChange → Option ℕ
+outcome_after outcome last_commit (Admit incarnation) = None
+outcome_after outcome last_commit (BeginTransaction txn) = None
+outcome_after outcome last_commit (DropTransaction txn) = None
+outcome_after outcome last_commit (ApplyCommit txn writes) = Some (last_commit + 1)
+outcome_after outcome last_commit _ = outcome
 
-abbrev pub commits_after : List AppliedCommit → ℕ → ℕ → ℕ → SessionChange → List AppliedCommit
-commits_after cs c i n (ApplyCommit x ws) = record { client = c; incarnation = i; txn = x; number = n + 1; writes = ws } ∷ cs
-commits_after cs c i n _ = cs
+abbrev pub commits_after : List AppliedCommit → ℕ → ℕ → (last_commit : ℕ) → SessionChange
+    → List AppliedCommit
+commits_after commits client incarnation last_commit (ApplyCommit txn writes) =
+    record {
+      client = client;
+      incarnation = incarnation;
+      txn = txn;
+      number = last_commit + 1;
+      writes = writes;
+    } ∷ commits
+commits_after commits client incarnation last_commit _ = commits
 
 -- the server after a step
 abbrev pub after_server_step : Server → ServerStep → Server
-after_server_step s (ChangeSession c m) = record s {
-  store = store_after s.store c (s.session c) m;
-  session = update s.session c (session_after (s.session c) m);
-  next_grant = next_grant_after s.next_grant m;
-  outcome = update s.outcome c (outcome_after (s.outcome c) s.store.last_commit m);
-  commits = commits_after s.commits c (s.session c).current s.store.last_commit m;
+after_server_step server (ChangeSession client change) = let session = server.session client in
+    record server {
+      store = store_after server.store client session change;
+      session = update server.session client (session_after session change);
+      next_grant = next_grant_after server.next_grant change;
+      outcome = update server.outcome client
+          (outcome_after (server.outcome client) server.store.last_commit change);
+      commits = commits_after server.commits client session.current server.store.last_commit change;
+    }
+after_server_step server (Send client incarnation body) = server
+after_server_step server (EnterQueue page ask) =
+    record server { queue = update server.queue page (server.queue page ++ ask ∷ []) }
+after_server_step server (LeaveQueue page) =
+    record server { queue = update server.queue page (after_first (server.queue page)) }
+after_server_step server (MarkCalledBack page) =
+    record server { queue = update server.queue page (set_called_back (server.queue page)) }
+after_server_step server (MarkDowngradeSent page tag) =
+    record server { queue = update server.queue page (set_downgrade_sent tag (server.queue page)) }
+after_server_step server (MarkInUse client page) =
+    record server { in_use = set_in_use server.in_use client page true }
+after_server_step server (UnmarkInUse client page) =
+    record server { in_use = set_in_use server.in_use client page false }
+after_server_step server (RemoveAsk client) =
+    record server { queue = λ page. without_client client (server.queue page) }
+after_server_step server (Doom client) =
+    record server { doomed = update server.doomed client true }
+after_server_step server (ForgetTransaction client) = record server {
+  queue = λ page. without_client client (server.queue page);
+  in_use = without_marks server.in_use client;
+  doomed = update server.doomed client false;
 }
-after_server_step s (Send c i b) = s
-after_server_step s (EnterQueue p a) = record s { queue = update s.queue p (s.queue p ++ a ∷ []) }
-after_server_step s (LeaveQueue p) = record s { queue = update s.queue p (after_first (s.queue p)) }
-after_server_step s (MarkCalledBack p) = record s { queue = update s.queue p (set_called_back (s.queue p)) }
-after_server_step s (MarkTold p t) = record s { queue = update s.queue p (add_told t (s.queue p)) }
-after_server_step s (MarkInUse c p) = record s { in_use = set_in_use s.in_use c p true }
-after_server_step s (UnmarkInUse c p) = record s { in_use = set_in_use s.in_use c p false }
-after_server_step s (RemoveAsk c) = record s { queue = λ p. without_client c (s.queue p) }
-after_server_step s (Doom c) = record s { doomed = update s.doomed c true }
-after_server_step s (ForgetTransaction c) = record s { queue = λ p. without_client c (s.queue p); in_use = without_marks s.in_use c; doomed = update s.doomed c false }
-after_server_step s (SetFlushed n) = record s { flushed = n }
+after_server_step server (SetFlushed number) = record server { flushed = number }
 
 -- the server after these steps
 abbrev pub server_after : Server → List ServerStep → Server
-server_after s [] = s
-server_after s (d ∷ ds) = server_after (after_server_step s d) ds
+server_after server [] = server
+server_after server (step ∷ steps) = server_after (after_server_step server step) steps
 
 -- a server over a store, all of which is on disk; no client is known
-abbrev pub new_server : ℕ → ℕ → Store → Server
-new_server clients pages s = record {
-  store = s;
-  session = λ c. record { current = 0; row = λ p. None; txn = 0; ended = 0 };
-  queue = λ p. [];
-  in_use = λ c p. false;
-  doomed = λ c. false;
-  outcome = λ c. None;
+abbrev pub new_server : (clients pages : ℕ) → Store → Server
+new_server clients pages store = record {
+  store = store;
+  session = λ client. record { current = 0; row = λ page. None; txn = 0; ended = 0 };
+  queue = λ page. [];
+  in_use = λ client page. false;
+  doomed = λ client. false;
+  outcome = λ client. None;
   next_grant = 1;
   commits = [];
-  flushed = s.last_commit;
+  flushed = store.last_commit;
   clients = clients;
   pages = pages;
 }
 
--- an ask of client c waits in the queue
+-- an ask of the client waits in the queue
 abbrev pub has_ask : ℕ → List WaitingAsk → Bool
-has_ask c [] = false
-has_ask c (a ∷ q) = (a.client == c) || has_ask c q
+has_ask client [] = false
+has_ask client (ask ∷ queue) = (ask.client == client) || has_ask client queue
 
--- client c's permission for the page is of its live transaction, so not merely kept
+-- the client's permission for the page is of its live transaction, so not merely kept
 abbrev pub is_live_permission : Server → ℕ → ℕ → Bool
-is_live_permission s c p = has_live_txn (s.session c) && (s.store.tag p == (s.session c).txn)
+is_live_permission server client page =
+    has_live_txn (server.session client)
+    && (server.store.tag page == (server.session client).txn)
+
+-- the client's row of the page has this grant
+abbrev pub has_row : Server → ℕ → ℕ → ℕ → Bool
+has_row server client page grant = is_exactly ((server.session client).row page) grant
+
+-- the client is the page's write holder
+abbrev pub is_write_holder : Server → ℕ → ℕ → Bool
+is_write_holder server client page = is_exactly (server.store.holder page) client
+
+-- that transaction of the client has not ended
+abbrev pub has_not_ended : Server → ℕ → ℕ → Bool
+has_not_ended server client txn = nat_lt (server.session client).ended txn

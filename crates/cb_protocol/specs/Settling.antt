@@ -1,120 +1,165 @@
--- Settling a page: who is next in its queue gets what it asks for, or those in its way are called back, or its client is doomed.
--- `cycle s c` is the test that client c lies on a cycle of waits.
+-- Settling a page: who is next in its queue gets what it asks for, or those in its way are called
+-- back, or its client is doomed (callback locking: TODS 1997; when each is done is this project's
+-- rule). `cycle server client` is the test that the client lies on a cycle of waits.
 use Rattle.std.specs.Prelude.{ℕ, ◌+◌, length, Bool, true, false, not, ◌&&◌, ◌||◌, if◌then◌else◌, ◌==◌, List, [], ◌∷◌, ◌++◌, Option, Some, None, zero, suc}
 use Rattle.cb_protocol.specs.Basics.{is_exactly, is_none}
 use Rattle.cb_protocol.specs.Messages.{AbortNow, Body, Callback, Downgrade, Granted, MayWrite}
-use Rattle.cb_protocol.specs.Server.{ChangeSession, Doom, LeaveQueue, MarkCalledBack, MarkTold, RemoveAsk, Send, Server, ServerStep, WaitingAsk, is_live_permission, server_after}
+use Rattle.cb_protocol.specs.Server.{DeadlockTest, ChangeSession, Doom, LeaveQueue, MarkCalledBack, MarkDowngradeSent, RemoveAsk, Send, Server, ServerStep, WaitingAsk, has_row, is_live_permission, server_after}
 use Rattle.cb_protocol.specs.Session.{GrantRow, PermitWrite}
 
 -- a message to a client, at its current incarnation
 abbrev pub send_to : Server → ℕ → Body → ServerStep
-send_to s c b = Send c (s.session c).current b
+send_to server client body = Send client (server.session client).current body
 
 -- the page as it is now, by that grant
 abbrev pub send_granted : Server → ℕ → ℕ → ℕ → ServerStep
-send_granted s c p g = send_to s c (Granted p g (s.store.version p) (s.store.bytes p))
+send_granted server client page grant =
+    send_to server client (Granted page grant (server.store.version page) (server.store.bytes page))
 
--- nobody but c is write holder
+-- the client becomes write holder, for its present transaction, and hears so
+abbrev pub give_permission : Server → ℕ → ℕ → ℕ → List ServerStep
+give_permission server client page grant =
+    ChangeSession client (PermitWrite page grant)
+    ∷ send_to server client (MayWrite (server.session client).txn page grant) ∷ []
+
+-- nobody but the asker is write holder
 abbrev pub no_other_holder : Option ℕ → ℕ → Bool
-no_other_holder None c = true
-no_other_holder (Some d) c = d == c
+no_other_holder None asker = true
+no_other_holder (Some holder) asker = holder == asker
 
--- of the clients below n none but c has a row of page p
-abbrev pub sole_row : Server → ℕ → ℕ → ℕ → Bool
-sole_row s p c zero = true
-sole_row s p c (suc n) = sole_row s p c n && ((n == c) || is_none ((s.session n).row p))
+-- of the clients before `end` none but the asker has a row of the page
+abbrev pub sole_row : Server → ℕ → ℕ → (end : ℕ) → Bool
+sole_row server page asker zero = true
+sole_row server page asker (suc client) =
+    sole_row server page asker client
+    && ((client == asker) || is_none ((server.session client).row page))
 
--- a Callback to client d, if it has a row
+-- a Callback to the client, if it has a row
 abbrev pub send_callback : Server → ℕ → ℕ → Option ℕ → List ServerStep
-send_callback s d p None = []
-send_callback s d p (Some g) = send_to s d (Callback p g) ∷ []
+send_callback server client page None = []
+send_callback server client page (Some grant) = send_to server client (Callback page grant) ∷ []
 
--- Callbacks to all rows of other clients than c, by rising client, save those left out
-abbrev pub send_callbacks : Server → (ℕ → Bool) → ℕ → ℕ → ℕ → List ServerStep
-send_callbacks s skip p c zero = []
-send_callbacks s skip p c (suc n) = send_callbacks s skip p c n ++ (if (n == c) || skip n then [] else send_callback s n p ((s.session n).row p))
+-- Callbacks to all rows of other clients than the asker, by rising client, save those left out
+abbrev pub send_callbacks : Server → (ℕ → Bool) → ℕ → ℕ → (end : ℕ) → List ServerStep
+send_callbacks server left_out page asker zero = []
+send_callbacks server left_out page asker (suc client) =
+    send_callbacks server left_out page asker client
+    ++ (if (client == asker) || left_out client then []
+    else send_callback server client page ((server.session client).row page))
 
 -- nobody is left out
 abbrev pub nobody : ℕ → Bool
-nobody d = false
+nobody client = false
 
--- a Downgrade to client d, if it has a row
+-- a Downgrade to the client, if it has a row
 abbrev pub send_downgrade : Server → ℕ → ℕ → Option ℕ → List ServerStep
-send_downgrade s d p None = []
-send_downgrade s d p (Some g) = send_to s d (Downgrade p g (s.store.tag p)) ∷ []
+send_downgrade server client page None = []
+send_downgrade server client page (Some grant) =
+    send_to server client (Downgrade page grant (server.store.tag page)) ∷ []
 
--- the write holder is another client than c, and its permission is merely kept
+-- the write holder is another client than the asker, and its permission is merely kept
 abbrev pub keeps_permission : Server → ℕ → ℕ → Option ℕ → Bool
-keeps_permission s p c None = false
-keeps_permission s p c (Some d) = not (d == c) && not (is_live_permission s d p)
+keeps_permission server page asker None = false
+keeps_permission server page asker (Some holder) =
+    not (holder == asker) && not (is_live_permission server holder page)
 
 -- a Downgrade to that client, save where it is left out
 abbrev pub send_downgrades : Server → (ℕ → Bool) → ℕ → ℕ → Option ℕ → List ServerStep
-send_downgrades s skip p c None = []
-send_downgrades s skip p c (Some d) = if not (d == c) && not (is_live_permission s d p) && not (skip d) then send_downgrade s d p ((s.session d).row p) else []
+send_downgrades server left_out page asker None = []
+send_downgrades server left_out page asker (Some holder) =
+    if keeps_permission server page asker (Some holder) && not (left_out holder)
+    then send_downgrade server holder page ((server.session holder).row page) else []
 
--- the client's transaction is the victim of a deadlock: its ask goes, it is told; its permissions, rows and marks stay
+-- the client's transaction is the victim of a deadlock: its ask goes, and it hears AbortNow; its
+-- permissions, rows and marks stay
 abbrev pub doom_client : Server → ℕ → List ServerStep
-doom_client s c = RemoveAsk c ∷ Doom c ∷ send_to s c (AbortNow (s.session c).txn) ∷ []
+doom_client server client =
+    RemoveAsk client ∷ Doom client
+    ∷ send_to server client (AbortNow (server.session client).txn) ∷ []
 
--- What is done about the first ask of a page: decided, and the next ask is looked at, or the page is settled.
+-- What is done about the first ask of a page: decided, and the next ask is looked at, or the page
+-- is settled.
 pub data Decision : Type 0 where
   Settled : List ServerStep → Decision
   Decided : List ServerStep → Decision
 
 -- what is done
 abbrev pub decision_steps : Decision → List ServerStep
-decision_steps (Settled ds) = ds
-decision_steps (Decided ds) = ds
+decision_steps (Settled steps) = steps
+decision_steps (Decided steps) = steps
 
--- The ask can't be met now: its client is doomed where it lies on a cycle, else the page is settled.
-abbrev pub wait_or_doom : (Server → ℕ → Bool) → Server → ℕ → List ServerStep → Decision
-wait_or_doom cycle s c ds = if cycle (server_after s ds) c then Decided (ds ++ doom_client (server_after s ds) c) else Settled ds
+-- The ask can't be met now: after these steps its client is doomed where it lies on a cycle, else
+-- the page is settled.
+abbrev pub wait_or_doom : DeadlockTest → Server → ℕ → List ServerStep → Decision
+wait_or_doom cycle server client steps =
+    if cycle (server_after server steps) client
+    then Decided (steps ++ doom_client (server_after server steps) client) else Settled steps
 
--- the client becomes write holder and is told; the ask leaves
+-- the client becomes write holder and hears so; the ask leaves
 abbrev pub permit_write : Server → ℕ → ℕ → ℕ → List ServerStep
-permit_write s p c g = ChangeSession c (PermitWrite p g) ∷ send_to s c (MayWrite (s.session c).txn p g) ∷ LeaveQueue p ∷ []
+permit_write server page client grant =
+    give_permission server client page grant ++ LeaveQueue page ∷ []
 
 -- the client gets a row with the next grant number, and a copy; the ask leaves
 abbrev pub grant_row : Server → ℕ → ℕ → List ServerStep
-grant_row s p c = ChangeSession c (GrantRow p s.next_grant) ∷ send_granted s c p s.next_grant ∷ LeaveQueue p ∷ []
-
--- t is in the list
-abbrev pub is_listed : ℕ → List ℕ → Bool
-is_listed t [] = false
-is_listed t (x ∷ xs) = (x == t) || is_listed t xs
+grant_row server page client =
+    ChangeSession client (GrantRow page server.next_grant)
+    ∷ send_granted server client page server.next_grant ∷ LeaveQueue page ∷ []
 
 -- Callbacks to every other row, once for each ask
 abbrev pub call_back_once : Server → ℕ → WaitingAsk → List ServerStep
-call_back_once s p a = if a.called_back then [] else send_callbacks s nobody p a.client s.clients ++ MarkCalledBack p ∷ []
+call_back_once server page ask =
+    if ask.called_back then []
+    else send_callbacks server nobody page ask.client server.clients ++ MarkCalledBack page ∷ []
 
--- A Downgrade to a client that merely keeps its permission, once for each ask and tag
+-- A Downgrade to a client that merely keeps its permission, once for each ask and tag: the tags of
+-- an ask only rise, so the last one tells.
 abbrev pub downgrade_once : Server → ℕ → WaitingAsk → List ServerStep
-downgrade_once s p a = if s.store.keep_write && keeps_permission s p a.client (s.store.holder p) && not (is_listed (s.store.tag p) a.told_tags) then send_downgrades s nobody p a.client (s.store.holder p) ++ MarkTold p (s.store.tag p) ∷ [] else []
+downgrade_once server page ask =
+    if server.store.keep_write
+    && keeps_permission server page ask.client (server.store.holder page)
+    && not (is_exactly ask.downgrade_sent (server.store.tag page))
+    then send_downgrades server nobody page ask.client (server.store.holder page)
+    ++ MarkDowngradeSent page (server.store.tag page) ∷ []
+    else []
 
--- A first write ask: permitted where no other client is write holder and the only row of the page is the asker's; else the other rows are called back.
-abbrev pub decide_write : (Server → ℕ → Bool) → Server → ℕ → WaitingAsk → ℕ → Decision
-decide_write cycle s p a g =
-    if no_other_holder (s.store.holder p) a.client && is_exactly ((s.session a.client).row p) g && sole_row s p a.client s.clients
-    then Decided (permit_write s p a.client g) else wait_or_doom cycle s a.client (call_back_once s p a)
+-- A first write ask: permitted where no other client is write holder and the only row of the page
+-- is the asker's; else the other rows are called back.
+abbrev pub decide_write : DeadlockTest → Server → ℕ → WaitingAsk → ℕ → Decision
+decide_write cycle server page ask grant =
+    if no_other_holder (server.store.holder page) ask.client
+    && has_row server ask.client page grant && sole_row server page ask.client server.clients
+    then Decided (permit_write server page ask.client grant)
+    else wait_or_doom cycle server ask.client (call_back_once server page ask)
 
--- A first read ask: granted where no other client is write holder; else a kept permission is called down.
-abbrev pub decide_read : (Server → ℕ → Bool) → Server → ℕ → WaitingAsk → Decision
-decide_read cycle s p a =
-    if no_other_holder (s.store.holder p) a.client && is_none ((s.session a.client).row p)
-    then Decided (grant_row s p a.client) else wait_or_doom cycle s a.client (downgrade_once s p a)
+-- A first read ask: granted where no other client is write holder; else a kept permission is called
+-- down.
+abbrev pub decide_read : DeadlockTest → Server → ℕ → WaitingAsk → Decision
+decide_read cycle server page ask =
+    if no_other_holder (server.store.holder page) ask.client
+    && is_none ((server.session ask.client).row page)
+    then Decided (grant_row server page ask.client)
+    else wait_or_doom cycle server ask.client (downgrade_once server page ask)
 
--- the first ask of page p, by its queue
-abbrev pub decide : (Server → ℕ → Bool) → Server → ℕ → List WaitingAsk → Decision
-decide cycle s p [] = Settled []
-decide cycle s p (a ∷ q) = elim a.write_grant [ None ↦ decide_read cycle s p a | Some g ↦ decide_write cycle s p a g ]
+-- the first ask of a page, by its queue
+abbrev pub decide : DeadlockTest → Server → ℕ → List WaitingAsk → Decision
+decide cycle server page [] = Settled []
+decide cycle server page (ask ∷ queue) = elim ask.write_grant [
+  | None ↦ decide_read cycle server page ask
+  | Some grant ↦ decide_write cycle server page ask grant
+]
 
--- Settling a page, in n decisions at most: each but the last takes an ask off the queue.
-abbrev pub settle_page : (Server → ℕ → Bool) → ℕ → Server → ℕ → List ServerStep
-settle_page cycle zero s p = []
-settle_page cycle (suc n) s p = elim (decide cycle s p (s.queue p)) [ Settled ds ↦ ds | Decided ds ↦ ds ++ settle_page cycle n (server_after s ds) p ]
+-- Settling a page, in so many decisions at most: each but the last takes an ask off the queue.
+abbrev pub settle_page : DeadlockTest → (most : ℕ) → Server → ℕ → List ServerStep
+settle_page cycle zero server page = []
+settle_page cycle (suc most) server page = elim (decide cycle server page (server.queue page)) [
+  | Settled steps ↦ steps
+  | Decided steps ↦ steps ++ settle_page cycle most (server_after server steps) page
+]
 
--- settling the pages below n, rising
-abbrev pub settle_pages : (Server → ℕ → Bool) → Server → ℕ → List ServerStep
-settle_pages cycle s zero = []
-settle_pages cycle s (suc n) = let ds = settle_pages cycle s n in ds ++ settle_page cycle (length (s.queue n) + 1) (server_after s ds) n
+-- settling the pages before `end`, rising
+abbrev pub settle_pages : DeadlockTest → Server → (end : ℕ) → List ServerStep
+settle_pages cycle server zero = []
+settle_pages cycle server (suc page) =
+    let steps = settle_pages cycle server page in
+    steps ++ settle_page cycle (length (server.queue page) + 1) (server_after server steps) page

@@ -1,5 +1,6 @@
--- The world: a server, its clients, every packet that was ever sent, and what each event makes of it.
-use Rattle.std.specs.Prelude.{◌≡◌, ℕ, ◌+◌, nat_lt, nat_le, length, Bool, if◌then◌else◌, ◌==◌, List, [], ◌∷◌, ◌++◌, Option, Some, None, zero, suc, ⊤}
+-- The world: a server, its clients, every packet that was ever sent, and what each event makes of
+-- it.
+use Rattle.std.specs.Prelude.{◌≡◌, ℕ, ◌+◌, nat_lt, nat_le, length, if◌then◌else◌, ◌==◌, List, [], ◌∷◌, ◌++◌, Option, Some, None, zero, suc, ⊤}
 use Rattle.cb_protocol.specs.Answers.{AnswerWord, AnsweredOk, Exhausted, Flushed, NoClient, NoPacket, Nothing, Refused, ServerExhausted, Taken}
 use Rattle.cb_protocol.specs.Basics.{Bytes, Limits, max_number, update}
 use Rattle.cb_protocol.specs.Client.{Client, ClientStep, bodies_said, client_after, new_client}
@@ -8,19 +9,19 @@ use Rattle.cb_protocol.specs.ClientMessages.{ChoiceAllowed, client_take}
 use Rattle.cb_protocol.specs.Flush.{can_flush, server_flush}
 use Rattle.cb_protocol.specs.Messages.{Body, Message, kind, to_server}
 use Rattle.cb_protocol.specs.Resend.{server_again}
-use Rattle.cb_protocol.specs.Server.{Send, Server, ServerStep, new_server, server_after}
+use Rattle.cb_protocol.specs.Server.{DeadlockTest, Send, Server, ServerStep, new_server, server_after}
 use Rattle.cb_protocol.specs.ServerMessages.{is_exhausted, server_take}
 use Rattle.cb_protocol.specs.Session.{Store}
 
--- An event: a call of a client; a packet is taken by its addressee, any number of times and in any order; a client restarts; the server sends again;
--- commits are on disk, up to the last one or up to a given one.
+-- An event: what the environment makes happen
 pub data Event : Type 0 where
   ClientCalls : (client : ℕ) → Call → Event
+  -- a packet is taken by its addressee, any number of times and in any order
   TakePacket : (packet : ℕ) → Event
   Restart : (client : ℕ) → Event
-  ServerAgain : Event
-  FlushAll : Event
-  FlushTo : (number : ℕ) → Event
+  ServerAgain : Event  -- the server sends again
+  FlushAll : Event  -- all commits are on disk
+  FlushTo : (number : ℕ) → Event  -- the commits up to that one are
 
 -- a packet that was sent: its number, kind and client
 pub record SentPacket : Type 0 where
@@ -38,11 +39,13 @@ pub record TranscriptEntry : Type 0 where
   pub event : Event
   pub word : AnswerWord
 
+-- the server, the clients by their number, and what was sent and answered so far
 pub record World : Type 0 where
   pub server : Server
   pub client : ℕ → Client  -- the present incarnation of each
   pub incarnation : ℕ → ℕ  -- its number
-  pub packets : List Message  -- every packet that was ever sent, in order, numbered from 0; one that is never taken is lost
+  -- every packet that was ever sent, in order, numbered from 0; one that is never taken is lost
+  pub packets : List Message
   pub transcript : List TranscriptEntry  -- every event, the newest first
 
 -- a store before the first commit: its pages, their versions, and the number of its last commit
@@ -53,103 +56,178 @@ pub record Opening : Type 0 where
 
 -- it as the server's store
 abbrev pub opening_store : Limits → Opening → Store
-opening_store L o = record { holder = λ p. None; tag = λ p. 0; keep_write = L.keep_write; version = o.version; bytes = o.bytes; last_commit = o.number; commit_number = λ c i x. None }
+opening_store limits opening = record {
+  holder = λ page. None;
+  tag = λ page. 0;
+  keep_write = limits.keep_write;
+  version = opening.version;
+  bytes = opening.bytes;
+  last_commit = opening.number;
+  commit_number = λ client incarnation txn. None;
+}
 
 -- every client is at incarnation 1 and not yet welcomed, and nothing was sent
 abbrev pub new_world : Limits → Opening → World
-new_world L o = record { server = new_server L.clients L.pages (opening_store L o); client = λ c. new_client; incarnation = λ c. 1; packets = []; transcript = [] }
+new_world limits opening = record {
+  server = new_server limits.clients limits.pages (opening_store limits opening);
+  client = λ client. new_client;
+  incarnation = λ client. 1;
+  packets = [];
+  transcript = [];
+}
 
--- packet n
-abbrev pub packet_at : List Message → ℕ → Option Message
-packet_at [] n = None
-packet_at (f ∷ fs) zero = Some f
-packet_at (f ∷ fs) (suc n) = packet_at fs n
+-- the packet of that number
+abbrev pub packet_at : List Message → (packet : ℕ) → Option Message
+packet_at [] packet = None
+packet_at (message ∷ messages) zero = Some message
+packet_at (message ∷ messages) (suc packet) = packet_at messages packet
 
 -- what a client says, as messages; what the server sends in its steps
-abbrev pub messages_said : ℕ → ℕ → List Body → List Message
-messages_said c i [] = []
-messages_said c i (b ∷ bs) = record { client = c; incarnation = i; body = b } ∷ messages_said c i bs
+abbrev pub messages_said : (client incarnation : ℕ) → List Body → List Message
+messages_said client incarnation [] = []
+messages_said client incarnation (body ∷ bodies) =
+    record { client = client; incarnation = incarnation; body = body }
+    ∷ messages_said client incarnation bodies
 
 abbrev pub messages_sent : List ServerStep → List Message
 messages_sent [] = []
-messages_sent (Send c i b ∷ ds) = record { client = c; incarnation = i; body = b } ∷ messages_sent ds
-messages_sent (_ ∷ ds) = messages_sent ds
+messages_sent (Send client incarnation body ∷ steps) =
+    record { client = client; incarnation = incarnation; body = body } ∷ messages_sent steps
+messages_sent (_ ∷ steps) = messages_sent steps
 
--- the messages as packets, numbered from n
-abbrev pub numbered_from : ℕ → List Message → List SentPacket
-numbered_from n [] = []
-numbered_from n (f ∷ fs) = record { number = n; kind = kind f.body; client = f.client } ∷ numbered_from (n + 1) fs
+-- the messages as packets, numbered from there on
+abbrev pub numbered_from : (packet : ℕ) → List Message → List SentPacket
+numbered_from packet [] = []
+numbered_from packet (message ∷ messages) =
+    record { number = packet; kind = kind message.body; client = message.client }
+    ∷ numbered_from (packet + 1) messages
 
 -- an answer, and the world after it
 pub record StepResult : Type 0 where
   pub answer : Answer
   pub world : World
 
--- the event is answered by a word, these messages are sent, and the world is v otherwise
-abbrev pub answer_with : World → Event → AnswerWord → List Message → World → StepResult
-answer_with w e word fs v = record {
-  answer = record { word = word; sent = numbered_from (length w.packets) fs };
-  world = record { server = v.server; client = v.client; incarnation = v.incarnation; packets = w.packets ++ fs; transcript = record { event = e; word = word } ∷ w.transcript };
+-- the event is answered by a word, these messages are sent, and the world is `after` otherwise
+abbrev pub answer_with : World → Event → AnswerWord → List Message → (after : World) → StepResult
+answer_with before event word messages after = record {
+  answer = record { word = word; sent = numbered_from (length before.packets) messages };
+  world = record {
+    server = after.server;
+    client = after.client;
+    incarnation = after.incarnation;
+    packets = before.packets ++ messages;
+    transcript = record { event = event; word = word } ∷ before.transcript;
+  };
 }
 
--- client c makes these steps; the server does
-abbrev pub client_does : Limits → World → Event → ℕ → AnswerWord → List ClientStep → StepResult
-client_does L w e c word steps = answer_with w e word (messages_said c (w.incarnation c) (bodies_said steps)) (record w { client = update w.client c (client_after L.keep_write (w.client c) steps) })
+-- a client makes these steps; the server does
+abbrev pub client_does : Limits → World → Event → (client : ℕ) → AnswerWord → List ClientStep
+    → StepResult
+client_does limits world event client word steps =
+    answer_with world event word
+    (messages_said client (world.incarnation client) (bodies_said steps))
+    (record world {
+      client = update world.client client
+          (client_after limits.keep_write (world.client client) steps);
+    })
 
 abbrev pub server_does : World → Event → AnswerWord → List ServerStep → StepResult
-server_does w e word ds = answer_with w e word (messages_sent ds) (record w { server = server_after w.server ds })
+server_does world event word steps =
+    answer_with world event word (messages_sent steps)
+    (record world { server = server_after world.server steps })
 
 -- nothing but the answer
 abbrev pub answer_only : World → Event → AnswerWord → StepResult
-answer_only w e word = answer_with w e word [] w
+answer_only world event word = answer_with world event word [] world
 
--- A packet is taken by its addressee; one of another incarnation than the client's is ignored. `let_go`: the page that the client's pool lets go,
--- should it take in a page.
-abbrev pub deliver : Limits → (Server → ℕ → Bool) → World → Event → Message → Option ℕ → StepResult
-deliver L cycle w e f let_go =
-    if to_server f.body
-    then (if is_exhausted w.server f.client f.incarnation f.body then answer_only w e ServerExhausted
-    else server_does w e Taken (server_take cycle w.server f.client f.incarnation f.body))
-    else if f.incarnation == w.incarnation f.client then client_does L w e f.client Taken (client_take L (w.client f.client) f.body let_go)
-    else answer_only w e Taken
+-- A client takes a packet; one of another incarnation than its own is ignored. `let_go`: the page
+-- that its pool lets go, should it take in a page.
+abbrev pub deliver_to_client : Limits → World → Event → Message → (let_go : Option ℕ) → StepResult
+deliver_to_client limits world event message let_go =
+    if message.incarnation == world.incarnation message.client
+    then client_does limits world event message.client Taken
+    (client_take limits (world.client message.client) message.body let_go)
+    else answer_only world event Taken
 
--- a packet of that number, if there is one
-abbrev pub take_packet : Limits → (Server → ℕ → Bool) → World → Event → Option Message → Option ℕ → StepResult
-take_packet L cycle w e None let_go = answer_only w e NoPacket
-take_packet L cycle w e (Some f) let_go = deliver L cycle w e f let_go
+-- The server takes a packet, or refuses it where it has no number left.
+abbrev pub deliver_to_server : DeadlockTest → World → Event → Message → StepResult
+deliver_to_server cycle world event message =
+    if is_exhausted world.server message.client message.incarnation message.body
+    then answer_only world event ServerExhausted
+    else server_does world event Taken
+    (server_take cycle world.server message.client message.incarnation message.body)
+
+-- A packet is taken by its addressee.
+abbrev pub deliver : Limits → DeadlockTest → World → Event → Message → (let_go : Option ℕ)
+    → StepResult
+deliver limits cycle world event message let_go =
+    if to_server message.body then deliver_to_server cycle world event message
+    else deliver_to_client limits world event message let_go
+
+-- the packet that the event names, if there is one
+abbrev pub take_packet : Limits → DeadlockTest → World → Event → Option Message
+    → (let_go : Option ℕ) → StepResult
+take_packet limits cycle world event None let_go = answer_only world event NoPacket
+take_packet limits cycle world event (Some message) let_go =
+    deliver limits cycle world event message let_go
 
 -- the client is new, with the next incarnation; packets and server stay as they are
-abbrev pub restart_client : World → Event → ℕ → StepResult
-restart_client w e c =
-    if nat_le max_number (w.incarnation c) then answer_only w e (Refused Exhausted)
-    else answer_with w e AnsweredOk [] (record w { client = update w.client c new_client; incarnation = update w.incarnation c (w.incarnation c + 1) })
+abbrev pub restart_client : World → Event → (client : ℕ) → StepResult
+restart_client world event client =
+    if nat_le max_number (world.incarnation client) then answer_only world event (Refused Exhausted)
+    else answer_with world event AnsweredOk [] (record world {
+      client = update world.client client new_client;
+      incarnation = update world.incarnation client (world.incarnation client + 1);
+    })
 
--- the commits up to n are on disk, if that says anything new
-abbrev pub flush_up_to : World → Event → ℕ → StepResult
-flush_up_to w e n = if can_flush w.server n then server_does w e (Flushed n) (server_flush w.server n) else answer_only w e Nothing
+-- the commits up to that number are on disk, if that says anything new
+abbrev pub flush_up_to : World → Event → (number : ℕ) → StepResult
+flush_up_to world event number =
+    if can_flush world.server number
+    then server_does world event (Flushed number) (server_flush world.server number)
+    else answer_only world event Nothing
 
--- What a world answers to an event, and becomes by it. Proofs open it by the case lemmas of proofs/Cases.
-unfoldable pub step : Limits → (Server → ℕ → Bool) → World → Event → Option ℕ → StepResult
-step L cycle w (ClientCalls c x) let_go =
-    if nat_lt c L.clients then client_does L w (ClientCalls c x) c (client_call L (w.client c) x).word (client_call L (w.client c) x).steps else answer_only w (ClientCalls c x) NoClient
-step L cycle w (TakePacket n) let_go = take_packet L cycle w (TakePacket n) (packet_at w.packets n) let_go
-step L cycle w (Restart c) let_go = if nat_lt c L.clients then restart_client w (Restart c) c else answer_only w (Restart c) NoClient
-step L cycle w ServerAgain let_go = server_does w ServerAgain AnsweredOk (server_again w.server)
-step L cycle w FlushAll let_go = flush_up_to w FlushAll w.server.store.last_commit
-step L cycle w (FlushTo n) let_go = flush_up_to w (FlushTo n) n
+-- a client is called: it answers, and makes its steps
+abbrev pub call_client : Limits → World → (client : ℕ) → Call → StepResult
+call_client limits world client call =
+    let reply = client_call limits (world.client client) call in
+    client_does limits world (ClientCalls client call) client reply.word reply.steps
 
--- the law of the pool's choice, where a client takes a packet; at other events nothing is chosen
-abbrev pub MessageChoiceAllowed : Limits → World → Option Message → Option ℕ → Type 0
-MessageChoiceAllowed L w None let_go = ⊤
-MessageChoiceAllowed L w (Some f) let_go = ChoiceAllowed L (w.client f.client) f.body let_go
+-- What a world answers to an event, and becomes by it. Proofs open it by the case lemmas of
+-- proofs/Cases.
+unfoldable pub step : Limits → DeadlockTest → World → Event → (let_go : Option ℕ) → StepResult
+step limits cycle world (ClientCalls client call) let_go =
+    if nat_lt client limits.clients then call_client limits world client call
+    else answer_only world (ClientCalls client call) NoClient
+step limits cycle world (TakePacket packet) let_go =
+    take_packet limits cycle world (TakePacket packet) (packet_at world.packets packet) let_go
+step limits cycle world (Restart client) let_go =
+    if nat_lt client limits.clients then restart_client world (Restart client) client
+    else answer_only world (Restart client) NoClient
+step limits cycle world ServerAgain let_go =
+    server_does world ServerAgain AnsweredOk (server_again world.server)
+step limits cycle world FlushAll let_go =
+    flush_up_to world FlushAll world.server.store.last_commit
+step limits cycle world (FlushTo number) let_go = flush_up_to world (FlushTo number) number
 
-abbrev pub EventChoiceAllowed : Limits → World → Event → Option ℕ → Type 0
-EventChoiceAllowed L w (TakePacket n) let_go = MessageChoiceAllowed L w (packet_at w.packets n) let_go
-EventChoiceAllowed L w _ let_go = ⊤
+-- the law of the pool's choice, where a client takes a packet of its incarnation; at other events
+-- nothing is chosen
+abbrev pub MessageChoiceAllowed : Limits → World → Option Message → (let_go : Option ℕ) → Type 0
+MessageChoiceAllowed limits world None let_go = ⊤
+MessageChoiceAllowed limits world (Some message) let_go =
+    message.incarnation ≡ world.incarnation message.client
+    → ChoiceAllowed limits (world.client message.client) message.body let_go
 
--- World w answers a to event e and becomes v. Only the page that a pool lets go is left open.
-abbrev pub Becomes : Limits → (Server → ℕ → Bool) → World → Event → Answer → World → Type 0
-Becomes L cycle w e a v = (let_go : Option ℕ) × EventChoiceAllowed L w e let_go × (step L cycle w e let_go ≡ record { answer = a; world = v })
+abbrev pub EventChoiceAllowed : Limits → World → Event → (let_go : Option ℕ) → Type 0
+EventChoiceAllowed limits world (TakePacket packet) let_go =
+    MessageChoiceAllowed limits world (packet_at world.packets packet) let_go
+EventChoiceAllowed limits world _ let_go = ⊤
+
+-- A world answers an event and becomes `after`. Only the page that a pool lets go is left open.
+abbrev pub Becomes : Limits → DeadlockTest → World → Event → Answer → (after : World) → Type 0
+Becomes limits cycle world event answer after =
+    (let_go : Option ℕ) × EventChoiceAllowed limits world event let_go
+    × (step limits cycle world event let_go ≡ record { answer = answer; world = after })
 
 -- an event, its answer, and the world after it
 pub record Moment : Type 0 where
@@ -158,11 +236,13 @@ pub record Moment : Type 0 where
   pub world : World
 
 -- a run: each world is what the one before it becomes
-abbrev pub Plays : Limits → (Server → ℕ → Bool) → World → List Moment → Type 0
-Plays L cycle w [] = ⊤
-Plays L cycle w (m ∷ ms) = Becomes L cycle w m.event m.answer m.world × Plays L cycle m.world ms
+abbrev pub Plays : Limits → DeadlockTest → World → List Moment → Type 0
+Plays limits cycle world [] = ⊤
+Plays limits cycle world (moment ∷ moments) =
+    Becomes limits cycle world moment.event moment.answer moment.world
+    × Plays limits cycle moment.world moments
 
 -- the world after a run
 abbrev pub world_after : World → List Moment → World
-world_after w [] = w
-world_after w (m ∷ ms) = world_after m.world ms
+world_after world [] = world
+world_after world (moment ∷ moments) = world_after moment.world moments

@@ -4,13 +4,13 @@ use Rattle.std.specs.Prelude.{slice_index_or}
 use Rattle.std.specs.List.{AllByRecursion}
 use Rattle.std.proofs.lemmas.List.{append-nil, map-append}
 use Rattle.cb_page.specs.Bounds.{Bounds}
-use Rattle.cb_schedule.specs.Plays.{Played, Stands, Steps}
-use Rattle.cb_schedule.specs.ProtocolEvents.{event_of, answer_of}
-use Rattle.cb_schedule.specs.ProtocolLimits.{limits_of}
-use Rattle.cb_schedule.specs.WorldState.{WorldState, Shows, opened}
-use Rattle.cb_schedule.specs.declared.event.Event.{Event}
-use Rattle.cb_schedule.specs.declared.answer.Answer.{Answer}
-use Rattle.cb_schedule.specs.declared.answer.Entry.{Entry}
+use Rattle.cb_schedule.specs.Plays.{Played, IsReached, Steps}
+use Rattle.cb_transcript.specs.ProtocolEvents.{event_of, answer_of}
+use Rattle.cb_first_client.specs.ProtocolLimits.{limits_of}
+use Rattle.cb_schedule.specs.WorldState.{WorldState, Represents, opened}
+use Rattle.cb_event.specs.declared.event.Event.{Event}
+use Rattle.cb_transcript.specs.declared.answer.Answer.{Answer}
+use Rattle.cb_transcript.specs.declared.answer.Entry.{Entry}
 use Rattle.cb_schedule.proofs.Worlds.{after_more, plays_more, promise_of, promises_more, reached_more}
 use Rattle.cb_protocol.specs.Headline.{SoundOpening}
 use Rattle.cb_protocol.specs.Laws.{ReachedWorld, WholePromise}
@@ -21,16 +21,17 @@ use Rattle.cb_protocol.specs.World as protocol
 pub record PlayedTo (w : WorldState) (es : List Event) (v : WorldState) : Type 0 where
   pub played : Played w es v.transcript
   pub limits : v.limits ≡ w.limits
+  pub opening : v.opening ≡ w.opening
   pub sound : SoundOpening (opened w)
   pub reached : ReachedWorld (limits_of w.limits) on_cycle (opened w) (protocol.world_after played.first played.moments)
-  pub shows : Shows v (protocol.world_after played.first played.moments)
+  pub represents : Represents v (protocol.world_after played.first played.moments)
 
-pub played_none : (w : WorldState) → WholePromise → w.stopped ≡ false → Stands w → PlayedTo w [] w
+pub played_none : (w : WorldState) → WholePromise → w.stopped ≡ false → IsReached w → PlayedTo w [] w
 played_none w whole ran s = record {
   played = record {
     ran = ran;
     first = s.world;
-    shows = s.shows;
+    represents = s.represents;
     moments = [];
     plays = tt;
     first_promise = promise_of (limits_of w.limits) (opened w) s.world whole s.sound s.reached;
@@ -42,16 +43,17 @@ played_none w whole ran s = record {
     transcript = sym (append-nil w.transcript);
   };
   limits = refl;
+  opening = refl;
   sound = s.sound;
   reached = s.reached;
-  shows = s.shows;
+  represents = s.represents;
 }
 
 pub played_more : (w : WorldState) (es : List Event) (u : WorldState) (e : Event) (a : Answer) (v : WorldState) → WholePromise → PlayedTo w es u → Steps u e a v → PlayedTo w (es ++ e ∷ []) v
 played_more w es u e a v whole p s =
     let o = opened w in
     let end = protocol.world_after p.played.first p.played.moments in
-    let next = s.becomes end p.shows in
+    let next = s.becomes end p.represents in
     let becomes : protocol.Becomes (limits_of w.limits) on_cycle end (event_of e) (answer_of a) next.0
     = subst (λ (l : Bounds). protocol.Becomes (limits_of l) on_cycle end (event_of e) (answer_of a) next.0) p.limits next.1 in
     let reached = reached_more (limits_of w.limits) o end next.0 (event_of e) (answer_of a) p.reached becomes in
@@ -63,7 +65,7 @@ played_more w es u e a v whole p s =
       played = record {
         ran = p.played.ran;
         first = p.played.first;
-        shows = p.played.shows;
+        represents = p.played.represents;
         moments = p.played.moments ++ m ∷ [];
         plays = plays_more (limits_of w.limits) p.played.first p.played.moments m p.played.plays becomes;
         first_promise = p.played.first_promise;
@@ -76,9 +78,10 @@ played_more w es u e a v whole p s =
         transcript = s.transcript ∙ ap (λ (xs : List Entry). xs ++ one ∷ []) p.played.transcript ∙ append_assoc w.transcript p.played.added (one ∷ []);
       };
       limits = s.limits ∙ p.limits;
+      opening = s.opening ∙ p.opening;
       sound = p.sound;
       reached = subst (λ (x : protocol.World). ReachedWorld (limits_of w.limits) on_cycle o x) (sym last) reached;
-      shows = subst (λ (x : protocol.World). Shows v x) (sym last) next.2;
+      represents = subst (λ (x : protocol.World). Represents v x) (sym last) next.2;
     }
 
 -- what was told is what the last world tells

@@ -1,26 +1,26 @@
 -- A world of the protocol, event by event: it stays reached from the opening store, which stays what it was.
-use Rattle.std.proofs.Common.{◌≡◌, ℕ, ◌+◌, Bool, true, false, List, [], ◌∷◌, ◌++◌, length, map, refl, ap, sym, ◌∙◌, subst, suc, ◌≤◌, nat_lt, arith}
+use Rattle.std.proofs.Common.{◌≡◌, ℕ, ◌+◌, Bool, true, false, List, [], ◌∷◌, ◌++◌, length, map, refl, ap, sym, ◌∙◌, subst, suc, ◌≤◌, nat_lt, take, Result, Ok, Err, OnErr, arith}
 use Rattle.std.specs.Prelude.{reverse}
 use Rattle.std.specs.List.{AllByRecursion}
-use Rattle.std.proofs.lemmas.List.{get_or_past, map-append, reverse-append}
+use Rattle.std.proofs.lemmas.List.{get_or_past, take_at, map-append, reverse-append}
 use Rattle.std.proofs.lemmas.List.Elements.{All-get_or}
 use Rattle.std.proofs.lemmas.Bool.Decides.{nat_tests}
 use Rattle.cb_page.specs.Bounds.{Bounds}
 use Rattle.cb_commit.specs.Stores.{IsSound, IsStored, StoreState, no_page, version_at}
-use Rattle.cb_schedule.specs.NetMoves as net
-use Rattle.cb_schedule.specs.Plays.{IsSpelled, IsWorld, Stands, Steps}
-use Rattle.cb_schedule.specs.ProtocolEvents.{event_of, answer_of, word_of, sent_of, entry_of, transcript_of}
-use Rattle.cb_schedule.specs.ProtocolLimits.{limits_of}
-use Rattle.cb_schedule.specs.ServerState.{ServerState, server_of}
-use Rattle.cb_schedule.specs.Wire.{AllSpell}
-use Rattle.cb_schedule.specs.WorldState.{NetState, WorldState, Shows, ShowsNet, opened, opening_of}
-use Rattle.cb_schedule.specs.declared.event.Event.{Event}
-use Rattle.cb_schedule.specs.declared.answer.Answer.{Answer}
-use Rattle.cb_schedule.specs.declared.answer.Sent.{Sent}
-use Rattle.cb_schedule.specs.declared.answer.Entry.{Entry}
-use Rattle.cb_schedule.proofs.Nets.{spell_length}
+use Rattle.cb_first_net.specs.NetMoves as net
+use Rattle.cb_schedule.specs.Plays.{IsSpelled, IsWorld, IsReached, Steps}
+use Rattle.cb_transcript.specs.ProtocolEvents.{event_of, answer_of, word_of, sent_of, entry_of, transcript_of}
+use Rattle.cb_first_client.specs.ProtocolLimits.{limits_of}
+use Rattle.cb_first_server.specs.ServerState.{ServerState, server_of}
+use Rattle.cb_first_net.specs.Wire.{AllSpell}
+use Rattle.cb_first_net.specs.NetState.{NetState, RepresentsNet, opening_of}
+use Rattle.cb_schedule.specs.WorldState.{IsRepresented, WorldState, Represents, opened}
+use Rattle.cb_event.specs.declared.event.Event.{Event}
+use Rattle.cb_transcript.specs.declared.answer.Answer.{Answer}
+use Rattle.cb_transcript.specs.declared.answer.Sent.{Sent}
+use Rattle.cb_transcript.specs.declared.answer.Entry.{Entry}
+use Rattle.cb_first_net.proofs.Nets.{spell_length}
 use Rattle.cb_schedule.proofs.SameFrames.{packets_more, all_spelled}
-use Rattle.cb_protocol.specs.AnyMessages.{Ledger}
 use Rattle.cb_protocol.specs.Basics.{Limits}
 use Rattle.cb_protocol.specs.Headline.{Promise, Promises, SoundOpening}
 use Rattle.cb_protocol.specs.Laws.{ReachedWorld, WholePromise}
@@ -61,13 +61,6 @@ reached_more L o w v e a r b =
       after_more (protocol.new_world L o) r.0 m,
     )
 
--- no commit is applied, so the store is the opening store
-opening_same : (s : ServerState) (o : protocol.Opening) → Ledger o (server_of s) → opening_of s.store ≡ o
-opening_same s o l = λ i. record { bytes = λ p. l.bytes p i; version = λ p. l.version p i; number = l.numbered i }
-
-pub opening_kept : (n : NetState) (o : protocol.Opening) (w : protocol.World) → ShowsNet n w → Promise o w → opening_of n.server.store ≡ o
-opening_kept n o w sh p = opening_same n.server o (subst (λ (s : Server). Ledger o s) sh.server p.ledger)
-
 -- the protocol's world after the event
 abbrev After : protocol.World → protocol.Event → Answer → List Message → protocol.World → protocol.World
 After w e a fs u = (protocol.answer_with w e (word_of a.word) fs u).world
@@ -85,8 +78,8 @@ sent_length (s ∷ ss) = ap suc (sent_length ss)
 
 -- What an event makes of the net it makes of the world, as the protocol has it.
 pub net_becomes : (w v : WorldState) (e : Event) (a : Answer) (u : protocol.World) → w.net.limits ≡ w.limits
-    → net.Becomes w.net (event_of e) a v.net → v.transcript ≡ w.transcript ++ record { event = e; answer = a } ∷ [] → Shows w u
-    → (x : protocol.World) × protocol.Becomes (limits_of w.limits) on_cycle u (event_of e) (answer_of a) x × Shows v x
+    → net.NetBecomes w.net (event_of e) a v.net → v.transcript ≡ w.transcript ++ record { event = e; answer = a } ∷ [] → Represents w u
+    → (x : protocol.World) × protocol.Becomes (limits_of w.limits) on_cycle u (event_of e) (answer_of a) x × Represents v x
 net_becomes w v e a u l b t sh =
     let by = b.by_event u sh.net in
     let fs = by.1 in
@@ -99,7 +92,7 @@ net_becomes w v e a u l b t sh =
     )
 
 -- The packets are the old ones and as many more as the answer names.
-pub packets_added : (n m : NetState) (e : protocol.Event) (a : Answer) (u : protocol.World) → net.Becomes n e a m → ShowsNet n u
+pub packets_added : (n m : NetState) (e : protocol.Event) (a : Answer) (u : protocol.World) → net.NetBecomes n e a m → RepresentsNet n u
     → (sent : List (List ℕ)) × (m.packets ≡ n.packets ++ sent) × (length sent ≡ length a.sent)
 packets_added n m e a u b sh =
     let by = b.by_event u sh in
@@ -107,51 +100,62 @@ packets_added n m e a u b sh =
     let more = packets_more n.limits n.packets m.packets u.packets fs sh.packets (subst (λ (l : Bounds). AllSpell l m.packets (u.packets ++ fs)) b.limits by.6.packets) in
     (more.0, more.1, more.2 ∙ sym (as_many (length n.packets) fs) ∙ ap length by.5 ∙ sent_length a.sent)
 
+-- Where only the packets from before an event stay, they are those of before.
+pub packets_taken_back : (n m : NetState) (e : protocol.Event) (a : Answer) → IsRepresented n → net.NetBecomes n e a m
+    → take (length n.packets) m.packets ≡ n.packets
+packets_taken_back n m e a shown b =
+    let added = packets_added n m e a shown.0 b shown.1 in
+    ap (λ (ps : List (List ℕ)). take (length n.packets) ps) added.1 ∙ take_at n.packets added.0 (length n.packets) refl
+
+pub on_err : {A E : Type 0} (r : Result A E) (P : Type 0) → P → OnErr r P
+on_err (Ok a) P p = tt
+on_err (Err e) P p = p
+
 -- A running world plays an event.
-pub steps : (w v : WorldState) (e : Event) (a : Answer) → WholePromise → Stands w → w.stopped ≡ false → v.stopped ≡ false → v.limits ≡ w.limits
-    → net.Becomes w.net (event_of e) a v.net → v.transcript ≡ w.transcript ++ record { event = e; answer = a } ∷ [] → Steps w e a v
-steps w v e a whole s ran runs l b t =
-    let next = net_becomes w v e a s.world s.limits b t s.shows in
+pub steps : (w v : WorldState) (e : Event) (a : Answer) → WholePromise → IsReached w → w.stopped ≡ false → v.stopped ≡ false → v.limits ≡ w.limits → v.opening ≡ w.opening
+    → net.NetBecomes w.net (event_of e) a v.net → v.transcript ≡ w.transcript ++ record { event = e; answer = a } ∷ [] → Steps w e a v
+steps w v e a whole s ran runs l o b t =
+    let next = net_becomes w v e a s.world s.limits b t s.represents in
     let reached = reached_more (limits_of w.limits) (opened w) s.world next.0 (event_of e) (answer_of a) s.reached next.1 in
     let promise = promise_of (limits_of w.limits) (opened w) next.0 whole s.sound reached in
     record {
       ran = ran;
       runs = runs;
       limits = l;
-      opening = opening_kept v.net (opened w) next.0 next.2.net promise;
+      opening = o;
       transcript = t;
-      packets = packets_added w.net v.net (event_of e) a s.world b s.shows.net;
+      packets = packets_added w.net v.net (event_of e) a s.world b s.represents.net;
       becomes = λ u sh. net_becomes w v e a u s.limits b t sh;
       promise = (next.0, next.2, reached, promise);
     }
 
 -- It is such a world afterwards.
-pub stands_after : (w v : WorldState) (e : Event) (a : Answer) → SoundOpening (opened w) → v.net.limits ≡ v.limits → Steps w e a v → Stands v
-stands_after w v e a sound l s = record {
+pub reached_after : (w v : WorldState) (e : Event) (a : Answer) → SoundOpening (opened w) → v.net.limits ≡ v.limits → Steps w e a v → IsReached v
+reached_after w v e a sound l s = record {
   limits = l;
-  sound = subst SoundOpening (sym s.opening) sound;
+  sound = subst SoundOpening (ap opening_of (sym s.opening)) sound;
   world = s.promise.0;
-  shows = s.promise.1;
-  reached = subst (λ (o : protocol.Opening). ReachedWorld (limits_of v.limits) on_cycle o s.promise.0) (sym s.opening) (subst (λ (m : Bounds). ReachedWorld (limits_of m) on_cycle (opened w) s.promise.0) (sym s.limits) s.promise.2);
+  represents = s.promise.1;
+  reached = subst (λ (o : protocol.Opening). ReachedWorld (limits_of v.limits) on_cycle o s.promise.0) (ap opening_of (sym s.opening)) (subst (λ (m : Bounds). ReachedWorld (limits_of m) on_cycle (opened w) s.promise.0) (sym s.limits) s.promise.2);
 }
 
 -- Its packets are spellings of frames.
-pub spelled_packets : (v : WorldState) → Stands v → AllByRecursion (IsSpelled v.limits) v.net.packets
-spelled_packets v s = subst (λ (l : Bounds). AllByRecursion (IsSpelled l) v.net.packets) s.limits (all_spelled v.net.limits v.net.packets s.world.packets s.shows.net.packets)
+pub spelled_packets : (v : WorldState) → IsReached v → AllByRecursion (IsSpelled v.limits) v.net.packets
+spelled_packets v s = subst (λ (l : Bounds). AllByRecursion (IsSpelled l) v.net.packets) s.limits (all_spelled v.net.limits v.net.packets s.world.packets s.represents.net.packets)
 
 -- The world of a store before any event.
-pub stands_at_first : (v : WorldState) (l : Bounds) (s : StoreState) → v.limits ≡ l → v.net.limits ≡ l → SoundOpening (opening_of s) → ShowsNet v.net (protocol.new_world (limits_of l) (opening_of s)) → v.transcript ≡ []
-    → (opened v ≡ opening_of s) × Shows v (protocol.new_world (limits_of l) (opening_of s)) × Stands v
-stands_at_first v l s e f sound sh t =
-    let o : opened v ≡ opening_of s = ap (λ (k : Server). record { bytes = k.store.bytes; version = k.store.version; number = k.store.last_commit }) (sym sh.server) in
-    let shows : Shows v (protocol.new_world (limits_of l) (opening_of s)) = record { net = sh; transcript = ap transcript_of (sym t) } in (
+pub reached_at_first : (v : WorldState) (l : Bounds) (s : StoreState) → v.limits ≡ l → v.net.limits ≡ l → v.opening ≡ s → SoundOpening (opening_of s) → RepresentsNet v.net (protocol.new_world (limits_of l) (opening_of s)) → v.transcript ≡ []
+    → (opened v ≡ opening_of s) × Represents v (protocol.new_world (limits_of l) (opening_of s)) × IsReached v
+reached_at_first v l s e f k sound sh t =
+    let o : opened v ≡ opening_of s = ap opening_of k in
+    let represents : Represents v (protocol.new_world (limits_of l) (opening_of s)) = record { net = sh; transcript = ap transcript_of (sym t) } in (
       o,
-      shows,
+      represents,
       record {
         limits = f ∙ sym e;
         sound = subst SoundOpening (sym o) sound;
         world = protocol.new_world (limits_of l) (opening_of s);
-        shows = shows;
+        represents = represents;
         reached = ([], tt, λ i. protocol.new_world (limits_of (e i)) (o i));
       },
     )
@@ -170,11 +174,11 @@ sound_opening s sound p = by_test (nat_lt p (length s.pages)) refl
         rw (version_at, get_or_past s.pages p no_page past) (omega arith)
 
 -- A running world that is told an event is such a world again.
-pub stepped : (w v : WorldState) (e : Event) → WholePromise → IsWorld w → w.stopped ≡ false → v.stopped ≡ false → v.limits ≡ w.limits
-    → (a : Answer) × net.Becomes w.net (event_of e) a v.net × (v.transcript ≡ w.transcript ++ record { event = e; answer = a } ∷ [])
+pub stepped : (w v : WorldState) (e : Event) → WholePromise → IsWorld w → w.stopped ≡ false → v.stopped ≡ false → v.limits ≡ w.limits → v.opening ≡ w.opening
+    → (a : Answer) × net.NetBecomes w.net (event_of e) a v.net × (v.transcript ≡ w.transcript ++ record { event = e; answer = a } ∷ [])
     → IsWorld v × ((a : Answer) × Steps w e a v)
-stepped w v e whole z ran runs l told =
-    let s = z.stands ran in
-    let one = steps w v e told.0 whole s ran runs l told.1 told.2 in
-    let after = stands_after w v e told.0 s.sound (told.1.limits ∙ s.limits ∙ sym l) one in
-    (record { packets = spelled_packets v after; stands = λ _. after }, (told.0, one))
+stepped w v e whole z ran runs l o told =
+    let s = z.running ran in
+    let one = steps w v e told.0 whole s ran runs l o told.1 told.2 in
+    let after = reached_after w v e told.0 s.sound (told.1.limits ∙ s.limits ∙ sym l) one in
+    (record { packets = spelled_packets v after; running = λ _. after }, (told.0, one))

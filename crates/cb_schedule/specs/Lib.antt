@@ -1,16 +1,2 @@
-pub mod Events
-pub mod Pieces
-pub mod Commands
-pub mod ScheduleText
-pub mod ProtocolLimits
-pub mod ServerState
-pub mod ClientState
-pub mod ClientGrants
-pub mod ClientAnswers
-pub mod Wire
-pub mod ProtocolEvents
 pub mod WorldState
-pub mod NetMoves
-pub mod Transcripts
 pub mod Plays
-pub mod FaultTexts

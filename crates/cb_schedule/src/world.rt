@@ -1,23 +1,27 @@
 //! The world: it plays events one by one, and keeps what became of each.
-ghost use Rattle.std.specs.Prelude.{◌≡◌, ◌↔◌, ℕ, ◌<◌, List, [], ◌∷◌, ◌++◌, length, take, option_copied, slice_get, true, false, IfOk, IfErr, IfSome, OnErr, IsErr, IsTrue};
+ghost use Rattle.std.specs.Prelude.{◌≡◌, ◌↔◌, ℕ, ◌<◌, List, [], ◌∷◌, ◌++◌, length, take};
+ghost use Rattle.std.specs.Prelude.{option_copied, slice_get, true, false, IfOk, IfErr, IfSome};
+ghost use Rattle.std.specs.Prelude.{OnErr, IsErr, IsTrue};
 ghost use Rattle.std.specs.List.{AllByRecursion};
 ghost use Rattle.cb_commit.specs.Stores.{IsOf};
 ghost use Rattle.cb_protocol.specs.Headline.{Promise};
 ghost use Rattle.cb_protocol.specs.World.{new_world};
-ghost use Rattle.cb_schedule.specs.Plays.{IsSpelled, Played, Stands, Steps};
-ghost use Rattle.cb_schedule.specs.ProtocolEvents.{IsPlayed};
-ghost use Rattle.cb_schedule.specs.ProtocolLimits.{limits_of};
-ghost use Rattle.cb_schedule.specs.WorldState.{Shows, opened, opening_of};
-ghost use Rattle.cb_schedule.specs.declared.answer.Answer.{Answer as AnswerState};
-ghost use Rattle.cb_schedule.specs.declared.answer.Entry.{Entry as EntryState};
+ghost use Rattle.cb_schedule.specs.Plays.{IsSpelled, Played, IsReached, Steps};
+ghost use Rattle.cb_event.specs.Events.{IsPlayed};
+ghost use Rattle.cb_first_net.specs.NetMoves.{NetBecomes};
+ghost use Rattle.cb_transcript.specs.ProtocolEvents.{event_of};
+ghost use Rattle.cb_first_client.specs.ProtocolLimits.{limits_of};
+ghost use Rattle.cb_first_net.specs.NetState.{opening_of};
+ghost use Rattle.cb_schedule.specs.WorldState.{IsRepresented, Represents, opened};
+ghost use Rattle.cb_transcript.specs.declared.answer.Answer.{Answer as AnswerState};
+ghost use Rattle.cb_transcript.specs.declared.answer.Entry.{Entry as EntryState};
 
-use crate::answer::{Answer, Entry};
-use crate::event::Event;
-use crate::net::Net;
-use crate::transcript::Transcript;
 use cb_commit::Store;
+use cb_event::Event;
+use cb_first_net::Net;
 use cb_page::Limits;
 use cb_protocol::callback_read;
+use cb_transcript::{Answer, Entry, Transcript};
 use std::alloc::{AllocError, Global};
 use std::marker::Model;
 
@@ -27,8 +31,8 @@ pub struct PlayFault {
     pub transcript: Transcript,
 }
 
-/// A server, its clients, every packet that was sent, and what became of every event. In contracts a running world is a
-/// world of the protocol, reached from the opening store.
+/// A server, its clients, every packet that was sent, and what became of every event. In contracts
+/// a running world is a world of the protocol, reached from the opening store.
 #[derive(Drop)]
 pub struct World {
     alloc: Global,
@@ -45,37 +49,52 @@ impl Model for World {
 
     ghost Value = { WorldState };
 
-    ghost view = { λ w. record { limits = w.limits; net = w.net; transcript = w.transcript.entries; stopped = w.stopped } };
+    ghost view = { λ w. record {
+      limits = w.limits;
+      net = w.net;
+      opening = w.transcript.opening;
+      transcript = w.transcript.entries;
+      stopped = w.stopped;
+    } };
 
-    ghost invariant = { λ w. IsWorld (record { limits = w.limits; net = w.net; transcript = w.transcript.entries; stopped = w.stopped }) };
+    ghost invariant = { λ w. IsWorld (record {
+      limits = w.limits;
+      net = w.net;
+      opening = w.transcript.opening;
+      transcript = w.transcript.entries;
+      stopped = w.stopped;
+    }) };
 }
 
 impl World {
-    /// The world of a store in which nothing has happened: each client at its first incarnation, and no packet. `AllocError`
-    /// only where memory was refused.
+    /// The world of a store in which nothing has happened: each client at its first incarnation,
+    /// and no packet. `AllocError` only where memory was refused.
     pub fn new(alloc: Global, limits: &Limits, store: Store) -> Result<World, AllocError>
         requires { IsOf limits.now store }
         ensures runs { IfOk result (λ w. w.stopped ≡ false) }
         ensures transcript { IfOk result (λ w. w.transcript ≡ []) }
         ensures packets { IfOk result (λ w. w.net.packets ≡ []) }
         ensures limits { IfOk result (λ w. w.limits ≡ limits.now) }
-        ensures opening { IfOk result (λ w. opened w ≡ opening_of store) }
-        ensures shows { IfOk result (λ w. Shows w (new_world (limits_of limits.now) (opening_of store))) }
-        ensures promise { IfOk result (λ w. Promise (opened w) (new_world (limits_of limits.now) (opening_of store))) }
+        ensures opening { IfOk result (λ w. w.opening ≡ store) }
+        ensures represents { IfOk result
+            (λ w. Represents w (new_world (limits_of limits.now) (opening_of store))) }
+        ensures promise { IfOk result
+            (λ w. Promise (opened w) (new_world (limits_of limits.now) (opening_of store))) }
     {
         callback_read();
         let _number = store.number();
+        let opening = store.copy(alloc)?;
         Ok(World {
             alloc,
             limits: *limits,
             net: Net::new(alloc, limits, store)?,
-            transcript: Transcript::new(alloc),
+            transcript: Transcript::new(alloc, opening),
             stopped: false,
         })
     }
 
-    /// Plays one event. `AllocError` where memory was refused: the world is stopped from then on, and each later call answers
-    /// it again.
+    /// Plays one event. `AllocError` where memory was refused: the world is stopped from then on,
+    /// and each later call answers it again.
     pub fn step(&mut self, event: Event) -> Result<Answer, AllocError>
         requires played { IsPlayed event }
         ensures ok { IfOk result (λ a. Steps self.old event a self.new) }
@@ -83,6 +102,7 @@ impl World {
         ensures kept { OnErr result (self.new.transcript ≡ self.old.transcript) }
         ensures packets { OnErr result (self.new.net.packets ≡ self.old.net.packets) }
         ensures limits { self.new.limits ≡ self.old.limits }
+        ensures opening { self.new.opening ≡ self.old.opening }
         ensures stays { self.old.stopped ≡ true → IsErr result }
     {
         let sent_before = self.net.packet_count();
@@ -96,13 +116,17 @@ impl World {
         answer
     }
 
-    /// Plays events in order until memory is refused; then the fault has what became of the events before. A stopped world
-    /// plays none.
+    /// Plays events in order until memory is refused; then the fault has what became of the events
+    /// before. A stopped world plays none.
     pub fn play(mut self, events: &[Event]) -> Result<Transcript, PlayFault>
         requires { AllByRecursion IsPlayed events.now }
-        ensures ok { IfOk result (λ told. Played self events.now told.entries) }
-        ensures fault { IfErr result (λ fault. self.stopped ≡ false → (n : ℕ) × (n < length events.now) × Played self (take n events.now) fault.transcript.entries) }
-        ensures stopped { self.stopped ≡ true → IfErr result (λ fault. fault.transcript.entries ≡ self.transcript) }
+        ensures ok { IfOk result (λ transcript. Played self events.now transcript.entries) }
+        ensures opening { IfOk result (λ transcript. transcript.opening ≡ self.opening) }
+        ensures fault_opening { IfErr result (λ fault. fault.transcript.opening ≡ self.opening) }
+        ensures fault { IfErr result (λ fault. self.stopped ≡ false → (n : ℕ)
+            × (n < length events.now) × Played self (take n events.now) fault.transcript.entries) }
+        ensures stopped { self.stopped ≡ true
+            → IfErr result (λ fault. fault.transcript.entries ≡ self.transcript) }
         ensures stays { self.stopped ≡ true → IsErr result }
     {
         callback_read();
@@ -129,6 +153,7 @@ impl World {
         ensures kept { OnErr result (self.new.transcript ≡ self.old.transcript) }
         ensures packets { OnErr result (self.new.net.packets ≡ self.old.net.packets) }
         ensures limits { self.new.limits ≡ self.old.limits }
+        ensures opening { self.new.opening ≡ self.old.opening }
         ensures stays { self.old.stopped ≡ true → IsErr result }
     {
         callback_read();
@@ -136,7 +161,7 @@ impl World {
             return Err(AllocError);
         }
         self.stopped = true;
-        self.transcript.tell(self.alloc, &mut self.net, event)?;
+        tell(self.alloc, &mut self.net, &mut self.transcript, event)?;
         self.stopped = false;
         Ok(())
     }
@@ -146,6 +171,7 @@ impl World {
         requires played { IsPlayed event.now }
         ensures ok { IfOk result (λ _. (a : AnswerState) × Steps self.old event.now a self.new) }
         ensures kept { OnErr result (self.new.transcript ≡ self.old.transcript) }
+        ensures opening { self.new.opening ≡ self.old.opening }
     {
         let event = event.copy(self.alloc)?;
         self.advance(event)
@@ -154,7 +180,7 @@ impl World {
     /// Whether no want of memory stopped the world.
     pub fn is_running(&self) -> bool
         ensures value { IsTrue result ↔ (self.now.stopped ≡ false) }
-        ensures stands { self.now.stopped ≡ false → Stands self.now }
+        ensures reached { self.now.stopped ≡ false → IsReached self.now }
     {
         !self.stopped
     }
@@ -168,12 +194,14 @@ impl World {
 
     /// What became of every event so far.
     pub fn transcript(&self) -> &Transcript
-        ensures { result.now.entries ≡ self.now.transcript }
+        ensures entries { result.now.entries ≡ self.now.transcript }
+        ensures opening { result.now.opening ≡ self.now.opening }
     {
         &self.transcript
     }
 
-    /// The bytes of the packet of that number among all that were ever sent, from 0: the frame that was sent.
+    /// The bytes of the packet of that number among all that were ever sent, from 0: the frame that
+    /// was sent.
     pub fn packet(&self, number: u64) -> Option<&[u8]>
         ensures bytes { option_copied result ≡ slice_get self.now.net.packets number }
         ensures frame { IfSome result (λ bytes. IsSpelled self.now.limits bytes.now) }
@@ -183,16 +211,64 @@ impl World {
 
     /// What became of every event.
     fn into_transcript(self) -> Transcript
-        ensures { result.entries ≡ self.transcript }
+        ensures entries { result.entries ≡ self.transcript }
+        ensures opening { result.opening ≡ self.opening }
     {
         self.transcript
     }
 }
 
+/// Plays one event at the net and tells it. Where memory is refused nothing is told, and no packet
+/// is sent; the net may have changed otherwise.
+fn tell(
+    alloc: Global,
+    net: &mut Net,
+    transcript: &mut Transcript,
+    event: Event,
+) -> Result<(), AllocError>
+    requires played { IsPlayed event }
+    requires represented { IsRepresented net.old }
+    ensures ok { IfOk result (λ _. (a : AnswerState)
+        × NetBecomes net.old (event_of event) a net.new
+        × (transcript.new.entries ≡ transcript.old.entries
+        ++ record { event = event; answer = a } ∷ [])) }
+    ensures opening { transcript.new.opening ≡ transcript.old.opening }
+    ensures kept { OnErr result (transcript.new ≡ transcript.old) }
+    ensures packets { OnErr result (net.new.packets ≡ net.old.packets) }
+{
+    let sent_before = net.packet_count();
+    let answer = net.event(alloc, &event)?;
+    let told = transcript.tell(event, answer);
+    if told.is_err() {
+        net.keep_packets(sent_before);
+    }
+    told
+}
+
 /// A copy of the last answer.
 fn last_answer(alloc: Global, entries: &[Entry]) -> Result<Answer, AllocError>
     requires { 0 < length entries.now }
-    ensures { IfOk result (λ a. (es : List EntryState) (e : EntryState) → entries.now ≡ es ++ e ∷ [] → a ≡ e.answer) }
+    ensures { IfOk result (λ a. (es : List EntryState) (e : EntryState)
+        → entries.now ≡ es ++ e ∷ [] → a ≡ e.answer) }
 {
     entries[entries.len() - 1].answer.copy(alloc)
+}
+
+/// The law of what a new world shows: it runs, under its limits, and nothing has happened.
+fn law(
+    alloc: Global,
+    limits: &Limits,
+    store: Store,
+) -> Result<(bool, Limits, usize, bool), AllocError>
+    requires { IsOf limits.now store }
+    ensures { IfOk result (λ shown. shown ≡ (true, limits.now, 0, true)) }
+{
+    let world = World::new(alloc, limits, store)?;
+    let told = world.transcript().entries().len();
+    Ok((
+        world.is_running(),
+        *world.limits(),
+        told,
+        world.packet(0).is_none(),
+    ))
 }

@@ -1,29 +1,42 @@
 //! Bodies of a kind and a length that can be.
-ghost use Rattle.std.specs.Prelude.{◌≡◌, ◌≢◌, Err, ◌≤◌, ◌+◌, ◌*◌, length, true, not, ◌∷◌, [], map};
-ghost use Rattle.std.specs.List.{list_all};
+ghost use Rattle.std.specs.Prelude.{◌≡◌, ◌≢◌, Err, ◌≤◌, ◌+◌, ◌&&◌, nat_lt, length, true};
+ghost use Rattle.std.specs.Int.{w32, w64};
+ghost use Rattle.cb_page.specs.Numbers.{is_number};
 ghost use Rattle.cb_page.specs.Faults.{first_fault};
-ghost use Rattle.cb_frame.specs.Grammar.{page_of};
 ghost use Rattle.cb_frame.specs.declared.fault.FrameFault.TheVariants as fault;
-ghost use Rattle.cb_frame.specs.Checks.{can_be_length, is_short, short_at, commit_at, granted_at, body_at, write_in, writes_at, is_write, short_numbers_fit, numbers_fit, is_rising, pages_rise, Gives, GivesInRange};
+ghost use Rattle.cb_frame.specs.Fields.{fields_fit, fields_of};
+ghost use Rattle.cb_frame.specs.Kinds.{is_short};
+ghost use Rattle.cb_frame.specs.Versions.{size_length};
+ghost use Rattle.cb_frame.specs.Checks.{body_causes, can_be_length, short_at, commit_at, granted_at, body_at, number, short_length, Gives, GivesInRange};
 
-use crate::decoding::numbers::{commit_no_at, page_at, page_grant_at, txn_at, version_at};
-use crate::{Body, FrameFault, Kind, ShortBody, Write, Writes};
-use cb_page::{Limits, Page};
+use crate::decoding::entries::{numbers_fit, pages_rise, writes_of};
+use crate::decoding::lengths::count_in;
+use crate::decoding::numbers::{
+    commit_no_at, grant_at, page_at, page_grant_at, txn_at, version_at,
+};
+use crate::{Body, FrameFault, FrameVersion, Kind, ShortBody};
+use cb_page::{GrantNo, Limits, Page, PageNo, TxnNo};
 use std::alloc::Global;
 
-/// The body, its numbers in range.
-#[tactic(auto, unfolding(crate::specs::Checks::can_be_length, crate::specs::Checks::body_at, crate::specs::Checks::numbers_fit))]
-pub fn body_of(alloc: Global, limits: &Limits, kind: Kind, body: &[u8]) -> Result<Body, FrameFault>
-    requires { can_be_length limits.now kind (length body.now) ≡ true }
+/// The body, its numbers in range and a commit's pages rising.
+#[tactic(auto, unfolding(crate::specs::Checks::can_be_length, crate::specs::Checks::body_at, crate::specs::Checks::numbers_fit, crate::specs::Checks::pages_rise))]
+pub fn body_of(
+    alloc: Global,
+    limits: &Limits,
+    version: FrameVersion,
+    kind: Kind,
+    body: &[u8],
+) -> Result<Body, FrameFault>
+    requires { can_be_length limits.now version kind (length body.now) ≡ true }
     ensures body { Gives
-        (first_fault ((not (numbers_fit limits.now (body_at limits.now kind body.now)), fault.Range) ∷ []))
-        (body_at limits.now kind body.now)
+        (first_fault (body_causes limits.now (body_at limits.now version kind body.now)))
+        (body_at limits.now version kind body.now)
         result }
     ensures memory { is_short kind ≡ true → result ≢ Err fault.Memory }
 {
     match kind {
-        Kind::Commit => commit_of(alloc, limits, body),
-        Kind::Granted => granted_of(alloc, limits, body),
+        Kind::Commit => commit_of(alloc, limits, version, body),
+        Kind::Granted => granted_of(alloc, limits, version, body),
         _ => {
             let short = short_of(limits, kind, body)?;
             Ok(Body::Short(short))
@@ -32,25 +45,23 @@ pub fn body_of(alloc: Global, limits: &Limits, kind: Kind, body: &[u8]) -> Resul
 }
 
 /// A body without page bytes.
-#[tactic(auto, unfolding(crate::specs::Checks::can_be_length, crate::specs::Checks::short_at, crate::specs::Checks::short_numbers_fit))]
+#[tactic(auto, unfolding(crate::specs::Checks::short_length, crate::specs::Checks::short_at, crate::specs::Fields::fields_fit))]
 fn short_of(limits: &Limits, kind: Kind, body: &[u8]) -> Result<ShortBody, FrameFault>
-    requires len { can_be_length limits.now kind (length body.now) ≡ true }
+    requires len { length body.now ≡ short_length kind }
     requires short { is_short kind ≡ true }
     ensures { GivesInRange
-        (short_numbers_fit limits.now (short_at kind body.now))
+        (fields_fit limits.now (fields_of (short_at kind body.now)))
         (short_at kind body.now)
         result }
 {
     match kind {
         Kind::Hello => Ok(ShortBody::Hello),
         Kind::AskRead => {
-            let txn = txn_at(body, 0)?;
-            let page = page_at(limits, body, 8)?;
+            let (txn, page) = txn_page_at(limits, body)?;
             Ok(ShortBody::AskRead { txn, page })
         }
         Kind::AskWrite => {
-            let txn = txn_at(body, 0)?;
-            let (page, grant) = page_grant_at(limits, body, 8)?;
+            let (txn, page, grant) = txn_page_grant_at(limits, body)?;
             Ok(ShortBody::AskWrite { txn, page, grant })
         }
         Kind::GiveBack => {
@@ -58,17 +69,16 @@ fn short_of(limits: &Limits, kind: Kind, body: &[u8]) -> Result<ShortBody, Frame
             Ok(ShortBody::GiveBack { page, grant })
         }
         Kind::InUse => {
-            let txn = txn_at(body, 0)?;
-            let (page, grant) = page_grant_at(limits, body, 8)?;
+            let (txn, page, grant) = txn_page_grant_at(limits, body)?;
             Ok(ShortBody::InUse { txn, page, grant })
         }
-        Kind::Drop => Ok(ShortBody::Drop {
-            txn: txn_at(body, 0)?,
-        }),
+        Kind::Drop => {
+            let txn = txn_at(body, 0)?;
+            Ok(ShortBody::Drop { txn })
+        }
         Kind::Welcome => Ok(ShortBody::Welcome),
         Kind::MayWrite => {
-            let txn = txn_at(body, 0)?;
-            let (page, grant) = page_grant_at(limits, body, 8)?;
+            let (txn, page, grant) = txn_page_grant_at(limits, body)?;
             Ok(ShortBody::MayWrite { txn, page, grant })
         }
         Kind::Callback => {
@@ -80,102 +90,104 @@ fn short_of(limits: &Limits, kind: Kind, body: &[u8]) -> Result<ShortBody, Frame
             let number = commit_no_at(body, 8)?;
             Ok(ShortBody::Done { txn, number })
         }
-        Kind::AbortNow => Ok(ShortBody::AbortNow {
-            txn: txn_at(body, 0)?,
-        }),
+        Kind::AbortNow => {
+            let txn = txn_at(body, 0)?;
+            Ok(ShortBody::AbortNow { txn })
+        }
+        Kind::Downgraded => {
+            let (page, grant, txn) = page_grant_txn_at(limits, body)?;
+            Ok(ShortBody::Downgraded { page, grant, txn })
+        }
+        Kind::Downgrade => {
+            let (page, grant, txn) = page_grant_txn_at(limits, body)?;
+            Ok(ShortBody::Downgrade { page, grant, txn })
+        }
         Kind::Commit | Kind::Granted => unreachable!(),
     }
 }
 
-#[tactic(auto, unfolding(crate::specs::Checks::can_be_length, crate::specs::Checks::numbers_fit))]
-fn commit_of(alloc: Global, limits: &Limits, body: &[u8]) -> Result<Body, FrameFault>
-    requires { can_be_length limits.now Kind.Commit (length body.now) ≡ true }
-    ensures { Gives
-        (first_fault ((not (numbers_fit limits.now (commit_at limits.now.page_size body.now)), fault.Range) ∷ []))
-        (commit_at limits.now.page_size body.now)
+fn txn_page_at(limits: &Limits, body: &[u8]) -> Result<(TxnNo, PageNo), FrameFault>
+    requires { 12 ≤ length body.now }
+    ensures { let txn = number w64 0 body.now in let page = number w32 8 body.now in
+        GivesInRange (is_number txn && nat_lt page limits.now.pages) (txn, page) result }
+{
+    let txn = txn_at(body, 0)?;
+    let page = page_at(limits, body, 8)?;
+    Ok((txn, page))
+}
+
+fn txn_page_grant_at(limits: &Limits, body: &[u8]) -> Result<(TxnNo, PageNo, GrantNo), FrameFault>
+    requires { 20 ≤ length body.now }
+    ensures { let txn = number w64 0 body.now in let page = number w32 8 body.now in
+        let grant = number w64 12 body.now in
+        GivesInRange
+        (is_number txn && (nat_lt page limits.now.pages && is_number grant))
+        (txn, page, grant)
         result }
 {
     let txn = txn_at(body, 0)?;
-    let count = (body.len() - 10) / (14 + limits.page_size());
-    let writes = writes_of(alloc, limits, count, &body[10..])?;
+    let (page, grant) = page_grant_at(limits, body, 8)?;
+    Ok((txn, page, grant))
+}
+
+fn page_grant_txn_at(limits: &Limits, body: &[u8]) -> Result<(PageNo, GrantNo, TxnNo), FrameFault>
+    requires { 20 ≤ length body.now }
+    ensures { let page = number w32 0 body.now in let grant = number w64 4 body.now in
+        let txn = number w64 12 body.now in
+        GivesInRange
+        (nat_lt page limits.now.pages && (is_number grant && is_number txn))
+        (page, grant, txn)
+        result }
+{
+    let page = page_at(limits, body, 0)?;
+    let grant = grant_at(body, 4)?;
+    let txn = txn_at(body, 12)?;
+    Ok((page, grant, txn))
+}
+
+/// All numbers, and then the order of the pages, are looked at before the first growth.
+#[tactic(auto, unfolding(crate::specs::Checks::can_be_length, crate::specs::Checks::numbers_fit, crate::specs::Checks::pages_rise))]
+fn commit_of(
+    alloc: Global,
+    limits: &Limits,
+    version: FrameVersion,
+    body: &[u8],
+) -> Result<Body, FrameFault>
+    requires { can_be_length limits.now version Kind.Commit (length body.now) ≡ true }
+    ensures { let commit = commit_at version limits.now.page_size body.now in
+        Gives (first_fault (body_causes limits.now commit)) commit result }
+{
+    let txn = txn_at(body, 0)?;
+    let count = count_in(version, limits.page_size(), body.len());
+    let entries = &body[10..];
+    if !numbers_fit(limits, version, count, entries) {
+        return Err(FrameFault::Range);
+    }
+    if !pages_rise(limits, version, count, entries) {
+        return Err(FrameFault::Order);
+    }
+    let writes = writes_of(alloc, limits, version, count, entries)?;
     Ok(Body::Commit { txn, writes })
 }
 
-#[tactic(auto, unfolding(crate::specs::Checks::numbers_fit))]
-fn granted_of(alloc: Global, limits: &Limits, body: &[u8]) -> Result<Body, FrameFault>
-    requires { length body.now ≡ 22 + limits.now.page_size }
-    ensures { Gives
-        (first_fault ((not (numbers_fit limits.now (granted_at limits.now.page_size body.now)), fault.Range) ∷ []))
-        (granted_at limits.now.page_size body.now)
-        result }
+#[tactic(auto, unfolding(crate::specs::Checks::numbers_fit, crate::specs::Checks::pages_rise))]
+fn granted_of(
+    alloc: Global,
+    limits: &Limits,
+    version: FrameVersion,
+    body: &[u8],
+) -> Result<Body, FrameFault>
+    requires { length body.now ≡ 20 + size_length version + limits.now.page_size }
+    ensures { let granted = granted_at version limits.now.page_size body.now in
+        Gives (first_fault (body_causes limits.now granted)) granted result }
 {
     let (page, grant) = page_grant_at(limits, body, 0)?;
-    let version = version_at(body, 12)?;
-    let bytes = Page::copy_of(alloc, &body[22..])?;
+    let page_version = version_at(body, 12)?;
+    let bytes = Page::copy_of(alloc, &body[20 + version.size_length()..])?;
     Ok(Body::Granted {
         page,
         grant,
-        version,
+        version: page_version,
         bytes,
     })
-}
-
-/// The pages of a commit, their numbers in range.
-fn writes_of(
-    alloc: Global,
-    limits: &Limits,
-    count: usize,
-    entries: &[u8],
-) -> Result<Writes, FrameFault>
-    requires { length entries.now ≡ count * (14 + limits.now.page_size) }
-    ensures { let writes = writes_at limits.now.page_size count entries.now in
-        Gives (first_fault ((not (list_all (is_write limits.now) writes), fault.Range) ∷ [])) writes result }
-{
-    let size = 14 + limits.page_size();
-    let mut writes = Vec::with_capacity(alloc, count)?;
-    let mut rest = entries;
-    for _ in 0..count {
-        let write = write_of(alloc, limits, rest)?;
-        writes.push_reserved(write);
-        let (_, after) = rest.split_at(size);
-        rest = after;
-    }
-    Ok(Writes::from_vec(writes))
-}
-
-fn write_of(alloc: Global, limits: &Limits, entry: &[u8]) -> Result<Write, FrameFault>
-    requires { 14 + limits.now.page_size ≤ length entry.now }
-    ensures { Gives
-        (first_fault ((not (is_write limits.now (write_in limits.now.page_size entry.now)), fault.Range) ∷ []))
-        (write_in limits.now.page_size entry.now)
-        result }
-{
-    let (page, grant) = page_grant_at(limits, entry, 0)?;
-    let bytes = Page::copy_of(alloc, &entry[14..14 + limits.page_size()])?;
-    Ok(Write { page, grant, bytes })
-}
-
-/// Whether a commit's pages rise.
-#[tactic(auto, unfolding(crate::specs::Checks::pages_rise))]
-pub fn pages_rise(body: &Body) -> bool
-    ensures { result ≡ pages_rise body.now }
-{
-    match body {
-        Body::Commit { writes, .. } => is_rising(writes.as_slice()),
-        _ => true,
-    }
-}
-
-fn is_rising(writes: &[Write]) -> bool
-    ensures { result ≡ is_rising (map page_of writes.now) }
-{
-    let mut least = 0;
-    for write in writes {
-        let page = write.page.get();
-        if page < least {
-            return false;
-        }
-        least = page + 1;
-    }
-    true
 }

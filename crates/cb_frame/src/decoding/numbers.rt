@@ -1,10 +1,12 @@
 //! Numbers at places of the input, their highest byte first.
-ghost use Rattle.std.specs.Prelude.{◌≡◌, ◌+◌, ◌^◌, ◌≤◌, ◌&&◌, length, nat_lt};
+ghost use Rattle.std.specs.Prelude.{◌≡◌, ◌+◌, ◌≤◌, ◌&&◌, length, nat_lt};
 ghost use Rattle.std.specs.Int.{w16, w32, w64};
-ghost use Rattle.cb_frame.specs.Checks.{number, is_number, GivesInRange};
+ghost use Rattle.cb_page.specs.Numbers.{is_number, is_version};
+ghost use Rattle.cb_frame.specs.Checks.{number, GivesInRange};
+ghost use Rattle.cb_frame.specs.Versions.{size_length, size_width};
 
-use crate::FrameFault;
-use cb_page::{CommitNo, GrantNo, Limits, PageNo, TxnNo, Version};
+use crate::{FrameFault, FrameVersion};
+use cb_page::{CommitNo, GrantNo, Limits, MAX_NUMBER, PageNo, TxnNo, Version};
 
 #[tactic(auto, unfolding(crate::specs::Checks::number))]
 pub fn u16_at(bytes: &[u8], at: usize) -> u16
@@ -35,71 +37,57 @@ pub fn u64_at(bytes: &[u8], at: usize) -> u64
     ])
 }
 
+/// The size before a page's bytes.
+pub fn size_at(version: FrameVersion, bytes: &[u8], at: usize) -> usize
+    requires { at + size_length version ≤ length bytes.now }
+    ensures { result ≡ number (size_width version) at bytes.now }
+{
+    match version {
+        FrameVersion::One => usize::from(u16_at(bytes, at)),
+        FrameVersion::Two => u32_at(bytes, at) as usize,
+    }
+}
+
 /// Whether a grant, a transaction, an incarnation or a commit can have this number.
 pub fn is_number(n: u64) -> bool
     ensures { result ≡ is_number n }
 {
-    1 <= n && n < 1 << 62
+    1 <= n && n <= MAX_NUMBER
 }
 
 pub fn txn_at(bytes: &[u8], at: usize) -> Result<TxnNo, FrameFault>
     requires { at + 8 ≤ length bytes.now }
     ensures { let n = number w64 at bytes.now in GivesInRange (is_number n) n result }
 {
-    let n = u64_at(bytes, at);
-    if is_number(n) {
-        Ok(TxnNo::new(n))
-    } else {
-        Err(FrameFault::Range)
-    }
+    TxnNo::checked(u64_at(bytes, at)).ok_or(FrameFault::Range)
 }
 
 pub fn commit_no_at(bytes: &[u8], at: usize) -> Result<CommitNo, FrameFault>
     requires { at + 8 ≤ length bytes.now }
     ensures { let n = number w64 at bytes.now in GivesInRange (is_number n) n result }
 {
-    let n = u64_at(bytes, at);
-    if is_number(n) {
-        Ok(CommitNo::new(n))
-    } else {
-        Err(FrameFault::Range)
-    }
+    CommitNo::checked(u64_at(bytes, at)).ok_or(FrameFault::Range)
 }
 
 pub fn version_at(bytes: &[u8], at: usize) -> Result<Version, FrameFault>
     requires { at + 8 ≤ length bytes.now }
-    ensures { let n = number w64 at bytes.now in GivesInRange (nat_lt n (2 ^ 62)) n result }
+    ensures { let n = number w64 at bytes.now in GivesInRange (is_version n) n result }
 {
-    let n = u64_at(bytes, at);
-    if n < 1 << 62 {
-        Ok(Version::new(n))
-    } else {
-        Err(FrameFault::Range)
-    }
+    Version::checked(u64_at(bytes, at)).ok_or(FrameFault::Range)
 }
 
-fn grant_at(bytes: &[u8], at: usize) -> Result<GrantNo, FrameFault>
+pub fn grant_at(bytes: &[u8], at: usize) -> Result<GrantNo, FrameFault>
     requires { at + 8 ≤ length bytes.now }
     ensures { let n = number w64 at bytes.now in GivesInRange (is_number n) n result }
 {
-    let n = u64_at(bytes, at);
-    if is_number(n) {
-        Ok(GrantNo::new(n))
-    } else {
-        Err(FrameFault::Range)
-    }
+    GrantNo::checked(u64_at(bytes, at)).ok_or(FrameFault::Range)
 }
 
 pub fn page_at(limits: &Limits, bytes: &[u8], at: usize) -> Result<PageNo, FrameFault>
     requires { at + 4 ≤ length bytes.now }
     ensures { let n = number w32 at bytes.now in GivesInRange (nat_lt n limits.now.pages) n result }
 {
-    let n = u32_at(bytes, at);
-    if limits.has_page(n) {
-        Ok(PageNo::new(n))
-    } else {
-        Err(FrameFault::Range)
-    }
+    PageNo::in_store(limits, u64::from(u32_at(bytes, at))).ok_or(FrameFault::Range)
 }
 
 /// A page and its grant.

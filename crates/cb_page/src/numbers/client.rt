@@ -1,5 +1,5 @@
 //! Numbers of clients.
-ghost use Rattle.std.specs.Prelude.{◌≡◌, ℕ, ◌<◌, ◌↔◌, IsSome, IfSome};
+ghost use Rattle.std.specs.Prelude.{◌≡◌, ℕ, ◌<◌, ◌↔◌, nat_lt, if◌then◌else◌, Some, None, IsSome, IfSome};
 ghost use Rattle.cb_page.specs.Bounds.{AreInRange};
 
 use crate::Limits;
@@ -60,4 +60,14 @@ impl ClientNo {
     {
         usize::from(self.value)
     }
+}
+
+/// The law of these calls: a number from outside that is one of the store's gives itself, as a
+/// place too.
+fn law(limits: &Limits, value: u64) -> Option<(u16, usize)>
+    ensures { result ≡ (if nat_lt value limits.now.clients then Some (value, value) else None) }
+{
+    let number = ClientNo::in_store(limits, value)?;
+    let same = ClientNo::new(number.get());
+    Some((same.get(), same.index()))
 }

@@ -1,9 +1,8 @@
 //! Numbers of commits.
-ghost use Rattle.std.specs.Prelude.{◌≡◌, ℕ, ◌^◌, ◌+◌, ◌<◌, ◌≤◌, ◌↔◌, IsSome, IfSome};
-ghost use Rattle.cb_page.specs.Numbers.{IsNumber};
+ghost use Rattle.std.specs.Prelude.{◌≡◌, ℕ, ◌+◌, ◌≤◌, ◌↔◌, nat_lt, if◌then◌else◌, Some, None, IsSome, IfSome};
+ghost use Rattle.cb_page.specs.Numbers.{IsNumber, is_number, max_number};
 
-use crate::Version;
-use crate::numbers::NUMBER_END;
+use crate::{MAX_NUMBER, Version};
 use std::marker::Model;
 
 /// The number of a commit, in the order in which the server applied them.
@@ -17,7 +16,7 @@ impl Model for CommitNo {
 
     ghost view = { λ a. a.value };
 
-    ghost invariant = { λ a. (1 ≤ a.value) × (a.value < 2 ^ 62) };
+    ghost invariant = { λ a. (1 ≤ a.value) × (a.value ≤ max_number) };
 
     ghost inverse = { λ n. record { value = n } };
 }
@@ -26,7 +25,7 @@ impl CommitNo {
     /// A number that is known to be in range.
     pub fn new(value: u64) -> CommitNo
         requires least { 1 ≤ value }
-        requires greatest { value < 2 ^ 62 }
+        requires greatest { value ≤ max_number }
         ensures { result ≡ value }
     {
         CommitNo { value }
@@ -37,7 +36,7 @@ impl CommitNo {
         ensures value { IfSome result (λ n. n ≡ value) }
         ensures succeeds { IsSome result ↔ IsNumber value }
     {
-        if 1 <= value && value < NUMBER_END {
+        if 1 <= value && value <= MAX_NUMBER {
             Some(CommitNo { value })
         } else {
             None
@@ -48,7 +47,7 @@ impl CommitNo {
     pub fn get(self) -> u64
         ensures value { result ≡ self }
         ensures least { 1 ≤ result }
-        ensures greatest { result < 2 ^ 62 }
+        ensures greatest { result ≤ max_number }
     {
         self.value
     }
@@ -56,7 +55,7 @@ impl CommitNo {
     /// The next commit's number; `None` where all numbers are used up.
     pub fn next(self) -> Option<CommitNo>
         ensures value { IfSome result (λ n. n ≡ self + 1) }
-        ensures succeeds { IsSome result ↔ (self + 1 < 2 ^ 62) }
+        ensures succeeds { IsSome result ↔ (self + 1 ≤ max_number) }
     {
         CommitNo::checked(self.value + 1)
     }
@@ -67,4 +66,17 @@ impl CommitNo {
     {
         Version::new(self.value)
     }
+}
+
+/// The law of these calls: a number from outside that is in range gives itself, the next one, and
+/// the version of its pages.
+fn law(value: u64) -> Option<(u64, Option<CommitNo>, u64)>
+    ensures { result ≡
+        (if is_number value
+        then Some (value, (if nat_lt value max_number then Some (value + 1) else None), value)
+        else None) }
+{
+    let number = CommitNo::checked(value)?;
+    let same = CommitNo::new(number.get());
+    Some((same.get(), same.next(), same.version().get()))
 }

@@ -1,7 +1,8 @@
 //! Versions of pages.
-ghost use Rattle.std.specs.Prelude.{◌≡◌, ℕ, ◌^◌, ◌<◌, ◌↔◌, IsSome, IfSome};
+ghost use Rattle.std.specs.Prelude.{◌≡◌, ℕ, ◌≤◌, ◌↔◌, if◌then◌else◌, Some, None, IsSome, IfSome};
+ghost use Rattle.cb_page.specs.Numbers.{is_version, max_number};
 
-use crate::numbers::NUMBER_END;
+use crate::MAX_NUMBER;
 use std::marker::Model;
 
 /// The version of a page: the number of the commit that wrote it last, and 0 before any did.
@@ -15,7 +16,7 @@ impl Model for Version {
 
     ghost view = { λ a. a.value };
 
-    ghost invariant = { λ a. a.value < 2 ^ 62 };
+    ghost invariant = { λ a. a.value ≤ max_number };
 
     ghost inverse = { λ n. record { value = n } };
 }
@@ -23,7 +24,7 @@ impl Model for Version {
 impl Version {
     /// A version that is known to be in range.
     pub fn new(value: u64) -> Version
-        requires { value < 2 ^ 62 }
+        requires { value ≤ max_number }
         ensures { result ≡ value }
     {
         Version { value }
@@ -32,9 +33,9 @@ impl Version {
     /// A version from outside; `None` where it is too great.
     pub fn checked(value: u64) -> Option<Version>
         ensures value { IfSome result (λ n. n ≡ value) }
-        ensures succeeds { IsSome result ↔ (value < 2 ^ 62) }
+        ensures succeeds { IsSome result ↔ (value ≤ max_number) }
     {
-        if value < NUMBER_END {
+        if value <= MAX_NUMBER {
             Some(Version { value })
         } else {
             None
@@ -44,8 +45,16 @@ impl Version {
     /// The plain number.
     pub fn get(self) -> u64
         ensures value { result ≡ self }
-        ensures greatest { result < 2 ^ 62 }
+        ensures greatest { result ≤ max_number }
     {
         self.value
     }
+}
+
+/// The law of these calls: a version from outside that is in range gives itself.
+fn law(value: u64) -> Option<u64>
+    ensures { result ≡ (if is_version value then Some value else None) }
+{
+    let version = Version::checked(value)?;
+    Some(Version::new(version.get()).get())
 }

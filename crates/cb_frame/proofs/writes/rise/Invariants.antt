@@ -1,5 +1,6 @@
 use Rattle.std.proofs.Common.{◌↔◌, drop, map}
-use Rattle.cb_frame.specs.Grammar.{page_of, RisesFrom, IsRising}
+use Rattle.cb_page.specs.Rising.{RisesFrom, IsRising}
+use Rattle.cb_frame.specs.Grammar.{page_of}
 use Rattle.cb_frame.proofs.writes.rise.Given as goal
 
 -- what is left decides

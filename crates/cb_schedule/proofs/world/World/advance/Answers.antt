@@ -5,9 +5,9 @@ use Rattle.cb_schedule.proofs.Worlds.{stepped}
 use Rattle.cb_schedule.proofs.world.World.advance.Goals as goal
 
 pub invariant_of-self-2 : goal.invariant_of-self-2
-invariant_of-self-2 c = (stepped _ _ c.args.event c.callback_read.ensures.promise c.self.invariant c.if-self.false refl refl c.in_ok-tell.ensures.ok).0
+invariant_of-self-2 c = (stepped _ _ c.args.event c.callback_read.ensures.promise c.self.invariant c.if-self.false refl refl c.tell.ensures.opening c.in_ok-tell.ensures.ok).0
 
 pub returns-clause-ok : goal.returns-clause-ok
 returns-clause-ok c =
-    let one = (stepped _ (record { limits = c.self.inside.limits; net = c.tell.new.net; transcript = c.tell.new.self.entries; stopped = false }) c.args.event c.callback_read.ensures.promise c.self.invariant c.if-self.false refl refl c.in_ok-tell.ensures.ok).1 in
-    (one.0, subst (λ (w : WorldState). Steps w c.args.event one.0 (record { limits = c.self.inside.limits; net = c.tell.new.net; transcript = c.tell.new.self.entries; stopped = false })) c.self.view_is one.1)
+    let one = (stepped _ (record { limits = c.self.inside.limits; net = c.tell.new.net; opening = c.tell.new.transcript.opening; transcript = c.tell.new.transcript.entries; stopped = false }) c.args.event c.callback_read.ensures.promise c.self.invariant c.if-self.false refl refl c.tell.ensures.opening c.in_ok-tell.ensures.ok).1 in
+    (one.0, subst (λ (w : WorldState). Steps w c.args.event one.0 (record { limits = c.self.inside.limits; net = c.tell.new.net; opening = c.tell.new.transcript.opening; transcript = c.tell.new.transcript.entries; stopped = false })) c.self.view_is one.1)

@@ -1,7 +1,7 @@
 use Rattle.std.proofs.Common.{◌≡◌, length, take, ap, subst, ◌∙◌, List, arith}
 use Rattle.std.proofs.lemmas.List.{take_more}
 use Rattle.std.proofs.Math.Seq.{take-length}
-use Rattle.cb_schedule.specs.declared.event.Event.{Event}
+use Rattle.cb_event.specs.declared.event.Event.{Event}
 use Rattle.cb_schedule.specs.Plays.{Played}
 use Rattle.cb_schedule.proofs.Playing.{played_none, played_more, played_end}
 use Rattle.cb_schedule.proofs.world.World.play.Goals as goal
@@ -9,13 +9,13 @@ use Rattle.cb_schedule.proofs.world.World.play.Goals as goal
 pub loop-event-init : goal.loop-event-init
 loop-event-init c =
     let ran = c.is_running.ensures.value.0 c.if-not-is_running.false in
-    record { played = played_none c.args.self c.callback_read.ensures.promise ran (c.is_running.ensures.stands ran) }
+    record { played = played_none c.args.self c.callback_read.ensures.promise ran (c.is_running.ensures.reached ran) }
 
 pub returns-in_default-clause-fault : goal.returns-in_default-clause-fault
 returns-in_default-clause-fault c = λ ran. (
   c.loop-event.event-index,
   c.loop-event-test.true,
-  played_end c.args.self _ c.loop-event.self _ c.loop-event.invariant.played (c.into_transcript-in_default.ensures ∙ c.in_default.ensures.kept),
+  played_end c.args.self _ c.loop-event.self _ c.loop-event.invariant.played (c.into_transcript-in_default.ensures.entries ∙ c.in_default.ensures.kept),
 )
 
 pub loop-event-preserved : goal.loop-event-preserved
@@ -31,4 +31,4 @@ returns-clause-ok c =
     let events = c.args.events.now in
     let whole : c.loop-event.event-index ≡ length events = omega arith in
     subst (λ (es : List Event). Played c.args.self es c.into_transcript-2.result.entries) (ap (λ n. take n events) whole ∙ take-length events)
-    (played_end c.args.self _ c.loop-event.self _ c.loop-event.invariant.played c.into_transcript-2.ensures)
+    (played_end c.args.self _ c.loop-event.self _ c.loop-event.invariant.played c.into_transcript-2.ensures.entries)

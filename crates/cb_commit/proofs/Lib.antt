@@ -1,0 +1,4 @@
+pub mod Rewriting
+pub mod Changed
+pub mod Folding
+pub mod Fitting

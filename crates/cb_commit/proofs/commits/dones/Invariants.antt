@@ -1,0 +1,6 @@
+use Rattle.std.proofs.Common.{◌≡◌, take, map}
+use Rattle.cb_commit.specs.History.{done_of}
+use Rattle.cb_commit.proofs.commits.dones.Given as goal
+
+abbrev pub invariant-loop-commit : goal.invariant-loop-commit
+invariant-loop-commit l = l.frames.items ≡ map done_of (take l.commit-index l.commits)

@@ -1,0 +1,232 @@
+//! The commits of a server.
+ghost use Rattle.std.specs.Prelude.{◌≡◌, ℕ, ◌+◌, ◌^◌, ◌<◌, ◌≤◌, ◌↔◌, ◌&&◌, nat_lt, List, map, Bool, length, IsTrue, IsSome, IfSome, IfOk, OnOk, OnErr};
+ghost use Rattle.std.specs.List.{All};
+ghost use Rattle.cb_page.specs.Flags.{has};
+ghost use Rattle.cb_commit.specs.Stores.{IsOf, version_at};
+ghost use Rattle.cb_commit.specs.Changes.{marked};
+ghost use Rattle.cb_commit.specs.Batches.{changed_below};
+ghost use Rattle.cb_commit.specs.History.{AreCommits, CanFlush, CatchesUp, FitsInto, applied, begun, done_of, dones_between, next_batch};
+
+use crate::{Batch, BatchPage, Commit, Store};
+use cb_frame::{Frame, Writes};
+use cb_page::{ClientNo, CommitNo, Incarnation, Limits, Page, PageSet, TxnNo};
+use std::alloc::{AllocError, Global};
+use std::marker::Model;
+
+/// A page store, the commits that made it from its opening state, and the number of the last commit on disk.
+///
+/// Commit numbers go on from the opening store's. The commits are kept for good.
+#[derive(Debug, Drop)]
+pub struct Commits {
+    opening: Store,
+    store: Store,
+    commits: Vec<Commit>,
+    flushed: u64,
+    /// The pages whose last commit isn't on disk yet.
+    changed: PageSet,
+}
+
+impl Model for Commits {
+    ghost use Rattle.std.specs.Prelude.{◌≡◌, length};
+    ghost use Rattle.cb_commit.specs.History.{CommitsState, AreCommits};
+    ghost use Rattle.cb_commit.specs.Changes.{AreChanged};
+
+    ghost Value = { CommitsState };
+
+    ghost view = { λ c. record { opening = c.opening; store = c.store; commits = c.commits.items; flushed = c.flushed } };
+
+    ghost invariant = { λ c. AreCommits (record { opening = c.opening; store = c.store; commits = c.commits.items; flushed = c.flushed })
+        × AreChanged c.flushed c.store.pages c.changed };
+}
+
+impl Commits {
+    /// No commits yet, over a store of these limits; what the store opens with counts as on disk.
+    ///
+    /// It copies the store. `AllocError` only where memory was refused.
+    pub fn new(alloc: Global, limits: &Limits, store: Store) -> Result<Commits, AllocError>
+        requires { IsOf limits.now store }
+        ensures { IfOk result (λ commits. commits ≡ begun store) }
+    {
+        let opening = store.copy(alloc)?;
+        let changed = PageSet::new(alloc, limits.pages() as usize)?;
+        Ok(Commits {
+            flushed: store.number(),
+            opening,
+            store,
+            commits: Vec::new(alloc),
+            changed,
+        })
+    }
+
+    /// The number that the next commit gets; `None` where all numbers are used up.
+    pub fn next_number(&self) -> Option<CommitNo>
+        ensures value { IfSome result (λ number. number ≡ self.now.store.number + 1) }
+        ensures succeeds { IsSome result ↔ (self.now.store.number + 1 < 2 ^ 62) }
+    {
+        CommitNo::checked(self.store.number() + 1)
+    }
+
+    /// Adds a commit, writes it over the store, and answers its number. The list keeps the pages that are handed in.
+    ///
+    /// `AllocError` only where memory was refused.
+    pub fn apply(
+        &mut self,
+        client: ClientNo,
+        incarnation: Incarnation,
+        txn: TxnNo,
+        writes: Writes,
+    ) -> Result<CommitNo, AllocError>
+        requires number { self.old.store.number + 1 < 2 ^ 62 }
+        requires fit { FitsInto self.old.store writes }
+        ensures number { IfOk result (λ number. number ≡ self.old.store.number + 1) }
+        ensures ok { OnOk result (self.new ≡ applied self.old (record {
+          client = client;
+          incarnation = incarnation;
+          txn = txn;
+          number = self.old.store.number + 1;
+          writes = writes;
+        })) }
+        ensures err { OnErr result (self.new ≡ self.old) }
+    {
+        self.commits.reserve(1)?;
+        let number = CommitNo::new(self.store.number() + 1);
+        self.store.write(number, writes.as_slice());
+        mark(&mut self.changed, &writes);
+        self.commits.push_reserved(Commit {
+            client,
+            incarnation,
+            txn,
+            number,
+            writes,
+        });
+        Ok(number)
+    }
+
+    /// What is to be written to disk next: each page that a commit changed which isn't on disk yet, as it is now; `None`
+    /// where every commit is on disk. It costs no more than those pages.
+    ///
+    /// `AllocError` only where memory was refused.
+    pub fn batch(&self, alloc: Global) -> Result<Option<Batch>, AllocError>
+        ensures batch { IfOk result (λ batch. batch ≡ next_batch self.now) }
+        ensures catches_up { IfOk result (λ batch. IfSome batch (CatchesUp self.now)) }
+        ensures can_flush { IfOk result (λ batch. IfSome batch (λ b. CanFlush self.now b.number)) }
+    {
+        if self.flushed == self.store.number() {
+            return Ok(None);
+        }
+        let number = CommitNo::new(self.store.number());
+        let pages = self.changed_pages(alloc)?;
+        Ok(Some(Batch::new(number, pages)))
+    }
+
+    /// Whether that commit was made and isn't on disk yet.
+    pub fn can_flush(&self, number: CommitNo) -> bool
+        ensures { IsTrue result ↔ CanFlush self.now number }
+    {
+        self.flushed < number.get() && number.get() <= self.store.number()
+    }
+
+    /// The commits up to this number are on disk now: a Done for each that wasn't before, in order.
+    ///
+    /// `AllocError` only where memory was refused.
+    pub fn flushed(&mut self, alloc: Global, number: CommitNo) -> Result<Vec<Frame>, AllocError>
+        requires { CanFlush self.old number }
+        ensures dones { IfOk result (λ frames. frames.items ≡ dones_between self.old.flushed number self.old.commits) }
+        ensures ok { OnOk result (self.new ≡ record self.old { flushed = number }) }
+        ensures err { OnErr result (self.new ≡ self.old) }
+    {
+        let opening = self.opening.number();
+        let from = (self.flushed - opening) as usize;
+        let to = (number.get() - opening) as usize;
+        let frames = dones(alloc, &self.commits[from..to])?;
+        unmark(&mut self.changed, &self.store, number);
+        self.flushed = number.get();
+        Ok(frames)
+    }
+
+    /// The store that was opened with.
+    pub fn opening(&self) -> &Store
+        ensures value { result.now ≡ self.now.opening }
+        ensures sound { AreCommits self.now }
+    {
+        &self.opening
+    }
+
+    /// The store with all commits in it.
+    pub fn store(&self) -> &Store
+        ensures value { result.now ≡ self.now.store }
+        ensures sound { AreCommits self.now }
+    {
+        &self.store
+    }
+
+    /// All commits, the first one first.
+    pub fn committed(&self) -> &[Commit]
+        ensures value { result.now ≡ self.now.commits }
+        ensures sound { AreCommits self.now }
+    {
+        self.commits.as_slice()
+    }
+
+    /// The number of the last commit on disk, or the opening store's before any.
+    pub fn last_flushed(&self) -> u64
+        ensures value { result ≡ self.now.flushed }
+        ensures sound { AreCommits self.now }
+    {
+        self.flushed
+    }
+
+    fn changed_pages(&self, alloc: Global) -> Result<Vec<BatchPage>, AllocError>
+        ensures { IfOk result (λ pages. pages.items
+            ≡ changed_below self.now.flushed self.now.store.pages (length self.now.store.pages)) }
+    {
+        let mut pages = Vec::new(alloc);
+        let mut from = 0;
+        while let Some(page) = self.changed.next(from) {
+            pages.push(BatchPage {
+                page,
+                version: self.store.version(page),
+                bytes: Page::copy_of(alloc, self.store.bytes(page))?,
+            })?;
+            from = page.index() + 1;
+        }
+        Ok(pages)
+    }
+}
+
+/// The Dones of these commits.
+fn dones(alloc: Global, commits: &[Commit]) -> Result<Vec<Frame>, AllocError>
+    ensures { IfOk result (λ frames. frames.items ≡ map done_of commits.now) }
+{
+    let mut frames = Vec::with_capacity(alloc, commits.len())?;
+    for commit in commits {
+        frames.push(commit.done())?;
+    }
+    Ok(frames)
+}
+
+/// Puts the pages of a commit in.
+#[tactic(auto, using(crate::proofs::Rewriting::marked_push))]
+fn mark(changed: &mut PageSet, writes: &Writes)
+    requires { All (λ w. w.page < length changed.old) writes.now }
+    ensures { changed.new ≡ marked changed.old writes.now }
+{
+    for write in writes.as_slice() {
+        changed.insert(write.page);
+    }
+}
+
+/// Takes the pages out whose last commit is on disk once this one is.
+fn unmark(changed: &mut PageSet, store: &Store, number: CommitNo)
+    requires { length changed.old ≡ length store.now.pages }
+    ensures size { length changed.new ≡ length changed.old }
+    ensures flags { (p : ℕ) → has changed.new p ≡ (has changed.old p && nat_lt number (version_at store.now p)) }
+{
+    let mut from = 0;
+    while let Some(page) = changed.next(from) {
+        if store.version(page).get() <= number.get() {
+            changed.remove(page);
+        }
+        from = page.index() + 1;
+    }
+}

@@ -1,0 +1,2 @@
+mod PlayedEvents
+mod TextLemmas

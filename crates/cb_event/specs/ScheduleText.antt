@@ -1,0 +1,135 @@
+-- Which texts are schedules, the events that they mean, and the fault of any other text. This
+-- project's rules.
+use Rattle.std.specs.Prelude.{
+  ◌≡◌,
+  ℕ,
+  ◌+◌,
+  ◌<◌,
+  ◌≤◌,
+  Bool,
+  true,
+  not,
+  ◌&&◌,
+  ◌==◌,
+  nat_le,
+  List,
+  [],
+  ◌∷◌,
+  ◌++◌,
+  length,
+  map,
+  take,
+  Option,
+  Some,
+  None,
+  is_some,
+  Result,
+  Ok,
+  Err,
+  IsSome,
+  if◌then◌else◌,
+  slice_index,
+  slice_index_or,
+}
+use Rattle.std.specs.List.{list_all, filter_map}
+use Rattle.std.specs.Option.{option_map}
+use Rattle.cb_page.specs.Bounds.{Bounds}
+use Rattle.cb_page.specs.Faults.{first_fault}
+use Rattle.cb_event.specs.Commands.{Argument, command_of, arguments_of, event_of, are_in_range}
+use Rattle.cb_pieces.specs.Pieces.{lines_of, words_of, is_text, is_number, number_of}
+use Rattle.cb_event.specs.declared.command.Command.{Command}
+use Rattle.cb_event.specs.declared.event.Event.{Event}
+use Rattle.cb_event.specs.declared.text.ScheduleFault.{ScheduleFault}
+use Rattle.cb_event.specs.declared.text.ScheduleFault.TheVariants as fault
+
+-- whether a line with this first word is a comment, which is skipped: it begins with #
+abbrev pub is_comment : List ℕ → Bool
+is_comment first = slice_index first 0 == 35
+
+-- the event that the words of a line mean, if the line has no fault: none of an empty line and of a
+-- comment
+abbrev pub event_of_words : List (List ℕ) → Option Event
+event_of_words [] = None
+event_of_words (first ∷ rest) =
+    if is_comment first then None
+    else option_map (λ command. event_of command (map number_of rest)) (command_of first)
+
+abbrev pub event_of_line : List ℕ → Option Event
+event_of_line line = event_of_words (words_of line)
+
+-- the faults of the words behind a command, each behind the test of its cause, lowest first
+abbrev pub argument_causes : Bounds → ℕ → List Argument → List (List ℕ)
+    → List (Bool × ScheduleFault)
+argument_causes limits number wanted words =
+    (not (length words == length wanted), fault.Count number)
+    ∷ (not (list_all is_number words), fault.Number number)
+    ∷ (not (are_in_range limits wanted (map number_of words)), fault.Range number)
+    ∷ []
+
+-- the faults of a line behind its first word, if that is a command
+abbrev pub command_causes : Bounds → ℕ → Option Command → List (List ℕ)
+    → List (Bool × ScheduleFault)
+command_causes limits number None rest = (true, fault.Word number) ∷ []
+command_causes limits number (Some command) rest =
+    argument_causes limits number (arguments_of command) rest
+
+-- the faults of a line's words: an empty line and a comment have none
+abbrev pub words_causes : Bounds → ℕ → List (List ℕ) → List (Bool × ScheduleFault)
+words_causes limits number [] = []
+words_causes limits number (first ∷ rest) = if is_comment first then []
+    else command_causes limits number (command_of first) rest
+
+-- the faults of a line by itself, under its number; a comment must be text too
+abbrev pub line_causes : Bounds → ℕ → List ℕ → List (Bool × ScheduleFault)
+line_causes limits number line =
+    (not (is_text line), fault.NotText number) ∷ words_causes limits number (words_of line)
+
+-- the most events of a schedule
+abbrev pub most_events : ℕ
+most_events = 1000000
+
+-- the faults of a line behind so many events of earlier lines: its own, and then that it has one
+-- event too many
+abbrev pub causes_behind : Bounds → ℕ → ℕ → List ℕ → List (Bool × ScheduleFault)
+causes_behind limits number earlier line =
+    line_causes limits number line
+    ++ (is_some (event_of_line line) && nat_le most_events earlier, fault.Long number) ∷ []
+
+-- the events of lines, in order
+abbrev pub events_of : List (List ℕ) → List Event
+events_of lines = filter_map event_of_line lines
+
+-- the lowest fault of the line of this index; lines are numbered from 1
+unfoldable pub fault_at : Bounds → List (List ℕ) → ℕ → Option ScheduleFault
+fault_at limits lines i =
+    first_fault (causes_behind limits (i + 1) (length (events_of (take i lines)))
+    (slice_index_or lines i []))
+
+-- The text is a schedule of these events: no line has a fault.
+pub record IsSchedule (limits : Bounds) (text : List ℕ) (events : List Event) : Type 0 where
+  pub faultless : (i : ℕ) → i < length (lines_of text) → fault_at limits (lines_of text) i ≡ None
+  pub meaning : events ≡ events_of (lines_of text)
+
+-- The first faulty line has this lowest fault.
+pub record HasFault (limits : Bounds) (text : List ℕ) (fault : ScheduleFault) : Type 0 where
+  pub line : ℕ
+  pub is_line : line < length (lines_of text)
+  pub faultless : (i : ℕ) → i < line → fault_at limits (lines_of text) i ≡ None
+  pub lowest : fault_at limits (lines_of text) line ≡ Some fault
+
+-- There is an event, and no fault up to it.
+pub record HasEvent (limits : Bounds) (text : List ℕ) : Type 0 where
+  pub line : ℕ
+  pub is_line : line < length (lines_of text)
+  pub faultless : (i : ℕ) → i ≤ line → fault_at limits (lines_of text) i ≡ None
+  pub event : IsSome (event_of_line (slice_index_or (lines_of text) line []))
+
+-- Why a text was not read: its first faulty line's lowest fault; or memory ran out, at an event.
+abbrev pub Refuses : Bounds → List ℕ → ScheduleFault → Type 0
+Refuses limits text fault.Memory = HasEvent limits text
+Refuses limits text other = HasFault limits text other
+
+-- what a reader of one line answers: its value where no cause stands, else the first fault
+abbrev pub Gives : {X : Type 0} → Option ScheduleFault → X → Result X ScheduleFault → Type 0
+Gives first value (Ok x) = (first ≡ None) × (x ≡ value)
+Gives first value (Err e) = first ≡ Some e

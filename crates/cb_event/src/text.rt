@@ -1,0 +1,282 @@
+//! Reads the text of a schedule.
+ghost use Rattle.std.specs.Prelude.{◌≡◌, ◌≢◌, ℕ, ◌==◌, true, false, Some, None, [], ◌∷◌, ◌++◌};
+ghost use Rattle.std.specs.Prelude.{length, map, slice_index, nat_lt, List, IfOk, IfErr, OnOk};
+ghost use Rattle.std.specs.Prelude.{IsSome, MatchResult};
+ghost use Rattle.std.specs.List.{All};
+ghost use Rattle.std.specs.Option.{option_to_list};
+ghost use Rattle.cb_event.specs.Events.{IsPlayed};
+ghost use Rattle.cb_page.specs.Faults.{first_fault};
+ghost use Rattle.cb_event.specs.Commands.{Client, Page, arguments_of, event_of};
+ghost use Rattle.cb_pieces.specs.Pieces.{words_of, is_number, number_of};
+ghost use Rattle.cb_event.specs.ScheduleText.{Gives, is_comment, argument_causes, line_causes};
+ghost use Rattle.cb_event.specs.ScheduleText.{causes_behind, event_of_line, IsSchedule, Refuses};
+ghost use Rattle.cb_event.specs.declared.event.Event.{Event};
+ghost use Rattle.cb_event.specs.declared.text.ScheduleFault.TheVariants.{Memory};
+
+use crate::command::{Command, command_of};
+use crate::event::{Call, Event};
+use cb_page::{ClientNo, Limits, PageNo};
+use cb_pieces::{is_text, number_of, split_line, split_word};
+use std::alloc::{AllocError, AllocFailed, Global};
+use thiserror::Error;
+
+/// Why a text is no schedule, lowest number first. Lines count from 1, skipped ones too.
+#[derive(Clone, Copy, Debug, PartialEq, Eq, Error)]
+pub enum ScheduleFault {
+    /// A byte that is neither a tab nor printable ASCII, in a skipped line too.
+    #[error("schedule line {line}: NotText")]
+    NotText { line: u64 },
+    /// The first word is none of the known ones.
+    #[error("schedule line {line}: Word")]
+    Word { line: u64 },
+    /// More or fewer words than the first word wants.
+    #[error("schedule line {line}: Count")]
+    Count { line: u64 },
+    /// A word that is no number: not all decimal digits, or 2^62 and more.
+    #[error("schedule line {line}: Number")]
+    Number { line: u64 },
+    /// There is no such client or page.
+    #[error("schedule line {line}: Range")]
+    Range { line: u64 },
+    /// The event after the 1,000,000th.
+    #[error("schedule line {line}: Long")]
+    Long { line: u64 },
+    /// There is no memory for the events.
+    #[error("memory")]
+    Memory,
+}
+
+impl From<AllocError> for ScheduleFault {
+    ghost from_gives = { λ _ e. e ≡ Memory };
+
+    fn from(_error: AllocError) -> ScheduleFault {
+        ScheduleFault::Memory
+    }
+}
+
+impl<T: Drop> From<AllocFailed<T>> for ScheduleFault {
+    ghost from_gives = { λ _ e. e ≡ Memory };
+
+    fn from(_error: AllocFailed<T>) -> ScheduleFault {
+        ScheduleFault::Memory
+    }
+}
+
+/// The one word of a line.
+fn one_word(line: u64, words: &[u8]) -> Result<&[u8], ScheduleFault>
+    ensures ok { IfOk result (λ word. words_of words.now ≡ word.now ∷ []) }
+    ensures fault { IfErr result (λ e. (e ≡ ScheduleFault.Count line)
+        × ((length (words_of words.now) == 1) ≡ false)) }
+{
+    let Some((word, rest)) = split_word(words) else {
+        return Err(ScheduleFault::Count { line });
+    };
+    if split_word(rest).is_some() {
+        return Err(ScheduleFault::Count { line });
+    }
+    Ok(word)
+}
+
+/// The two words of a line.
+fn two_words(line: u64, words: &[u8]) -> Result<(&[u8], &[u8]), ScheduleFault>
+    ensures ok { IfOk result (λ both. words_of words.now ≡ both.0.now ∷ both.1.now ∷ []) }
+    ensures fault { IfErr result (λ e. (e ≡ ScheduleFault.Count line)
+        × ((length (words_of words.now) == 2) ≡ false)) }
+{
+    let Some((first, rest)) = split_word(words) else {
+        return Err(ScheduleFault::Count { line });
+    };
+    let Some((second, more)) = split_word(rest) else {
+        return Err(ScheduleFault::Count { line });
+    };
+    if split_word(more).is_some() {
+        return Err(ScheduleFault::Count { line });
+    }
+    Ok((first, second))
+}
+
+/// The number that a word spells.
+fn spelled_number(line: u64, word: &[u8]) -> Result<u64, ScheduleFault>
+    ensures ok { IfOk result (λ n. (is_number word.now ≡ true) × (n ≡ number_of word.now)) }
+    ensures fault { IfErr result (λ e. (e ≡ ScheduleFault.Number line)
+        × (is_number word.now ≡ false)) }
+{
+    number_of(word).ok_or(ScheduleFault::Number { line })
+}
+
+/// The client of this number.
+fn client_of(limits: &Limits, line: u64, number: u64) -> Result<ClientNo, ScheduleFault>
+    ensures ok { IfOk result (λ client. (client ≡ number)
+        × (nat_lt number limits.now.clients ≡ true)) }
+    ensures fault { IfErr result (λ e. (e ≡ ScheduleFault.Range line)
+        × (nat_lt number limits.now.clients ≡ false)) }
+{
+    ClientNo::in_store(limits, number).ok_or(ScheduleFault::Range { line })
+}
+
+/// The page of this number.
+fn page_of(limits: &Limits, line: u64, number: u64) -> Result<PageNo, ScheduleFault>
+    ensures ok { IfOk result (λ page. (page ≡ number) × (nat_lt number limits.now.pages ≡ true)) }
+    ensures fault { IfErr result (λ e. (e ≡ ScheduleFault.Range line)
+        × (nat_lt number limits.now.pages ≡ false)) }
+{
+    PageNo::in_store(limits, number).ok_or(ScheduleFault::Range { line })
+}
+
+/// The one client behind a command.
+fn client_argument(limits: &Limits, line: u64, words: &[u8]) -> Result<ClientNo, ScheduleFault>
+    ensures { Gives
+        (first_fault (argument_causes limits.now line (Client ∷ []) (words_of words.now)))
+        (slice_index (map number_of (words_of words.now)) 0)
+        result }
+{
+    let number = spelled_number(line, one_word(line, words)?)?;
+    client_of(limits, line, number)
+}
+
+/// The client and the page behind a command.
+fn client_and_page(
+    limits: &Limits,
+    line: u64,
+    words: &[u8],
+) -> Result<(ClientNo, PageNo), ScheduleFault>
+    ensures { Gives
+        (first_fault (argument_causes limits.now line (Client ∷ Page ∷ []) (words_of words.now))) (
+          slice_index (map number_of (words_of words.now)) 0,
+          slice_index (map number_of (words_of words.now)) 1,
+        )
+        result }
+{
+    let (first, second) = two_words(line, words)?;
+    let client = spelled_number(line, first)?;
+    let page = spelled_number(line, second)?;
+    Ok((
+        client_of(limits, line, client)?,
+        page_of(limits, line, page)?,
+    ))
+}
+
+/// The event of a command and the words behind it.
+fn command_event(
+    limits: &Limits,
+    line: u64,
+    command: Command,
+    words: &[u8],
+) -> Result<Event, ScheduleFault>
+    ensures { Gives
+        (first_fault (argument_causes limits.now line (arguments_of command) (words_of words.now)))
+        (event_of command (map number_of (words_of words.now)))
+        result }
+{
+    Ok(match command {
+        Command::Hello => Event::Call {
+            client: client_argument(limits, line, words)?,
+            call: Call::Hello,
+        },
+        Command::Begin => Event::Call {
+            client: client_argument(limits, line, words)?,
+            call: Call::Begin,
+        },
+        Command::Read => {
+            let (client, page) = client_and_page(limits, line, words)?;
+            Event::Call {
+                client,
+                call: Call::Read { page },
+            }
+        }
+        Command::Peek => {
+            let (client, page) = client_and_page(limits, line, words)?;
+            Event::Call {
+                client,
+                call: Call::Peek { page },
+            }
+        }
+        Command::Take => Event::Take {
+            packet: spelled_number(line, one_word(line, words)?)?,
+        },
+    })
+}
+
+/// The event of a line, if it has one.
+fn line_event(limits: &Limits, line: u64, bytes: &[u8]) -> Result<Option<Event>, ScheduleFault>
+    ensures { Gives (first_fault (line_causes limits.now line bytes.now)) (event_of_line bytes.now)
+        result }
+{
+    if !is_text(bytes) {
+        return Err(ScheduleFault::NotText { line });
+    }
+    let Some((first, rest)) = split_word(bytes) else {
+        return Ok(None);
+    };
+    if is_comment(first) {
+        return Ok(None);
+    }
+    let Some(command) = command_of(first) else {
+        return Err(ScheduleFault::Word { line });
+    };
+    Ok(Some(command_event(limits, line, command, rest)?))
+}
+
+fn is_comment(first: &[u8]) -> bool
+    ensures { result ≡ is_comment first.now }
+{
+    matches!(first, [b'#', ..])
+}
+
+/// The most events of a schedule.
+const MOST_EVENTS: usize = 1_000_000;
+
+/// Adds the event of a line, if it has one.
+#[tactic(auto, using(crate::proofs::TextLemmas::clear_append, crate::proofs::TextLemmas::fault_append))]
+fn add_line(
+    limits: &Limits,
+    line: u64,
+    bytes: &[u8],
+    events: &mut Vec<Event>,
+) -> Result<(), ScheduleFault>
+    ensures ok { OnOk result
+        (first_fault (causes_behind limits.now line (length events.old.items) bytes.now) ≡ None) }
+    ensures added { OnOk result (events.new.items ≡ events.old.items
+        ++ option_to_list (event_of_line bytes.now)) }
+    ensures fault { IfErr result (λ e. e ≢ ScheduleFault.Memory →
+        first_fault (causes_behind limits.now line (length events.old.items) bytes.now) ≡ Some e) }
+    ensures memory { IfErr result (λ e. e ≡ ScheduleFault.Memory →
+        (first_fault (causes_behind limits.now line (length events.old.items) bytes.now) ≡ None)
+        × IsSome (event_of_line bytes.now)) }
+{
+    let Some(event) = line_event(limits, line, bytes)? else {
+        return Ok(());
+    };
+    if events.len() >= MOST_EVENTS {
+        return Err(ScheduleFault::Long { line });
+    }
+    events.push(event)?;
+    Ok(())
+}
+
+/// Reads a schedule: its events, in order. A text that is none is refused by its first faulty
+/// line's lowest fault. `Memory` comes only where there was no room for an event that has no fault
+/// before it.
+pub fn read_schedule(
+    alloc: Global,
+    limits: &Limits,
+    text: &[u8],
+) -> Result<Vec<Event>, ScheduleFault>
+    ensures events { IfOk result (λ events. IsSchedule limits.now text.now events.items) }
+    // Every event is one that a world plays.
+    ensures played { IfOk result (λ events. All IsPlayed events.items) }
+    // A schedule is read, unless memory runs out.
+    ensures only { (meant : List Event) → IsSchedule limits.now text.now meant →
+        MatchResult result (λ events. events.items ≡ meant) (λ e. e ≡ ScheduleFault.Memory) }
+    ensures fault { IfErr result (Refuses limits.now text.now) }
+{
+    let mut events = Vec::new(alloc);
+    let mut line = 0;
+    let mut rest = text;
+    while let Some((bytes, after)) = split_line(rest) {
+        line += 1;
+        add_line(limits, line, bytes, &mut events)?;
+        rest = after;
+    }
+    Ok(events)
+}

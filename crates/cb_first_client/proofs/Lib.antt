@@ -1,0 +1,4 @@
+pub mod PoolRoom
+pub mod ClientCopies
+pub mod ClientCalls
+pub mod ClientMessages

@@ -1,0 +1,5 @@
+use Rattle.cb_first_client.proofs.ClientCopies.{starts}
+use Rattle.cb_first_client.proofs.client.Client.new.Goals as goal
+
+pub returns-clause-by_table : goal.returns-clause-by_table
+returns-clause-by_table c = rw (c.in_ok-new.ensures, c.in_ok-pool.ensures, c.pages.ensures.value) (starts c.args.limits.now)

@@ -1,0 +1,5 @@
+pub mod ProtocolLimits
+pub mod ClientState
+pub mod ClientGrants
+pub mod ClientAnswers
+pub mod FaultTexts

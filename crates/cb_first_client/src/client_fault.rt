@@ -1,0 +1,59 @@
+ghost use Rattle.std.specs.Prelude.{Some};
+ghost use Rattle.cb_first_client.specs.FaultTexts.{refusal_text};
+
+use std::error::Error;
+use std::fmt;
+
+/// Why a call of a client is refused; nothing changes then. The text is the fault's number and
+/// name; where several causes stand, the lowest number is answered.
+#[derive(Clone, Copy, Debug, PartialEq, Eq)]
+pub enum ClientFault {
+    /// The server's Welcome has not come.
+    NotWelcome,
+    /// No transaction is open.
+    NoTransaction,
+    /// A transaction is open, or its commit is out.
+    TransactionOpen,
+    /// The transaction's commit is out.
+    Committing,
+    /// An ask is out.
+    Waiting,
+    /// There is no such page.
+    PageRange,
+    /// The transaction has not read the page.
+    NotRead,
+    /// The page's grant is bare: its bytes are not in the pool.
+    NotHere,
+    /// There is no permission to write the page.
+    NotWritable,
+    /// The bytes are not as many as a page has.
+    WrongLength,
+    /// Every page in the pool is fixed.
+    PoolFull,
+    /// No transaction number is left.
+    Exhausted,
+}
+
+impl fmt::Display for ClientFault {
+    ghost output = { λ fault. Some (refusal_text fault) };
+
+    fn fmt<W: fmt::Write>(&self, f: &mut fmt::Formatter<W>) -> fmt::Result {
+        let text = match self {
+            ClientFault::NotWelcome => "1 NotWelcome",
+            ClientFault::NoTransaction => "2 NoTransaction",
+            ClientFault::TransactionOpen => "3 TransactionOpen",
+            ClientFault::Committing => "4 Committing",
+            ClientFault::Waiting => "5 Waiting",
+            ClientFault::PageRange => "6 PageRange",
+            ClientFault::NotRead => "7 NotRead",
+            ClientFault::NotHere => "8 NotHere",
+            ClientFault::NotWritable => "9 NotWritable",
+            ClientFault::WrongLength => "10 WrongLength",
+            ClientFault::PoolFull => "11 PoolFull",
+            ClientFault::Exhausted => "12 Exhausted",
+        };
+        write!(f, "{text}")
+    }
+}
+
+impl Error for ClientFault {}

@@ -1,0 +1,4 @@
+pub mod Nets
+pub mod NetSends
+pub mod NetAnswers
+pub mod NetOpening

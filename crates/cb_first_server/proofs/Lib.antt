@@ -1,0 +1,4 @@
+pub mod Sessions
+pub mod Settled
+pub mod Taking
+pub mod Replying

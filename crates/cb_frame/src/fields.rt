@@ -1,0 +1,100 @@
+//! The numbers of a body without page bytes.
+ghost use Rattle.std.specs.Prelude.{◌≡◌, ◌≤◌, ◌++◌, IsTrue, ◌↔◌, length, OnOk};
+ghost use Rattle.cb_frame.specs.Fields.{FieldsFit, fields_length, fields_spelling};
+
+use crate::encoding::{put_u32, put_u64};
+use cb_page::{CommitNo, GrantNo, Limits, PageNo, TxnNo};
+use std::alloc::AllocError;
+
+/// The numbers that a body without page bytes has, in the order of its frame. Fifteen kinds have
+/// these seven shapes.
+#[derive(Clone, Copy, Debug)]
+pub enum Fields {
+    Nothing,
+    Txn(TxnNo),
+    TxnPage(TxnNo, PageNo),
+    TxnPageGrant(TxnNo, PageNo, GrantNo),
+    TxnCommit(TxnNo, CommitNo),
+    PageGrant(PageNo, GrantNo),
+    PageGrantTxn(PageNo, GrantNo, TxnNo),
+}
+
+impl Fields {
+    /// Whether the page is one of the store's. The other numbers are in range by their types, as
+    /// `get` says.
+    pub fn fit(self, limits: &Limits) -> bool
+        ensures { IsTrue result ↔ FieldsFit limits.now self }
+    {
+        match self {
+            Fields::Nothing => true,
+            Fields::Txn(txn) => {
+                let _in_range = txn.get();
+                true
+            }
+            Fields::TxnPage(txn, page) => {
+                let _in_range = txn.get();
+                limits.has_page(page.get())
+            }
+            Fields::TxnPageGrant(txn, page, grant) | Fields::PageGrantTxn(page, grant, txn) => {
+                let _in_range = (txn.get(), grant.get());
+                limits.has_page(page.get())
+            }
+            Fields::TxnCommit(txn, number) => {
+                let _in_range = (txn.get(), number.get());
+                true
+            }
+            Fields::PageGrant(page, grant) => {
+                let _in_range = grant.get();
+                limits.has_page(page.get())
+            }
+        }
+    }
+
+    /// How many bytes they take.
+    #[tactic(auto, unfolding(crate::specs::Fields::fields_spelling, crate::specs::Fields::word))]
+    pub fn len(self) -> usize
+        ensures value { result ≡ length (fields_spelling self) }
+        ensures small { result ≤ 20 }
+    {
+        match self {
+            Fields::Nothing => 0,
+            Fields::Txn(_) => 8,
+            Fields::TxnPage(..) | Fields::PageGrant(..) => 12,
+            Fields::TxnCommit(..) => 16,
+            Fields::TxnPageGrant(..) | Fields::PageGrantTxn(..) => 20,
+        }
+    }
+
+    /// Puts them behind what is there.
+    #[tactic(auto, using(std::proofs::Common::append_assoc), unfolding(crate::specs::Fields::fields_spelling))]
+    pub fn put(self, out: &mut Vec<u8>) -> Result<(), AllocError>
+        ensures { OnOk result (out.new.items ≡ out.old.items ++ fields_spelling self) }
+    {
+        match self {
+            Fields::Nothing => Ok(()),
+            Fields::Txn(txn) => put_u64(out, txn.get()),
+            Fields::TxnPage(txn, page) => {
+                put_u64(out, txn.get())?;
+                put_u32(out, page.get())
+            }
+            Fields::TxnPageGrant(txn, page, grant) => {
+                put_u64(out, txn.get())?;
+                put_u32(out, page.get())?;
+                put_u64(out, grant.get())
+            }
+            Fields::TxnCommit(txn, number) => {
+                put_u64(out, txn.get())?;
+                put_u64(out, number.get())
+            }
+            Fields::PageGrant(page, grant) => {
+                put_u32(out, page.get())?;
+                put_u64(out, grant.get())
+            }
+            Fields::PageGrantTxn(page, grant, txn) => {
+                put_u32(out, page.get())?;
+                put_u64(out, grant.get())?;
+                put_u64(out, txn.get())
+            }
+        }
+    }
+}

@@ -1,7 +1,0 @@
-use Rattle.std.proofs.Common.{subst}
-use Rattle.cb_schedule.specs.NetMoves.{Finds}
-use Rattle.cb_schedule.proofs.NetAnswers.{no_packet_answers}
-use Rattle.cb_schedule.proofs.net.Net.take.Goals as goal
-
-pub returns-in-None-clause-ok : goal.returns-in-None-clause-ok
-returns-in-None-clause-ok c = rw c.silent.ensures (no_packet_answers c.args.self.now c.args.packet (subst (Finds c.args.self.now c.args.packet) c.in-None.is c.in_ok-frame.ensures))

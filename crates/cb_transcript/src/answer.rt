@@ -1,0 +1,178 @@
+ghost use Rattle.std.specs.Prelude.{◌≡◌, List, [], ◌∷◌, Some, IfOk, IfSome, OnErr};
+ghost use Rattle.cb_transcript.specs.Answers.{IsBytes};
+
+use cb_event::Event;
+use cb_first_client::ClientFault;
+use cb_frame::Kind;
+use cb_page::{ClientNo, CommitNo, Page};
+use std::alloc::{AllocError, Global};
+use std::marker::Model;
+
+/// What an event is answered, apart from the packets sent.
+#[derive(Debug, Drop)]
+pub enum Word {
+    /// A call, a restart or a resend was accepted.
+    Ok,
+    /// A read or a peek found these bytes.
+    Bytes(Page),
+    /// A read or a want asked the server.
+    Asked,
+    /// A want was permitted at once.
+    Permitted,
+    /// A peek found no bytes, or a flush had nothing to flush.
+    Nothing,
+    /// A flush up to this commit.
+    Flushed(CommitNo),
+    /// A packet was taken, also where its addressee ignored it.
+    Taken,
+    /// No packet of that number was sent yet.
+    NoPacket,
+    /// The client refused, or a restart has no next incarnation.
+    Refused(ClientFault),
+    /// The server has no number left for what the packet asks.
+    ServerExhausted,
+    /// There is no such client.
+    NoClient,
+}
+
+impl Word {
+    /// The same word. It fails only where there is no memory for the bytes of a read.
+    pub fn copy(&self, alloc: Global) -> Result<Word, AllocError>
+        ensures same { IfOk result (λ word. word ≡ self.now) }
+        ensures fails { OnErr result (IsBytes self.now) }
+    {
+        Ok(match self {
+            Word::Ok => Word::Ok,
+            Word::Bytes(bytes) => Word::Bytes(Page::copy_of(alloc, bytes.as_slice())?),
+            Word::Asked => Word::Asked,
+            Word::Permitted => Word::Permitted,
+            Word::Nothing => Word::Nothing,
+            Word::Flushed(number) => Word::Flushed(*number),
+            Word::Taken => Word::Taken,
+            Word::NoPacket => Word::NoPacket,
+            Word::Refused(fault) => Word::Refused(*fault),
+            Word::ServerExhausted => Word::ServerExhausted,
+            Word::NoClient => Word::NoClient,
+        })
+    }
+}
+
+/// A packet that an event sent.
+#[derive(Clone, Copy, Debug, PartialEq, Eq)]
+pub struct Sent {
+    /// Its place among all packets ever sent, from 0.
+    pub number: u64,
+    pub kind: Kind,
+    /// The client that it comes from or goes to.
+    pub client: ClientNo,
+}
+
+/// The packets that an event sent, in order.
+#[derive(Debug, Drop)]
+pub struct SentPackets {
+    list: Vec<Sent>,
+}
+
+impl Model for SentPackets {
+    ghost use Rattle.std.specs.Prelude.{List};
+    ghost use Rattle.cb_transcript.specs.declared.answer.Sent.{Sent};
+
+    ghost Value = { List Sent };
+
+    ghost view = { λ s. s.list.items };
+}
+
+impl SentPackets {
+    /// No packet.
+    pub fn none(alloc: Global) -> SentPackets
+        ensures { result ≡ [] }
+    {
+        SentPackets {
+            list: Vec::new(alloc),
+        }
+    }
+
+    /// One packet. `AllocError` only where memory was refused.
+    pub fn one(alloc: Global, sent: Sent) -> Result<SentPackets, AllocError>
+        ensures { IfOk result (λ s. s ≡ sent ∷ []) }
+    {
+        let mut list = Vec::new(alloc);
+        list.push(sent)?;
+        Ok(SentPackets { list })
+    }
+
+    pub fn as_slice(&self) -> &[Sent]
+        ensures { result.now ≡ self.now }
+    {
+        self.list.as_slice()
+    }
+
+    /// The same packets. `AllocError` only where memory was refused.
+    pub fn copy(&self, alloc: Global) -> Result<SentPackets, AllocError>
+        ensures { IfOk result (λ sent. sent ≡ self.now) }
+    {
+        Ok(SentPackets {
+            list: Vec::from_slice(alloc, self.list.as_slice())?,
+        })
+    }
+}
+
+/// What became of an event: the answer, and the packets sent by it.
+#[derive(Debug, Drop)]
+pub struct Answer {
+    pub word: Word,
+    pub sent: SentPackets,
+}
+
+impl Answer {
+    /// An answer that sends nothing.
+    pub fn silent(alloc: Global, word: Word) -> Answer
+        ensures { result ≡ record { word = word; sent = [] } }
+    {
+        Answer {
+            word,
+            sent: SentPackets::none(alloc),
+        }
+    }
+
+    /// The same answer. `AllocError` only where memory was refused.
+    pub fn copy(&self, alloc: Global) -> Result<Answer, AllocError>
+        ensures { IfOk result (λ answer. answer ≡ self.now) }
+    {
+        Ok(Answer {
+            word: self.word.copy(alloc)?,
+            sent: self.sent.copy(alloc)?,
+        })
+    }
+}
+
+/// An event and what became of it.
+#[derive(Debug, Drop)]
+pub struct Entry {
+    pub event: Event,
+    pub answer: Answer,
+}
+
+/// The law of packets sent: none are none, and a copy of one shows it.
+fn sent_law(alloc: Global, sent: Sent) -> Result<(usize, Option<Sent>), AllocError>
+    ensures { IfOk result (λ shown. shown ≡ (0, Some sent)) }
+{
+    let none = SentPackets::none(alloc);
+    let one = SentPackets::one(alloc, sent)?.copy(alloc)?;
+    let first = match one.as_slice() {
+        [first, ..] => Some(*first),
+        [] => None,
+    };
+    Ok((none.as_slice().len(), first))
+}
+
+/// The law of copies: a word without page bytes needs no memory, and an answer's copy is the same.
+fn copy_law(alloc: Global, number: CommitNo, answer: &Answer) -> (Option<Word>, Option<Answer>)
+    ensures word { result.0 ≡ Some (Word.Flushed number) }
+    ensures answer { IfSome result.1 (λ copy. copy ≡ answer.now) }
+{
+    (
+        Word::Flushed(number).copy(alloc).ok(),
+        answer.copy(alloc).ok(),
+    )
+}
