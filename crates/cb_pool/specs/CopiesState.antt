@@ -15,17 +15,18 @@ bit false = 0
 
 -- how many pages are here and fixed
 abbrev pub held_fixed : List (Option (List ℕ)) → List Bool → ℕ
-held_fixed [] fs = 0
-held_fixed (p ∷ ps) [] = 0
-held_fixed (p ∷ ps) (f ∷ fs) = bit (is_some p && f) + held_fixed ps fs
+held_fixed [] flags = 0
+held_fixed (page ∷ pages) [] = 0
+held_fixed (page ∷ pages) (flag ∷ flags) = bit (is_some page && flag) + held_fixed pages flags
 
 -- the counts are those of the pages
-pub record AreCounted (pages : List (Option (List ℕ))) (fixed : List Bool) (here here_fixed : ℕ) : Type 0 where
+pub record AreCounted (pages : List (Option (List ℕ))) (fixed : List Bool)
+    (here here_fixed : ℕ) : Type 0 where
   pub flags : length fixed ≡ length pages
   pub here_is : here ≡ held pages
   pub here_fixed_is : here_fixed ≡ held_fixed pages fixed
 
 -- a page that is here, of this many bytes
 abbrev pub IfHere : Option (List ℕ) → ℕ → Type 0
-IfHere None n = ⊥
-IfHere (Some bytes) n = length bytes ≡ n
+IfHere None count = ⊥
+IfHere (Some bytes) count = length bytes ≡ count

@@ -9,4 +9,5 @@ use Rattle.cb_twoq.specs.declared.chooser.Chooser as chooser
 module _ (Q : RattleType) (choose : chooser.Ghosts Q.Denot) where
   -- the pool ends as this value
   abbrev pub pool_ends_as : MutBor PoolState → PoolState → Fml
-  pool_ends_as s v = follows_so (the_row Q choose) (the_row Q choose) s.ghost_name none (λ _ _. ⊤) (λ n. n ≡ v)
+  pool_ends_as lent last =
+      follows_so (the_row Q choose) (the_row Q choose) lent.ghost_name none (λ _ _. ⊤) (λ now. now ≡ last)

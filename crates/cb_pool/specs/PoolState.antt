@@ -12,11 +12,16 @@ pub record PoolState : Type 0 where
 
 -- a pool with nothing in it
 abbrev pub empty_pool : ℕ → ℕ → ℕ → PoolState
-empty_pool slots pages size = record { slots = slots; page_size = size; fixed = replicate pages false; pages = replicate pages None }
+empty_pool slots pages size = record {
+  slots = slots;
+  page_size = size;
+  fixed = replicate pages false;
+  pages = replicate pages None;
+}
 
 -- the bytes of a page, if it is here
 abbrev pub copy_of : PoolState → ℕ → Option (List ℕ)
-copy_of s page = slice_index_or s.pages page None
+copy_of pool page = slice_index_or pool.pages page None
 
 -- how many pages are here
 abbrev pub held : List (Option (List ℕ)) → ℕ
@@ -24,28 +29,35 @@ held pages = count_by is_some pages
 
 -- a page here isn't fixed
 abbrev pub HasLoose : List (Option (List ℕ)) → List Bool → Type 0
-HasLoose pages fixed = (p : ℕ) × (is_some (slice_index_or pages p None) ≡ true) × (flags.has fixed p ≡ false)
+HasLoose pages fixed =
+    (page : ℕ) × (is_some (slice_index_or pages page None) ≡ true) × (flags.has fixed page ≡ false)
 
 -- a slot is free, or a page here isn't fixed
 abbrev pub HasRoom : PoolState → Type 0
-HasRoom s = (held s.pages < s.slots) ⊎ HasLoose s.pages s.fixed
+HasRoom pool = (held pool.pages < pool.slots) ⊎ HasLoose pool.pages pool.fixed
 
 -- the pages once a page is let go
 abbrev pub let_go : Option ℕ → List (Option (List ℕ)) → List (Option (List ℕ))
 let_go None pages = pages
 let_go (Some gone) pages = slice_set pages gone None
 
--- what may be let go for a page: none where that page is here or a slot is free, else a page that is here and isn't fixed
+-- what may be let go for a page: none where that page is here or a slot is free, else a page that
+-- is here and isn't fixed
 abbrev pub MayGo : PoolState → ℕ → Option ℕ → Type 0
-MayGo s page None = (is_some (copy_of s page) ≡ true) ⊎ (held s.pages < s.slots)
-MayGo s page (Some gone) = (is_some (copy_of s page) ≡ false) × (s.slots ≤ held s.pages) × (is_some (copy_of s gone) ≡ true) × (flags.has s.fixed gone ≡ false) × (gone ≢ page)
+MayGo pool page None =
+    (is_some (copy_of pool page) ≡ true) ⊎ (held pool.pages < pool.slots)
+MayGo pool page (Some gone) =
+    (is_some (copy_of pool page) ≡ false) × (pool.slots ≤ held pool.pages)
+    × (is_some (copy_of pool gone) ≡ true) × (flags.has pool.fixed gone ≡ false) × (gone ≢ page)
 
 -- each page here has the size
 abbrev pub AreSized : ℕ → List (Option (List ℕ)) → Type 0
-AreSized size pages = (p : ℕ) (bytes : List ℕ) → slice_index_or pages p None ≡ Some bytes → length bytes ≡ size
+AreSized size pages = (page : ℕ) (bytes : List ℕ)
+    → slice_index_or pages page None ≡ Some bytes → length bytes ≡ size
 
--- What holds of every pool: no more pages are here than there are slots, each page may be fixed, and each has the size.
-pub record IsPool (s : PoolState) : Type 0 where
-  pub within : held s.pages ≤ s.slots
-  pub flags : length s.fixed ≡ length s.pages
-  pub sized : AreSized s.page_size s.pages
+-- What holds of every pool: no more pages are here than there are slots, each page may be fixed,
+-- and each has the size.
+pub record IsPool (pool : PoolState) : Type 0 where
+  pub within : held pool.pages ≤ pool.slots
+  pub flags : length pool.fixed ≡ length pool.pages
+  pub sized : AreSized pool.page_size pool.pages

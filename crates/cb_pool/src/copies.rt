@@ -32,7 +32,8 @@ impl Copies {
     /// No page is here, and none is fixed, of as many pages.
     pub(crate) fn new(alloc: Global, count: usize) -> Result<Copies, AllocError>
         requires { count ≤ 4096 }
-        ensures { IfOk result (λ c. c ≡ record { fixed = replicate count false; pages = replicate count None }) }
+        ensures { IfOk result (λ copies.
+            copies ≡ record { fixed = replicate count false; pages = replicate count None }) }
     {
         let mut pages: Vec<Option<Page>> = Vec::with_capacity(alloc, count)?;
         for _ in 0..count {
@@ -101,7 +102,9 @@ impl Copies {
     pub(crate) fn place(&mut self, page: PageNo, gone: &Option<PageNo>, bytes: Page)
         requires page { page < length self.old.pages }
         requires gone { IfSome gone.now (λ other. other < length self.old.pages) }
-        ensures { self.new ≡ record self.old { pages = slice_set (let_go gone.now self.old.pages) page (Some bytes) } }
+        ensures { self.new ≡ record self.old {
+          pages = slice_set (let_go gone.now self.old.pages) page (Some bytes);
+        } }
     {
         if let Some(other) = gone {
             self.put(*other, None);
@@ -112,7 +115,9 @@ impl Copies {
     /// Overwrites the bytes of a page that is here.
     pub(crate) fn write(&mut self, page: PageNo, bytes: &[u8])
         requires { IfHere (slice_index_or self.old.pages page None) (length bytes.now) }
-        ensures { self.new ≡ record self.old { pages = slice_set self.old.pages page (Some bytes.now) } }
+        ensures { self.new ≡ record self.old {
+          pages = slice_set self.old.pages page (Some bytes.now);
+        } }
     {
         write_to(&mut self.pages, page.index(), bytes);
     }

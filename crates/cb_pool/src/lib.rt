@@ -5,6 +5,3 @@ mod copies;
 mod pool;
 
 pub use pool::{Pool, PoolFault};
-
-#[cfg(test)]
-mod tests;

@@ -1,6 +1,7 @@
-ghost use Rattle.std.specs.Prelude.{◌≡◌, ◌<◌, ◌↔◌, [], length, replicate, slice_set, true, false, Some, None, IfOk, IfSome, OnErr, IsTrue};
+ghost use Rattle.std.specs.Prelude.{◌≡◌, ℕ, ◌<◌, ◌↔◌, [], length, replicate, slice_set, true, false, Some, None, IfOk, IfSome, OnErr, IsTrue};
 ghost use Rattle.std.specs.Borrow.{sem};
 ghost use Rattle.std.specs.Option.{is_none, is_some, option_copied};
+ghost use Rattle.cb_twoq.specs.Pages.{has};
 ghost use Rattle.cb_pool.specs.Lending.{pool_ends_as};
 ghost use Rattle.cb_pool.specs.PoolState.{PoolState, empty_pool, copy_of, HasRoom, let_go, MayGo, IsPool};
 ghost use Rattle.cb_pool.specs.Refusals.{fault_of};
@@ -36,9 +37,9 @@ impl From<ChooseFault> for PoolFault {
 
 /// A client's copies of pages, of which a chooser picks the one to let go.
 ///
-/// In contracts a pool is its count of slots, the page size, a flag for each page of the store that is fixed, and
-/// the bytes of each page that is here. It doesn't show the chooser. A page's bytes are moved in and lent out, and
-/// never copied save by `write`, which overwrites them.
+/// In contracts a pool is its count of slots, the page size, a flag for each page of the store that
+/// is fixed, and the bytes of each page that is here. It doesn't show the chooser. A page's bytes
+/// are moved in and lent out, and never copied save by `write`, which overwrites them.
 #[derive(Drop)]
 pub struct Pool<Q: Chooser> {
     chooser: Q,
@@ -53,27 +54,29 @@ impl<Q: Chooser> Model for Pool<Q> {
 
     ghost Value = { PoolState };
 
-    ghost view = { λ a. record {
-      slots = a.slots;
-      page_size = a.page_size;
-      fixed = a.copies.fixed;
-      pages = a.copies.pages;
+    ghost view = { λ pool. record {
+      slots = pool.slots;
+      page_size = pool.page_size;
+      fixed = pool.copies.fixed;
+      pages = pool.copies.pages;
     } };
 
-    ghost invariant = { λ a. Agrees (record {
-      slots = a.slots;
-      page_size = a.page_size;
-      fixed = a.copies.fixed;
-      pages = a.copies.pages;
-    }) (Q.members a.chooser) (Q.slots a.chooser) };
+    ghost invariant = { λ pool. Agrees (record {
+      slots = pool.slots;
+      page_size = pool.page_size;
+      fixed = pool.copies.fixed;
+      pages = pool.copies.pages;
+    }) (Q.members pool.chooser) (Q.slots pool.chooser) };
 }
 
 impl<Q: Chooser> Pool<Q> {
-    /// An empty pool over an empty chooser of as many slots as the limits say. It is refused only where memory is.
+    /// An empty pool over an empty chooser of as many slots as the limits say. It is refused only
+    /// where memory is.
     pub fn new(alloc: Global, chooser: Q, limits: &Limits) -> Result<Pool<Q>, AllocError>
         requires members { Q.members chooser ≡ [] }
         requires slots { Q.slots chooser ≡ limits.now.slots }
-        ensures { IfOk result (λ p. p ≡ empty_pool limits.now.slots limits.now.pages limits.now.page_size) }
+        ensures { IfOk result (λ pool.
+            pool ≡ empty_pool limits.now.slots limits.now.pages limits.now.page_size) }
     {
         Ok(Pool {
             chooser,
@@ -81,6 +84,15 @@ impl<Q: Chooser> Pool<Q> {
             page_size: limits.page_size(),
             copies: Copies::new(alloc, limits.pages() as usize)?,
         })
+    }
+
+    /// Lends the chooser, whose members are the pages that are here.
+    pub fn chooser(&self) -> &Q
+        ensures members { (page : ℕ) →
+            has (Q.members result.now) page ≡ is_some (copy_of self.now page) }
+        ensures slots { Q.slots result.now ≡ self.now.slots }
+    {
+        &self.chooser
     }
 
     /// Lends the bytes of a page, if it is here, with no reference to it.
@@ -93,7 +105,8 @@ impl<Q: Chooser> Pool<Q> {
 
     /// Lends the bytes of a page, if it is here, and counts as a reference to it.
     ///
-    /// The pool is the same once the loan is over, save that the chooser may let another page go later.
+    /// The pool is the same once the loan is over, save that the chooser may let another page go
+    /// later.
     pub fn hit(&mut self, page: PageNo) -> Option<&[u8]>
         ensures* ends { sem 𝓛 (pool_ends_as Q.row Q.Chooser self.entry self.old) }
         ensures bytes { option_copied result ≡ copy_of self.old page }
@@ -111,17 +124,21 @@ impl<Q: Chooser> Pool<Q> {
         }
     }
 
-    /// Takes in a page's bytes, which counts as a reference to it, and answers the page let go for it, if any.
+    /// Takes in a page's bytes, which counts as a reference to it, and answers the page let go for
+    /// it, if any.
     ///
-    /// Bytes that are here already are replaced. `Full` comes where the page isn't here and there is no room, and
-    /// `Memory` only where a growth of the chooser was refused; the bytes handed in are dropped then.
+    /// Bytes that are here already are replaced. `Full` comes where the page isn't here and there
+    /// is no room, and `Memory` only where a growth of the chooser was refused; the bytes handed in
+    /// are dropped then.
     pub fn install(&mut self, page: PageNo, bytes: Page) -> Result<Option<PageNo>, PoolFault>
         requires below { page < length self.old.fixed }
         requires size { length bytes ≡ self.old.page_size }
-        ensures pages { IfOk result (λ gone.
-            self.new ≡ record self.old { pages = slice_set (let_go gone self.old.pages) page (Some bytes) }) }
+        ensures pages { IfOk result (λ gone. self.new ≡ record self.old {
+          pages = slice_set (let_go gone self.old.pages) page (Some bytes);
+        }) }
         ensures gone { IfOk result (MayGo self.old page) }
-        ensures full { (result ≡ Err PoolFault.Full) ↔ (IsTrue (is_none (copy_of self.old page)) × ¬ (HasRoom self.old)) }
+        ensures full { (result ≡ Err PoolFault.Full)
+            ↔ (IsTrue (is_none (copy_of self.old page)) × ¬ (HasRoom self.old)) }
         ensures here { IsTrue (is_some (copy_of self.old page)) → result ≡ Ok None }
         ensures err { OnErr result (self.new ≡ self.old) }
     {
@@ -130,8 +147,8 @@ impl<Q: Chooser> Pool<Q> {
         Ok(gone)
     }
 
-    /// Whether `install` finds a slot for every page: fewer pages are here than there are slots, or one that is here
-    /// isn't fixed.
+    /// Whether `install` finds a slot for every page: fewer pages are here than there are slots, or
+    /// one that is here isn't fixed.
     pub fn room(&self) -> bool
         ensures room { IsTrue result ↔ HasRoom self.now }
         ensures is_pool { IsPool self.now }
@@ -158,7 +175,9 @@ impl<Q: Chooser> Pool<Q> {
     pub fn write(&mut self, page: PageNo, bytes: &[u8])
         requires here { IsTrue (is_some (copy_of self.old page)) }
         requires size { length bytes.now ≡ self.old.page_size }
-        ensures { self.new ≡ record self.old { pages = slice_set self.old.pages page (Some bytes.now) } }
+        ensures { self.new ≡ record self.old {
+          pages = slice_set self.old.pages page (Some bytes.now);
+        } }
     {
         self.copies.write(page, bytes);
     }

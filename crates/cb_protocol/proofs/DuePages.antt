@@ -32,7 +32,7 @@ unfolding client_take
 heard L k p g let_go w = grind arith
 
 pub callback_answered_at_once : (L : Limits) → CallbackAnsweredAtOnce L
-callback_answered_at_once L k p g let_go w = (yes, no)
+callback_answered_at_once L k p g let_go w = record { in_use = yes; back = no }
   where
     yes : Reading k p g → (bodies_said (client_take L k (Callback p g) let_go) ≡ InUse k.cache.number p g ∷ []) × (after_input L k (ReceivesMessage (Callback p g) let_go) ≡ record k { due = λ q. if q == p then true else k.due q })
     yes r = let e : client_take L k (Callback p g) let_go ≡ MarkDue p ∷ Say (InUse k.cache.number p g) ∷ [] = heard L k p g let_go w ∙ called_reading k p g r in
@@ -78,7 +78,7 @@ down_other keep_write k p g t n = subst (λ (x : List ClientStep). (bodies_said 
     refused = grind arith
 
 pub downgrade_answered_at_once : (L : Limits) → DowngradeAnsweredAtOnce L
-downgrade_answered_at_once L k p g t let_go w = (off, using_it, held, other)
+downgrade_answered_at_once L k p g t let_go w = (off, λ e. record { in_use = using_it e; down = held e; back = other e })
   where
     off : L.keep_write ≡ false → (bodies_said (client_take L k (Downgrade p g t) let_go) ≡ []) × (after_input L k (ReceivesMessage (Downgrade p g t) let_go) ≡ k)
     off e = let z : client_take L k (Downgrade p g t) let_go ≡ [] = heard_down L k p g t let_go w ∙ grind arith in (ap bodies_said z, ap (λ (x : List ClientStep). client_after L.keep_write k x) z)

@@ -3,7 +3,7 @@ use Rattle.std.proofs.Common.{◌≡◌, ◌∙◌, ℕ, ◌+◌, ◌-◌, ◌<�
 use Rattle.cb_protocol.specs.AnyMessages.{Input, MessageComes, ReachesDisk, SendsAgain, input_steps}
 use Rattle.cb_protocol.specs.Basics.{is_exactly}
 use Rattle.cb_protocol.specs.Deadlock.{AfterInput, InputInRange, Opened, ReachedServer}
-use Rattle.cb_protocol.specs.Marks.{Comes, GivesBack, HasLiveTxn, HasRow, MarksLive, MarksSetAndTaken, SameLiveTxn, SaysInUse}
+use Rattle.cb_protocol.specs.Marks.{Comes, GivesBack, HasLiveTxn, HasAnyRow, MarksLive, MarksSetAndTaken, SameLiveTxn, SaysInUse}
 use Rattle.cb_protocol.specs.Messages.{AbortNow, AskRead, AskWrite, Body, Callback, Commit, Done, Downgrade, Downgraded, Drop, GiveBack, Granted, Hello, InUse, MayWrite, Welcome}
 use Rattle.cb_protocol.specs.Server.{DeadlockTest, ChangeSession, ForgetTransaction, MarkInUse, Send, Server, ServerStep, UnmarkInUse, server_after}
 use Rattle.cb_protocol.specs.ServerMessages.{admit_incarnation, begin_transaction, commit_allowed, direct_answer, named_txn, repeat_done, server_take, take_current}
@@ -244,7 +244,7 @@ answer_marks cycle k c (Downgrade p g t) e = answer_none k c (Downgrade p g t) (
 
 -- each mark of client d is of a copy and a live transaction
 abbrev LiveAt : Server → ℕ → Type 0
-LiveAt s d = (p : ℕ) → s.in_use d p ≡ true → HasRow s d p × HasLiveTxn s d
+LiveAt s d = (p : ℕ) → s.in_use d p ≡ true → HasAnyRow s d p × HasLiveTxn s d
 
 -- what a step makes of the marks of client d
 record StepMarks (s t : Server) (i : Input) (d : ℕ) : Type 0 where

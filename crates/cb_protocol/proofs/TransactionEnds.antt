@@ -386,7 +386,7 @@ ends_message L k (AbortNow t) let_go h = ends_abort L k t let_go h
 ends_message L k b let_go h = λ p g d e. message_stays L k b let_go p g h d e refl
 
 pub in_use_given_back_once : (L : Limits) (Allowed : ClientInput → Type 0) → InUseGivenBackOnce L Allowed
-in_use_given_back_once L Allowed k a = (λ p e. due_reading L k p (tidy L Allowed k a) e, ends)
+in_use_given_back_once L Allowed k a = record { due = λ p e. due_reading L k p (tidy L Allowed k a) e; ends = ends }
   where
     ends : (i : ClientInput) → EndsRight k (after_input L k i) (bodies_said (client_steps_at L k i)) (ending L k i)
     ends (ReceivesCall c) = ends_call L k c (tidy L Allowed k a)

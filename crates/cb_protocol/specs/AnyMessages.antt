@@ -12,41 +12,57 @@ use Rattle.cb_protocol.specs.World.{Opening, opening_store}
 
 -- the names of the committed transactions, the newest first
 abbrev pub committed_names : List AppliedCommit → List TransactionName
-committed_names xs = map (λ x. record { client = x.client; incarnation = x.incarnation; txn = x.txn }) xs
+committed_names commits = map
+    (λ commit. record {
+      client = commit.client;
+      incarnation = commit.incarnation;
+      txn = commit.txn;
+    }) commits
 
 -- The directory rule (TODS 1997; grants are this project's). That a client has at most one row a
 -- page, and that a row's version is the store's, lies in the form of `Session`.
-pub record DirectoryRule (s : Server) : Type 0 where
+pub record DirectoryRule (server : Server) : Type 0 where
   -- a page with a write holder has rows of no other client
-  pub sole : (p c d g : ℕ) → s.store.holder p ≡ Some c → (s.session d).row p ≡ Some g → d ≡ c
+  pub sole : (page holder client grant : ℕ) → server.store.holder page ≡ Some holder
+      → (server.session client).row page ≡ Some grant → client ≡ holder
   -- grant numbers are distinct
-  pub distinct : (c d p q g : ℕ) → (s.session c).row p ≡ Some g → (s.session d).row q ≡ Some g → (c ≡ d) × (p ≡ q)
+  pub distinct : (client other page other_page grant : ℕ)
+      → (server.session client).row page ≡ Some grant
+      → (server.session other).row other_page ≡ Some grant
+      → (client ≡ other) × (page ≡ other_page)
 
 -- the pages after these commits, the newest first; and their versions
-abbrev pub bytes_after : (ℕ → Bytes) → List AppliedCommit → ℕ → Bytes
-bytes_after m [] p = m p
-bytes_after m (x ∷ xs) p = new_bytes (write_of_page x.writes p) (bytes_after m xs p)
+abbrev pub bytes_after : (ℕ → Bytes) → List AppliedCommit → (page : ℕ) → Bytes
+bytes_after opening [] page = opening page
+bytes_after opening (last ∷ earlier) page =
+    new_bytes (write_of_page last.writes page) (bytes_after opening earlier page)
 
-abbrev pub version_after : (ℕ → ℕ) → List AppliedCommit → ℕ → ℕ
-version_after m [] p = m p
-version_after m (x ∷ xs) p = new_version (write_of_page x.writes p) x.number (version_after m xs p)
+abbrev pub version_after : (ℕ → ℕ) → List AppliedCommit → (page : ℕ) → ℕ
+version_after opening [] page = opening page
+version_after opening (last ∷ earlier) page =
+    new_version (write_of_page last.writes page) last.number (version_after opening earlier page)
 
--- the commits have the numbers after m up to n, one by one; the newest first
-abbrev pub Numbered : ℕ → List AppliedCommit → ℕ → Type 0
-Numbered m [] n = n ≡ m
-Numbered m (x ∷ xs) n = (x.number ≡ n) × ((k : ℕ) × (n ≡ k + 1) × Numbered m xs k)
+-- the commits have the numbers after the opening's up to the last, one by one; the newest first
+abbrev pub Numbered : (opening : ℕ) → List AppliedCommit → (last : ℕ) → Type 0
+Numbered opening [] last = last ≡ opening
+Numbered opening (commit ∷ earlier) last =
+    (commit.number ≡ last)
+    × ((before : ℕ) × (last ≡ before + 1) × Numbered opening earlier before)
 
 -- The ledger: the store is the opening store with the commits written over it, in order, and no
 -- transaction commits twice.
-pub record Ledger (o : Opening) (s : Server) : Type 0 where
-  pub numbered : Numbered o.number s.commits s.store.last_commit
-  pub bytes : (p : ℕ) → s.store.bytes p ≡ bytes_after o.bytes s.commits p
-  pub version : (p : ℕ) → s.store.version p ≡ version_after o.version s.commits p
-  pub once : EachOnce (committed_names s.commits)
+pub record Ledger (opening : Opening) (server : Server) : Type 0 where
+  pub numbered : Numbered opening.number server.commits server.store.last_commit
+  pub bytes : (page : ℕ) → server.store.bytes page ≡ bytes_after opening.bytes server.commits page
+  pub version : (page : ℕ)
+      → server.store.version page ≡ version_after opening.version server.commits page
+  pub once : EachOnce (committed_names server.commits)
 
 -- that transaction's commit is in the list, with that number
-abbrev pub IsCommit : List AppliedCommit → ℕ → ℕ → ℕ → ℕ → Type 0
-IsCommit xs c i t n = (x : AppliedCommit) × IsIn x xs × (x.client ≡ c) × (x.incarnation ≡ i) × (x.txn ≡ t) × (x.number ≡ n)
+abbrev pub IsCommit : List AppliedCommit → (client incarnation txn number : ℕ) → Type 0
+IsCommit commits client incarnation txn number = (commit : AppliedCommit) × IsIn commit commits
+    × (commit.client ≡ client) × (commit.incarnation ≡ incarnation)
+    × (commit.txn ≡ txn) × (commit.number ≡ number)
 
 -- what a server is called with: a message of a client that there is, resending, commits on disk
 pub data Input : Type 0 where
@@ -56,20 +72,29 @@ pub data Input : Type 0 where
 
 -- what it does
 abbrev pub input_steps : DeadlockTest → Server → Input → List ServerStep
-input_steps cycle s (MessageComes c i b) = server_take cycle s c i b
-input_steps cycle s SendsAgain = server_again s
-input_steps cycle s (ReachesDisk n) = server_flush s n
+input_steps cycle server (MessageComes client incarnation body) =
+    server_take cycle server client incarnation body
+input_steps cycle server SendsAgain = server_again server
+input_steps cycle server (ReachesDisk number) = server_flush server number
 
 -- all that is asked of a message: its client is one that there is
 abbrev pub ComesFromClient : Limits → Input → Type 0
-ComesFromClient L (MessageComes c i b) = c < L.clients
-ComesFromClient L _ = ⊤
+ComesFromClient limits (MessageComes client incarnation body) = client < limits.clients
+ComesFromClient limits _ = ⊤
 
--- directory rule and ledger hold of the server, and of each that it becomes by these inputs
+-- directory rule and ledger hold of the server
+abbrev pub RulesHold : Opening → Server → Type 0
+RulesHold opening server = DirectoryRule server × Ledger opening server
+
+-- they hold of it, and of each that it becomes by these inputs
 abbrev pub KeepsRules : Limits → DeadlockTest → Opening → Server → List Input → Type 0
-KeepsRules L cycle o s [] = DirectoryRule s × Ledger o s
-KeepsRules L cycle o s (i ∷ is) = (DirectoryRule s × Ledger o s) × (ComesFromClient L i → KeepsRules L cycle o (server_after s (input_steps cycle s i)) is)
+KeepsRules limits cycle opening server [] = RulesHold opening server
+KeepsRules limits cycle opening server (input ∷ inputs) =
+    RulesHold opening server × (ComesFromClient limits input
+    → KeepsRules limits cycle opening (server_after server (input_steps cycle server input)) inputs)
 
 -- over any opening store, along any list of inputs
 abbrev pub RulesAlwaysHold : Limits → DeadlockTest → Type 0
-RulesAlwaysHold L cycle = (o : Opening) (is : List Input) → KeepsRules L cycle o (new_server L.clients L.pages (opening_store L o)) is
+RulesAlwaysHold limits cycle = (opening : Opening) (inputs : List Input)
+    → let first = new_server limits.clients limits.pages (opening_store limits opening) in
+    KeepsRules limits cycle opening first inputs

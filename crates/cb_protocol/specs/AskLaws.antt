@@ -1,4 +1,5 @@
--- Laws of asks at the server, whatever messages come: who is granted a page and when. This project's rules.
+-- Laws of asks at the server, whatever messages come: who is granted a page and when. This
+-- project's rules.
 use Rattle.std.specs.Prelude.{◌≡◌, ◌≢◌, ◌<◌, ◌⊎◌, ℕ, List, ◌∷◌, ◌++◌, Option, Some, None}
 use Rattle.cb_protocol.specs.AnyMessages.{Input, input_steps}
 use Rattle.cb_protocol.specs.Deadlock.{ReachedServer}
@@ -13,7 +14,8 @@ IsFirst server page client write_grant = (ask : WaitingAsk) × (behind : List Wa
 
 -- no other client is write holder of the page
 abbrev pub NoOtherHolder : Server → (page client : ℕ) → Type 0
-NoOtherHolder server page client = (other : ℕ) → server.store.holder page ≡ Some other → other ≡ client
+NoOtherHolder server page client =
+    (other : ℕ) → server.store.holder page ≡ Some other → other ≡ client
 
 -- the client may get a copy of the page: it has none, and no other client is write holder
 abbrev pub MayBeGranted : Server → (page client : ℕ) → Type 0
@@ -24,7 +26,8 @@ MayBeGranted server page client =
 abbrev pub MayBePermitted : Server → (page client grant : ℕ) → Type 0
 MayBePermitted server page client grant =
     ((server.session client).row page ≡ Some grant) × NoOtherHolder server page client
-    × ((other : ℕ) → other < server.clients → other ≢ client → (server.session other).row page ≡ None)
+    × ((other : ℕ) → other < server.clients → other ≢ client
+    → (server.session other).row page ≡ None)
 
 -- the first of these steps tells the client that it has a copy, as the page is now
 abbrev pub GrantIsSent : Server → List ServerStep → (client page grant : ℕ) → Type 0
@@ -38,16 +41,17 @@ PermissionIsSent server steps client page grant = (more : List ServerStep) × (s
     Send client (server.session client).current
     (MayWrite (server.session client).txn page grant) ∷ more)
 
--- Each grant among the steps is a first read ask's, that may have it as things stand then. It has the next
--- number, and is sent at once.
+-- Each grant among the steps is a first read ask's, that may have it as things stand then. It has
+-- the next number, and is sent at once.
 abbrev pub GrantsInOrder : Server → List ServerStep → Type 0
 GrantsInOrder server steps = (before after : List ServerStep) (client page grant : ℕ)
     → steps ≡ before ++ ChangeSession client (GrantRow page grant) ∷ after
     → let there = server_after server before in IsFirst there page client None
-    × MayBeGranted there page client × (grant ≡ there.next_grant) × GrantIsSent there after client page grant
+    × MayBeGranted there page client × (grant ≡ there.next_grant)
+    × GrantIsSent there after client page grant
 
--- Each write permission among the steps is a first write ask's, that may have it as things stand then; or its
--- client is the write holder already and is told again. It is sent at once.
+-- Each write permission among the steps is a first write ask's, that may have it as things stand
+-- then; or its client is the write holder already and is told again. It is sent at once.
 abbrev pub PermissionsInOrder : Server → List ServerStep → Type 0
 PermissionsInOrder server steps = (before after : List ServerStep) (client page grant : ℕ)
     → steps ≡ before ++ ChangeSession client (PermitWrite page grant) ∷ after
@@ -56,7 +60,8 @@ PermissionsInOrder server steps = (before after : List ServerStep) (client page 
     ⊎ ((there.store.holder page ≡ Some client) × ((there.session client).row page ≡ Some grant)))
     × PermissionIsSent there after client page grant
 
--- At any server, at every input, grants and permissions go to the first asks alone, and never too early.
+-- At any server, at every input, grants and permissions go to the first asks alone, and never too
+-- early.
 abbrev pub FirstAsksAreMet : Type 0
 FirstAsksAreMet = (cycle : DeadlockTest) (server : Server) (input : Input)
     → GrantsInOrder server (input_steps cycle server input)
@@ -69,5 +74,6 @@ MayBeMet server page ask = ((ask.write_grant ≡ None) × MayBeGranted server pa
 
 -- And never too late: after every step, no first ask may have what it waits for.
 abbrev pub NoneWaitsInVain : Type 0
-NoneWaitsInVain = (server : Server) → ReachedServer server → (page : ℕ) (ask : WaitingAsk) (behind : List WaitingAsk)
+NoneWaitsInVain = (server : Server) → ReachedServer server
+    → (page : ℕ) (ask : WaitingAsk) (behind : List WaitingAsk)
     → server.queue page ≡ ask ∷ behind → MayBeMet server page ask → ⊥

@@ -33,13 +33,16 @@ pub record Cache : Type 0 where
   pub seen : ℕ → ℕ  -- the greatest grant that ever came for the page
   pub held : ℕ → Option ℕ  -- the grant of the copy held
   pub version : ℕ → ℕ  -- of the copy held: the number of the commit that wrote it
-  pub content : ℕ → Option Bytes  -- the copy's bytes; none where nothing is held or the grant is bare
+  -- the copy's bytes; none where nothing is held or the grant is bare
+  pub content : ℕ → Option Bytes
   pub locked : ℕ → Bool  -- the transaction reads the page
   pub may_write : ℕ → Bool  -- the client has write permission for the page
-  pub tag : ℕ → ℕ  -- the transaction that was last told MayWrite for the page
+  pub tag : ℕ → ℕ  -- the transaction that was last permitted to write the page (MayWrite)
   pub dropped : ℕ  -- the last transaction that was dropped or aborted
   pub wrote : ℕ → Bool  -- the open or committing transaction wrote the page
-  pub operations : List Operation  -- of the open or committing transaction, the newest first. A history variable: no answer and no message depends on it
+  -- of the open or committing transaction, the newest first. A history variable: no answer and no
+  -- message depends on it
+  pub operations : List Operation
 
 -- nothing held, no transaction, not yet welcomed
 abbrev pub new_cache : Cache
@@ -47,15 +50,15 @@ new_cache = record {
   welcomed = false;
   number = 0;
   status = Idle;
-  seen = λ p. 0;
-  held = λ p. None;
-  version = λ p. 0;
-  content = λ p. None;
-  locked = λ p. false;
-  may_write = λ p. false;
-  tag = λ p. 0;
+  seen = λ page. 0;
+  held = λ page. None;
+  version = λ page. 0;
+  content = λ page. None;
+  locked = λ page. false;
+  may_write = λ page. false;
+  tag = λ page. 0;
   dropped = 0;
-  wrote = λ p. false;
+  wrote = λ page. false;
   operations = [];
 }
 
@@ -64,54 +67,78 @@ pub data CacheChange : Type 0 where
   TakeWelcome : CacheChange
   Begin : CacheChange  -- a transaction begins, with the next number
   Lock : (page : ℕ) → CacheChange
-  Read : (page : ℕ) → (bytes : Bytes) → CacheChange  -- a read is answered with these bytes, and locks the page
+  -- a read is answered with these bytes, and locks the page
+  Read : (page : ℕ) → (bytes : Bytes) → CacheChange
   TakePermission : (page grant : ℕ) → CacheChange
   WriteBytes : (page : ℕ) → (bytes : Bytes) → CacheChange  -- a write
   Finish : CacheChange  -- the transaction commits
-  Abandon : CacheChange  -- the transaction ends as dropped or aborted: the copies that it wrote go, and all permissions
-  TakeDone : (number : ℕ) → CacheChange  -- the transaction ends as committed; what it wrote has this version
+  -- the transaction ends as dropped or aborted: the copies that it wrote go, and all permissions
+  Abandon : CacheChange
+  -- the transaction ends as committed; what it wrote has this version
+  TakeDone : (number : ℕ) → CacheChange
   Install : (page grant version : ℕ) → (bytes : Bytes) → CacheChange  -- a new copy
   Fill : (page grant : ℕ) → (bytes : Bytes) → CacheChange  -- bytes for a bare grant
-  RefuseGrant : (page grant : ℕ) → CacheChange  -- a grant that is not held was named: it is seen
+  -- a grant that is not held was named: it is seen
+  RefuseGrant : (page grant : ℕ) → CacheChange
   LetGo : (page : ℕ) → CacheChange  -- the copy goes, and its permission
-  MakeBare : (page : ℕ) → CacheChange  -- the pool lets the bytes go, the grant stays
+  -- the pool lets the bytes go, the grant stays
+  MakeBare : (page : ℕ) → CacheChange
   YieldPermission : (page : ℕ) → CacheChange  -- the write permission goes, the copy stays
 
 -- the cache after a change; the first argument is the setting of kept write permission
-abbrev pub cache_after : Bool → Cache → CacheChange → Cache
-cache_after keep_write k TakeWelcome = record k { welcomed = true }
-cache_after keep_write k Begin = record k { number = k.number + 1; status = Open }
-cache_after keep_write k (Lock p) = record k { locked = update k.locked p true }
-cache_after keep_write k (Read p b) = record k { locked = update k.locked p true; operations = Saw p b ∷ k.operations }
-cache_after keep_write k (TakePermission p g) = record k { may_write = update k.may_write p true; tag = update k.tag p k.number }
-cache_after keep_write k (WriteBytes p b) = record k { content = update k.content p (Some b); wrote = update k.wrote p true; operations = Put p b ∷ k.operations }
-cache_after keep_write k Finish = record k { status = Committing }
-cache_after keep_write k Abandon = record k {
-  dropped = k.number;
+abbrev pub cache_after : (keep_write : Bool) → Cache → CacheChange → Cache
+cache_after keep_write cache TakeWelcome = record cache { welcomed = true }
+cache_after keep_write cache Begin = record cache { number = cache.number + 1; status = Open }
+cache_after keep_write cache (Lock page) =
+    record cache { locked = update cache.locked page true }
+cache_after keep_write cache (Read page bytes) = record cache {
+  locked = update cache.locked page true;
+  operations = Saw page bytes ∷ cache.operations;
+}
+cache_after keep_write cache (TakePermission page grant) = record cache {
+  may_write = update cache.may_write page true;
+  tag = update cache.tag page cache.number;
+}
+cache_after keep_write cache (WriteBytes page bytes) = record cache {
+  content = update cache.content page (Some bytes);
+  wrote = update cache.wrote page true;
+  operations = Put page bytes ∷ cache.operations;
+}
+cache_after keep_write cache Finish = record cache { status = Committing }
+cache_after keep_write cache Abandon = record cache {
+  dropped = cache.number;
   status = Idle;
-  held = λ p. if k.wrote p then None else k.held p;
-  content = λ p. if k.wrote p then None else k.content p;
-  locked = λ p. false;
-  may_write = λ p. false;
-  wrote = λ p. false;
+  held = λ page. if cache.wrote page then None else cache.held page;
+  content = λ page. if cache.wrote page then None else cache.content page;
+  locked = λ page. false;
+  may_write = λ page. false;
+  wrote = λ page. false;
   operations = [];
 }
-cache_after keep_write k (TakeDone n) = record k {
+cache_after keep_write cache (TakeDone number) = record cache {
   status = Idle;
-  version = λ p. if k.wrote p then n else k.version p;
-  locked = λ p. false;
-  may_write = λ p. if keep_write then k.may_write p else false;
-  wrote = λ p. false;
+  version = λ page. if cache.wrote page then number else cache.version page;
+  locked = λ page. false;
+  may_write = λ page. if keep_write then cache.may_write page else false;
+  wrote = λ page. false;
   operations = [];
 }
-cache_after keep_write k (Install p g v b) = record k {
-  seen = update k.seen p g;
-  held = update k.held p (Some g);
-  version = update k.version p v;
-  content = update k.content p (Some b);
+cache_after keep_write cache (Install page grant version bytes) = record cache {
+  seen = update cache.seen page grant;
+  held = update cache.held page (Some grant);
+  version = update cache.version page version;
+  content = update cache.content page (Some bytes);
 }
-cache_after keep_write k (Fill p g b) = record k { content = update k.content p (Some b) }
-cache_after keep_write k (RefuseGrant p g) = record k { seen = update k.seen p (max (k.seen p) g) }
-cache_after keep_write k (LetGo p) = record k { may_write = update k.may_write p false; held = update k.held p None; content = update k.content p None }
-cache_after keep_write k (MakeBare p) = record k { content = update k.content p None }
-cache_after keep_write k (YieldPermission p) = record k { may_write = update k.may_write p false }
+cache_after keep_write cache (Fill page grant bytes) =
+    record cache { content = update cache.content page (Some bytes) }
+cache_after keep_write cache (RefuseGrant page grant) =
+    record cache { seen = update cache.seen page (max (cache.seen page) grant) }
+cache_after keep_write cache (LetGo page) = record cache {
+  may_write = update cache.may_write page false;
+  held = update cache.held page None;
+  content = update cache.content page None;
+}
+cache_after keep_write cache (MakeBare page) =
+    record cache { content = update cache.content page None }
+cache_after keep_write cache (YieldPermission page) =
+    record cache { may_write = update cache.may_write page false }

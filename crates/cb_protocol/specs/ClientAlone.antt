@@ -16,142 +16,206 @@ pub data ClientInput : Type 0 where
 
 -- the pool keeps the law of its choice
 abbrev pub InputAllowed : Limits → Client → ClientInput → Type 0
-InputAllowed L k (ReceivesCall c) = ⊤
-InputAllowed L k (ReceivesMessage b let_go) = ChoiceAllowed L k b let_go
+InputAllowed limits client (ReceivesCall call) = ⊤
+InputAllowed limits client (ReceivesMessage body let_go) = ChoiceAllowed limits client body let_go
 
 -- what it does at it
 abbrev pub client_steps_at : Limits → Client → ClientInput → List ClientStep
-client_steps_at L k (ReceivesCall c) = (client_call L k c).steps
-client_steps_at L k (ReceivesMessage b let_go) = client_take L k b let_go
+client_steps_at limits client (ReceivesCall call) = (client_call limits client call).steps
+client_steps_at limits client (ReceivesMessage body let_go) = client_take limits client body let_go
 
 -- the client after it
 abbrev pub after_input : Limits → Client → ClientInput → Client
-after_input L k i = client_after L.keep_write k (client_steps_at L k i)
+after_input limits client input =
+    client_after limits.keep_write client (client_steps_at limits client input)
 
 -- A client that was new, after calls and messages of its incarnation that are allowed.
-pub data Arises (L : Limits) (Allowed : ClientInput → Type 0) : Client → Type 0 where
-  StartsNew : Arises L Allowed new_client
-  Continues : (k : Client) (i : ClientInput) → Arises L Allowed k → InputAllowed L k i → Allowed i → Arises L Allowed (after_input L k i)
+pub data Arises (limits : Limits) (Allowed : ClientInput → Type 0) : Client → Type 0 where
+  StartsNew : Arises limits Allowed new_client
+  Continues : (client : Client) (input : ClientInput) → Arises limits Allowed client
+      → InputAllowed limits client input → Allowed input
+      → Arises limits Allowed (after_input limits client input)
 
 -- whatever is called and comes
 abbrev pub Anything : ClientInput → Type 0
-Anything i = ⊤
+Anything input = ⊤
 
 -- that grant of the page is held, and the open or committing transaction read the page
-abbrev pub Reading : Client → ℕ → ℕ → Type 0
-Reading k p g = (k.cache.held p ≡ Some g) × (k.cache.locked p ≡ true)
+abbrev pub Reading : Client → (page grant : ℕ) → Type 0
+Reading client page grant =
+    (client.cache.held page ≡ Some grant) × (client.cache.locked page ≡ true)
 
--- Each callback is answered by one message at once (callback locking: TODS 1997).
--- In use: exactly where the grant is held and the transaction read the page. The page is then due,
--- and nothing else changes. Else given back, also where the grant never came; it is not held
--- afterwards.
+-- What a client says to a Callback, and is after it (callback locking: TODS 1997).
+pub record AnswersCallback (before after : Client) (said : List Body) (page grant : ℕ)
+    : Type 0 where
+  -- in use: exactly where the grant is held and the transaction read the page. The page is then
+  -- due, and nothing else changes
+  pub in_use : Reading before page grant
+      → (said ≡ InUse before.cache.number page grant ∷ [])
+      × (after ≡ record before { due = update before.due page true })
+  -- else given back, also where the grant never came; it is not held afterwards
+  pub back : (Reading before page grant → ⊥)
+      → (said ≡ GiveBack page grant ∷ []) × (after.cache.held page ≢ Some grant)
+
+-- Each callback is answered by one message at once.
 abbrev pub CallbackAnsweredAtOnce : Limits → Type 0
-CallbackAnsweredAtOnce L = (k : Client) (p g : ℕ) (let_go : Option ℕ) → k.cache.welcomed ≡ true →
-    (Reading k p g → (bodies_said (client_take L k (Callback p g) let_go) ≡ InUse k.cache.number p g ∷ []) × (after_input L k (ReceivesMessage (Callback p g) let_go) ≡ record k { due = λ q. if q == p then true else k.due q }))
-    × ((Reading k p g → ⊥) → (bodies_said (client_take L k (Callback p g) let_go) ≡ GiveBack p g ∷ []) × ((after_input L k (ReceivesMessage (Callback p g) let_go)).cache.held p ≢ Some g))
+CallbackAnsweredAtOnce limits = (client : Client) (page grant : ℕ) (let_go : Option ℕ)
+    → client.cache.welcomed ≡ true
+    → let input = ReceivesMessage (Callback page grant) let_go in
+    AnswersCallback client (after_input limits client input)
+    (bodies_said (client_steps_at limits client input)) page grant
 
 -- the transaction uses that permission of the page: it has the tag, and the page is wanted or was
 -- written
-abbrev pub Using : Client → ℕ → ℕ → ℕ → Type 0
-Using k p g t = (k.cache.held p ≡ Some g) × (k.cache.may_write p ≡ true) × (k.cache.tag p ≡ t) × (is_fixed k p ≡ true)
+abbrev pub Using : Client → (page grant tag : ℕ) → Type 0
+Using client page grant tag =
+    (client.cache.held page ≡ Some grant) × (client.cache.may_write page ≡ true)
+    × (client.cache.tag page ≡ tag) × (is_fixed client page ≡ true)
 
--- Each downgrade is answered by one message at once, where permission is kept (this project's
--- rule); else it is ignored. In use: exactly where the grant is held and its permission with that
--- tag is used. The downgrade is then due, and nothing else changes. Given up: where the grant is
--- held otherwise; no permission with that tag is left. Given back: where it isn't held.
+-- What a client says to a Downgrade, and is after it, where permission is kept (this project's
+-- rule).
+pub record AnswersDowngrade (before after : Client) (said : List Body) (page grant tag : ℕ)
+    : Type 0 where
+  -- in use: exactly where the grant is held and its permission with that tag is used. The downgrade
+  -- is then due, and nothing else changes
+  pub in_use : Using before page grant tag
+      → (said ≡ InUse before.cache.number page grant ∷ [])
+      × (after ≡ record before {
+        due_downgrade =
+            update before.due_downgrade page (Some (record { grant = grant; tag = tag }));
+      })
+  -- given up: where the grant is held otherwise; no permission with that tag is left
+  pub down : before.cache.held page ≡ Some grant → (Using before page grant tag → ⊥)
+      → (said ≡ Downgraded page grant tag ∷ [])
+      × (after.cache.may_write page ≡ true → after.cache.tag page ≢ tag)
+  -- given back: where it isn't held
+  pub back : before.cache.held page ≢ Some grant
+      → (said ≡ GiveBack page grant ∷ []) × (after.cache.held page ≢ Some grant)
+
+-- Each downgrade is answered by one message at once, where permission is kept; else it is ignored.
 abbrev pub DowngradeAnsweredAtOnce : Limits → Type 0
-DowngradeAnsweredAtOnce L = (k : Client) (p g t : ℕ) (let_go : Option ℕ) → k.cache.welcomed ≡ true →
-    let bs = bodies_said (client_take L k (Downgrade p g t) let_go) in
-    let l = after_input L k (ReceivesMessage (Downgrade p g t) let_go) in
-    (L.keep_write ≡ false → (bs ≡ []) × (l ≡ k))
-    × (L.keep_write ≡ true → Using k p g t → (bs ≡ InUse k.cache.number p g ∷ []) × (l ≡ record k { due_downgrade = update k.due_downgrade p (Some (record { grant = g; tag = t })) }))
-    × (L.keep_write ≡ true → k.cache.held p ≡ Some g → (Using k p g t → ⊥) → (bs ≡ Downgraded p g t ∷ []) × (l.cache.may_write p ≡ true → l.cache.tag p ≢ t))
-    × (L.keep_write ≡ true → k.cache.held p ≢ Some g → (bs ≡ GiveBack p g ∷ []) × (l.cache.held p ≢ Some g))
+DowngradeAnsweredAtOnce limits = (client : Client) (page grant tag : ℕ) (let_go : Option ℕ)
+    → client.cache.welcomed ≡ true
+    → let input = ReceivesMessage (Downgrade page grant tag) let_go in
+    let said = bodies_said (client_steps_at limits client input) in
+    let after = after_input limits client input in
+    (limits.keep_write ≡ false → (said ≡ []) × (after ≡ client))
+    × (limits.keep_write ≡ true → AnswersDowngrade client after said page grant tag)
 
--- the grants of page p that these messages give back, in order
-abbrev pub given_back : ℕ → List Body → List ℕ
-given_back p [] = []
-given_back p (GiveBack q g ∷ bs) = if q == p then g ∷ given_back p bs else given_back p bs
-given_back p (_ ∷ bs) = given_back p bs
+-- the grants of the page that these messages give back, in order
+abbrev pub given_back : (page : ℕ) → List Body → List ℕ
+given_back page [] = []
+given_back page (GiveBack other grant ∷ bodies) =
+    if other == page then grant ∷ given_back page bodies else given_back page bodies
+given_back page (_ ∷ bodies) = given_back page bodies
 
--- the permissions of page p that they give up
-abbrev pub given_down : ℕ → List Body → List DueDowngrade
-given_down p [] = []
-given_down p (Downgraded q g t ∷ bs) = if q == p then record { grant = g; tag = t } ∷ given_down p bs else given_down p bs
-given_down p (_ ∷ bs) = given_down p bs
+-- the permissions of the page that they give up
+abbrev pub given_down : (page : ℕ) → List Body → List DueDowngrade
+given_down page [] = []
+given_down page (Downgraded other grant tag ∷ bodies) =
+    if other == page then record { grant = grant; tag = tag } ∷ given_down page bodies
+    else given_down page bodies
+given_down page (_ ∷ bodies) = given_down page bodies
 
 -- the pages of which they give a grant back
 abbrev pub pages_given_back : List Body → List ℕ
 pages_given_back [] = []
-pages_given_back (GiveBack q g ∷ bs) = q ∷ pages_given_back bs
-pages_given_back (_ ∷ bs) = pages_given_back bs
+pages_given_back (GiveBack page grant ∷ bodies) = page ∷ pages_given_back bodies
+pages_given_back (_ ∷ bodies) = pages_given_back bodies
 
-abbrev pub EachGreater : ℕ → List ℕ → Type 0
-EachGreater p [] = ⊤
-EachGreater p (q ∷ qs) = (p < q) × EachGreater p qs
+abbrev pub EachGreater : (page : ℕ) → List ℕ → Type 0
+EachGreater page [] = ⊤
+EachGreater page (next ∷ pages) = (page < next) × EachGreater page pages
 
 -- strictly
 abbrev pub Rising : List ℕ → Type 0
 Rising [] = ⊤
-Rising (p ∷ ps) = EachGreater p ps × Rising ps
+Rising (page ∷ pages) = EachGreater page pages × Rising pages
 
--- how a transaction stands after an input
+-- how a transaction fares at an input
 pub data Ending : Type 0 where
   GoesOn : Ending
   EndsCommitted : Ending
   EndsDropped : Ending  -- by its own call or by the server
 
 abbrev pub ending_if : Bool → Ending → Ending
-ending_if b e = if b then e else GoesOn
+ending_if test ending = if test then ending else GoesOn
 
 -- the open transaction ends by an accepted drop or an AbortNow of its number, the committing one by
 -- a Done of its number; nothing else ends one
 abbrev pub ending : Limits → Client → ClientInput → Ending
-ending L k (ReceivesCall CallDrop) = ending_if (is_none (first_refusal (open_causes k))) EndsDropped
-ending L k (ReceivesCall _) = GoesOn
-ending L k (ReceivesMessage (Done t n) let_go) = ending_if (k.cache.welcomed && of_committing_txn k t) EndsCommitted
-ending L k (ReceivesMessage (AbortNow t) let_go) = ending_if (k.cache.welcomed && of_open_txn k t) EndsDropped
-ending L k (ReceivesMessage _ let_go) = GoesOn
+ending limits client (ReceivesCall CallDrop) =
+    ending_if (is_none (first_refusal (open_causes client))) EndsDropped
+ending limits client (ReceivesCall _) = GoesOn
+ending limits client (ReceivesMessage (Done txn number) let_go) =
+    ending_if (client.cache.welcomed && of_committing_txn client txn) EndsCommitted
+ending limits client (ReceivesMessage (AbortNow txn) let_go) =
+    ending_if (client.cache.welcomed && of_open_txn client txn) EndsDropped
+ending limits client (ReceivesMessage _ let_go) = GoesOn
 
--- what is given back of page p as the transaction ends: the grant held, where the page is due or
+-- what is given back of a page as the transaction ends: the grant held, where the page is due or
 -- bare, or was written and that is dropped
-abbrev pub owed_back : Client → Bool → ℕ → Option ℕ → List ℕ
-owed_back k dropped p None = []
-owed_back k dropped p (Some g) = if k.due p || is_none (k.cache.content p) || (dropped && k.cache.wrote p) then g ∷ [] else []
+abbrev pub owed_back : Client → (dropped : Bool) → (page : ℕ) → (held : Option ℕ) → List ℕ
+owed_back client dropped page None = []
+owed_back client dropped page (Some grant) =
+    if client.due page || is_none (client.cache.content page)
+    || (dropped && client.cache.wrote page)
+    then grant ∷ [] else []
+
+-- the downgrade that is due, as a list
+abbrev pub due_alone : Option DueDowngrade → List DueDowngrade
+due_alone None = []
+due_alone (Some downgrade) = downgrade ∷ []
 
 -- the permission given up of it (kept write permission alone): one whose downgrade is due, where
 -- the transaction commits and the page isn't given back
-abbrev pub owed_down : Client → Bool → ℕ → Option ℕ → List DueDowngrade
-owed_down k dropped p None = []
-owed_down k dropped p (Some g) = if dropped || k.due p || is_none (k.cache.content p) then [] else elim (k.due_downgrade p) [ None ↦ [] | Some y ↦ y ∷ [] ]
+abbrev pub owed_down : Client → (dropped : Bool) → (page : ℕ) → (held : Option ℕ)
+    → List DueDowngrade
+owed_down client dropped page None = []
+owed_down client dropped page (Some grant) =
+    if dropped || client.due page || is_none (client.cache.content page) then []
+    else due_alone (client.due_downgrade page)
 
 -- that page's grant stays held and due, and its transaction the same; this grant of it is not given
 -- back
-abbrev pub StaysDue : Client → Client → List Body → ℕ → ℕ → Type 0
-StaysDue k l bs p g = Reading l p g × (l.due p ≡ true) × (l.cache.number ≡ k.cache.number) × (IsIn (GiveBack p g) bs → ⊥)
+abbrev pub StaysDue : (before after : Client) → (said : List Body) → (page grant : ℕ) → Type 0
+StaysDue before after said page grant =
+    Reading after page grant × (after.due page ≡ true)
+    × (after.cache.number ≡ before.cache.number) × (IsIn (GiveBack page grant) said → ⊥)
 
 -- What a client said, and is, at its transaction's end.
-pub record EndSays (k l : Client) (dropped : Bool) (bs : List Body) : Type 0 where
+pub record EndSays (before after : Client) (dropped : Bool) (said : List Body) : Type 0 where
   -- of each page exactly what it owes: one grant given back, or one permission, or nothing; pages
   -- given back rise
-  pub back : (p : ℕ) → given_back p bs ≡ owed_back k dropped p (k.cache.held p)
-  pub down : (p : ℕ) → given_down p bs ≡ owed_down k dropped p (k.cache.held p)
-  pub rising : Rising (pages_given_back bs)
+  pub back : (page : ℕ)
+      → given_back page said ≡ owed_back before dropped page (before.cache.held page)
+  pub down : (page : ℕ)
+      → given_down page said ≡ owed_down before dropped page (before.cache.held page)
+  pub rising : Rising (pages_given_back said)
   -- nothing is due any more, and no page is held of which a grant was given back
-  pub idle : l.cache.status ≡ Idle
-  pub none_due : (p : ℕ) → l.due p ≡ false
-  pub gone : (p g : ℕ) → IsIn g (given_back p bs) → l.cache.held p ≡ None
+  pub idle : after.cache.status ≡ Idle
+  pub none_due : (page : ℕ) → after.due page ≡ false
+  pub gone : (page grant : ℕ) → IsIn grant (given_back page said) → after.cache.held page ≡ None
 
-abbrev pub EndsRight : Client → Client → List Body → Ending → Type 0
-EndsRight k l bs GoesOn = (p g : ℕ) → k.due p ≡ true → k.cache.held p ≡ Some g → StaysDue k l bs p g
-EndsRight k l bs EndsCommitted = EndSays k l false bs
-EndsRight k l bs EndsDropped = EndSays k l true bs
+abbrev pub EndsRight : (before after : Client) → (said : List Body) → Ending → Type 0
+EndsRight before after said GoesOn = (page grant : ℕ) → before.due page ≡ true
+    → before.cache.held page ≡ Some grant → StaysDue before after said page grant
+EndsRight before after said EndsCommitted = EndSays before after false said
+EndsRight before after said EndsDropped = EndSays before after true said
 
 -- A page whose callback was answered InUse is due until its transaction ends, and its grant is
--- given back exactly once then, and by no earlier step. A due page is held, and read by a
--- transaction that has not ended; until the end it stays so. At the end one grant is given back of
--- each page that is due, bare or (where dropped) written, and none of another.
+-- given back exactly once then, and by no earlier step.
+pub record GivesBackOnce (limits : Limits) (client : Client) : Type 0 where
+  -- a due page is held, and read by a transaction that has not ended
+  pub due : (page : ℕ) → client.due page ≡ true
+      → (client.cache.status ≢ Idle) × ((grant : ℕ) × Reading client page grant)
+  -- Until the end it stays so. At the end one grant is given back of each page that is due, bare or
+  -- (where dropped) written, and none of another.
+  pub ends : (input : ClientInput)
+      → EndsRight client (after_input limits client input)
+      (bodies_said (client_steps_at limits client input)) (ending limits client input)
+
+-- so of every client that arises by what is allowed
 abbrev pub InUseGivenBackOnce : Limits → (ClientInput → Type 0) → Type 0
-InUseGivenBackOnce L Allowed = (k : Client) → Arises L Allowed k →
-    ((p : ℕ) → k.due p ≡ true → (k.cache.status ≢ Idle) × ((g : ℕ) × Reading k p g))
-    × ((i : ClientInput) → EndsRight k (after_input L k i) (bodies_said (client_steps_at L k i)) (ending L k i))
+InUseGivenBackOnce limits Allowed =
+    (client : Client) → Arises limits Allowed client → GivesBackOnce limits client

@@ -27,70 +27,101 @@ pub record Cause : Type 0 where
 
 -- that fault, where the test holds
 abbrev pub cause_of : Bool → ClientFault → Cause
-cause_of b f = record { holds = b; fault = f }
+cause_of test fault = record { holds = test; fault = fault }
 
 -- the first fault whose cause holds
 abbrev pub first_refusal : List Cause → Option ClientFault
 first_refusal [] = None
-first_refusal (c ∷ cs) = if c.holds then Some c.fault else first_refusal cs
+first_refusal (cause ∷ causes) = if cause.holds then Some cause.fault else first_refusal causes
 
 -- of a call that needs an open transaction
 abbrev pub open_causes : Client → List Cause
-open_causes k = cause_of (not k.cache.welcomed) NotWelcome ∷ cause_of (is_idle k.cache.status) NoTransaction ∷ cause_of (is_committing k.cache.status) CommittingFault ∷ []
+open_causes client =
+    cause_of (not client.cache.welcomed) NotWelcome
+    ∷ cause_of (is_idle client.cache.status) NoTransaction
+    ∷ cause_of (is_committing client.cache.status) CommittingFault ∷ []
 
 -- of one that needs an open transaction that waits for nothing, and a page that there is
-abbrev pub page_causes : Limits → Client → ℕ → List Cause
-page_causes L k p = open_causes k ++ cause_of (is_asking k.ask) Waiting ∷ cause_of (nat_le L.pages p) PageRange ∷ []
+abbrev pub page_causes : Limits → Client → (page : ℕ) → List Cause
+page_causes limits client page =
+    open_causes client
+    ++ cause_of (is_asking client.ask) Waiting ∷ cause_of (nat_le limits.pages page) PageRange ∷ []
 
 -- of one that needs a page that the transaction has read, with its bytes in the pool
-abbrev pub read_causes : Client → ℕ → List Cause
-read_causes k p = cause_of (not (k.cache.locked p)) NotRead ∷ cause_of (is_none (k.cache.content p)) NotHere ∷ []
+abbrev pub read_causes : Client → (page : ℕ) → List Cause
+read_causes client page =
+    cause_of (not (client.cache.locked page)) NotRead
+    ∷ cause_of (is_none (client.cache.content page)) NotHere ∷ []
 
 -- the causes of a refusal of each call, by rising number; a call without a line is never refused
 abbrev pub causes : Limits → Client → Call → List Cause
-causes L k CallBegin = cause_of (not k.cache.welcomed) NotWelcome ∷ cause_of (not (is_idle k.cache.status)) TransactionOpen ∷ cause_of (nat_le max_number k.cache.number) Exhausted ∷ []
-causes L k (CallRead p) = page_causes L k p ++ cause_of (is_none (k.cache.content p) && not (has_room L k)) PoolFull ∷ []
-causes L k (CallWant p) = page_causes L k p ++ read_causes k p
-causes L k (CallWrite p b) = page_causes L k p ++ read_causes k p ++ cause_of (not (k.cache.may_write p)) NotWritable ∷ cause_of (not (length b == L.page_size)) WrongLength ∷ []
-causes L k CallFinish = open_causes k ++ cause_of (is_asking k.ask) Waiting ∷ []
-causes L k CallDrop = open_causes k
-causes L k _ = []
+causes limits client CallBegin =
+    cause_of (not client.cache.welcomed) NotWelcome
+    ∷ cause_of (not (is_idle client.cache.status)) TransactionOpen
+    ∷ cause_of (nat_le max_number client.cache.number) Exhausted ∷ []
+causes limits client (CallRead page) =
+    page_causes limits client page
+    ++ cause_of (is_none (client.cache.content page) && not (has_room limits client)) PoolFull ∷ []
+causes limits client (CallWant page) =
+    page_causes limits client page ++ read_causes client page
+causes limits client (CallWrite page bytes) =
+    page_causes limits client page ++ read_causes client page
+    ++ cause_of (not (client.cache.may_write page)) NotWritable
+    ∷ cause_of (not (length bytes == limits.page_size)) WrongLength ∷ []
+causes limits client CallFinish =
+    open_causes client ++ cause_of (is_asking client.ask) Waiting ∷ []
+causes limits client CallDrop = open_causes client
+causes limits client _ = []
 
 -- what the commit says of a page: its bytes and grant, if it was written
-abbrev pub written_page : Client → ℕ → Option ℕ → Option Bytes → List PageWrite
-written_page k p (Some g) (Some b) = if k.cache.wrote p then record { page = p; grant = g; bytes = b } ∷ [] else []
-written_page k p _ _ = []
+abbrev pub written_page : Client → (page : ℕ) → Option ℕ → Option Bytes → List PageWrite
+written_page client page (Some grant) (Some bytes) =
+    if client.cache.wrote page then record { page = page; grant = grant; bytes = bytes } ∷ []
+    else []
+written_page client page _ _ = []
 
--- of the pages below n, rising
-abbrev pub written_pages : Client → ℕ → List PageWrite
-written_pages k zero = []
-written_pages k (suc n) = written_pages k n ++ written_page k n (k.cache.held n) (k.cache.content n)
+-- of the pages before `end`, rising
+abbrev pub written_pages : Client → (end : ℕ) → List PageWrite
+written_pages client zero = []
+written_pages client (suc page) =
+    written_pages client page
+    ++ written_page client page (client.cache.held page) (client.cache.content page)
 
 -- the Commit: every page written, rising
 abbrev pub say_commit : Limits → Client → List ClientStep
-say_commit L k = Say (Commit k.cache.number (written_pages k L.pages)) ∷ []
+say_commit limits client =
+    Say (Commit client.cache.number (written_pages client limits.pages)) ∷ []
 
 -- asks to write, by the grant held
-abbrev pub say_ask_write : Client → ℕ → Option ℕ → List ClientStep
-say_ask_write k p None = []
-say_ask_write k p (Some g) = Say (AskWrite k.cache.number p g) ∷ []
+abbrev pub say_ask_write : Client → (page : ℕ) → Option ℕ → List ClientStep
+say_ask_write client page None = []
+say_ask_write client page (Some grant) = Say (AskWrite client.cache.number page grant) ∷ []
 
 -- the Drop of the last transaction, if that one was dropped or aborted
 abbrev pub say_drop : Client → LastOutcome → List ClientStep
-say_drop k Dropped = Say (Drop k.cache.dropped) ∷ []
-say_drop k Aborted = Say (Drop k.cache.dropped) ∷ []
-say_drop k _ = []
+say_drop client Dropped = Say (Drop client.cache.dropped) ∷ []
+say_drop client Aborted = Say (Drop client.cache.dropped) ∷ []
+say_drop client _ = []
 
 -- the ask that is out
 abbrev pub say_ask : Client → Ask → List ClientStep
-say_ask k NoAsk = []
-say_ask k (ReadAsk p) = Say (AskRead k.cache.number p) ∷ []
-say_ask k (WriteAsk p) = say_ask_write k p (k.cache.held p)
+say_ask client NoAsk = []
+say_ask client (ReadAsk page) = Say (AskRead client.cache.number page) ∷ []
+say_ask client (WriteAsk page) = say_ask_write client page (client.cache.held page)
+
+-- the Commit of the transaction that is committing
+abbrev pub commit_again : Limits → Client → List ClientStep
+commit_again limits client =
+    if is_committing client.cache.status then say_commit limits client else []
 
 -- What may be lost is sent again: Hello until the Welcome came; then the Drop, the ask, the Commit,
 -- as far as each is still open.
 abbrev pub client_again : Limits → Client → List ClientStep
-client_again L k = if k.cache.welcomed then say_drop k k.last_outcome ++ (say_ask k k.ask ++ (if is_committing k.cache.status then say_commit L k else [])) else Say Hello ∷ []
+client_again limits client =
+    if client.cache.welcomed
+    then say_drop client client.last_outcome
+    ++ (say_ask client client.ask ++ commit_again limits client)
+    else Say Hello ∷ []
 
 -- what a call is answered, and the steps that the client makes
 pub record Reply : Type 0 where
@@ -98,39 +129,53 @@ pub record Reply : Type 0 where
   pub steps : List ClientStep
 
 abbrev pub reply_with : AnswerWord → List ClientStep → Reply
-reply_with w steps = record { word = w; steps = steps }
+reply_with word steps = record { word = word; steps = steps }
 
 -- the bytes, or none
 abbrev pub peek_word : Option Bytes → AnswerWord
 peek_word None = Nothing
-peek_word (Some b) = AnsweredBytes b
+peek_word (Some bytes) = AnsweredBytes bytes
 
 -- a read: the bytes in the pool, and the page is locked; else an ask goes out
-abbrev pub read_page : Client → ℕ → Option Bytes → Reply
-read_page k p (Some b) = reply_with (AnsweredBytes b) (ChangeCache (Read p b) ∷ [])
-read_page k p None = reply_with Asked (SetAsk (ReadAsk p) ∷ Say (AskRead k.cache.number p) ∷ [])
+abbrev pub read_page : Client → (page : ℕ) → (content : Option Bytes) → Reply
+read_page client page (Some bytes) =
+    reply_with (AnsweredBytes bytes) (ChangeCache (Read page bytes) ∷ [])
+read_page client page None =
+    reply_with Asked (SetAsk (ReadAsk page) ∷ Say (AskRead client.cache.number page) ∷ [])
+
+-- a write is wanted: it is permitted already; else an ask goes out
+abbrev pub want_page : Client → (page : ℕ) → Reply
+want_page client page =
+    if client.cache.may_write page then reply_with Permitted (MarkWanted page ∷ [])
+    else reply_with Asked (
+    MarkWanted page ∷ SetAsk (WriteAsk page) ∷ say_ask_write client page (client.cache.held page)
+    )
 
 -- the calls that are not refused
 abbrev pub accept_call : Limits → Client → Call → Reply
-accept_call L k CallHello = reply_with AnsweredOk (Say Hello ∷ [])
-accept_call L k CallBegin = reply_with AnsweredOk (ChangeCache Begin ∷ [])
-accept_call L k (CallRead p) = read_page k p (k.cache.content p)
-accept_call L k (CallWant p) = if k.cache.may_write p then reply_with Permitted (MarkWanted p ∷ []) else reply_with Asked (MarkWanted p ∷ SetAsk (WriteAsk p) ∷ say_ask_write k p (k.cache.held p))
-accept_call L k (CallWrite p b) = reply_with AnsweredOk (ChangeCache (WriteBytes p b) ∷ [])
-accept_call L k CallFinish = reply_with AnsweredOk (ChangeCache Finish ∷ say_commit L k)
-accept_call L k CallDrop = reply_with AnsweredOk (drop_transaction L k Dropped)
-accept_call L k CallAgain = reply_with AnsweredOk (client_again L k)
-accept_call L k (CallPeek p) = reply_with (peek_word (k.cache.content p)) []
+accept_call limits client CallHello = reply_with AnsweredOk (Say Hello ∷ [])
+accept_call limits client CallBegin = reply_with AnsweredOk (ChangeCache Begin ∷ [])
+accept_call limits client (CallRead page) = read_page client page (client.cache.content page)
+accept_call limits client (CallWant page) = want_page client page
+accept_call limits client (CallWrite page bytes) =
+    reply_with AnsweredOk (ChangeCache (WriteBytes page bytes) ∷ [])
+accept_call limits client CallFinish =
+    reply_with AnsweredOk (ChangeCache Finish ∷ say_commit limits client)
+accept_call limits client CallDrop =
+    reply_with AnsweredOk (drop_transaction limits client Dropped)
+accept_call limits client CallAgain = reply_with AnsweredOk (client_again limits client)
+accept_call limits client (CallPeek page) = reply_with (peek_word (client.cache.content page)) []
 
 -- the fault that a call is refused with, if it is
 unfoldable pub call_fault : Limits → Client → Call → Option ClientFault
-call_fault L k c = first_refusal (causes L k c)
+call_fault limits client call = first_refusal (causes limits client call)
 
 -- refused: nothing changes
 abbrev pub accept_or_refuse : Limits → Client → Call → Option ClientFault → Reply
-accept_or_refuse L k c (Some f) = reply_with (Refused f) []
-accept_or_refuse L k c None = accept_call L k c
+accept_or_refuse limits client call (Some fault) = reply_with (Refused fault) []
+accept_or_refuse limits client call None = accept_call limits client call
 
 -- What a client answers and does at a call. Proofs open it by the case lemmas of proofs/Cases.
 unfoldable pub client_call : Limits → Client → Call → Reply
-client_call L k c = accept_or_refuse L k c (call_fault L k c)
+client_call limits client call =
+    accept_or_refuse limits client call (call_fault limits client call)

@@ -9,63 +9,103 @@ use Rattle.cb_protocol.specs.Messages.{AbortNow, Body, Callback, Done, Downgrade
 
 -- The pool lets a page go to make room: its grant becomes bare where the transaction reads the
 -- page, else the copy is given back.
-abbrev pub let_page_go : Client → Option ℕ → List ClientStep
-let_page_go k None = []
-let_page_go k (Some q) = if k.cache.locked q then ChangeCache (MakeBare q) ∷ [] else give_back q (k.cache.held q)
+abbrev pub let_page_go : Client → (let_go : Option ℕ) → List ClientStep
+let_page_go client None = []
+let_page_go client (Some page) =
+    if client.cache.locked page then ChangeCache (MakeBare page) ∷ []
+    else give_back page (client.cache.held page)
 
 -- Granted for the grant that is held: bytes for a bare grant, where they are of the very version
 -- that is held and a read ask is out.
-abbrev pub take_granted_held : Client → ℕ → ℕ → ℕ → Bytes → Option ℕ → Option Bytes → List ClientStep
-take_granted_held k p g v b let_go (Some o) = []
-take_granted_held k p g v b let_go None = if (k.cache.version p == v) && asks_to_read k.ask p then let_page_go k let_go ++ SetAsk NoAsk ∷ ChangeCache (Fill p g b) ∷ [] else []
+abbrev pub take_granted_held : Client → (page grant version : ℕ) → Bytes → (let_go : Option ℕ)
+    → (content : Option Bytes) → List ClientStep
+take_granted_held client page grant version bytes let_go (Some content) = []
+take_granted_held client page grant version bytes let_go None =
+    if (client.cache.version page == version) && asks_to_read client.ask page
+    then let_page_go client let_go ++ SetAsk NoAsk ∷ ChangeCache (Fill page grant bytes) ∷ []
+    else []
 
--- Granted: a new copy only where nothing is held, the grant is greater than all seen and a read ask
--- for the page is out; it answers the ask and locks the page. Every other grant is given back, save
--- the one that is held.
-abbrev pub take_granted : Client → ℕ → ℕ → ℕ → Bytes → Option ℕ → Option ℕ → List ClientStep
-take_granted k p g v b let_go (Some h) = if h == g then take_granted_held k p g v b let_go (k.cache.content p) else refuse_grant p g
-take_granted k p g v b let_go None = if nat_lt (k.cache.seen p) g && asks_to_read k.ask p then let_page_go k let_go ++ SetAsk NoAsk ∷ ChangeCache (Install p g v b) ∷ ChangeCache (Lock p) ∷ [] else refuse_grant p g
+-- Granted where nothing is held: a new copy only where the grant is greater than all seen and a
+-- read ask for the page is out; it answers the ask and locks the page. Else the grant is given
+-- back.
+abbrev pub take_new_grant : Client → (page grant version : ℕ) → Bytes → (let_go : Option ℕ)
+    → List ClientStep
+take_new_grant client page grant version bytes let_go =
+    if nat_lt (client.cache.seen page) grant && asks_to_read client.ask page
+    then let_page_go client let_go
+    ++ SetAsk NoAsk ∷ ChangeCache (Install page grant version bytes) ∷ ChangeCache (Lock page) ∷ []
+    else refuse_grant page grant
 
--- Callback: a copy that the transaction reads is in use and due at its end; one that it does not
--- read goes at once; one that is not held is given back too, even if the grant never came.
-abbrev pub take_callback : Client → ℕ → ℕ → List ClientStep
-take_callback k p g =
-    if is_exactly (k.cache.held p) g
-    then (if k.cache.locked p then MarkDue p ∷ Say (InUse k.cache.number p g) ∷ [] else give_back p (Some g))
-    else refuse_grant p g
+-- Granted, by the grant held: another one than that is given back.
+abbrev pub take_granted : Client → (page grant version : ℕ) → Bytes → (let_go : Option ℕ)
+    → (held : Option ℕ) → List ClientStep
+take_granted client page grant version bytes let_go (Some held) =
+    if held == grant
+    then take_granted_held client page grant version bytes let_go (client.cache.content page)
+    else refuse_grant page grant
+take_granted client page grant version bytes let_go None =
+    take_new_grant client page grant version bytes let_go
+
+-- Callback of the grant held: a copy that the transaction reads is in use and due at its end; one
+-- that it does not read goes at once.
+abbrev pub call_back_held : Client → (page grant : ℕ) → List ClientStep
+call_back_held client page grant =
+    if client.cache.locked page
+    then MarkDue page ∷ Say (InUse client.cache.number page grant) ∷ []
+    else give_back page (Some grant)
+
+-- Callback: a grant that is not held is given back too, even if it never came.
+abbrev pub take_callback : Client → (page grant : ℕ) → List ClientStep
+take_callback client page grant =
+    if is_exactly (client.cache.held page) grant then call_back_held client page grant
+    else refuse_grant page grant
 
 -- Downgrade: the permission with that tag goes, at once where the transaction did not use it, else
 -- at its end.
-abbrev pub take_downgrade : Client → ℕ → ℕ → ℕ → List ClientStep
-take_downgrade k p g t =
-    if not (is_exactly (k.cache.held p) g) then refuse_grant p g
-    else if not (k.cache.may_write p && (k.cache.tag p == t)) then Say (Downgraded p g t) ∷ []
-    else if is_fixed k p then MarkDueDowngrade p (record { grant = g; tag = t }) ∷ Say (InUse k.cache.number p g) ∷ []
-    else ChangeCache (YieldPermission p) ∷ Say (Downgraded p g t) ∷ []
+abbrev pub take_downgrade : Client → (page grant tag : ℕ) → List ClientStep
+take_downgrade client page grant tag =
+    if not (is_exactly (client.cache.held page) grant) then refuse_grant page grant
+    else if not (client.cache.may_write page && (client.cache.tag page == tag))
+    then Say (Downgraded page grant tag) ∷ []
+    else if is_fixed client page
+    then MarkDueDowngrade page (record { grant = grant; tag = tag })
+    ∷ Say (InUse client.cache.number page grant) ∷ []
+    else ChangeCache (YieldPermission page) ∷ Say (Downgraded page grant tag) ∷ []
 
 -- the message is about the open transaction; about the one that is committing
-abbrev pub of_open_txn : Client → ℕ → Bool
-of_open_txn k t = is_open k.cache.status && (k.cache.number == t)
+abbrev pub of_open_txn : Client → (txn : ℕ) → Bool
+of_open_txn client txn = is_open client.cache.status && (client.cache.number == txn)
 
-abbrev pub of_committing_txn : Client → ℕ → Bool
-of_committing_txn k t = is_committing k.cache.status && (k.cache.number == t)
+abbrev pub of_committing_txn : Client → (txn : ℕ) → Bool
+of_committing_txn client txn = is_committing client.cache.status && (client.cache.number == txn)
 
 -- a message that a welcomed client takes; kinds for the server are ignored
-abbrev pub take_welcomed : Limits → Client → Body → Option ℕ → List ClientStep
-take_welcomed L k (Granted p g v b) let_go = take_granted k p g v b let_go (k.cache.held p)
-take_welcomed L k (MayWrite t p g) let_go = if of_open_txn k t && asks_to_write k.ask p && is_exactly (k.cache.held p) g then SetAsk NoAsk ∷ ChangeCache (TakePermission p g) ∷ [] else []
-take_welcomed L k (Callback p g) let_go = take_callback k p g
-take_welcomed L k (Done t n) let_go = if of_committing_txn k t then EndTransaction (Committed n) ∷ ChangeCache (TakeDone n) ∷ end_pages k false L.pages else []
-take_welcomed L k (AbortNow t) let_go = if of_open_txn k t then drop_transaction L k Aborted else []
-take_welcomed L k (Downgrade p g t) let_go = if L.keep_write then take_downgrade k p g t else []
-take_welcomed L k _ let_go = []
+abbrev pub take_welcomed : Limits → Client → Body → (let_go : Option ℕ) → List ClientStep
+take_welcomed limits client (Granted page grant version bytes) let_go =
+    take_granted client page grant version bytes let_go (client.cache.held page)
+take_welcomed limits client (MayWrite txn page grant) let_go =
+    if of_open_txn client txn && asks_to_write client.ask page
+    && is_exactly (client.cache.held page) grant
+    then SetAsk NoAsk ∷ ChangeCache (TakePermission page grant) ∷ [] else []
+take_welcomed limits client (Callback page grant) let_go = take_callback client page grant
+take_welcomed limits client (Done txn number) let_go =
+    if of_committing_txn client txn
+    then EndTransaction (Committed number) ∷ ChangeCache (TakeDone number)
+    ∷ end_pages client false limits.pages
+    else []
+take_welcomed limits client (AbortNow txn) let_go =
+    if of_open_txn client txn then drop_transaction limits client Aborted else []
+take_welcomed limits client (Downgrade page grant tag) let_go =
+    if limits.keep_write then take_downgrade client page grant tag else []
+take_welcomed limits client _ let_go = []
 
 -- What a client does when a message of its incarnation comes; before the Welcome all others are
 -- ignored. `let_go`: the page that the pool lets go, should it take in a page. Proofs open it by
 -- the case lemmas of proofs/Cases.
-unfoldable pub client_take : Limits → Client → Body → Option ℕ → List ClientStep
-client_take L k Welcome let_go = ChangeCache TakeWelcome ∷ []
-client_take L k b let_go = if k.cache.welcomed then take_welcomed L k b let_go else []
+unfoldable pub client_take : Limits → Client → Body → (let_go : Option ℕ) → List ClientStep
+client_take limits client Welcome let_go = ChangeCache TakeWelcome ∷ []
+client_take limits client body let_go =
+    if client.cache.welcomed then take_welcomed limits client body let_go else []
 
 -- a page's bytes come into the pool in these steps
 abbrev pub brings_page : List ClientStep → Bool
@@ -76,17 +116,21 @@ brings_page (_ ∷ steps) = brings_page steps
 
 -- The law of the pool's choice, where a page comes in that was not there: nothing goes where there
 -- is room; where the pool is full one page goes, which is there and not fixed.
-abbrev pub MayLetGo : Limits → Client → ℕ → Option ℕ → Type 0
-MayLetGo L k p None = pages_in_pool k L.pages < L.slots
-MayLetGo L k p (Some q) = (q ≢ p) × (is_none (k.cache.content q) ≡ false)
-    × (is_fixed k q ≡ false) × (L.slots ≤ pages_in_pool k L.pages)
+abbrev pub MayLetGo : Limits → Client → (page : ℕ) → (let_go : Option ℕ) → Type 0
+MayLetGo limits client page None = pages_in_pool client limits.pages < limits.slots
+MayLetGo limits client page (Some gone) =
+    (gone ≢ page) × (is_none (client.cache.content gone) ≡ false)
+    × (is_fixed client gone ≡ false) × (limits.slots ≤ pages_in_pool client limits.pages)
 
 -- it binds the choice at a Granted that brings a page, the one message that can
-abbrev pub ChoiceAllowed : Limits → Client → Body → Option ℕ → Type 0
-ChoiceAllowed L k (Granted p g v b) let_go =
-    brings_page (client_take L k (Granted p g v b) let_go) ≡ true → MayLetGo L k p let_go
-ChoiceAllowed L k _ let_go = ⊤
+abbrev pub ChoiceAllowed : Limits → Client → Body → (let_go : Option ℕ) → Type 0
+ChoiceAllowed limits client (Granted page grant version bytes) let_go =
+    brings_page (client_take limits client (Granted page grant version bytes) let_go) ≡ true
+    → MayLetGo limits client page let_go
+ChoiceAllowed limits client _ let_go = ⊤
 
 -- the steps of a client at a message, with the pool's choice left open
 abbrev pub ClientTakes : Limits → Client → Body → List ClientStep → Type 0
-ClientTakes L k b steps = (let_go : Option ℕ) × ChoiceAllowed L k b let_go × (steps ≡ client_take L k b let_go)
+ClientTakes limits client body steps =
+    (let_go : Option ℕ) × ChoiceAllowed limits client body let_go
+    × (steps ≡ client_take limits client body let_go)

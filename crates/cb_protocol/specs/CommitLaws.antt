@@ -1,4 +1,5 @@
--- Laws of commits at the server, whatever messages come: which are applied, and of which Done is said.
+-- Laws of commits at the server, whatever messages come: which are applied, and of which Done is
+-- said.
 use Rattle.std.specs.Prelude.{◌≡◌, ◌≢◌, ◌<◌, ◌≤◌, ◌+◌, ℕ, false, List, ◌∷◌, Some}
 use Rattle.cb_protocol.specs.AnyMessages.{Input, MessageComes, ReachesDisk, input_steps}
 use Rattle.cb_protocol.specs.Basics.{IsIn}
@@ -18,7 +19,8 @@ abbrev pub flushed_by : Server → Input → ℕ
 flushed_by server (ReachesDisk number) = number
 flushed_by server _ = server.flushed
 
--- At any server, at every input, Done is said only of commits that are on disk (this project's rule).
+-- At any server, at every input, Done is said only of commits that are on disk (this project's
+-- rule).
 abbrev pub DoneFromDiskAlone : Type 0
 DoneFromDiskAlone = (cycle : DeadlockTest) (server : Server) (input : Input)
     → let steps = input_steps cycle server input in
@@ -35,16 +37,18 @@ WritesPermitted server client writes = (write : PageWrite) → IsIn write writes
     → (server.store.holder write.page ≡ Some client)
     × ((server.session client).row write.page ≡ Some write.grant)
 
--- A commit that may be applied: of the current incarnation, of a transaction that neither ended nor is
--- doomed, of pages that it may write.
-pub record MayBeApplied (server : Server) (client incarnation txn : ℕ) (writes : List PageWrite) : Type 0 where
+-- A commit that may be applied: of the current incarnation, of a transaction that neither ended nor
+-- is doomed, of pages that it may write.
+pub record MayBeApplied (server : Server) (client incarnation txn : ℕ)
+    (writes : List PageWrite) : Type 0 where
   pub current : incarnation ≡ (server.session client).current
   pub lives : ((server_with server client txn).session client).ended < txn
   pub not_doomed : (server_with server client txn).doomed client ≡ false
   pub permitted : WritesPermitted (server_with server client txn) client writes
 
 -- it is the next commit, and its transaction has ended by it
-pub record IsApplied (before after : Server) (client incarnation txn : ℕ) (writes : List PageWrite) : Type 0 where
+pub record IsApplied (before after : Server) (client incarnation txn : ℕ)
+    (writes : List PageWrite) : Type 0 where
   pub listed : after.commits ≡ record {
     client = client;
     incarnation = incarnation;
@@ -56,15 +60,19 @@ pub record IsApplied (before after : Server) (client incarnation txn : ℕ) (wri
   pub outcome : after.outcome client ≡ Some (before.store.last_commit + 1)
 
 -- the server after that Commit came
-abbrev pub server_after_commit : DeadlockTest → Server → (client incarnation txn : ℕ) → List PageWrite → Server
+abbrev pub server_after_commit : DeadlockTest → Server → (client incarnation txn : ℕ)
+    → List PageWrite → Server
 server_after_commit cycle server client incarnation txn writes =
-    server_after server (input_steps cycle server (MessageComes client incarnation (Commit txn writes)))
+    server_after server
+    (input_steps cycle server (MessageComes client incarnation (Commit txn writes)))
 
 -- At any server a Commit is applied where it may be, and else no commit is.
 abbrev pub AppliedWhereItMay : Type 0
-AppliedWhereItMay = (cycle : DeadlockTest) (server : Server) (client incarnation txn : ℕ) (writes : List PageWrite)
+AppliedWhereItMay = (cycle : DeadlockTest) (server : Server)
+    (client incarnation txn : ℕ) (writes : List PageWrite)
     → let after = server_after_commit cycle server client incarnation txn writes in
-    (MayBeApplied server client incarnation txn writes → IsApplied server after client incarnation txn writes)
+    (MayBeApplied server client incarnation txn writes
+    → IsApplied server after client incarnation txn writes)
     × ((MayBeApplied server client incarnation txn writes → ⊥) → after.commits ≡ server.commits)
 
 -- No other input applies a commit.

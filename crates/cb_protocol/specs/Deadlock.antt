@@ -11,100 +11,135 @@ use Rattle.cb_protocol.specs.World.{Opening, opening_store}
 use Rattle.cb_protocol.specs.AnyMessages.{Input, MessageComes, input_steps}
 
 -- an ask is for a page that there is
-abbrev pub AskInRange : ℕ → Body → Type 0
-AskInRange n (AskRead t p) = p < n
-AskInRange n (AskWrite t p g) = p < n
-AskInRange n _ = ⊤
+abbrev pub AskInRange : (pages : ℕ) → Body → Type 0
+AskInRange pages (AskRead txn page) = page < pages
+AskInRange pages (AskWrite txn page grant) = page < pages
+AskInRange pages _ = ⊤
 
 -- the input is of a client that there is, and for a page that there is where it asks for one;
 -- nothing else is asked of it
 abbrev pub InputInRange : Server → Input → Type 0
-InputInRange s (MessageComes c i b) = (c < s.clients) × AskInRange s.pages b
-InputInRange s _ = ⊤
+InputInRange server (MessageComes client incarnation body) =
+    (client < server.clients) × AskInRange server.pages body
+InputInRange server _ = ⊤
 
 -- a server that a new one becomes by some list of inputs in range, whoever sends them
 pub data ReachedServer : Server → Type 0 where
-  Opened : (L : Limits) (o : Opening) → ReachedServer (new_server L.clients L.pages (opening_store L o))
-  AfterInput : {s : Server} → ReachedServer s → (i : Input) → InputInRange s i → ReachedServer (server_after s (input_steps on_cycle s i))
+  Opened : (limits : Limits) (opening : Opening)
+      → ReachedServer (new_server limits.clients limits.pages (opening_store limits opening))
+  AfterInput : {s : Server} → ReachedServer s → (input : Input) → InputInRange s input
+      → ReachedServer (server_after s (input_steps on_cycle s input))
 
--- the asks of c in a queue
-abbrev pub ask_count : ℕ → List WaitingAsk → ℕ
-ask_count c [] = 0
-ask_count c (a ∷ q) = (if a.client == c then 1 else 0) + ask_count c q
+-- the asks of a client in a queue
+abbrev pub ask_count : (client : ℕ) → List WaitingAsk → ℕ
+ask_count client [] = 0
+ask_count client (ask ∷ queue) =
+    (if ask.client == client then 1 else 0) + ask_count client queue
 
 -- a client has at most one ask in all queues
 pub record OneAsk (queue : ℕ → List WaitingAsk) : Type 0 where
-  pub here : (p c : ℕ) → ask_count c (queue p) ≤ 1
-  pub apart : (p q c : ℕ) → p ≢ q → ask_count c (queue p) + ask_count c (queue q) ≤ 1
+  pub here : (page client : ℕ) → ask_count client (queue page) ≤ 1
+  pub apart : (page other client : ℕ) → page ≢ other
+      → ask_count client (queue page) + ask_count client (queue other) ≤ 1
 
 -- Each doom comes right after its client's ask was taken away, and as the server was just before
 -- that, the client lay on a cycle.
 abbrev pub DoomsOnCycle : Server → List ServerStep → Type 0
-DoomsOnCycle s ds = (before after : List ServerStep) (c : ℕ) → ds ≡ before ++ Doom c ∷ after
-    → (earlier : List ServerStep) × (before ≡ earlier ++ RemoveAsk c ∷ []) × LiesOnCycle (WaitsFor (server_after s earlier)) c
+DoomsOnCycle server steps = (before after : List ServerStep) (client : ℕ)
+    → steps ≡ before ++ Doom client ∷ after
+    → (earlier : List ServerStep) × (before ≡ earlier ++ RemoveAsk client ∷ [])
+    × LiesOnCycle (WaitsFor (server_after server earlier)) client
 
 -- The test is true exactly of the clients that lie on a cycle.
 abbrev pub CycleTestExact : Type 0
-CycleTestExact = (s : Server) → AsksInRange s → (c : ℕ) → (on_cycle s c ≡ true) ↔ LiesOnCycle (WaitsFor s) c
+CycleTestExact = (server : Server) → AsksInRange server → (client : ℕ)
+    → (on_cycle server client ≡ true) ↔ LiesOnCycle (WaitsFor server) client
 
 -- After every step nobody lies on a cycle.
 abbrev pub NoCycleStays : Type 0
-NoCycleStays = (s : Server) → ReachedServer s → NoCycle s
+NoCycleStays = (server : Server) → ReachedServer server → NoCycle server
 
 -- At every moment of a step, also before the first and after the last of what is done in it, a
 -- client has at most one ask, and all asks are in range.
 abbrev pub OneAskAlways : Type 0
-OneAskAlways = (s : Server) → ReachedServer s → (i : Input) → InputInRange s i → (before after : List ServerStep) → input_steps on_cycle s i ≡ before ++ after
-    → OneAsk (server_after s before).queue × AsksInRange (server_after s before)
+OneAskAlways = (server : Server) → ReachedServer server
+    → (input : Input) → InputInRange server input
+    → (before after : List ServerStep) → input_steps on_cycle server input ≡ before ++ after
+    → OneAsk (server_after server before).queue × AsksInRange (server_after server before)
 
 -- Whoever is doomed lay on a cycle at that moment.
 abbrev pub DoomedOnlyOnCycle : Type 0
-DoomedOnlyOnCycle = (s : Server) → ReachedServer s → (i : Input) → InputInRange s i → DoomsOnCycle s (input_steps on_cycle s i)
+DoomedOnlyOnCycle = (server : Server) → ReachedServer server
+    → (input : Input) → InputInRange server input
+    → DoomsOnCycle server (input_steps on_cycle server input)
 
 -- A client whose transaction is doomed has no ask.
 abbrev pub DoomedHaveNoAsk : Type 0
-DoomedHaveNoAsk = (s : Server) → ReachedServer s → (c : ℕ) → s.doomed c ≡ true → (p : ℕ) → HasAsk c (s.queue p) → ⊥
+DoomedHaveNoAsk = (server : Server) → ReachedServer server
+    → (client : ℕ) → server.doomed client ≡ true
+    → (page : ℕ) → HasAsk client (server.queue page) → ⊥
 
 -- Settling all pages once more does nothing.
 abbrev pub SettledStaysSettled : Type 0
-SettledStaysSettled = (s : Server) → ReachedServer s → settle_pages on_cycle s s.pages ≡ []
+SettledStaysSettled = (server : Server) → ReachedServer server
+    → settle_pages on_cycle server server.pages ≡ []
 
 -- A message that changes nothing is answered, and no page needs settling.
 abbrev pub UnchangedNeedsNoSettling : Type 0
-UnchangedNeedsNoSettling = (s : Server) → ReachedServer s → (c : ℕ) (b : Body) → begin_transaction s c (named_txn b) ≡ [] → server_after s (direct_answer on_cycle s c b) ≡ s → take_current on_cycle s c b ≡ direct_answer on_cycle s c b
+UnchangedNeedsNoSettling = (server : Server) → ReachedServer server → (client : ℕ) (body : Body)
+    → begin_transaction server client (named_txn body) ≡ []
+    → server_after server (direct_answer on_cycle server client body) ≡ server
+    → take_current on_cycle server client body ≡ direct_answer on_cycle server client body
 
 -- settling these pages, in that order
 abbrev pub settle_listed : DeadlockTest → Server → List ℕ → List ServerStep
-settle_listed cycle s [] = []
-settle_listed cycle s (p ∷ ps) = let ds = settle_page cycle (length (s.queue p) + 1) s p in ds ++ settle_listed cycle (server_after s ds) ps
+settle_listed cycle server [] = []
+settle_listed cycle server (page ∷ pages) =
+    let steps = settle_page cycle (length (server.queue page) + 1) server page in
+    steps ++ settle_listed cycle (server_after server steps) pages
 
--- rising numbers, from m on and below n
-abbrev pub RisingWithin : ℕ → ℕ → List ℕ → Type 0
-RisingWithin m n [] = ⊤
-RisingWithin m n (p ∷ ps) = (m ≤ p) × (p < n) × RisingWithin (p + 1) n ps
+-- numbers that rise, from one number on and below another
+abbrev pub RisingWithin : (from end : ℕ) → List ℕ → Type 0
+RisingWithin from end [] = ⊤
+RisingWithin from end (page ∷ pages) =
+    (from ≤ page) × (page < end) × RisingWithin (page + 1) end pages
 
--- Settling a page takes at most as many steps as asks wait for it, and one.
+-- Settling a page takes at most as many decisions as asks wait for it, and one.
 abbrev pub SettlingEnds : Type 0
-SettlingEnds = (cycle : DeadlockTest) (s : Server) (p n : ℕ) → length (s.queue p) < n → settle_page cycle n s p ≡ settle_page cycle (length (s.queue p) + 1) s p
+SettlingEnds = (cycle : DeadlockTest) (server : Server) (page most : ℕ)
+    → length (server.queue page) < most
+    → settle_page cycle most server page
+    ≡ settle_page cycle (length (server.queue page) + 1) server page
 
 -- Settling a page with no ask does nothing.
 abbrev pub EmptyNeedsNoSettling : Type 0
-EmptyNeedsNoSettling = (cycle : DeadlockTest) (s : Server) (p n : ℕ) → s.queue p ≡ [] → settle_page cycle n s p ≡ []
+EmptyNeedsNoSettling = (cycle : DeadlockTest) (server : Server) (page most : ℕ)
+    → server.queue page ≡ [] → settle_page cycle most server page ≡ []
 
 -- Pages with no ask, when settling begins, are passed over.
 abbrev pub EmptyPassedOver : Type 0
-EmptyPassedOver = (cycle : DeadlockTest) (s : Server) (m n : ℕ) → m ≤ n → ((p : ℕ) → m ≤ p → p < n → s.queue p ≡ []) → settle_pages cycle s n ≡ settle_pages cycle s m
+EmptyPassedOver = (cycle : DeadlockTest) (server : Server) (from end : ℕ) → from ≤ end
+    → ((page : ℕ) → from ≤ page → page < end → server.queue page ≡ [])
+    → settle_pages cycle server end ≡ settle_pages cycle server from
 
 -- Settling rising pages, among them each with an ask when settling begins, is settling all.
 abbrev pub ListedAreEnough : Type 0
-ListedAreEnough = (cycle : DeadlockTest) (s : Server) (n : ℕ) (ps : List ℕ) → RisingWithin 0 n ps → ((p : ℕ) → p < n → s.queue p ≢ [] → IsIn p ps) → settle_listed cycle s ps ≡ settle_pages cycle s n
+ListedAreEnough = (cycle : DeadlockTest) (server : Server) (end : ℕ) (pages : List ℕ)
+    → RisingWithin 0 end pages
+    → ((page : ℕ) → page < end → server.queue page ≢ [] → IsIn page pages)
+    → settle_listed cycle server pages ≡ settle_pages cycle server end
 
 -- Without kept write permission, every permission is of its holder's live transaction.
 abbrev pub PermissionsLive : Type 0
-PermissionsLive = (s : Server) → ReachedServer s → s.store.keep_write ≡ false → (p d : ℕ) → s.store.holder p ≡ Some d → is_live_permission s d p ≡ true
+PermissionsLive = (server : Server) → ReachedServer server → server.store.keep_write ≡ false
+    → (page holder : ℕ) → server.store.holder page ≡ Some holder
+    → is_live_permission server holder page ≡ true
 
 -- So a first ask is then held up by exactly the write holder, and one to write by each client that
 -- uses the page.
 abbrev pub PlainHoldsUp : Type 0
-PlainHoldsUp = (s : Server) → ReachedServer s → s.store.keep_write ≡ false → (p : ℕ) (a : WaitingAsk) (d : ℕ)
-    → HoldsUp s p a d ↔ ((s.store.holder p ≡ Some d) ⊎ ((a.write_grant ≢ None) × (s.in_use d p ≡ true)))
+PlainHoldsUp = (server : Server) → ReachedServer server → server.store.keep_write ≡ false
+    → (page : ℕ) (ask : WaitingAsk) (client : ℕ)
+    → HoldsUp server page ask client
+    ↔ ((server.store.holder page ≡ Some client)
+    ⊎ ((ask.write_grant ≢ None) × (server.in_use client page ≡ true)))

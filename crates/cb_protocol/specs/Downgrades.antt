@@ -20,8 +20,8 @@ pub record DowngradeIsDue (server : Server) (client page current : ℕ) : Type 0
   pub tag : server.store.tag page ≡ current
   pub greater : (earlier : ℕ) → first.downgrade_sent ≡ Some earlier → earlier < current
 
--- A Downgrade that a message brings about is due, and is noted at once. So for an ask Downgrades are
--- of ever greater tags: of none twice.
+-- A Downgrade that a message brings about is due, and is noted at once. So for an ask Downgrades
+-- are of ever greater tags: of none twice.
 abbrev pub DowngradesRise : Type 0
 DowngradesRise = (server : Server) → ReachedServer server
     → (input : Input) → InputInRange server input → IsMessage input

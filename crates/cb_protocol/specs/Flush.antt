@@ -51,5 +51,8 @@ changed_pages server (suc page) =
 abbrev pub next_batch : Server → Option Batch
 next_batch server =
     if nat_lt server.flushed server.store.last_commit
-    then Some (record { number = server.store.last_commit; pages = changed_pages server server.pages })
+    then Some (record {
+      number = server.store.last_commit;
+      pages = changed_pages server server.pages;
+    })
     else None

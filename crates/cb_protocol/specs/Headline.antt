@@ -4,79 +4,121 @@ use Rattle.cb_protocol.specs.AnyMessages.{DirectoryRule, IsCommit, Ledger, commi
 use Rattle.cb_protocol.specs.Basics.{Bytes, IsIn, Limits}
 use Rattle.cb_protocol.specs.Cache.{Open}
 use Rattle.cb_protocol.specs.Messages.{Done, GiveBack}
-use Rattle.cb_protocol.specs.Serial.{EachOnce, IsSerial, committed_operations, store_left}
+use Rattle.cb_protocol.specs.Serial.{EachOnce, IsSerial, Operation, committed_operations, store_left}
 use Rattle.cb_protocol.specs.Server.{DeadlockTest}
 use Rattle.cb_protocol.specs.Transcript.{transcript_operations}
 use Rattle.cb_protocol.specs.World.{Moment, Opening, Plays, World, new_world}
 
--- client c has a readable copy of page p (TODS 1997: a cached copy is the permission to read)
-abbrev pub ReadableCopy : World → ℕ → ℕ → Bytes → Type 0
-ReadableCopy w c p b = (w.client c).cache.content p ≡ Some b
+-- a client has a readable copy of a page (TODS 1997: a cached copy is the permission to read)
+abbrev pub ReadableCopy : World → (client page : ℕ) → Bytes → Type 0
+ReadableCopy world client page bytes = (world.client client).cache.content page ≡ Some bytes
 
--- its open transaction may write page p
-abbrev pub MayWritePage : World → ℕ → ℕ → Type 0
-MayWritePage w c p = ((w.client c).cache.status ≡ Open) × ((w.client c).cache.may_write p ≡ true)
+-- its open transaction may write the page
+abbrev pub MayWritePage : World → (client page : ℕ) → Type 0
+MayWritePage world client page =
+    ((world.client client).cache.status ≡ Open)
+    × ((world.client client).cache.may_write page ≡ true)
 
 -- Two readable copies of a page have the same bytes.
 abbrev pub CopiesAgree : World → Type 0
-CopiesAgree w = (c d p : ℕ) (b e : Bytes) → ReadableCopy w c p b → ReadableCopy w d p e → b ≡ e
+CopiesAgree world = (client other page : ℕ) (bytes other_bytes : Bytes)
+    → ReadableCopy world client page bytes → ReadableCopy world other page other_bytes
+    → bytes ≡ other_bytes
 
 -- While a client may write a page, no other has a readable copy of it.
 abbrev pub WriterAlone : World → Type 0
-WriterAlone w = (c d p : ℕ) (b : Bytes) → MayWritePage w c p → ReadableCopy w d p b → d ≡ c
+WriterAlone world = (client other page : ℕ) (bytes : Bytes)
+    → MayWritePage world client page → ReadableCopy world other page bytes → other ≡ client
 
--- The operations of the committed transactions, in commit order, are a serial history on the
--- opening store, and the server's store is what it leaves.
-pub record CommittedIsSerial (opening : ℕ → Bytes) (w : World) : Type 0 where
-  pub legal : IsSerial opening (committed_operations (committed_names w.server.commits) (transcript_operations w.transcript))
-  pub leaves : (p : ℕ) → store_left opening (committed_operations (committed_names w.server.commits) (transcript_operations w.transcript)) p ≡ w.server.store.bytes p
+-- the operations of the committed transactions, in commit order
+abbrev pub committed_history : World → List (List Operation)
+committed_history world = committed_operations
+    (committed_names world.server.commits) (transcript_operations world.transcript)
+
+-- They are a serial history on the opening store, and the server's store is what it leaves.
+pub record CommittedIsSerial (opening : ℕ → Bytes) (world : World) : Type 0 where
+  pub legal : IsSerial opening (committed_history world)
+  pub leaves : (page : ℕ)
+      → store_left opening (committed_history world) page ≡ world.server.store.bytes page
+
+-- that client at that incarnation was told Done of the transaction, with the number of its commit
+abbrev pub DoneSent : World → (client incarnation txn number : ℕ) → Type 0
+DoneSent world client incarnation txn number =
+    IsIn (record { client = client; incarnation = incarnation; body = Done txn number })
+    world.packets
 
 -- Each Done that was sent names a commit and its number.
 abbrev pub DonesNameCommits : World → Type 0
-DonesNameCommits w = (c i t n : ℕ) → IsIn (record { client = c; incarnation = i; body = Done t n }) w.packets → IsCommit w.server.commits c i t n
+DonesNameCommits world = (client incarnation txn number : ℕ)
+    → DoneSent world client incarnation txn number
+    → IsCommit world.server.commits client incarnation txn number
 
 -- Done is said only of commits that are on disk (textbook: durability).
-pub record DonesOnDisk (w : World) : Type 0 where
+pub record DonesOnDisk (world : World) : Type 0 where
   -- what is on disk was committed
-  pub committed : w.server.flushed ≤ w.server.store.last_commit
+  pub committed : world.server.flushed ≤ world.server.store.last_commit
   -- and each Done that was sent is of a commit up to that
   pub on_disk : (client incarnation txn number : ℕ)
-      → IsIn (record { client = client; incarnation = incarnation; body = Done txn number }) w.packets
-      → number ≤ w.server.flushed
+      → DoneSent world client incarnation txn number → number ≤ world.server.flushed
+
+-- the client's present incarnation holds a copy of the page by this grant
+abbrev pub Holds : World → (client page grant : ℕ) → Type 0
+Holds world client page grant = (world.client client).cache.held page ≡ Some grant
+
+-- the client's present incarnation gave that grant back
+abbrev pub GaveBack : World → (client page grant : ℕ) → Type 0
+GaveBack world client page grant =
+    IsIn (record {
+      client = client;
+      incarnation = world.incarnation client;
+      body = GiveBack page grant;
+    }) world.packets
+
+-- the client's transaction did not write the page
+abbrev pub NotWritten : World → (client page : ℕ) → Type 0
+NotWritten world client page = (world.client client).cache.wrote page ≡ false
 
 -- Why the copies are right: what a client holds, the server has in its rows.
-pub record BackedByServer (w : World) : Type 0 where
+pub record BackedByServer (world : World) : Type 0 where
   -- a grant that is held has its row, and was never given back
-  pub row : (c p g : ℕ) → (w.client c).cache.held p ≡ Some g → (w.server.session c).row p ≡ Some g
-  pub never_back : (c p g : ℕ) → (w.client c).cache.held p ≡ Some g → IsIn (record { client = c; incarnation = w.incarnation c; body = GiveBack p g }) w.packets → ⊥
+  pub row : (client page grant : ℕ) → Holds world client page grant
+      → (world.server.session client).row page ≡ Some grant
+  pub never_back : (client page grant : ℕ) → Holds world client page grant
+      → GaveBack world client page grant → ⊥
   -- who may write has the permission
-  pub permission : (c p : ℕ) → MayWritePage w c p → w.server.store.holder p ≡ Some c
+  pub permission : (client page : ℕ) → MayWritePage world client page
+      → world.server.store.holder page ≡ Some client
   -- a copy that was not written is the store's
-  pub version : (c p g : ℕ) → (w.client c).cache.held p ≡ Some g → (w.client c).cache.wrote p ≡ false → (w.client c).cache.version p ≡ w.server.store.version p
-  pub bytes : (c p : ℕ) (b : Bytes) → ReadableCopy w c p b → (w.client c).cache.wrote p ≡ false → b ≡ w.server.store.bytes p
+  pub version : (client page grant : ℕ) → Holds world client page grant
+      → NotWritten world client page
+      → (world.client client).cache.version page ≡ world.server.store.version page
+  pub bytes : (client page : ℕ) (bytes : Bytes) → ReadableCopy world client page bytes
+      → NotWritten world client page → bytes ≡ world.server.store.bytes page
 
 -- all of it
-pub record Promise (o : Opening) (w : World) : Type 0 where
-  pub agree : CopiesAgree w
-  pub alone : WriterAlone w
-  pub serial : CommittedIsSerial o.bytes w
-  pub once : EachOnce (committed_names w.server.commits)
-  pub directory : DirectoryRule w.server
-  pub ledger : Ledger o w.server
-  pub dones : DonesNameCommits w
-  pub disk : DonesOnDisk w
-  pub backed : BackedByServer w
+pub record Promise (opening : Opening) (world : World) : Type 0 where
+  pub agree : CopiesAgree world
+  pub alone : WriterAlone world
+  pub serial : CommittedIsSerial opening.bytes world
+  pub once : EachOnce (committed_names world.server.commits)
+  pub directory : DirectoryRule world.server
+  pub ledger : Ledger opening world.server
+  pub dones : DonesNameCommits world
+  pub disk : DonesOnDisk world
+  pub backed : BackedByServer world
 
 -- of each world on the way
 abbrev pub Promises : Opening → List Moment → Type 0
-Promises o [] = ⊤
-Promises o (m ∷ ms) = Promise o m.world × Promises o ms
+Promises opening [] = ⊤
+Promises opening (moment ∷ moments) = Promise opening moment.world × Promises opening moments
 
 -- a sound opening store: no page is newer than its last commit
 abbrev pub SoundOpening : Opening → Type 0
-SoundOpening o = (p : ℕ) → o.version p ≤ o.number
+SoundOpening opening = (page : ℕ) → opening.version page ≤ opening.number
 
 -- From the opening world, along every list of events, each world keeps the promise. `cycle`:
 -- whoever is doomed, by whatever test.
 abbrev pub Headline : Limits → DeadlockTest → Type 0
-Headline L cycle = (o : Opening) (ms : List Moment) → SoundOpening o → Plays L cycle (new_world L o) ms → Promise o (new_world L o) × Promises o ms
+Headline limits cycle = (opening : Opening) (moments : List Moment) → SoundOpening opening
+    → let first = new_world limits opening in Plays limits cycle first moments
+    → Promise opening first × Promises opening moments

@@ -1,4 +1,5 @@
--- What a greater Hello leaves of its client at the server: nothing of the older incarnation. This project's rule.
+-- What a greater Hello leaves of its client at the server: nothing of the older incarnation. This
+-- project's rule.
 use Rattle.std.specs.Prelude.{◌≡◌, ◌≢◌, ◌<◌, ℕ, false, Some, None}
 use Rattle.cb_protocol.specs.Basics.{IsIn}
 use Rattle.cb_protocol.specs.Messages.{Hello, Welcome}
@@ -19,10 +20,12 @@ pub record OnlyGreeted (server : Server) (client incarnation : ℕ) : Type 0 whe
   pub none_ended : (server.session client).ended ≡ 0
   pub no_outcome : server.outcome client ≡ None
 
--- At any server a Hello of a greater incarnation is welcomed, and leaves its client as one that only greeted.
+-- At any server a Hello of a greater incarnation is welcomed, and leaves its client as one that
+-- only greeted.
 abbrev pub GreaterHelloStartsAnew : Type 0
 GreaterHelloStartsAnew = (cycle : DeadlockTest) (server : Server) (client incarnation : ℕ)
     → (server.session client).current < incarnation
     → let steps = server_take cycle server client incarnation Hello in
     OnlyGreeted (server_after server steps) client incarnation
-    × IsIn (record { client = client; incarnation = incarnation; body = Welcome }) (messages_sent steps)
+    × IsIn (record { client = client; incarnation = incarnation; body = Welcome })
+    (messages_sent steps)

@@ -8,55 +8,59 @@ use Rattle.cb_protocol.specs.Serial.{EachOnce}
 use Rattle.cb_protocol.specs.Server.{DeadlockTest}
 use Rattle.cb_protocol.specs.World.{Moment, Opening, Plays, World, new_world, world_after}
 
--- P holds of a world, and of each that it becomes
+-- this holds of a world, and of each that it becomes
 abbrev pub OfEachWorld : (World → Type 0) → World → List Moment → Type 0
-OfEachWorld P w [] = P w
-OfEachWorld P w (m ∷ ms) = P w × OfEachWorld P m.world ms
+OfEachWorld Claim world [] = Claim world
+OfEachWorld Claim world (moment ∷ moments) = Claim world × OfEachWorld Claim moment.world moments
 
--- P holds at every moment, over every sound opening store
+-- this holds at every moment, over every sound opening store
 abbrev pub Always : (Opening → World → Type 0) → Type 0
-Always P = (L : Limits) (cycle : DeadlockTest) (o : Opening) (ms : List Moment) → SoundOpening o → Plays L cycle (new_world L o) ms → OfEachWorld (P o) (new_world L o) ms
+Always Claim = (limits : Limits) (cycle : DeadlockTest) (opening : Opening) (moments : List Moment)
+    → SoundOpening opening → Plays limits cycle (new_world limits opening) moments
+    → OfEachWorld (Claim opening) (new_world limits opening) moments
 
--- world w is reached from the opening world by some run
+-- the world is reached from the opening world by some run
 abbrev pub ReachedWorld : Limits → DeadlockTest → Opening → World → Type 0
-ReachedWorld L cycle o w = (ms : List Moment) × Plays L cycle (new_world L o) ms × (world_after (new_world L o) ms ≡ w)
+ReachedWorld limits cycle opening world = (moments : List Moment)
+    × Plays limits cycle (new_world limits opening) moments
+    × (world_after (new_world limits opening) moments ≡ world)
 
 -- two readable copies of a page have the same bytes
 abbrev pub CopiesAlwaysAgree : Type 0
-CopiesAlwaysAgree = Always (λ o w. CopiesAgree w)
+CopiesAlwaysAgree = Always (λ opening world. CopiesAgree world)
 
 -- while a client may write a page, no other has a readable copy of it
 abbrev pub WriterAlwaysAlone : Type 0
-WriterAlwaysAlone = Always (λ o w. WriterAlone w)
+WriterAlwaysAlone = Always (λ opening world. WriterAlone world)
 
 -- the committed transactions are a serial history in commit order, which leaves the server's store
 abbrev pub CommittedAlwaysSerial : Type 0
-CommittedAlwaysSerial = Always (λ o w. CommittedIsSerial o.bytes w)
+CommittedAlwaysSerial = Always (λ opening world. CommittedIsSerial opening.bytes world)
 
 -- each transaction commits at most once
 abbrev pub EachCommitsOnce : Type 0
-EachCommitsOnce = Always (λ o w. EachOnce (committed_names w.server.commits))
+EachCommitsOnce = Always (λ opening world. EachOnce (committed_names world.server.commits))
 
 -- each Done names a commit and its number
 abbrev pub DonesAlwaysNameCommits : Type 0
-DonesAlwaysNameCommits = Always (λ o w. DonesNameCommits w)
+DonesAlwaysNameCommits = Always (λ opening world. DonesNameCommits world)
 
 -- each Done is of a commit that is on disk
 abbrev pub DonesAlwaysOnDisk : Type 0
-DonesAlwaysOnDisk = Always (λ o w. DonesOnDisk w)
+DonesAlwaysOnDisk = Always (λ opening world. DonesOnDisk world)
 
 -- who may write a page is alone with it in the directory, and grants are distinct
 abbrev pub DirectoryAlwaysKept : Type 0
-DirectoryAlwaysKept = Always (λ o w. DirectoryRule w.server)
+DirectoryAlwaysKept = Always (λ opening world. DirectoryRule world.server)
 
 -- what a client holds, the server has in its rows
 abbrev pub CopiesAlwaysBacked : Type 0
-CopiesAlwaysBacked = Always (λ o w. BackedByServer w)
+CopiesAlwaysBacked = Always (λ opening world. BackedByServer world)
 
 -- all of these at once
 abbrev pub WholePromise : Type 0
-WholePromise = (L : Limits) (cycle : DeadlockTest) → Headline L cycle
+WholePromise = (limits : Limits) (cycle : DeadlockTest) → Headline limits cycle
 
 -- directory rule and ledger, whatever messages come
 abbrev pub RulesHoldUnderAnyMessages : Type 0
-RulesHoldUnderAnyMessages = (L : Limits) (cycle : DeadlockTest) → RulesAlwaysHold L cycle
+RulesHoldUnderAnyMessages = (limits : Limits) (cycle : DeadlockTest) → RulesAlwaysHold limits cycle

@@ -23,17 +23,21 @@ pub data Body : Type 0 where
   AskRead : (txn page : ℕ) → Body  -- asks for a copy of the page
   AskWrite : (txn page grant : ℕ) → Body  -- asks for permission to write the copy
   GiveBack : (page grant : ℕ) → Body  -- the copy is gone
-  InUse : (txn page grant : ℕ) → Body  -- called back, but the transaction reads the copy: it is given back at its end
+  InUse : (txn page grant : ℕ)
+      → Body  -- called back, but the transaction reads the copy: it is given back at its end
   Commit : (txn : ℕ) → (writes : List PageWrite) → Body
   Drop : (txn : ℕ) → Body  -- the transaction ended without a commit
-  Downgraded : (page grant txn : ℕ) → Body  -- the permission of that transaction is given up, the copy stays
+  Downgraded : (page grant txn : ℕ)
+      → Body  -- the permission of that transaction is given up, the copy stays
   Welcome : Body  -- the server knows the incarnation
-  Granted : (page grant version : ℕ) → (bytes : Bytes) → Body  -- a copy, and the permission to read it
+  Granted : (page grant version : ℕ) → (bytes : Bytes)
+      → Body  -- a copy, and the permission to read it
   MayWrite : (txn page grant : ℕ) → Body  -- the transaction may write the copy
   Callback : (page grant : ℕ) → Body  -- give the copy back
   Done : (txn number : ℕ) → Body  -- the commit is on disk, as commit `number`
   AbortNow : (txn : ℕ) → Body  -- the transaction is the victim of a deadlock
-  Downgrade : (page grant txn : ℕ) → Body  -- give up the permission of that transaction, keep the copy
+  Downgrade : (page grant txn : ℕ)
+      → Body  -- give up the permission of that transaction, keep the copy
 
 -- a body, and the client and incarnation that sent it or are to take it
 pub record Message : Type 0 where

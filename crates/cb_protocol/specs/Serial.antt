@@ -1,6 +1,6 @@
 -- Serial page stores and serial histories (textbook: serializability). Nothing here knows grants,
 -- copies or messages.
-use Rattle.std.specs.Prelude.{◌≡◌, ℕ, if◌then◌else◌, ◌==◌, List, [], ◌∷◌, map, reverse, ⊤}
+use Rattle.std.specs.Prelude.{◌≡◌, ℕ, if◌then◌else◌, List, [], ◌∷◌, map, reverse, ⊤}
 use Rattle.cb_protocol.specs.Basics.{Bytes, IsIn, same_transaction, update}
 
 -- an operation of a transaction: a read that was answered with these bytes, or a write of them

@@ -9,7 +9,8 @@ pub record WaitingAsk : Type 0 where
   pub client : ℕ
   pub write_grant : Option ℕ  -- none: it asks to read; else to write, by that grant
   pub called_back : Bool  -- the Callbacks for it were sent
-  pub downgrade_sent : Option ℕ  -- the tag of the last permission for which a Downgrade was sent for it
+  -- the tag of the last permission for which a Downgrade was sent for it
+  pub downgrade_sent : Option ℕ
 
 -- a commit that was applied
 pub record AppliedCommit : Type 0 where

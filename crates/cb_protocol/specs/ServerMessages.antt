@@ -1,10 +1,10 @@
 -- What the server does at each message: incarnations, transactions, the direct answer, then
 -- settling. `cycle server client` is the test that the client lies on a cycle of waits.
 use Rattle.std.specs.Prelude.{ℕ, ◌+◌, nat_lt, nat_le, Bool, true, false, not, ◌&&◌, ◌||◌, if◌then◌else◌, ◌==◌, List, [], ◌∷◌, ◌++◌, Option, Some, None, zero, suc}
-use Rattle.cb_protocol.specs.Basics.{is_exactly, is_none, max_number}
-use Rattle.cb_protocol.specs.Messages.{AbortNow, AskRead, AskWrite, Body, Commit, Done, Downgraded, Drop, GiveBack, Hello, InUse, MayWrite, PageWrite, Welcome}
+use Rattle.cb_protocol.specs.Basics.{is_none, max_number}
+use Rattle.cb_protocol.specs.Messages.{AbortNow, AskRead, AskWrite, Body, Commit, Done, Downgraded, Drop, GiveBack, Hello, InUse, PageWrite, Welcome}
 use Rattle.cb_protocol.specs.Server.{DeadlockTest, ChangeSession, EnterQueue, ForgetTransaction, MarkInUse, Send, Server, ServerStep, UnmarkInUse, WaitingAsk, after_server_step, has_ask, has_not_ended, has_row, is_write_holder, server_after}
-use Rattle.cb_protocol.specs.Session.{Admit, ApplyCommit, BeginTransaction, DropTransaction, EndPermission, PermitWrite, RemoveRow}
+use Rattle.cb_protocol.specs.Session.{Admit, ApplyCommit, BeginTransaction, DropTransaction, EndPermission, RemoveRow}
 use Rattle.cb_protocol.specs.Settling.{doom_client, send_granted, give_permission, send_to, settle_pages}
 
 -- A message of a later transaction than the current one ends that one, as dropped if it lives,

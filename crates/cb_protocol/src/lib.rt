@@ -1,7 +1,9 @@
-//! A page server with callback locking as definitions alone: clients, server, messages and the world of a run, and the laws that hold of them.
+//! A page server with callback locking as definitions alone: clients, server, messages and the
+//! world of a run, and the laws that hold of them.
 //!
-//! The crate has no code. The crates of the real client, server and player are proved against its definitions (`specs/`).
-//! Each function below, of `alone` and of `deadlock` carries one law in its contract; `docs/PROTOCOL.md` tells the protocol, `docs/PROOF.md` the proof.
+//! The crate has no code. The crates of the real client, server and player are proved against its
+//! definitions (`specs/`). Each function below, of `alone` and of `deadlock` carries one law in its
+//! contract; `docs/PROTOCOL.md` tells the protocol, `docs/PROOF.md` the proof.
 #![tactic(auto)]
 
 pub mod alone;
@@ -12,13 +14,15 @@ pub mod server;
 
 ghost use Rattle.cb_protocol.specs.Laws.{CommittedAlwaysSerial, CopiesAlwaysAgree, CopiesAlwaysBacked, DirectoryAlwaysKept, DonesAlwaysNameCommits, DonesAlwaysOnDisk, EachCommitsOnce, RulesHoldUnderAnyMessages, WholePromise, WriterAlwaysAlone};
 
-/// Whatever is called, sent, lost, repeated or reordered, whoever restarts, and whatever pages are let go: at every moment all the laws below hold,
-/// with kept write permission and without it, and whoever is picked as the victim of a deadlock.
+/// Whatever is called, sent, lost, repeated or reordered, whoever restarts, and whatever pages are
+/// let go: at every moment all the laws below hold, with kept write permission and without it, and
+/// whoever is picked as the victim of a deadlock.
 pub fn callback_read()
     ensures promise { WholePromise }
 {}
 
-/// At every moment two readable copies of one page have the same bytes, also while their clients commit.
+/// At every moment two readable copies of one page have the same bytes, also while their clients
+/// commit.
 pub fn readable_copies_agree()
     ensures law { CopiesAlwaysAgree }
 {}
@@ -28,8 +32,9 @@ pub fn writer_is_alone()
     ensures law { WriterAlwaysAlone }
 {}
 
-/// At every moment the answered reads and writes of the committed transactions, one transaction after another in commit order, are what a serial
-/// page store would answer, and they leave the server's store. This includes a commit that was applied after its client restarted.
+/// At every moment the answered reads and writes of the committed transactions, one transaction
+/// after another in commit order, are what a serial page store would answer, and they leave the
+/// server's store. This includes a commit that was applied after its client restarted.
 pub fn committed_transactions_are_serial()
     ensures law { CommittedAlwaysSerial }
 {}
@@ -39,21 +44,24 @@ pub fn each_transaction_commits_once()
     ensures law { EachCommitsOnce }
 {}
 
-/// Each Done that was ever sent names a transaction that was applied, and the number of its commit, which is on disk.
+/// Each Done that was ever sent names a transaction that was applied, and the number of its commit,
+/// which is on disk.
 pub fn each_done_names_its_commit()
     ensures law { DonesAlwaysNameCommits }
     ensures on_disk { DonesAlwaysOnDisk }
 {}
 
-/// At every moment each grant that a client holds has its row at the server and was never given back, each client that may write is the write holder,
-/// and each copy that its client did not write has the store's version and bytes. A page with a write holder has rows of no other client.
+/// At every moment each grant that a client holds has its row at the server and was never given
+/// back, each client that may write is the write holder, and each copy that its client did not
+/// write has the store's version and bytes. A page with a write holder has rows of no other client.
 pub fn copies_are_backed_by_rows()
     ensures law { CopiesAlwaysBacked }
     ensures directory { DirectoryAlwaysKept }
 {}
 
-/// The server alone, whatever messages come, from honest clients or not: a page with a write holder has rows of no other client, no two rows have the same
-/// grant, commits are numbered one by one, and the store is the opening store with them written over it.
+/// The server alone, whatever messages come, from honest clients or not: a page with a write holder
+/// has rows of no other client, no two rows have the same grant, commits are numbered one by one,
+/// and the store is the opening store with them written over it.
 pub fn rules_hold_under_any_messages()
     ensures law { RulesHoldUnderAnyMessages }
 {}

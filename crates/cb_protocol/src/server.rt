@@ -1,11 +1,13 @@
-//! Laws of a server alone, at each message, honest or not: who is granted a page, which commits are applied, what a Hello leaves.
+//! Laws of a server alone, at each message, honest or not: who is granted a page, which commits are
+//! applied, what a Hello leaves.
 
 ghost use Rattle.cb_protocol.specs.AskLaws.{FirstAsksAreMet, NoneWaitsInVain};
 ghost use Rattle.cb_protocol.specs.CommitLaws.{AppliedWhereItMay, DoneFromDiskAlone, NoOtherApplies};
 ghost use Rattle.cb_protocol.specs.HelloLaws.{GreaterHelloStartsAnew};
 
-/// A Commit is applied exactly where it is of the current incarnation, of a transaction that neither ended nor is doomed, and of
-/// pages that this transaction may write. Nothing else applies one.
+/// A Commit is applied exactly where it is of the current incarnation, of a transaction that
+/// neither ended nor is doomed, and of pages that this transaction may write. Nothing else applies
+/// one.
 pub fn commit_applied_where_it_may_be()
     ensures exact { AppliedWhereItMay }
     ensures no_other { NoOtherApplies }
@@ -16,13 +18,14 @@ pub fn done_comes_from_disk_alone()
     ensures law { DoneFromDiskAlone }
 {}
 
-/// A Hello of a greater incarnation leaves its client no row, permission, mark, ask, doom or transaction, and is welcomed.
+/// A Hello of a greater incarnation leaves its client no row, permission, mark, ask, doom or
+/// transaction, and is welcomed.
 pub fn greater_hello_starts_anew()
     ensures law { GreaterHelloStartsAnew }
 {}
 
-/// Grants and permissions go to the first asks alone, as soon as they may have them and no sooner, and are sent at once:
-/// after every step no first ask may have what it waits for.
+/// Grants and permissions go to the first asks alone, as soon as they may have them and no sooner,
+/// and are sent at once: after every step no first ask may have what it waits for.
 pub fn first_asks_are_met()
     ensures in_order { FirstAsksAreMet }
     ensures in_time { NoneWaitsInVain }

@@ -5,3 +5,7 @@ pub mod Entered
 pub mod Referred
 pub mod Forgotten
 pub mod InOrder
+pub mod Orders
+pub mod Placed
+pub mod Indexing
+pub mod Running

@@ -2,4 +2,5 @@ pub use Rattle.cb_page.specs.Flags
 pub mod Pages
 pub mod Law
 pub mod Queues
-pub mod Rooms
+pub mod Indexed
+pub mod Runs

@@ -4,29 +4,29 @@ use Rattle.std.specs.List.{list_any}
 
 -- whether a page is on a list
 abbrev pub has : List ℕ → ℕ → Bool
-has ps page = list_any (nat_eq page) ps
+has pages page = list_any (nat_eq page) pages
 
 -- a list with a page taken off
 abbrev pub without : ℕ → List ℕ → List ℕ
 without page [] = []
-without page (p ∷ ps) = if nat_eq page p then ps else p ∷ without page ps
+without page (first ∷ rest) = if nat_eq page first then rest else first ∷ without page rest
 
 -- the page is at that place, where taking it off removes it
-pub record IsPlace (ps : List ℕ) (page i : ℕ) : Type 0 where
-  pub within : i < length ps
-  pub there : has ps page ≡ true
-  pub removes : remove ps i ≡ without page ps
+pub record IsPlace (pages : List ℕ) (page place : ℕ) : Type 0 where
+  pub within : place < length pages
+  pub there : has pages page ≡ true
+  pub removes : remove pages place ≡ without page pages
 
 -- 1 for the page itself, 0 for any other
 abbrev pub one : ℕ → ℕ → ℕ
-one page p = if nat_eq page p then 1 else 0
+one page other = if nat_eq page other then 1 else 0
 
 -- how often a page is on a list
 unfoldable pub times : ℕ → List ℕ → ℕ
 times page [] = 0
-times page (p ∷ ps) = one page p + times page ps
+times page (first ∷ rest) = one page first + times page rest
 
 -- the pages are no more than the slots, and each is there once
-pub record AreOnce (slots : ℕ) (ps : List ℕ) : Type 0 where
-  pub within : length ps ≤ slots
-  pub once : (p : ℕ) → times p ps ≤ 1
+pub record AreOnce (slots : ℕ) (pages : List ℕ) : Type 0 where
+  pub within : length pages ≤ slots
+  pub once : (page : ℕ) → times page pages ≤ 1

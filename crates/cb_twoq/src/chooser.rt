@@ -17,10 +17,20 @@ pub enum ChooseFault {
     Memory,
 }
 
+impl From<AllocError> for ChooseFault {
+    ghost use Rattle.cb_twoq.specs.declared.chooser.ChooseFault.TheVariants.{Memory};
+
+    ghost from_gives = { λ _ fault. fault ≡ Memory };
+
+    fn from(_: AllocError) -> ChooseFault {
+        ChooseFault::Memory
+    }
+}
+
 /// Chooses which page leaves a pool for the page that comes in.
 ///
-/// The clauses are the whole law of a chooser: a pool, and all that stands on pools, holds for every
-/// type that keeps them, whatever pages it lets go. A type may promise more, as `TwoQ` does.
+/// The clauses are the whole law of a chooser: a pool, and all that stands on pools, holds for
+/// every type that keeps them, whatever pages it lets go. A type may promise more, as `TwoQ` does.
 pub trait Chooser: Drop {
     /// The pages in slots, each once.
     ghost members: { Self → List ℕ };
@@ -32,8 +42,8 @@ pub trait Chooser: Drop {
     fn make(alloc: Global, limits: &Limits) -> Result<Self, AllocError>
     where
         Self: Sized,
-        ensures members { IfOk result (λ q. members q ≡ []) }
-        ensures slots { IfOk result (λ q. slots q ≡ limits.now.slots) };
+        ensures members { IfOk result (λ chooser. members chooser ≡ []) }
+        ensures slots { IfOk result (λ chooser. slots chooser ≡ limits.now.slots) };
 
     /// Refers to a page, which is a member afterwards, and answers the page let go for it, if any.
     ///

@@ -1,13 +1,15 @@
-//! The law of a chooser, which says what page may leave a pool, and 2Q, which keeps it.
+//! The law of a chooser, which says what page may leave a pool, and 2Q in two forms that keep it.
 #![tactic(auto)]
 
 mod chooser;
-mod queue;
-mod queues;
+mod lists;
+mod plain;
+mod runs;
+mod slot;
 mod twoq;
 
 pub use chooser::{ChooseFault, Chooser};
-pub use twoq::{Lists, TwoQ};
-
-#[cfg(test)]
-mod tests;
+pub use lists::Lists;
+pub use plain::PlainTwoQ;
+pub use runs::{Answer, run_refs};
+pub use twoq::{Parts, TwoQ};

@@ -1,91 +1,117 @@
-ghost use Rattle.std.specs.Prelude.{◌≡◌, ◌≢◌, ◌≤◌, ◌↔◌, [], length, true, Some, None, IfOk, OnErr};
+//! 2Q on an `lru` cache and two `indexmap` sets.
+
+mod queues;
+mod steps;
+
+ghost use Rattle.std.specs.Prelude.{◌≡◌, ◌≤◌, ◌↔◌, [], length, reverse, true, Some, None, IfOk, OnErr};
 ghost use Rattle.cb_twoq.specs.Pages.{has};
 ghost use Rattle.cb_twoq.specs.Queues.{TwoQState, empty, reference, forget, members_of};
 ghost use Rattle.cb_twoq.specs.Law.{Chooses, IsFull, Forgets};
+ghost use Rattle.cb_twoq.specs.Indexed.{cached};
 
 use crate::chooser::{ChooseFault, Chooser};
-use crate::queue::copied;
-use crate::queues::Queues;
+use crate::lists::Lists;
+use crate::twoq::queues::IndexedQueues;
+use crate::twoq::steps::{copied, reversed};
 use cb_page::{Limits, PageNo, PageSet};
+use indexmap::IndexSet;
+use lru::LruCache;
 use std::alloc::{AllocError, Global};
 use std::marker::Model;
 
-/// The three lists of 2Q, newest page first.
-#[derive(Debug, Drop)]
-pub struct Lists {
-    /// Pages in slots, referred to once since they came in.
-    pub a1in: Vec<PageNo>,
-    /// Pages in slots that came back while they were remembered.
-    pub am: Vec<PageNo>,
-    /// Pages remembered: let go from A1in, and in no slot.
-    pub a1out: Vec<PageNo>,
+/// The three lists of 2Q, lent.
+pub struct Parts<'a> {
+    /// Pages in slots, referred to once since they came in; the oldest is first.
+    pub a1in: &'a IndexSet<PageNo>,
+    /// Pages in slots that came back while they were remembered; the newest is first.
+    pub am: &'a LruCache<PageNo, ()>,
+    /// Pages remembered: let go from A1in, and in no slot; the oldest is first.
+    pub a1out: &'a IndexSet<PageNo>,
 }
 
-/// 2Q, the full version, on three plain lists; fixed pages are passed over.
+/// 2Q, the full version, with look-ups by hash; fixed pages are passed over.
 ///
-/// In contracts a `TwoQ` is its settings and its three lists, newest first. It takes all its memory
-/// in `new`: no later call needs a growth. Each reference passes over the lists.
+/// In contracts a `TwoQ` is its settings and its three lists, newest first. A reference to a page
+/// in a slot passes over no list; any other shifts A1in and A1out once each at most, and takes the
+/// memory of one entry where the page goes to Am.
 #[derive(Debug, Drop)]
 pub struct TwoQ {
-    queues: Queues,
+    queues: IndexedQueues,
 }
 
 impl Model for TwoQ {
+    ghost use Rattle.std.specs.Prelude.{◌≡◌, ◌+◌};
     ghost use Rattle.cb_twoq.specs.Queues.{TwoQState, AreQueues};
+    ghost use Rattle.cb_twoq.specs.Indexed.{queues_of};
 
     ghost Value = { TwoQState };
 
-    ghost view = { λ q. q.queues };
+    ghost view = { λ two_q. queues_of two_q.queues };
 
-    ghost invariant = { λ q. AreQueues q.queues };
+    ghost invariant = { λ two_q. AreQueues (queues_of two_q.queues)
+        × (two_q.queues.am.cap ≡ two_q.queues.slots + 1) };
 }
 
 impl TwoQ {
-    /// Empty lists, for `b` slots; A1in may be reclaimed first while it is longer than `kin`, and A1out has at
-    /// most `kout` pages.
-    pub fn new(alloc: Global, b: usize, kin: usize, kout: usize) -> Result<TwoQ, AllocError>
-        ensures { IfOk result (λ q. q ≡ empty b kin kout) }
+    /// Empty lists, for so many slots; A1in may be reclaimed first while it is longer than `kin`,
+    /// and A1out has at most `kout` pages.
+    pub fn new(alloc: Global, slots: usize, kin: usize, kout: usize) -> Result<TwoQ, AllocError>
+        ensures { IfOk result (λ two_q. two_q ≡ empty slots kin kout) }
     {
         Ok(TwoQ {
-            queues: Queues::new(alloc, b, kin, kout)?,
+            queues: IndexedQueues::new(alloc, slots, kin, kout)?,
         })
     }
 
     /// A copy of the lists, newest page first.
     pub fn lists(&self, alloc: Global) -> Result<Lists, AllocError>
-        ensures a1in { IfOk result (λ l. l.a1in.items ≡ self.now.a1in) }
-        ensures am { IfOk result (λ l. l.am.items ≡ self.now.am) }
-        ensures a1out { IfOk result (λ l. l.a1out.items ≡ self.now.a1out) }
+        ensures a1in { IfOk result (λ lists. lists.a1in.items ≡ self.now.a1in) }
+        ensures am { IfOk result (λ lists. lists.am.items ≡ self.now.am) }
+        ensures a1out { IfOk result (λ lists. lists.a1out.items ≡ self.now.a1out) }
     {
         let queues = &self.queues;
         Ok(Lists {
-            a1in: copied(alloc, &queues.a1in)?,
+            a1in: reversed(alloc, queues.a1in.as_slice())?,
             am: copied(alloc, &queues.am)?,
-            a1out: copied(alloc, &queues.a1out)?,
+            a1out: reversed(alloc, queues.a1out.as_slice())?,
         })
+    }
+
+    /// Lends the cache and the two sets.
+    pub fn parts(&self) -> Parts<'_>
+        ensures a1in { result.a1in.now.keys ≡ reverse self.now.a1in }
+        ensures am { cached result.am.now ≡ self.now.am }
+        ensures a1out { result.a1out.now.keys ≡ reverse self.now.a1out }
+    {
+        Parts {
+            a1in: &self.queues.a1in,
+            am: &self.queues.am,
+            a1out: &self.queues.a1out,
+        }
     }
 }
 
 impl Chooser for TwoQ {
     ghost members = { members_of };
 
-    ghost slots = { λ q. q.slots };
+    ghost slots = { λ two_q. two_q.slots };
 
     fn make(alloc: Global, limits: &Limits) -> Result<TwoQ, AllocError>
-        ensures two_q { IfOk result (λ q. q ≡ empty limits.now.slots limits.now.kin limits.now.kout) }
-        ensures members { IfOk result (λ q. members_of q ≡ []) }
-        ensures slots { IfOk result (λ q. q.slots ≡ limits.now.slots) }
+        ensures two_q { IfOk result (λ two_q.
+            two_q ≡ empty limits.now.slots limits.now.kin limits.now.kout) }
+        ensures members { IfOk result (λ two_q. members_of two_q ≡ []) }
+        ensures slots { IfOk result (λ two_q. two_q.slots ≡ limits.now.slots) }
     {
         TwoQ::new(alloc, limits.slots(), limits.kin(), limits.kout())
     }
 
     fn reference(&mut self, page: PageNo, fixed: &PageSet) -> Result<Option<PageNo>, ChooseFault>
-        ensures two_q { IfOk result (λ gone. reference page fixed.now self.old ≡ Some (gone, self.new)) }
-        ensures none { (result ≡ Err ChooseFault.Full) ↔ (reference page fixed.now self.old ≡ None) }
-        // all room was made by `new`
-        ensures memory { result ≢ Err ChooseFault.Memory }
-        ensures ok { IfOk result (λ gone.
-            Chooses self.old.slots fixed.now (members_of self.old) page gone (members_of self.new)) }
+        ensures two_q { IfOk result (λ gone.
+            reference page fixed.now self.old ≡ Some (gone, self.new)) }
+        ensures none { (result ≡ Err ChooseFault.Full)
+            ↔ (reference page fixed.now self.old ≡ None) }
+        ensures ok { IfOk result (λ gone. Chooses self.old.slots fixed.now
+            (members_of self.old) page gone (members_of self.new)) }
         ensures member { has (members_of self.old) page ≡ true → result ≡ Ok None }
         ensures full { (result ≡ Err ChooseFault.Full)
             ↔ IsFull self.old.slots fixed.now (members_of self.old) page }
@@ -97,7 +123,7 @@ impl Chooser for TwoQ {
             return Ok(None);
         }
         match self.queues.reclaim(fixed) {
-            Some(room) => Ok(self.queues.enter(page, room)),
+            Some(slot) => Ok(self.queues.enter(page, slot)?),
             None => Err(ChooseFault::Full),
         }
     }

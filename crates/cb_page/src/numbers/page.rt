@@ -6,7 +6,7 @@ use crate::Limits;
 use std::marker::Model;
 
 /// The number of a page, counted from 0.
-#[derive(Clone, Copy, Debug, PartialEq, Eq, PartialOrd, Ord)]
+#[derive(Clone, Copy, Debug, PartialEq, Eq, PartialOrd, Ord, Hash)]
 pub struct PageNo {
     value: u32,
 }
@@ -62,7 +62,8 @@ impl PageNo {
     }
 }
 
-/// The law of these calls: a number from outside that is one of the store's gives itself, as a place too.
+/// The law of these calls: a number from outside that is one of the store's gives itself, as a
+/// place too.
 fn law(limits: &Limits, value: u64) -> Option<(u32, usize)>
     ensures { result ≡ (if nat_lt value limits.now.pages then Some (value, value) else None) }
 {

@@ -1,0 +1,162 @@
+//! The steps of 2Q on a cache and two sets.
+
+ghost use Rattle.std.specs.Prelude.{◌≡◌, ◌||◌, ◌<◌, ◌≤◌, ◌+◌, false, length, IfOk, OnOk, OnErr};
+ghost use Rattle.indexmap.specs.IndexSet.{spare};
+ghost use Rattle.cb_twoq.specs.Pages.{has};
+ghost use Rattle.cb_twoq.specs.Queues.{TwoQState, AreQueues, empty, reclaim, page_of, let_go, enter, renew, forget, members_of};
+ghost use Rattle.cb_twoq.specs.Indexed.{queues_of, place, IsSlotOf, IsOff};
+
+use crate::slot::Slot;
+use crate::twoq::steps::{
+    add, first_unfixed, is_in, last_unfixed, pop, put, remember, renew, take_off,
+};
+use cb_page::{PageNo, PageSet};
+use indexmap::IndexSet;
+use lru::LruCache;
+use std::alloc::{AllocError, Global};
+use std::num::NonZeroUsize;
+
+/// The settings of 2Q and its three lists: A1in and A1out oldest first, Am newest first.
+///
+/// The cache holds one page more than there are slots, so that it never drops one by itself.
+#[derive(Debug, Drop)]
+pub(crate) struct IndexedQueues {
+    pub(crate) slots: usize,
+    pub(crate) kin: usize,
+    pub(crate) kout: usize,
+    pub(crate) a1in: IndexSet<PageNo>,
+    pub(crate) am: LruCache<PageNo, ()>,
+    pub(crate) a1out: IndexSet<PageNo>,
+}
+
+impl IndexedQueues {
+    /// Empty queues, with room for all that may be on them. No memory has room for 2^64 pages.
+    pub(crate) fn new(
+        alloc: Global,
+        slots: usize,
+        kin: usize,
+        kout: usize,
+    ) -> Result<IndexedQueues, AllocError>
+        ensures queues { IfOk result (λ queues. queues_of queues ≡ empty slots kin kout) }
+        ensures cap { IfOk result (λ queues. queues.am.cap ≡ slots + 1) }
+    {
+        let Some(cap) = slots.checked_add(1).and_then(NonZeroUsize::new) else {
+            return Err(AllocError);
+        };
+        Ok(IndexedQueues {
+            slots,
+            kin,
+            kout,
+            a1in: IndexSet::with_capacity(alloc, cap.get())?,
+            am: LruCache::new(alloc, cap)?,
+            a1out: IndexSet::with_capacity(alloc, kout.saturating_add(1))?,
+        })
+    }
+
+    /// Moves a page of Am to its head, and says whether the page is in a slot.
+    pub(crate) fn renew(&mut self, page: PageNo) -> bool
+        ensures there { result
+            ≡ (has (queues_of self.old).am page || has (queues_of self.old).a1in page) }
+        ensures queues { queues_of self.new ≡ renew page (queues_of self.old) }
+        ensures cap { self.new.am.cap ≡ self.old.am.cap }
+        ensures slots { self.new.slots ≡ self.old.slots }
+    {
+        if renew(&mut self.am, page) {
+            return true;
+        }
+        is_in(&self.a1in, page)
+    }
+
+    /// The slot for a page that comes in, if there is one.
+    pub(crate) fn reclaim(&self, fixed: &PageSet) -> Option<Slot>
+        ensures { result ≡ reclaim fixed.now (queues_of self.now) }
+    {
+        if self.a1in.len() + self.am.len() < self.slots {
+            return Some(Slot::Free);
+        }
+        if self.a1in.len() > self.kin {
+            if let Some(page) = first_unfixed(self.a1in.as_slice(), fixed) {
+                return Some(Slot::OfA1in(page));
+            }
+        }
+        if let Some(page) = last_unfixed(&self.am, fixed) {
+            return Some(Slot::OfAm(page));
+        }
+        if let Some(page) = first_unfixed(self.a1in.as_slice(), fixed) {
+            return Some(Slot::OfA1in(page));
+        }
+        None
+    }
+
+    /// Places a page before another is let go, and makes room on A1out. All growths are here.
+    fn place(&mut self, page: PageNo) -> Result<(), AllocError>
+        requires a1in { has (queues_of self.old).a1in page ≡ false }
+        requires am { has (queues_of self.old).am page ≡ false }
+        requires cap { length (queues_of self.old).am < self.old.am.cap }
+        ensures ok { OnOk result (queues_of self.new ≡ place page (queues_of self.old)) }
+        ensures err { OnErr result (queues_of self.new ≡ queues_of self.old) }
+        ensures room { OnOk result (0 < spare self.new.a1out) }
+        ensures cap { self.new.am.cap ≡ self.old.am.cap }
+        ensures slots { self.new.slots ≡ self.old.slots }
+    {
+        self.a1out.reserve(1)?;
+        if is_in(&self.a1out, page) {
+            put(&mut self.am, page)?;
+            take_off(&mut self.a1out, page);
+        } else {
+            add(&mut self.a1in, page)?;
+        }
+        Ok(())
+    }
+
+    /// Lets the page of a slot go, and answers it.
+    fn let_go(&mut self, slot: Slot) -> Option<PageNo>
+        requires room { 0 < spare self.old.a1out }
+        requires off { IsOff slot (queues_of self.old).a1out }
+        requires within { length (queues_of self.old).a1out ≤ self.old.kout }
+        ensures gone { result ≡ page_of slot }
+        ensures queues { queues_of self.new ≡ let_go slot (queues_of self.old) }
+        ensures cap { self.new.am.cap ≡ self.old.am.cap }
+        ensures slots { self.new.slots ≡ self.old.slots }
+    {
+        match slot {
+            Slot::Free => None,
+            Slot::OfA1in(page) => {
+                take_off(&mut self.a1in, page);
+                remember(&mut self.a1out, page, self.kout);
+                Some(page)
+            }
+            Slot::OfAm(page) => {
+                pop(&mut self.am, page);
+                Some(page)
+            }
+        }
+    }
+
+    /// Brings a page in, and answers the page let go.
+    pub(crate) fn enter(&mut self, page: PageNo, slot: Slot) -> Result<Option<PageNo>, AllocError>
+        requires queues { AreQueues (queues_of self.old) }
+        requires cap { self.old.am.cap ≡ self.old.slots + 1 }
+        requires a1in { has (queues_of self.old).a1in page ≡ false }
+        requires am { has (queues_of self.old).am page ≡ false }
+        requires slot { IsSlotOf slot (queues_of self.old) }
+        ensures gone { IfOk result (λ gone. gone ≡ page_of slot) }
+        ensures ok { OnOk result (queues_of self.new ≡ enter page slot (queues_of self.old)) }
+        ensures err { OnErr result (queues_of self.new ≡ queues_of self.old) }
+        ensures cap { self.new.am.cap ≡ self.old.am.cap }
+        ensures slots { self.new.slots ≡ self.old.slots }
+    {
+        self.place(page)?;
+        Ok(self.let_go(slot))
+    }
+
+    /// Takes a page out of its slot, and remembers nothing of it.
+    pub(crate) fn forget(&mut self, page: PageNo)
+        ensures queues { queues_of self.new ≡ forget page (queues_of self.old) }
+        ensures cap { self.new.am.cap ≡ self.old.am.cap }
+        ensures slots { self.new.slots ≡ self.old.slots }
+    {
+        take_off(&mut self.a1in, page);
+        pop(&mut self.am, page);
+    }
+}
