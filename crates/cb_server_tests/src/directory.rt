@@ -1,7 +1,8 @@
 use cb_directory::Directory;
 use cb_page::{ClientNo, Limits, PageNo, TxnNo};
 
-/// At the greatest limits: one that gives up from some number of clients or pages on is refused here.
+/// At the greatest limits: one that gives up from some number of clients or pages on is refused
+/// here.
 #[test]
 fn directory_at_the_greatest_limits(rt: HostRuntime) -> anyhow::Result<()> {
     let limits = Limits::new(32, 4096, 65_536, 1024, 1, 4096)?;
