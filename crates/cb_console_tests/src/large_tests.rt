@@ -12,7 +12,7 @@ const READS: u64 = 1_650;
 
 /// Every client greets the server and begins a transaction.
 fn put_greetings(schedule: &mut Vec<u8>) -> Result<(), Fail> {
-    for client in 0..32 {
+    for client in 0..32u64 {
         let sent = 2 * client;
         let answered = sent + 1;
         write!(
