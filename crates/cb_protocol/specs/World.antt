@@ -246,3 +246,9 @@ Plays limits cycle world (moment ∷ moments) =
 abbrev pub world_after : World → List Moment → World
 world_after world [] = world
 world_after world (moment ∷ moments) = world_after moment.world moments
+
+-- the world is reached from the opening world by some run
+abbrev pub ReachedWorld : Limits → DeadlockTest → Opening → World → Type 0
+ReachedWorld limits cycle opening world = (moments : List Moment)
+    × Plays limits cycle (new_world limits opening) moments
+    × (world_after (new_world limits opening) moments ≡ world)
