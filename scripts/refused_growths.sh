@@ -20,13 +20,13 @@ while read -r crate test; do
     fi
   done
 done <<'LIST'
-cb_page tests::refused_growths
-cb_frame tests::refused_growths
+cb_frame_tests pages::refused_growths
+cb_frame_tests frames::refused_growths
 cb_pool_tests twoq_tests::refused_growths_change_nothing
 cb_pool_tests pool_tests::calls_of_a_pool
 cb_commit tests::refused_growths
 cb_schedule text_tests::schedule_without_memory
 cb_schedule world_tests::stopped_world
-cb_play tests::play_without_memory
+cb_console_tests play_tests::play_without_memory
 LIST
 exit $bad

@@ -3,7 +3,8 @@ use Rattle.std.proofs.Common.{◌≡◌, ◌⊎◌, ℕ, ◌+◌, ◌-◌, ◌<�
 use Rattle.std.proofs.lemmas.Bool.{cases_lt, cases_eq, cases_Bool, lt-ltb, le-ltb, le-leb, lt-leb}
 use Rattle.std.proofs.lemmas.List.{length-set, length-append, get_or-set_same, get_or-set_other, get_or_past, ext_get_or, take-append-drop, take_all}
 use Rattle.std.proofs.lemmas.List.Elements.{All-append}
-use Rattle.cb_frame.specs.Grammar.{IsRising, page_of}
+use Rattle.cb_frame.specs.Grammar.{page_of}
+use Rattle.cb_page.specs.Rising.{IsRising}
 use Rattle.cb_frame.specs.declared.writes.Write.{Write}
 use Rattle.cb_commit.specs.declared.store.StoredPage.{StoredPage}
 use Rattle.cb_commit.specs.declared.commit.Commit.{Commit}

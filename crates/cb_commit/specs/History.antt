@@ -1,7 +1,8 @@
 -- Commits over an opening store, and how far they are on disk.
 use Rattle.std.specs.Prelude.{◌≡◌, ℕ, ◌+◌, ◌-◌, ◌<◌, ◌≤◌, nat_lt, nat_le, ◌&&◌, if◌then◌else◌, List, [], ◌∷◌, ◌++◌, map, take, length, slice_set, Option, Some, None}
 use Rattle.std.specs.List.{All}
-use Rattle.cb_frame.specs.Grammar.{IsRising, page_of}
+use Rattle.cb_frame.specs.Grammar.{page_of}
+use Rattle.cb_page.specs.Rising.{IsRising}
 use Rattle.cb_frame.specs.declared.frame.Frame.{Frame}
 use Rattle.cb_frame.specs.declared.frame.Body.TheVariants as body
 use Rattle.cb_frame.specs.declared.frame.ShortBody.TheVariants as short

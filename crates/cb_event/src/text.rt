@@ -1,43 +1,15 @@
 //! Reads the text of a schedule.
-ghost use Rattle.std.specs.Prelude.{
-  ◌≡◌,
-  ◌≢◌,
-  ℕ,
-  ◌==◌,
-  true,
-  false,
-  Some,
-  None,
-  [],
-  ◌∷◌,
-  ◌++◌,
-  length,
-  map,
-  slice_index,
-  nat_lt,
-  List,
-  IfOk,
-  IfErr,
-  OnOk,
-  IsSome,
-  MatchResult,
-};
+ghost use Rattle.std.specs.Prelude.{◌≡◌, ◌≢◌, ℕ, ◌==◌, true, false, Some, None, [], ◌∷◌, ◌++◌};
+ghost use Rattle.std.specs.Prelude.{length, map, slice_index, nat_lt, List, IfOk, IfErr, OnOk};
+ghost use Rattle.std.specs.Prelude.{IsSome, MatchResult};
 ghost use Rattle.std.specs.List.{All};
 ghost use Rattle.std.specs.Option.{option_to_list};
 ghost use Rattle.cb_event.specs.Events.{IsPlayed};
 ghost use Rattle.cb_page.specs.Faults.{first_fault};
 ghost use Rattle.cb_event.specs.Commands.{Client, Page, arguments_of, event_of};
 ghost use Rattle.cb_pieces.specs.Pieces.{words_of, is_number, number_of};
-ghost use Rattle.cb_event.specs.ScheduleText.{
-  Gives,
-  is_comment,
-  argument_causes,
-  line_causes,
-  causes_behind,
-  event_of_line,
-  IsSchedule,
-  Refuses,
-};
+ghost use Rattle.cb_event.specs.ScheduleText.{Gives, is_comment, argument_causes, line_causes};
+ghost use Rattle.cb_event.specs.ScheduleText.{causes_behind, event_of_line, IsSchedule, Refuses};
 ghost use Rattle.cb_event.specs.declared.event.Event.{Event};
 ghost use Rattle.cb_event.specs.declared.text.ScheduleFault.TheVariants.{Memory};
 

@@ -14,32 +14,25 @@ use Rattle.cb_first_client.specs.declared.client_fault.ClientFault.{ClientFault}
 use Rattle.cb_protocol.specs.Answers as table
 use Rattle.cb_protocol.specs.Basics.{Limits}
 use Rattle.cb_protocol.specs.Client.{ChangeCache, Client, Say, bodies_said, client_after}
-use Rattle.cb_protocol.specs.ClientCalls.{Call, CallBegin, CallHello, CallPeek, CallRead, Reply, accept_call, accept_or_refuse, call_fault, client_call, peek_word, read_page, reply_with}
-
-call_refused : (L : Limits) (k : Client) (call : Call) (f : table.ClientFault) → Some f ≡ call_fault L k call → client_call L k call ≡ reply_with (table.Refused f) []
-unfolding client_call
-call_refused L k call f e = ap (accept_or_refuse L k call) (sym e)
-
-call_accepted : (L : Limits) (k : Client) (call : Call) → None ≡ call_fault L k call → client_call L k call ≡ accept_call L k call
-unfolding client_call
-call_accepted L k call e = ap (accept_or_refuse L k call) (sym e)
+use Rattle.cb_protocol.proofs.Cases.{call_accepted, call_refused, fault_of_hello, fault_of_peek}
+use Rattle.cb_protocol.specs.ClientCalls.{Call, CallBegin, CallHello, CallPeek, CallRead, Reply, call_fault, client_call, peek_word, read_page, reply_with}
 
 pub refuses : (v : ClientState) (call : Call) (f : ClientFault) → IsFault v call (Some f) → Refuses v call f v
 refuses v call f h = record {
   unchanged = refl;
   by_table = record {
-    word = λ operations. rw (call_refused (limits_of v.limits) (client_of v operations) call (fault_of f) (h.by_table operations)) refl;
-    said = λ operations. rw (call_refused (limits_of v.limits) (client_of v operations) call (fault_of f) (h.by_table operations)) refl;
-    after = λ operations. rw (call_refused (limits_of v.limits) (client_of v operations) call (fault_of f) (h.by_table operations)) refl;
+    word = λ operations. rw (call_refused (limits_of v.limits) (client_of v operations) call (fault_of f) (sym (h.by_table operations))) refl;
+    said = λ operations. rw (call_refused (limits_of v.limits) (client_of v operations) call (fault_of f) (sym (h.by_table operations))) refl;
+    after = λ operations. rw (call_refused (limits_of v.limits) (client_of v operations) call (fault_of f) (sym (h.by_table operations))) refl;
     limits = refl;
   };
 }
 
 pub begins : (v : ClientState) → IsFault v CallBegin None → Calls v CallBegin table.AnsweredOk [] (record v { txn = v.txn + 1; is_open = true }) []
 begins v h = record {
-  word = λ operations. rw (call_accepted (limits_of v.limits) (client_of v operations) CallBegin (h.by_table operations)) refl;
-  said = λ operations. rw (call_accepted (limits_of v.limits) (client_of v operations) CallBegin (h.by_table operations)) refl;
-  after = λ operations. rw (call_accepted (limits_of v.limits) (client_of v operations) CallBegin (h.by_table operations)) refl;
+  word = λ operations. rw (call_accepted (limits_of v.limits) (client_of v operations) CallBegin (sym (h.by_table operations))) refl;
+  said = λ operations. rw (call_accepted (limits_of v.limits) (client_of v operations) CallBegin (sym (h.by_table operations))) refl;
+  after = λ operations. rw (call_accepted (limits_of v.limits) (client_of v operations) CallBegin (sym (h.by_table operations))) refl;
   limits = refl;
 }
 
@@ -63,7 +56,7 @@ some_bytes (Some bytes) e = refl
 
 reads_reply : (v : ClientState) (page : ℕ) (operations : List Operation) → IsFault v (CallRead page) None
     → client_call (limits_of v.limits) (client_of v operations) (CallRead page) ≡ read_page (client_of v operations) page (copy_of v.pool page)
-reads_reply v page operations h = call_accepted (limits_of v.limits) (client_of v operations) (CallRead page) (h.by_table operations)
+reads_reply v page operations h = call_accepted (limits_of v.limits) (client_of v operations) (CallRead page) (sym (h.by_table operations))
 
 pub reads_here : (v : ClientState) (page : ℕ) → IsFault v (CallRead page) None → page < length v.copies → is_some (copy_of v.pool page) ≡ true
     → Reads v page (Ok answer.Bytes) (locked_page v page)
@@ -97,14 +90,10 @@ reads_asks v page h out =
     none_of None e = refl
     none_of (Some bytes) e = absurd cc
 
-never_refused : (L : Limits) (k : Client) (page : ℕ) → (None ≡ call_fault L k CallHello) × (None ≡ call_fault L k (CallPeek page))
-unfolding call_fault
-never_refused L k page = (refl, refl)
-
 pub greets : (v : ClientState) → Calls v CallHello table.AnsweredOk (Hello ∷ []) v []
 greets v =
     let r : (operations : List Operation) → client_call (limits_of v.limits) (client_of v operations) CallHello ≡ reply_with table.AnsweredOk (Say Hello ∷ []) =
-    λ operations. call_accepted (limits_of v.limits) (client_of v operations) CallHello (never_refused (limits_of v.limits) (client_of v operations) 0).0 in
+    λ operations. call_accepted (limits_of v.limits) (client_of v operations) CallHello (fault_of_hello (limits_of v.limits) (client_of v operations)) in
     record {
       word = λ operations. ap (λ (a : Reply). a.word) (r operations);
       said = λ operations. ap (λ (a : Reply). bodies_said a.steps) (r operations);
@@ -115,7 +104,7 @@ greets v =
 pub peeks : (v : ClientState) (page : ℕ) (bytes : Option (List ℕ)) → bytes ≡ copy_of v.pool page → Calls v (CallPeek page) (peek_word bytes) [] v []
 peeks v page bytes e =
     let r : (operations : List Operation) → client_call (limits_of v.limits) (client_of v operations) (CallPeek page) ≡ reply_with (peek_word bytes) [] =
-    λ operations. call_accepted (limits_of v.limits) (client_of v operations) (CallPeek page) (never_refused (limits_of v.limits) (client_of v operations) page).1
+    λ operations. call_accepted (limits_of v.limits) (client_of v operations) (CallPeek page) (fault_of_peek (limits_of v.limits) (client_of v operations) page)
     ∙ ap (λ (o : Option (List ℕ)). reply_with (peek_word o) []) (sym e) in
     record {
       word = λ operations. ap (λ (a : Reply). a.word) (r operations);

@@ -1,66 +1,18 @@
 //! The client of the world: one incarnation of a client, with its copies of pages and its
 //! transaction.
-ghost use Rattle.std.specs.Prelude.{
-  ◌≡◌,
-  ℕ,
-  ◌+◌,
-  ◌<◌,
-  ◌≤◌,
-  ◌^◌,
-  Bool,
-  true,
-  false,
-  List,
-  [],
-  ◌∷◌,
-  length,
-  replicate,
-  slice_set,
-  Some,
-  None,
-  IfOk,
-  IfErr,
-  OnOk,
-  OnErr,
-  IsErr,
-  IsNone,
-};
-ghost use Rattle.cb_first_client.specs.ClientState.{
-  ClientState,
-  IsClient,
-  copy_at,
-  no_copy,
-  fresh,
-  client_of,
-  locked_page,
-  new_copy,
-  seen_page,
-  with_page,
-};
-ghost use Rattle.cb_first_client.specs.ClientAnswers.{
-  NamesNumber,
-  IsFault,
-  Calls,
-  Begins,
-  Reads,
-  Takes,
-};
-ghost use Rattle.cb_first_client.specs.ClientGrants.{
-  RepliesTo,
-  asks_for,
-  brings_bytes,
-  gives_back,
-  case_of,
-  replies,
-};
+ghost use Rattle.std.specs.Prelude.{◌≡◌, ℕ, ◌+◌, ◌<◌, ◌≤◌, ◌^◌, Bool, true, false, List, [], ◌∷◌};
+ghost use Rattle.std.specs.Prelude.{length, replicate, slice_set, Some, None, IfOk, IfErr, OnOk};
+ghost use Rattle.std.specs.Prelude.{OnErr, IsErr, IsNone};
+ghost use Rattle.cb_first_client.specs.ClientState.{ClientState, IsClient, copy_at, no_copy, fresh};
+ghost use Rattle.cb_first_client.specs.ClientState.{client_of, locked_page, new_copy, seen_page};
+ghost use Rattle.cb_first_client.specs.ClientState.{with_page};
+ghost use Rattle.cb_first_client.specs.ClientAnswers.{NamesNumber, IsFault, Calls, Begins, Reads};
+ghost use Rattle.cb_first_client.specs.ClientAnswers.{Takes};
+ghost use Rattle.cb_first_client.specs.ClientGrants.{RepliesTo, asks_for, brings_bytes, gives_back};
+ghost use Rattle.cb_first_client.specs.ClientGrants.{case_of, replies};
 ghost use Rattle.cb_protocol.specs.Answers.{AnsweredOk};
-ghost use Rattle.cb_protocol.specs.ClientCalls.{
-  CallBegin,
-  CallHello,
-  CallPeek,
-  CallRead,
-  peek_word,
-};
+ghost use Rattle.cb_protocol.specs.ClientCalls.{CallBegin, CallHello, CallPeek, CallRead};
+ghost use Rattle.cb_protocol.specs.ClientCalls.{peek_word};
 ghost use Rattle.cb_protocol.specs.Messages.{Granted, Hello, Welcome};
 ghost use Rattle.std.specs.Option.{is_some, option_copied};
 ghost use Rattle.cb_pool.specs.PoolState.{MayGo, copy_of};

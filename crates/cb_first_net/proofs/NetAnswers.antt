@@ -56,6 +56,8 @@ kind_is (body.Short (short.MayWrite t p g)) = refl
 kind_is (body.Short (short.Callback p g)) = refl
 kind_is (body.Short (short.Done t n)) = refl
 kind_is (body.Short (short.AbortNow t)) = refl
+kind_is (body.Short (short.Downgraded p g t)) = refl
+kind_is (body.Short (short.Downgrade p g t)) = refl
 kind_is (body.Commit t ws) = refl
 kind_is (body.Granted p g v b) = refl
 

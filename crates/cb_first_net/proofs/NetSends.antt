@@ -2,7 +2,8 @@
 use Rattle.std.proofs.Common.{ℕ, List, [], ◌∷◌, ◌++◌, refl}
 use Rattle.std.proofs.lemmas.List.Elements.{All-push}
 use Rattle.cb_page.specs.Bounds.{Bounds}
-use Rattle.cb_frame.specs.Grammar.{Fits}
+use Rattle.cb_frame.specs.Grammar.{Fits, IsFrame, IsFrameIn}
+use Rattle.cb_frame.specs.declared.version.FrameVersion.TheVariants.{Two}
 use Rattle.cb_frame.specs.Spelling.{spelling}
 use Rattle.cb_frame.specs.declared.frame.Frame.{Frame}
 use Rattle.cb_first_net.specs.NetMoves.{IsNet, IsPacket}
@@ -23,3 +24,8 @@ net_with n bytes x packet = record {
 -- a frame that fits is such a packet
 pub frame_is_packet : (l : Bounds) (f : Frame) → Fits l f → IsSentSoFar (body_of f.body) → IsPacket l (spelling f)
 frame_is_packet l f h k = record { message = message_of f; spelled = record { frame = f; spelled = (h, refl); carries = refl }; so_far = k }
+
+-- a frame as it is written is one of the newest version
+pub in_newest : (l : Bounds) (f : Frame) (bytes : List ℕ) → IsFrame l f bytes → IsFrameIn Two l f bytes
+unfolding spelling
+in_newest l f bytes is = record { fits = is.0; size = refl; kind = refl; spelled = is.1 }

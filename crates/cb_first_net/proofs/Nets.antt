@@ -26,7 +26,8 @@ use Rattle.cb_protocol.specs.ClientMessages.{ChoiceAllowed, client_take}
 use Rattle.cb_protocol.specs.Server.{Server, ServerStep, server_after}
 use Rattle.cb_protocol.specs.ServerMessages.{is_exhausted, server_take}
 use Rattle.cb_protocol.specs.Serial.{Operation}
-use Rattle.cb_protocol.specs.World.{World, TranscriptEntry, ClientCalls, TakePacket, MessageChoiceAllowed, answer_only, answer_with, client_does, deliver, server_does, messages_said, messages_sent, numbered_from, packet_at, step}
+use Rattle.cb_protocol.proofs.Cases.{step_call, step_call_no_client, step_take}
+use Rattle.cb_protocol.specs.World.{World, TranscriptEntry, ClientCalls, TakePacket, MessageChoiceAllowed, answer_only, answer_with, client_does, deliver, server_does, messages_said, messages_sent, numbered_from, packet_at, step, take_packet}
 
 all_spell : (l : Bounds) (ps qs : List (List ℕ)) (ms ns : List Message) → AllSpell l ps ms → AllSpell l qs ns → AllSpell l (ps ++ qs) (ms ++ ns)
 all_spell l [] qs [] ns a b = b
@@ -90,19 +91,10 @@ shows_server n w s ps ms t a b = record { server = refl; clients = a.clients; in
 pub kept_clients : (n : NetState) (c : ℕ) → slice_set n.clients c (client_at n c) ≡ n.clients
 kept_clients n c = set-get_or n.clients c (fresh n.limits)
 
-is_below : (c n : ℕ) → c < n → nat_lt c n ≡ true
-is_below c n h = grind (arith, nat_tests)
-
 not_below : (c n : ℕ) → n ≤ c → nat_lt c n ≡ false
 not_below c n h = grind (arith, nat_tests)
 
--- a call at the client c, as the protocol's world takes it
-called : (L : Limits) (w : World) (c : ℕ) (x : Call) → c < L.clients
-    → step L on_cycle w (ClientCalls c x) None ≡ client_does L w (ClientCalls c x) c (client_call L (w.client c) x).word (client_call L (w.client c) x).steps
-unfolding step
-called L w c x h = rw (is_below c L.clients h) refl
-
--- the same at a client that is known but for what its transaction has done
+-- a call at a client that is known but for what its transaction has done
 pub call_becomes : (n : NetState) (c : ℕ) (x : Call) (word : AnswerWord) (bodies : List Body) (s : ClientState) (performed : List Operation) (ps : List (List ℕ)) (a : Answer)
     → IsNet n → c < n.limits.clients → Calls (client_at n c) x word bodies s performed → AllSpell n.limits ps (messages_said c 1 bodies)
     → word_of a.word ≡ word → numbered_from (length n.packets) (messages_said c 1 bodies) ≡ map sent_of a.sent
@@ -124,15 +116,11 @@ call_becomes n c x word bodies s performed ps a z h r b e f = record {
         messages_said c 1 bodies,
         u,
         tt,
-        called (limits_of n.limits) w c x h ∙ (λ i. answer_with w (ClientCalls c x) (word_is i) (said_is i) (record w { client = update w.client c (after_is i) })),
+        step_call (limits_of n.limits) on_cycle w c x None h ∙ (λ i. answer_with w (ClientCalls c x) (word_is i) (said_is i) (record w { client = update w.client c (after_is i) })),
         f,
         shows_client n w c s (client_of s (performed ++ os)) (performed ++ os) ps (messages_said c 1 bodies) (record { event = ClientCalls c x; word = word_of a.word } ∷ w.transcript) (rw z.clients h) sh refl b,
       );
 }
-
-no_client : (L : Limits) (w : World) (c : ℕ) (x : Call) → L.clients ≤ c → step L on_cycle w (ClientCalls c x) None ≡ answer_only w (ClientCalls c x) NoClient
-unfolding step
-no_client L w c x h = rw (not_below c L.clients h) refl
 
 -- there is no such client
 pub no_client_becomes : (n : NetState) (c : ℕ) (x : Call) (a : Answer) → n.limits.clients ≤ c → word_of a.word ≡ NoClient → a.sent ≡ [] → NetBecomes n (ClientCalls c x) a n
@@ -143,7 +131,7 @@ no_client_becomes n c x a h e f = record {
     [],
     w,
     tt,
-    no_client (limits_of n.limits) w c x h ∙ ap (λ (o : AnswerWord). answer_with w (ClientCalls c x) o [] w) (sym e),
+    step_call_no_client (limits_of n.limits) on_cycle w c x None (not_below c n.limits.clients h) ∙ ap (λ (o : AnswerWord). answer_with w (ClientCalls c x) o [] w) (sym e),
     ap (λ (l : List Sent). map sent_of l) (sym f),
     record { server = sh.server; clients = sh.clients; incarnations = sh.incarnations; packets = rw (append-nil w.packets) sh.packets },
   );
@@ -168,8 +156,7 @@ not_own i j e f = grind arith
 
 -- a packet that was not sent yet
 no_packet : (L : Limits) (w : World) (k : ℕ) → packet_at w.packets k ≡ None → step L on_cycle w (TakePacket k) None ≡ answer_only w (TakePacket k) NoPacket
-unfolding step
-no_packet L w k e = rw e refl
+no_packet L w k e = step_take L on_cycle w k None ∙ ap (λ (o : Option Message). take_packet L on_cycle w (TakePacket k) o None) e
 
 none_at : (l : Bounds) (o : Option (List ℕ)) (m : Option Message) → o ≡ None → SpelledAt l o m → m ≡ None
 none_at l None None e s = refl
@@ -201,8 +188,7 @@ carried n k m w x sh = carried_at (slice_get n.packets k) (packet_at w.packets k
     carried_at None q e s = cc
 
 delivered : (L : Limits) (w : World) (k : ℕ) (m : Message) (let_go : Option ℕ) → packet_at w.packets k ≡ Some m → step L on_cycle w (TakePacket k) let_go ≡ deliver L on_cycle w (TakePacket k) m let_go
-unfolding step
-delivered L w k m v e = rw e refl
+delivered L w k m v e = step_take L on_cycle w k v ∙ ap (λ (o : Option Message). take_packet L on_cycle w (TakePacket k) o v) e
 
 -- the server takes a packet
 pub server_becomes : (n : NetState) (k : ℕ) (m : Message) (s : ServerState) (r : ServerReply) (ps : List (List ℕ)) (a : Answer)

@@ -25,6 +25,8 @@ short_of (short.MayWrite txn page grant) = protocol.MayWrite txn page grant
 short_of (short.Callback page grant) = protocol.Callback page grant
 short_of (short.Done txn number) = protocol.Done txn number
 short_of (short.AbortNow txn) = protocol.AbortNow txn
+short_of (short.Downgraded page grant txn) = protocol.Downgraded page grant txn
+short_of (short.Downgrade page grant txn) = protocol.Downgrade page grant txn
 
 -- what a frame's body says
 abbrev pub body_of : Body → protocol.Body

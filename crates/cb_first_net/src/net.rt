@@ -1,45 +1,15 @@
 //! The net: the server, the clients at their first incarnation, and every packet that was ever
 //! sent.
-ghost use Rattle.std.specs.Prelude.{
-  ◌≡◌,
-  ℕ,
-  ◌+◌,
-  ◌<◌,
-  ◌≤◌,
-  Bool,
-  true,
-  false,
-  List,
-  [],
-  ◌∷◌,
-  ◌++◌,
-  length,
-  take,
-  replicate,
-  slice_get,
-  slice_set,
-  option_copied,
-  Some,
-  None,
-  IfOk,
-  IfErr,
-  IsSome,
-  OnOk,
-  OnErr,
-  ◌↔◌,
-};
+ghost use Rattle.std.specs.Prelude.{◌≡◌, ℕ, ◌+◌, ◌<◌, ◌≤◌, Bool, true, false, List, [], ◌∷◌, ◌++◌};
+ghost use Rattle.std.specs.Prelude.{length, take, replicate, slice_get, slice_set, option_copied};
+ghost use Rattle.std.specs.Prelude.{Some, None, IfOk, IfErr, IsSome, OnOk, OnErr, ◌↔◌};
 ghost use Rattle.cb_commit.specs.Stores.{IsOf};
 ghost use Rattle.cb_frame.specs.Grammar.{Fits};
 ghost use Rattle.cb_frame.specs.Kinds.{kind_of_body};
 ghost use Rattle.cb_frame.specs.Spelling.{spelling};
 ghost use Rattle.cb_pool.specs.PoolState.{copy_of};
-ghost use Rattle.cb_protocol.specs.ClientCalls.{
-  CallHello,
-  CallBegin,
-  CallRead,
-  CallPeek,
-  peek_word,
-};
+ghost use Rattle.cb_protocol.specs.ClientCalls.{CallHello, CallBegin, CallRead, CallPeek};
+ghost use Rattle.cb_protocol.specs.ClientCalls.{peek_word};
 ghost use Rattle.cb_protocol.specs.World.{ClientCalls, TakePacket, new_world};
 ghost use Rattle.cb_first_client.specs.ClientAnswers.{Begins, Calls, NamesNumber, Reads, Takes};
 ghost use Rattle.cb_first_client.specs.ClientState.{bytes_in, fresh};
@@ -49,39 +19,16 @@ ghost use Rattle.cb_first_client.specs.ProtocolLimits.{limits_of};
 ghost use Rattle.cb_first_client.specs.ClientGrants.{gives_back, replies};
 ghost use Rattle.cb_protocol.specs.Messages.{AskRead, GiveBack, Granted, Hello, Welcome};
 ghost use Rattle.cb_protocol.specs.ServerMessages.{is_exhausted};
-ghost use Rattle.cb_first_server.specs.ServerState.{
-  server_of,
-  bodies_of,
-  Replies,
-  ReplyFits,
-  TakesMessage,
-};
+ghost use Rattle.cb_first_server.specs.ServerState.{server_of, bodies_of, Replies, ReplyFits};
+ghost use Rattle.cb_first_server.specs.ServerState.{TakesMessage};
 ghost use Rattle.cb_protocol.specs.Answers.{AnsweredOk};
-ghost use Rattle.cb_first_net.specs.NetMoves.{
-  FoundFrame,
-  FrameOfPacket,
-  Says,
-  granting_frame,
-  AnswersRead,
-  NetBecomes,
-  Carries,
-  IsAnswered,
-  IsNet,
-  IsPacket,
-  asking_frame,
-  page_frame,
-  sent_as,
-  sent_net_of,
-};
+ghost use Rattle.cb_first_net.specs.NetMoves.{FoundFrame, FrameOfPacket, Says, granting_frame};
+ghost use Rattle.cb_first_net.specs.NetMoves.{AnswersRead, NetBecomes, Carries, IsAnswered, IsNet};
+ghost use Rattle.cb_first_net.specs.NetMoves.{IsPacket, asking_frame, page_frame, sent_as};
+ghost use Rattle.cb_first_net.specs.NetMoves.{sent_net_of};
 ghost use Rattle.cb_first_net.specs.Wire.{message_of, body_of, IsSentSoFar};
-ghost use Rattle.cb_first_net.specs.NetState.{
-  NetState,
-  RepresentsNet,
-  opening_of,
-  client_at,
-  with_client,
-  with_server,
-};
+ghost use Rattle.cb_first_net.specs.NetState.{NetState, RepresentsNet, opening_of, client_at};
+ghost use Rattle.cb_first_net.specs.NetState.{with_client, with_server};
 
 use crate::packet::{Granting, Packet, frame_in};
 use cb_commit::Store;

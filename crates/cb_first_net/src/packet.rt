@@ -3,7 +3,7 @@ ghost use Rattle.std.specs.Prelude.{◌≡◌, IfOk};
 ghost use Rattle.cb_frame.specs.Grammar.{IsFrame};
 ghost use Rattle.cb_frame.specs.declared.frame.Frame.{Frame};
 
-use cb_frame::{Frame, FrameFault, decode};
+use cb_frame::{Frame, decode};
 use cb_page::{ClientNo, GrantNo, Incarnation, Limits, Page, PageNo, Version};
 use std::alloc::{AllocError, Global};
 use std::marker::Model;
@@ -47,14 +47,13 @@ pub(crate) struct Granting {
     pub bytes: Page,
 }
 
-/// The frame that is spelled.
+/// The frame that is spelled. It is refused only where memory is: a spelled frame has no other fault.
 pub(crate) fn frame_in(alloc: Global, limits: &Limits, bytes: &[u8]) -> Result<Frame, AllocError>
     requires { (f : Frame) × IsFrame limits.now f bytes.now }
     ensures { (f : Frame) → IsFrame limits.now f bytes.now → IfOk result (λ r. r ≡ f) }
 {
     match decode(alloc, limits, bytes) {
         Ok((frame, _)) => Ok(frame),
-        Err(FrameFault::Memory) => Err(AllocError),
-        Err(_) => unreachable!(),
+        Err(_) => Err(AllocError),
     }
 }

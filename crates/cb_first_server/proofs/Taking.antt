@@ -1,5 +1,5 @@
 -- What the protocol's server does at each message, where it is the server of the world.
-use Rattle.std.proofs.Common.{◌≡◌, ℕ, ◌<◌, ◌≤◌, ◌+◌, ◌-◌, ◌==◌, nat_lt, Bool, true, false, ◌||◌, List, [], ◌∷◌, ◌++◌, Option, None, Some, zero, suc, length, refl, ap, sym, ◌∙◌, subst, arith, if◌then◌else◌}
+use Rattle.std.proofs.Common.{◌≡◌, ℕ, ◌<◌, ◌≤◌, ◌+◌, ◌-◌, ◌==◌, nat_lt, Bool, ◌&&◌, true, false, ◌||◌, List, [], ◌∷◌, ◌++◌, Option, None, Some, zero, suc, length, refl, ap, sym, ◌∙◌, subst, arith, if◌then◌else◌}
 use Rattle.std.proofs.lemmas.Bool.Decides.{nat_tests}
 use Rattle.std.specs.Prelude.{slice_index_or}
 use Rattle.std.proofs.lemmas.Grind.{common_steps}
@@ -211,14 +211,10 @@ removed_after : (v : ServerState) (c p g : ℕ) → IsServer v → c < length v.
 removed_after v c p g s h k =
     (λ j. record (server_of v) {
       session = update (server_of v).session c (sym (removed_session (session_at v.sessions c) (length v.store.pages) p (s.sessions c h) k) j);
-      in_use = λ d q. (either_of (d == c) (either (q == p) false) j);
+      in_use = λ d q. either ((d == c) && (q == p)) false j;
       outcome = λ d. either (d == c) None j;
     })
     ∙ sym (server_put v c (with_row (session_at v.sessions c) p None) h)
-  where
-    either_of : {x : Bool} (b : Bool) → x ≡ false → (if b then x else false) ≡ false
-    either_of true e = e
-    either_of false e = refl
 
 never_below : (n : ℕ) → nat_lt n 0 ≡ false
 never_below n = grind (arith, nat_tests)

@@ -1,50 +1,14 @@
-ghost use Rattle.std.specs.Prelude.{
-  ◌≡◌,
-  ℕ,
-  ◌+◌,
-  ◌<◌,
-  ◌≤◌,
-  ◌^◌,
-  true,
-  false,
-  List,
-  length,
-  replicate,
-  slice_set,
-  slice_index_or,
-  None,
-  IfSome,
-  OnOk,
-  OnErr,
-  IfOk,
-  IfErr,
-  IsErr,
-  ◌↔◌,
-};
+ghost use Rattle.std.specs.Prelude.{◌≡◌, ℕ, ◌+◌, ◌<◌, ◌≤◌, ◌^◌, true, false, List, length};
+ghost use Rattle.std.specs.Prelude.{replicate, slice_set, slice_index_or, None, IfSome, OnOk};
+ghost use Rattle.std.specs.Prelude.{OnErr, IfOk, IfErr, IsErr, ◌↔◌};
 ghost use Rattle.cb_protocol.specs.Messages.{AskRead, GiveBack, Hello};
 ghost use Rattle.cb_protocol.specs.ServerMessages.{is_exhausted};
 ghost use Rattle.cb_commit.specs.Stores.{IsOf};
-ghost use Rattle.cb_first_server.specs.ServerState.{
-  new_state,
-  server_of,
-  Replies,
-  ReplyFits,
-  TakesMessage,
-  session_at,
-  renumbered,
-  with_row,
-  row_at,
-  begun,
-  granted,
-  would_live,
-  lacks_grant,
-  ask_reply,
-  asked,
-  hello_reply,
-  welcomed,
-  given_back,
-  IsServer,
-};
+ghost use Rattle.cb_first_server.specs.ServerState.{new_state, server_of, Replies, ReplyFits};
+ghost use Rattle.cb_first_server.specs.ServerState.{TakesMessage, session_at, renumbered, with_row};
+ghost use Rattle.cb_first_server.specs.ServerState.{row_at, begun, granted, would_live};
+ghost use Rattle.cb_first_server.specs.ServerState.{lacks_grant, ask_reply, asked, hello_reply};
+ghost use Rattle.cb_first_server.specs.ServerState.{welcomed, given_back, IsServer};
 
 use cb_commit::Store;
 use cb_page::{ClientNo, GrantNo, Incarnation, Limits, PageNo, TxnNo};

@@ -1,4 +1,5 @@
--- What can be wrong with the bytes of a frame, in the order of the checks, and what they say otherwise.
+-- What can be wrong with the bytes of a frame, in the order of the checks, and what they say
+-- otherwise.
 use Rattle.std.specs.Prelude.{◌≡◌, ℕ, zero, suc, ◌+◌, ◌-◌, ◌/◌, ◌%◌, Bool, true, false, not, ◌&&◌, ◌==◌, nat_lt, nat_le, if◌then◌else◌, List, [], ◌∷◌, length, take, drop, map, slice_index, unwrap_or, Option, Some, None, Result, Ok, Err}
 use Rattle.std.specs.List.{list_all}
 use Rattle.std.specs.Int.{Width, w16, w32, w64, byte_len, from_be_bytes}
@@ -79,7 +80,8 @@ write_in version page_size bytes = record {
 unfoldable pub writes_at : FrameVersion → ℕ → ℕ → List ℕ → List Write
 writes_at version page_size zero bytes = []
 writes_at version page_size (suc n) bytes =
-    write_in version page_size bytes ∷ writes_at version page_size n (drop (write_length version page_size) bytes)
+    write_in version page_size bytes
+    ∷ writes_at version page_size n (drop (write_length version page_size) bytes)
 
 -- bodies by the shape of their fields
 abbrev pub txn_at : (ℕ → ShortBody) → List ℕ → ShortBody
@@ -150,7 +152,8 @@ version_in_front bytes = unwrap_or (version_of (slice_index bytes 0)) Two
 
 abbrev pub frame_in_front : Bounds → List ℕ → Frame
 frame_in_front limits bytes =
-    frame_at limits (version_in_front bytes) (unwrap_or (kind_of (slice_index bytes 1)) kind.Hello) bytes
+    frame_at limits (version_in_front bytes)
+    (unwrap_or (kind_of (slice_index bytes 1)) kind.Hello) bytes
 
 -- ---- the tests
 
@@ -177,8 +180,10 @@ sizes_fit version page_size (suc n) bytes =
 unfoldable pub parts_fit : Bounds → FrameVersion → Kind → List ℕ → Bool
 parts_fit limits version kind.Commit bytes =
     number w16 8 bytes == count_in version limits.page_size (length bytes)
-    && sizes_fit version limits.page_size (count_in version limits.page_size (length bytes)) (drop 10 bytes)
-parts_fit limits version kind.Granted bytes = number (size_width version) 20 bytes == limits.page_size
+    && sizes_fit version limits.page_size
+    (count_in version limits.page_size (length bytes)) (drop 10 bytes)
+parts_fit limits version kind.Granted bytes =
+    number (size_width version) 20 bytes == limits.page_size
 parts_fit limits version _ bytes = true
 
 -- whether each number is in its range
@@ -195,7 +200,8 @@ unfoldable pub is_sender : Bounds → ℕ → ℕ → Bool
 is_sender limits client incarnation = nat_lt client limits.clients && is_number incarnation
 
 abbrev pub frame_numbers_fit : Bounds → Frame → Bool
-frame_numbers_fit limits frame = is_sender limits frame.client frame.incarnation && numbers_fit limits frame.body
+frame_numbers_fit limits frame =
+    is_sender limits frame.client frame.incarnation && numbers_fit limits frame.body
 
 -- whether a commit's pages rise
 unfoldable pub pages_rise : Body → Bool
@@ -206,7 +212,8 @@ pages_rise _ = true
 
 -- what can be wrong with what a body says
 abbrev pub body_causes : Bounds → Body → List (Bool × FrameFault)
-body_causes limits body = (not (numbers_fit limits body), fault.Range) ∷ (not (pages_rise body), fault.Order) ∷ []
+body_causes limits body =
+    (not (numbers_fit limits body), fault.Range) ∷ (not (pages_rise body), fault.Order) ∷ []
 
 -- what can be wrong with a frame whose kind and length are known
 abbrev pub content_causes : Bounds → FrameVersion → Kind → List ℕ → List (Bool × FrameFault)

@@ -1,4 +1,5 @@
--- The numbers of a body without page bytes, by the shapes that such bodies have (this project's format).
+-- The numbers of a body without page bytes, by the shapes that such bodies have (this project's
+-- format).
 use Rattle.std.specs.Prelude.{ℕ, ◌<◌, Bool, true, ◌&&◌, nat_lt, List, [], ◌++◌}
 use Rattle.std.specs.Int.{Width, w32, w64, to_be_bytes}
 use Rattle.cb_page.specs.Bounds.{Bounds}
@@ -29,19 +30,23 @@ abbrev pub FieldsFit : Bounds → Fields → Type 0
 FieldsFit limits Nothing = Unit {0}
 FieldsFit limits (Txn txn) = IsNumber txn
 FieldsFit limits (TxnPage txn page) = IsNumber txn × (page < limits.pages)
-FieldsFit limits (TxnPageGrant txn page grant) = IsNumber txn × (page < limits.pages) × IsNumber grant
+FieldsFit limits (TxnPageGrant txn page grant) =
+    IsNumber txn × (page < limits.pages) × IsNumber grant
 FieldsFit limits (TxnCommit txn number) = IsNumber txn × IsNumber number
 FieldsFit limits (PageGrant page grant) = (page < limits.pages) × IsNumber grant
-FieldsFit limits (PageGrantTxn page grant txn) = (page < limits.pages) × IsNumber grant × IsNumber txn
+FieldsFit limits (PageGrantTxn page grant txn) =
+    (page < limits.pages) × IsNumber grant × IsNumber txn
 
 unfoldable pub fields_fit : Bounds → Fields → Bool
 fields_fit limits Nothing = true
 fields_fit limits (Txn txn) = is_number txn
 fields_fit limits (TxnPage txn page) = is_number txn && nat_lt page limits.pages
-fields_fit limits (TxnPageGrant txn page grant) = is_number txn && (nat_lt page limits.pages && is_number grant)
+fields_fit limits (TxnPageGrant txn page grant) =
+    is_number txn && (nat_lt page limits.pages && is_number grant)
 fields_fit limits (TxnCommit txn number) = is_number txn && is_number number
 fields_fit limits (PageGrant page grant) = nat_lt page limits.pages && is_number grant
-fields_fit limits (PageGrantTxn page grant txn) = nat_lt page limits.pages && (is_number grant && is_number txn)
+fields_fit limits (PageGrantTxn page grant txn) =
+    nat_lt page limits.pages && (is_number grant && is_number txn)
 
 -- a number, its highest byte first
 unfoldable pub word : Width → ℕ → List ℕ

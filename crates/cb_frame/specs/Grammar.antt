@@ -1,4 +1,5 @@
--- Which frames there are under given limits (this project's rule), and their bytes in each version of the format.
+-- Which frames there are under given limits (this project's rule), and their bytes in each version
+-- of the format.
 use Rattle.std.specs.Prelude.{◌≡◌, ℕ, ◌<◌, true, List, length, map}
 use Rattle.std.specs.List.{AllByRecursion}
 use Rattle.cb_page.specs.Bounds.{Bounds, AreInRange}
@@ -43,7 +44,8 @@ pub record Fits (limits : Bounds) (frame : Frame) : Type 0 where
   pub body : BodyFits limits frame.body
 
 -- these bytes are that frame in that version of the format
-pub record IsFrameIn (version : FrameVersion) (limits : Bounds) (frame : Frame) (bytes : List ℕ) : Type 0 where
+pub record IsFrameIn (version : FrameVersion) (limits : Bounds) (frame : Frame) (bytes : List ℕ)
+    : Type 0 where
   pub fits : Fits limits frame
   pub size : has_size version limits.page_size ≡ true
   pub kind : has_kind version (kind_of_body frame.body) ≡ true
@@ -67,4 +69,5 @@ BodyFitsSome body = (limits : Bounds) × AreInRange limits × BodyFits limits bo
 
 abbrev pub WritesFitSome : List Write → Type 0
 WritesFitSome writes =
-    (limits : Bounds) × AreInRange limits × AllByRecursion (WriteFits limits) writes × IsRising (map page_of writes)
+    (limits : Bounds) × AreInRange limits
+    × AllByRecursion (WriteFits limits) writes × IsRising (map page_of writes)

@@ -64,7 +64,8 @@ name_of kind.AbortNow = codes "AbortNow"
 name_of kind.Downgraded = codes "Downgraded"
 name_of kind.Downgrade = codes "Downgrade"
 
--- whether a frame of this kind goes from its client to the server, and not the other way: by its code
+-- whether a frame of this kind goes from its client to the server, and not the other way: by its
+-- code
 abbrev pub goes_to_server : Kind → Bool
 goes_to_server kind = nat_lt (code_of kind) 64
 

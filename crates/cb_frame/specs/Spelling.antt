@@ -1,5 +1,5 @@
--- The one spelling of each frame in each version of the format (this project's rule). All numbers have their highest
--- byte first.
+-- The one spelling of each frame in each version of the format (this project's rule). All numbers
+-- have their highest byte first.
 use Rattle.std.specs.Prelude.{ℕ, List, [], ◌∷◌, ◌++◌, length}
 use Rattle.std.specs.List.{flat_map}
 use Rattle.std.specs.Int.{w16, w32, w64}
@@ -29,10 +29,12 @@ body_spelling version (body.Commit txn writes) =
 body_spelling version (body.Granted page grant page_version bytes) =
     word w32 page ++ (word w64 grant ++ (word w64 page_version ++ page_spelling version bytes))
 
--- the version of the format, the kind, the client, the incarnation, the length of the body, and the body
+-- the version of the format, the kind, the client, the incarnation, the length of the body, and the
+-- body
 unfoldable pub spelling_in : FrameVersion → Frame → List ℕ
 spelling_in version frame =
-    version_byte version ∷ code_of (kind_of_body frame.body) ∷ (word w16 frame.client ++ (word w64 frame.incarnation
+    version_byte version ∷ code_of (kind_of_body frame.body)
+    ∷ (word w16 frame.client ++ (word w64 frame.incarnation
     ++ (word w32 (length (body_spelling version frame.body)) ++ body_spelling version frame.body)))
 
 -- what is written of a frame: its spelling in the newest version

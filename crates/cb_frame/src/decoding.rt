@@ -22,14 +22,17 @@ use lengths::{can_be_length, parts_fit};
 use numbers::{is_number, u16_at, u32_at, u64_at};
 use std::alloc::Global;
 
-/// The frame at the front of the bytes, and how many bytes it takes. Bytes may follow it; they are left unread.
+/// The frame at the front of the bytes, and how many bytes it takes. Bytes may follow it; they are
+/// left unread.
 ///
-/// Where no frame is in front, the first fault whose cause stands is answered, in this order: fewer than 16 bytes are
-/// [`FrameFault::Short`]; a version other than 1 and 2, or 1 where pages have more than 4,096 bytes, is `Version`; a
-/// kind that the version doesn't have is `Kind`; a length that a body of this kind can't have is `Length`; fewer bytes
-/// than the header says are `Short`; a count or a size that isn't the one the length gives is `Length`; a number out of
-/// its range is `Range`; a commit whose pages don't rise is `Order`. All of this is looked at before memory is taken:
-/// once for each page's bytes, and once for a commit's list of them. `Memory` is answered where that is refused.
+/// Where no frame is in front, the first fault whose cause stands is answered, in this order: fewer
+/// than 16 bytes are [`FrameFault::Short`]; a version other than 1 and 2, or 1 where pages have
+/// more than 4,096 bytes, is `Version`; a kind that the version doesn't have is `Kind`; a length
+/// that a body of this kind can't have is `Length`; fewer bytes than the header says are `Short`; a
+/// count or a size that isn't the one the length gives is `Length`; a number out of its range is
+/// `Range`; a commit whose pages don't rise is `Order`. All of this is looked at before memory is
+/// taken: once for each page's bytes, and once for a commit's list of them. `Memory` is answered
+/// where that is refused.
 pub fn decode(alloc: Global, limits: &Limits, bytes: &[u8]) -> Result<(Frame, usize), FrameFault>
     // What is read is the one spelling of a frame in its version.
     ensures found { IfOk result (λ read. IsFrameInSome limits.now read.0 (take read.1 bytes.now)) }
@@ -39,20 +42,23 @@ pub fn decode(alloc: Global, limits: &Limits, bytes: &[u8]) -> Result<(Frame, us
         IsFrameIn version limits.now frame spelled → bytes.now ≡ spelled ++ rest →
         MatchResult result (λ read. read ≡ (frame, length spelled)) (λ e. e ≡ fault.Memory) }
     // A fault is the first whose cause stands; want of memory never stands in place of one.
-    ensures fault { IfErr result (λ e. first_fault (causes limits.now bytes.now) ≡ fault_in_bytes e) }
+    ensures fault { IfErr result (λ e.
+        first_fault (causes limits.now bytes.now) ≡ fault_in_bytes e) }
     // Memory is answered only where the kind is one whose frames have page bytes.
-    ensures memory { has_pages (kind_of (slice_index bytes.now 1)) ≡ false → result ≢ Err fault.Memory }
+    ensures memory { has_pages (kind_of (slice_index bytes.now 1)) ≡ false →
+        result ≢ Err fault.Memory }
 {
     read(alloc, limits, bytes)
 }
 
-/// No two frames have one spelling, of whichever versions, and no spelling begins another: whatever follows them, two
-/// frames spelled at the front of the same bytes are one frame in one version. The function does nothing; its contract
-/// is this law.
+/// No two frames have one spelling, of whichever versions, and no spelling begins another: whatever
+/// follows them, two frames spelled at the front of the same bytes are one frame in one version.
+/// The function does nothing; its contract is this law.
 pub fn one_spelling()
     ensures { (limits : Bounds) (version other : FrameVersion) (frame another : Frame)
         (spelled front rest more : List ℕ) →
-        AreInRange limits → IsFrameIn version limits frame spelled → IsFrameIn other limits another front →
+        AreInRange limits →
+        IsFrameIn version limits frame spelled → IsFrameIn other limits another front →
         spelled ++ rest ≡ front ++ more → (version ≡ other) × (frame ≡ another) × (rest ≡ more) }
 {}
 
@@ -63,7 +69,8 @@ fn read(alloc: Global, limits: &Limits, bytes: &[u8]) -> Result<(Frame, usize), 
         (frame_in_front limits.now bytes.now, 16 + body_length bytes.now)
         result }
     ensures range { AreInRange limits.now }
-    ensures memory { has_pages (kind_of (slice_index bytes.now 1)) ≡ false → result ≢ Err fault.Memory }
+    ensures memory { has_pages (kind_of (slice_index bytes.now 1)) ≡ false →
+        result ≢ Err fault.Memory }
 {
     let page_size = limits.page_size();
     if bytes.len() < 16 {

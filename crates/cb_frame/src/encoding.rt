@@ -35,7 +35,8 @@ pub fn encode(alloc: Global, frame: &Frame) -> Result<Vec<u8>, AllocError>
     Ok(out)
 }
 
-/// The bytes of a frame that grants a page, whose own bytes are lent: what [`encode`] writes, with no copy of the page before it.
+/// The bytes of a frame that grants a page, whose own bytes are lent: what [`encode`] writes, with
+/// no copy of the page before it.
 ///
 /// It is refused only where memory is; it takes what the bytes need, at once.
 #[tactic(auto, using(crate::proofs::Sizes::granted_length, std::proofs::Common::append_assoc), unfolding(crate::specs::Spelling::spelling, crate::specs::Spelling::spelling_in))]
@@ -129,7 +130,8 @@ fn put_granted(
     bytes: &[u8],
 ) -> Result<(), AllocError>
     requires { length bytes.now < 2 ^ 32 }
-    ensures { OnOk result (out.new.items ≡ out.old.items ++ body_spelling Two (Granted page grant version bytes.now)) }
+    ensures { OnOk result (
+        out.new.items ≡ out.old.items ++ body_spelling Two (Granted page grant version bytes.now)) }
 {
     put_page_grant(out, page, grant)?;
     put_u64(out, version.get())?;
@@ -157,7 +159,8 @@ fn put_header(
 
 fn put_writes(out: &mut Vec<u8>, writes: &[Write]) -> Result<(), AllocError>
     requires { All (λ w. length w.bytes < 2 ^ 32) writes.now }
-    ensures { OnOk result (out.new.items ≡ out.old.items ++ flat_map (write_spelling Two) writes.now) }
+    ensures { OnOk result (
+        out.new.items ≡ out.old.items ++ flat_map (write_spelling Two) writes.now) }
 {
     for write in writes {
         put_write(out, write)?;

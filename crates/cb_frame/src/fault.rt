@@ -18,7 +18,8 @@ pub enum FrameFault {
     /// No kind has this code, or only a later version of the format has it.
     #[error("3 Kind")]
     Kind,
-    /// A body of the kind can't have this length; or a count or a size within it isn't the one that the length gives.
+    /// A body of the kind can't have this length; or a count or a size within it isn't the one that
+    /// the length gives.
     #[error("4 Length")]
     Length,
     /// A number is out of its range.

@@ -6,7 +6,8 @@ use crate::encoding::{put_u32, put_u64};
 use cb_page::{CommitNo, GrantNo, Limits, PageNo, TxnNo};
 use std::alloc::AllocError;
 
-/// The numbers that a body without page bytes has, in the order of its frame. Fifteen kinds have these seven shapes.
+/// The numbers that a body without page bytes has, in the order of its frame. Fifteen kinds have
+/// these seven shapes.
 #[derive(Clone, Copy, Debug)]
 pub enum Fields {
     Nothing,
@@ -19,7 +20,8 @@ pub enum Fields {
 }
 
 impl Fields {
-    /// Whether the page is one of the store's. The other numbers are in range by their types, as `get` says.
+    /// Whether the page is one of the store's. The other numbers are in range by their types, as
+    /// `get` says.
     pub fn fit(self, limits: &Limits) -> bool
         ensures { IsTrue result ↔ FieldsFit limits.now self }
     {

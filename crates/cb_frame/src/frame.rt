@@ -193,8 +193,8 @@ impl Frame {
         self.body.kind()
     }
 
-    /// Whether the frame is one under these limits: its numbers are in range, its pages have the store's size, and a
-    /// commit's pages rise.
+    /// Whether the frame is one under these limits: its numbers are in range, its pages have the
+    /// store's size, and a commit's pages rise.
     pub fn fits(&self, limits: &Limits) -> bool
         ensures value { IsTrue result ↔ Fits limits.now self.now }
         ensures range { AreInRange limits.now }
@@ -207,7 +207,11 @@ impl Frame {
 impl From<ShortFrame> for Frame {
     ghost use Rattle.cb_frame.specs.declared.frame.Body.TheVariants as body;
 
-    ghost from_gives = { λ s f. f ≡ record { client = s.client; incarnation = s.incarnation; body = body.Short s.body } };
+    ghost from_gives = { λ short frame. frame ≡ record {
+      client = short.client;
+      incarnation = short.incarnation;
+      body = body.Short short.body;
+    } };
 
     fn from(frame: ShortFrame) -> Frame {
         Frame {
@@ -218,7 +222,8 @@ impl From<ShortFrame> for Frame {
     }
 }
 
-/// The law of these calls: a frame without page bytes keeps its sender and its body, and a frame's kind is its body's.
+/// The law of these calls: a frame without page bytes keeps its sender and its body, and a frame's
+/// kind is its body's.
 fn law(short: ShortFrame, frame: &Frame) -> (Frame, Kind, Kind)
     ensures { result ≡ (
       record { client = short.client; incarnation = short.incarnation; body = Short short.body },

@@ -4,8 +4,8 @@ ghost use Rattle.cb_frame.specs.Kinds.{code_of, name_of, goes_to_server};
 
 use std::fmt;
 
-/// What a frame is for. The first eight kinds go from a client to the server, the others from the server to
-/// a client.
+/// What a frame is for. The first eight kinds go from a client to the server, the others from the
+/// server to a client.
 #[derive(Clone, Copy, Debug, PartialEq, Eq)]
 pub enum Kind {
     /// A client has started an incarnation.
@@ -36,7 +36,8 @@ pub enum Kind {
     Done,
     /// A transaction is to be aborted, since it lies on a cycle of waiting.
     AbortNow,
-    /// The server asks for a kept permission to write a page, which was last given for a transaction.
+    /// The server asks for a kept permission to write a page, which was last given for a
+    /// transaction.
     Downgrade,
 }
 

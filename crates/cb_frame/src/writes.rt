@@ -72,7 +72,8 @@ impl Writes {
     }
 
     pub(crate) fn fit(&self, limits: &Limits) -> bool
-        ensures { IsTrue result ↔ (AllByRecursion (WriteFits limits.now) self.now × IsRising (map page_of self.now)) }
+        ensures { IsTrue result ↔
+            (AllByRecursion (WriteFits limits.now) self.now × IsRising (map page_of self.now)) }
     {
         all_fit(limits, self.as_slice()) && rise(self.as_slice())
     }

@@ -1,7 +1,8 @@
 -- The ranges of the numbers that count upwards (this project's rule).
 use Rattle.std.specs.Prelude.{ℕ, ◌≤◌, Bool, ◌&&◌, nat_le}
 
--- the greatest number of a grant, a transaction, an incarnation or a commit, and the greatest version: 2 ^ 62 - 1
+-- the greatest number of a grant, a transaction, an incarnation or a commit, and the greatest
+-- version: 2 ^ 62 - 1
 abbrev pub max_number : ℕ
 max_number = 4611686018427387903
 

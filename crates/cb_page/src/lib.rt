@@ -1,7 +1,8 @@
-//! What every layer of the page server speaks of: numbered things, pages, sets of pages, and the limits of a store.
+//! What every layer of the page server speaks of: numbered things, pages, sets of pages, and the
+//! limits of a store.
 //!
-//! A store has a fixed count of clients and of pages, and one page size. [`Limits`] says which; all other types here
-//! hold values that lie within the ranges that some limits allow.
+//! A store has a fixed count of clients and of pages, and one page size. [`Limits`] says which; all
+//! other types here hold values that lie within the ranges that some limits allow.
 #![tactic(auto)]
 
 mod limits;
@@ -13,6 +14,3 @@ pub use limits::{LimitFault, Limits};
 pub use numbers::{ClientNo, CommitNo, GrantNo, Incarnation, MAX_NUMBER, PageNo, TxnNo, Version};
 pub use page::Page;
 pub use page_set::PageSet;
-
-#[cfg(test)]
-mod tests;

@@ -1,4 +1,5 @@
-//! The limits of one store: how many clients and pages it has, and how its clients' pools are sized.
+//! The limits of one store: how many clients and pages it has, and how its clients' pools are
+//! sized.
 ghost use Rattle.std.specs.Prelude.{◌≡◌, ℕ, ◌^◌, ◌<◌, ◌≤◌, ◌-◌, ◌↔◌, true, false, Some, None, IfOk, IfErr, IsTrue, IsOk};
 ghost use Rattle.cb_page.specs.Faults.{first_fault};
 ghost use Rattle.cb_page.specs.Limits.{limit_causes, is_outside};
@@ -7,8 +8,8 @@ ghost use Rattle.cb_page.specs.Bounds.{Bounds, AreInRange};
 use std::marker::Model;
 use thiserror::Error;
 
-/// What is wrong with proposed limits. The text is the fault's number and name; where several are wrong, the lowest
-/// number is answered.
+/// What is wrong with proposed limits. The text is the fault's number and name; where several are
+/// wrong, the lowest number is answered.
 #[derive(Clone, Copy, Debug, PartialEq, Eq, Error)]
 pub enum LimitFault {
     /// The number of clients isn't from 1 to 32.
@@ -31,8 +32,8 @@ pub enum LimitFault {
     Kout,
 }
 
-/// The limits of one store and its clients, all in range. In contracts they are the record of the six numbers and
-/// of whether write permission is kept.
+/// The limits of one store and its clients, all in range. In contracts they are the record of the
+/// six numbers and of whether write permission is kept.
 #[derive(Clone, Copy, Debug, PartialEq, Eq)]
 pub struct Limits {
     clients: u16,
@@ -81,7 +82,8 @@ impl Model for Limits {
 }
 
 impl Limits {
-    /// The limits of these numbers, or the first fault. Write permission isn't kept: [`Limits::keeping`] changes that.
+    /// The limits of these numbers, or the first fault. Write permission isn't kept:
+    /// [`Limits::keeping`] changes that.
     pub fn new(
         clients: u64,
         pages: u64,
@@ -198,8 +200,8 @@ impl Limits {
         self.page_size as usize
     }
 
-    /// The same limits, under which a client keeps its permission to write a page after the transaction that it was
-    /// given for, until the server asks for it.
+    /// The same limits, under which a client keeps its permission to write a page after the
+    /// transaction that it was given for, until the server asks for it.
     pub fn keeping(self) -> Limits
         ensures value { result ≡ record self { keep_write = true } }
         ensures in_range { AreInRange result }
@@ -210,7 +212,8 @@ impl Limits {
         }
     }
 
-    /// Whether a client keeps its permission to write a page after the transaction that it was given for.
+    /// Whether a client keeps its permission to write a page after the transaction that it was
+    /// given for.
     pub fn keep_write(&self) -> bool
         ensures value { result ≡ self.now.keep_write }
         ensures in_range { AreInRange self.now }

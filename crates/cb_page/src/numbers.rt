@@ -18,5 +18,6 @@ pub use page::PageNo;
 pub use txn::TxnNo;
 pub use version::Version;
 
-/// The greatest number of a grant, a transaction, an incarnation or a commit, and the greatest version: 2^62 - 1.
+/// The greatest number of a grant, a transaction, an incarnation or a commit, and the greatest
+/// version: 2^62 - 1.
 pub const MAX_NUMBER: u64 = (1 << 62) - 1;

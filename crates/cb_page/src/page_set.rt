@@ -7,10 +7,11 @@ use crate::PageNo;
 use std::alloc::{AllocError, Global};
 use std::marker::Model;
 
-/// A set of the pages below a number that is fixed when the set is made. In contracts it is a list with one flag for
-/// each of these pages.
+/// A set of the pages below a number that is fixed when the set is made. In contracts it is a list
+/// with one flag for each of these pages.
 ///
-/// Only `new` takes memory. The walk by `next` passes over 64 pages a step where none of them is in the set.
+/// Only `new` takes memory. The walk by `next` passes over 64 pages a step where none of them is in
+/// the set.
 #[derive(Debug, Drop)]
 pub struct PageSet {
     /// Bit `page % 64` of word `page / 64` is 1 where the page is in the set.
@@ -84,11 +85,13 @@ impl PageSet {
         self.words.fill(0);
     }
 
-    /// The least member at or after a place: with `from` one past the last answer this walks through the set, rising.
+    /// The least member at or after a place: with `from` one past the last answer this walks
+    /// through the set, rising.
     pub fn next(&self, from: usize) -> Option<PageNo>
         ensures { MatchOption result
             ((k : ℕ) → from ≤ k → has self.now k ≡ false)
-            (λ p. (from ≤ p) × (has self.now p ≡ true) × ((k : ℕ) → from ≤ k → k < p → has self.now k ≡ false)) }
+            (λ page. (from ≤ page) × (has self.now page ≡ true)
+            × ((k : ℕ) → from ≤ k → k < page → has self.now k ≡ false)) }
     {
         let mut start = from % 64;
         for at in from / 64..self.words.len() {
@@ -117,7 +120,8 @@ fn lowest_bit(word: u64, start: usize) -> Option<usize>
     requires { start < 64 }
     ensures { MatchOption result
         ((k : ℕ) → start ≤ k → k < 64 → bit_at word k ≡ 0)
-        (λ b. (start ≤ b) × (b < 64) × (bit_at word b ≡ 1) × ((k : ℕ) → start ≤ k → k < b → bit_at word k ≡ 0)) }
+        (λ bit. (start ≤ bit) × (bit < 64) × (bit_at word bit ≡ 1)
+        × ((k : ℕ) → start ≤ k → k < bit → bit_at word k ≡ 0)) }
 {
     let rest = word >> start;
     if rest == 0 {

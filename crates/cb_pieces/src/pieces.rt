@@ -1,31 +1,10 @@
 //! The pieces of a schedule's text: lines, words, numbers.
-ghost use Rattle.std.specs.Prelude.{
-  ◌≡◌,
-  ℕ,
-  ◌<◌,
-  ◌≤◌,
-  ◌+◌,
-  ◌==◌,
-  [],
-  ◌∷◌,
-  not,
-  length,
-  MatchOption,
-  Some,
-  None,
-  if◌then◌else◌,
-};
+ghost use Rattle.std.specs.Prelude.{◌≡◌, ℕ, ◌<◌, ◌≤◌, ◌+◌, ◌==◌, [], ◌∷◌, not, length, MatchOption};
+ghost use Rattle.std.specs.Prelude.{Some, None, if◌then◌else◌};
 ghost use Rattle.std.specs.List.{position};
 ghost use Rattle.std.specs.Str.Lines.{strip_carriage_return};
-ghost use Rattle.cb_pieces.specs.Pieces.{
-  lines_of,
-  words_of,
-  is_blank,
-  is_text,
-  is_text_byte,
-  number_of,
-  is_number,
-};
+ghost use Rattle.cb_pieces.specs.Pieces.{lines_of, words_of, is_blank, is_text, is_text_byte};
+ghost use Rattle.cb_pieces.specs.Pieces.{number_of, is_number};
 
 /// The greatest number that a schedule may name.
 const GREATEST: u64 = (1 << 62) - 1;

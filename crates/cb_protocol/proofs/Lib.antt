@@ -65,6 +65,7 @@ pub mod DowngradesSent
 pub mod ScheduleText
 pub mod WorkedSchedules
 pub mod WorkedSides
+pub mod WorkedServers
 pub mod Short00To03
 pub mod Short04To07
 pub mod Short08To11

@@ -4,7 +4,7 @@ use Rattle.cb_protocol.specs.World.{Opening}
 use Rattle.cb_protocol.specs.AnyMessages.{Input, MessageComes, ReachesDisk, SendsAgain, input_steps, AfterInput, Opened, ReachedBy}
 use Rattle.cb_protocol.specs.Basics.{is_exactly, Limits}
 use Rattle.cb_protocol.specs.Deadlock.{InputInRange, ReachedServer}
-use Rattle.cb_protocol.specs.Marks.{Comes, GivesBack, HasLiveTxn, HasRow, MarksLive, MarksSetAndTaken, SameLiveTxn, SaysInUse}
+use Rattle.cb_protocol.specs.Marks.{Comes, GivesBack, HasLiveTxn, HasAnyRow, MarksLive, MarksSetAndTaken, SameLiveTxn, SaysInUse}
 use Rattle.cb_protocol.specs.Messages.{AbortNow, AskRead, AskWrite, Body, Callback, Commit, Done, Downgrade, Downgraded, Drop, GiveBack, Granted, Hello, InUse, MayWrite, Welcome}
 use Rattle.cb_protocol.specs.Server.{DeadlockTest, ChangeSession, ForgetTransaction, MarkInUse, Send, Server, ServerStep, UnmarkInUse, server_after}
 use Rattle.cb_protocol.specs.ServerMessages.{admit_incarnation, begin_transaction, commit_allowed, direct_answer, named_txn, repeat_done, server_take, take_current}
@@ -248,7 +248,7 @@ answer_marks cycle k c (Downgrade p g t) e = answer_none k c (Downgrade p g t) (
 
 -- each mark of client d is of a copy and a live transaction
 abbrev LiveAt : Server → ℕ → Type 0
-LiveAt s d = (p : ℕ) → s.in_use d p ≡ true → HasRow s d p × HasLiveTxn s d
+LiveAt s d = (p : ℕ) → s.in_use d p ≡ true → HasAnyRow s d p × HasLiveTxn s d
 
 -- what a step makes of the marks of client d
 record StepMarks (s t : Server) (i : Input) (d : ℕ) : Type 0 where
@@ -485,7 +485,7 @@ step_marks s (MessageComes c i b) o f d h = go (d == c) refl
 step_marks s SendsAgain o f d h = step_leaves s _ SendsAgain d ((others_keep_rows_and_permissions on_cycle s).1 d) h (λ y z. absurd cc)
 step_marks s (ReachesDisk n) o f d h = step_leaves s _ (ReachesDisk n) d ((others_keep_rows_and_permissions on_cycle s).2 n d) h (λ y z. absurd cc)
 
-marks_live_by : (L : Limits) (o : Opening) (s : Server) → ReachedBy L on_cycle o InputInRange s → (d p : ℕ) → s.in_use d p ≡ true → HasRow s d p × HasLiveTxn s d
+marks_live_by : (L : Limits) (o : Opening) (s : Server) → ReachedBy L on_cycle o InputInRange s → (d p : ℕ) → s.in_use d p ≡ true → HasAnyRow s d p × HasLiveTxn s d
 marks_live_by L o s Opened d p e = absurd cc
 marks_live_by L o s (AfterInput {server = k} r i f) d p e = (step_marks k i (orderly_by L o k r) f d (marks_live_by L o k r d)).live p e
 

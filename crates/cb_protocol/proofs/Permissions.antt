@@ -4,7 +4,7 @@ use Rattle.cb_protocol.specs.World.{Opening}
 use Rattle.cb_protocol.specs.AnyMessages.{MessageComes, input_steps, AfterInput, Opened, ReachedBy}
 use Rattle.cb_protocol.specs.Basics.{is_exactly, is_none, Limits}
 use Rattle.cb_protocol.specs.Deadlock.{ReachedServer, InputInRange}
-use Rattle.cb_protocol.specs.Marks.{Comes, DroppedHoldNothing, HasLiveTxn, HasRow, KeptHoldersHaveRows, KeptHoldsUp}
+use Rattle.cb_protocol.specs.Marks.{Comes, DroppedHoldNothing, HasLiveTxn, HasAnyRow, KeptHoldersHaveRows, KeptHoldsUp}
 use Rattle.cb_protocol.specs.Messages.{AbortNow, AskRead, AskWrite, Body, Commit, Done, Downgraded, Drop, GiveBack, Hello, InUse, MayWrite, Welcome}
 use Rattle.cb_protocol.specs.Server.{DeadlockTest, ChangeSession, Doom, EnterQueue, ForgetTransaction, LeaveQueue, MarkCalledBack, MarkInUse, MarkDowngradeSent, RemoveAsk, Send, Server, ServerStep, SetFlushed, UnmarkInUse, after_server_step, is_live_permission, server_after}
 use Rattle.cb_protocol.specs.ServerMessages.{admit_incarnation, begin_transaction, commit_allowed, direct_answer, enter_queue, has_waiting_ask, is_empty, named_txn, new_ask, repeat_done, take_ask_read, take_ask_write, take_current}
@@ -62,7 +62,7 @@ rowed s r = rowed_by r.0 r.1 s r.2
 pub kept_holders_have_rows : KeptHoldersHaveRows
 kept_holders_have_rows s r k d p e = go ((s.session d).row p) refl
   where
-    go : (g : Option ℕ) → (s.session d).row p ≡ g → HasRow s d p
+    go : (g : Option ℕ) → (s.session d).row p ≡ g → HasAnyRow s d p
     go None f = absurd (let x = (rowed s r).rowed k p d e in cc)
     go (Some g) f = (g, f)
 
@@ -77,7 +77,7 @@ pub kept_holds_up : KeptHoldsUp
 kept_holds_up s r k p a d = (to, from)
   where
     Has : Type 0
-    Has = HasRow s d p × HasLiveTxn s d × (((s.store.holder p ≡ Some d) × (s.store.tag p ≡ (s.session d).txn)) ⊎ ((s.in_use d p ≡ true) × ((a.write_grant ≢ None) ⊎ (s.store.holder p ≡ Some d))))
+    Has = HasAnyRow s d p × HasLiveTxn s d × (((s.store.holder p ≡ Some d) × (s.store.tag p ≡ (s.session d).txn)) ⊎ ((s.in_use d p ≡ true) × ((a.write_grant ≢ None) ⊎ (s.store.holder p ≡ Some d))))
 
     to : HoldsUp s p a d → Has
     to (inl e) = elim e.1 [

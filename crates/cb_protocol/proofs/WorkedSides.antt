@@ -12,23 +12,23 @@ use Rattle.cb_protocol.specs.WaitsFor.{on_cycle}
 use Rattle.cb_protocol.specs.ServerMessages.{server_take}
 use Rattle.cb_protocol.specs.World.{messages_sent, opening_store}
 
-abbrev page_of : ℕ → Bytes
+abbrev pub page_of : ℕ → Bytes
 page_of b = b ∷ b ∷ b ∷ b ∷ b ∷ b ∷ b ∷ b ∷ b ∷ b ∷ b ∷ b ∷ b ∷ b ∷ b ∷ b ∷ []
 
-abbrev message : ℕ → ℕ → Body → Message
+abbrev pub message : ℕ → ℕ → Body → Message
 message c i b = record { client = c; incarnation = i; body = b }
 
-abbrev write_record : ℕ → ℕ → Bytes → PageWrite
+abbrev pub write_record : ℕ → ℕ → Bytes → PageWrite
 write_record p g b = record { page = p; grant = g; bytes = b }
 
-abbrev empty_server : ℕ → ℕ → Server
+abbrev pub empty_server : ℕ → ℕ → Server
 empty_server clients pages = new_server clients pages (opening_store (record { clients = clients; pages = pages; page_size = 16; slots = 4; keep_write = false }) (record { bytes = λ p. page_of 0; version = λ p. 0; number = 0 }))
 
-abbrev outputs : Server → List Input → List (List Message)
+abbrev pub outputs : Server → List Input → List (List Message)
 outputs s [] = []
 outputs s (i ∷ is) = messages_sent (input_steps on_cycle s i) ∷ outputs (server_after s (input_steps on_cycle s i)) is
 
-abbrev later_server : Server → List Input → Server
+abbrev pub later_server : Server → List Input → Server
 later_server s [] = s
 later_server s (i ∷ is) = later_server (server_after s (input_steps on_cycle s i)) is
 

@@ -9,8 +9,8 @@ use Rattle.cb_protocol.specs.ServerMessages.{named_txn}
 use Rattle.cb_protocol.specs.WaitsFor.{HoldsUp, on_cycle}
 
 -- the client has a copy of the page
-abbrev pub HasRow : Server → ℕ → ℕ → Type 0
-HasRow server client page = (grant : ℕ) × ((server.session client).row page ≡ Some grant)
+abbrev pub HasAnyRow : Server → ℕ → ℕ → Type 0
+HasAnyRow server client page = (grant : ℕ) × ((server.session client).row page ≡ Some grant)
 
 -- the client's transaction has begun and not ended
 abbrev pub HasLiveTxn : Server → ℕ → Type 0
@@ -19,7 +19,7 @@ HasLiveTxn server client = (server.session client).ended < (server.session clien
 -- A mark is of a client with a copy of the page and a live transaction.
 abbrev pub MarksLive : Type 0
 MarksLive = (server : Server) → ReachedServer server → (client page : ℕ)
-    → server.in_use client page ≡ true → HasRow server client page × HasLiveTxn server client
+    → server.in_use client page ≡ true → HasAnyRow server client page × HasLiveTxn server client
 
 -- this message of the client comes, of its current incarnation
 abbrev pub Comes : Server → Input → ℕ → Body → Type 0
@@ -56,7 +56,7 @@ MarksSetAndTaken = (old : Server) → ReachedServer old → (input : Input) → 
 -- have given the copy back.
 abbrev pub KeptHoldersHaveRows : Type 0
 KeptHoldersHaveRows = (server : Server) → ReachedServer server → server.store.keep_write ≡ true
-    → (client page : ℕ) → server.store.holder page ≡ Some client → HasRow server client page
+    → (client page : ℕ) → server.store.holder page ≡ Some client → HasAnyRow server client page
 
 -- A client whose transaction ended as dropped has no permission left: none after its Drop or
 -- a greater Hello, none but the new transaction's own after a message of a later transaction.
@@ -80,7 +80,7 @@ DroppedHoldNothing = (old : Server) → ReachedServer old
 abbrev pub KeptHoldsUp : Type 0
 KeptHoldsUp = (server : Server) → ReachedServer server → server.store.keep_write ≡ true
     → (page : ℕ) (ask : WaitingAsk) (client : ℕ) → HoldsUp server page ask client
-    ↔ (HasRow server client page × HasLiveTxn server client
+    ↔ (HasAnyRow server client page × HasLiveTxn server client
     × (((server.store.holder page ≡ Some client)
     × (server.store.tag page ≡ (server.session client).txn))
     ⊎ ((server.in_use client page ≡ true)

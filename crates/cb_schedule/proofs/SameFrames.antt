@@ -14,7 +14,7 @@ use Rattle.cb_schedule.specs.Plays.{IsSpelled}
 use Rattle.cb_first_net.specs.Wire.{AllSpell, Spells, body_of, message_of, page_write, short_of}
 use Rattle.cb_protocol.specs.Messages as protocol
 
--- the frame that carries a message; a Hello where none does
+-- the frame that carries a message
 abbrev write_back : protocol.PageWrite → Write
 write_back w = record { page = w.page; grant = w.grant; bytes = w.bytes }
 
@@ -32,7 +32,8 @@ body_back (protocol.MayWrite txn page grant) = body.Short (short.MayWrite txn pa
 body_back (protocol.Callback page grant) = body.Short (short.Callback page grant)
 body_back (protocol.Done txn number) = body.Short (short.Done txn number)
 body_back (protocol.AbortNow txn) = body.Short (short.AbortNow txn)
-body_back _ = body.Short short.Hello
+body_back (protocol.Downgraded page grant txn) = body.Short (short.Downgraded page grant txn)
+body_back (protocol.Downgrade page grant txn) = body.Short (short.Downgrade page grant txn)
 
 writes_again : (ws : List Write) → map write_back (map page_write ws) ≡ ws
 writes_again [] = refl
@@ -50,6 +51,8 @@ short_again (short.MayWrite txn page grant) = refl
 short_again (short.Callback page grant) = refl
 short_again (short.Done txn number) = refl
 short_again (short.AbortNow txn) = refl
+short_again (short.Downgraded page grant txn) = refl
+short_again (short.Downgrade page grant txn) = refl
 
 body_again : (b : Body) → body_back (body_of b) ≡ b
 body_again (body.Short b) = short_again b

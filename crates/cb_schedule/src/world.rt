@@ -1,26 +1,7 @@
 //! The world: it plays events one by one, and keeps what became of each.
-ghost use Rattle.std.specs.Prelude.{
-  ◌≡◌,
-  ◌↔◌,
-  ℕ,
-  ◌<◌,
-  List,
-  [],
-  ◌∷◌,
-  ◌++◌,
-  length,
-  take,
-  option_copied,
-  slice_get,
-  true,
-  false,
-  IfOk,
-  IfErr,
-  IfSome,
-  OnErr,
-  IsErr,
-  IsTrue,
-};
+ghost use Rattle.std.specs.Prelude.{◌≡◌, ◌↔◌, ℕ, ◌<◌, List, [], ◌∷◌, ◌++◌, length, take};
+ghost use Rattle.std.specs.Prelude.{option_copied, slice_get, true, false, IfOk, IfErr, IfSome};
+ghost use Rattle.std.specs.Prelude.{OnErr, IsErr, IsTrue};
 ghost use Rattle.std.specs.List.{AllByRecursion};
 ghost use Rattle.cb_commit.specs.Stores.{IsOf};
 ghost use Rattle.cb_protocol.specs.Headline.{Promise};

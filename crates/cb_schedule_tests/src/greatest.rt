@@ -9,13 +9,13 @@ use cb_schedule::{
 };
 use std::alloc::Global;
 
-/// 32 clients, 4,096 pages of 4,096 bytes and 1,024 slots.
-fn greatest_limits() -> Option<Limits> {
-    Limits::new(32, 4096, 4096, 1024, 256, 4096).ok()
+/// 32 clients and 1,024 slots, and that many pages of that size.
+fn greatest_limits(pages: u64, page_size: u64) -> Option<Limits> {
+    Limits::new(32, pages, page_size, 1024, 256, 4096).ok()
 }
 
-fn greatest_world(alloc: Global) -> Option<World> {
-    let limits = greatest_limits()?;
+fn greatest_world(alloc: Global, pages: u64, page_size: u64) -> Option<World> {
+    let limits = greatest_limits(pages, page_size)?;
     let store = Store::zeros(alloc, &limits).ok()?;
     if !store.is_of(&limits) {
         return None;
@@ -38,11 +38,11 @@ fn put_greetings(alloc: Global, text: &mut String) -> Option<()> {
 
 /// Reads of pages from the last one down, each by the next client: it asks, is granted the page and
 /// reads it.
-fn put_reads(alloc: Global, text: &mut String, reads: u32) -> Option<()> {
+fn put_reads(alloc: Global, text: &mut String, pages: u32, reads: u32) -> Option<()> {
     for place in 0..reads {
         let place = u64::from(place);
         let client = place % 32;
-        let page = 4095 - place % 4096;
+        let page = u64::from(pages) - place % u64::from(pages) - 1;
         let asked = 64 + 2 * place;
         let granted = asked + 1;
         let lines = format!(in alloc;
@@ -57,13 +57,13 @@ fn put_reads(alloc: Global, text: &mut String, reads: u32) -> Option<()> {
 fn long_schedule(alloc: Global, reads: u32) -> Option<String> {
     let mut text = String::new(alloc);
     put_greetings(alloc, &mut text)?;
-    put_reads(alloc, &mut text, reads)?;
+    put_reads(alloc, &mut text, 4096, reads)?;
     Some(text)
 }
 
 /// A world that has played a long schedule, event by event.
 fn stepped(alloc: Global, reads: u32) -> Option<World> {
-    let mut world = greatest_world(alloc)?;
+    let mut world = greatest_world(alloc, 4096, 4096)?;
     let text = long_schedule(alloc, reads)?;
     for event in read_schedule(alloc, world.limits(), text.as_bytes()).ok()? {
         if !event.is_played() {
@@ -76,7 +76,7 @@ fn stepped(alloc: Global, reads: u32) -> Option<World> {
 
 /// The same at once.
 fn played(alloc: Global, reads: u32) -> Option<Transcript> {
-    let world = greatest_world(alloc)?;
+    let world = greatest_world(alloc, 4096, 4096)?;
     let text = long_schedule(alloc, reads)?;
     let Ok(events) = read_schedule(alloc, world.limits(), text.as_bytes()) else {
         return None;
@@ -84,24 +84,28 @@ fn played(alloc: Global, reads: u32) -> Option<Transcript> {
     world.play(events.as_slice()).ok()
 }
 
-/// Whether each client's second read of a page is answered by its bytes.
-fn are_read(transcript: &Transcript) -> bool {
+/// Whether each client's second read of a page is answered by that many bytes of 0.
+fn are_read(transcript: &Transcript, page_size: usize) -> bool {
     let mut seconds = transcript.entries().iter().skip(131).step_by(4);
-    seconds.all(|entry| is_page(&entry.answer.word))
+    seconds.all(|entry| is_page(&entry.answer.word, page_size))
 }
 
-fn is_page(word: &Word) -> bool {
+fn is_page(word: &Word, page_size: usize) -> bool {
     match word {
-        Word::Bytes(bytes) => bytes.as_slice() == [0; 4096].as_slice(),
+        Word::Bytes(page) => are_zeros(page.as_slice(), page_size),
         _ => false,
     }
+}
+
+fn are_zeros(bytes: &[u8], count: usize) -> bool {
+    bytes.len() == count && bytes.iter().all(|byte| *byte == 0)
 }
 
 #[test]
 fn five_thousand_events_one_by_one(rt: HostRuntime) {
     let world = stepped(rt.alloc(), 1218).expect(&rt, "memory");
     assert!(rt; world.transcript().entries().len() == 5000);
-    assert!(rt; are_read(world.transcript()));
+    assert!(rt; are_read(world.transcript(), 4096));
     assert!(rt; world.packet(2499).is_some_and(|bytes| bytes.len() > 4096));
     assert!(rt; check_serial(rt.alloc(), world.transcript()) == Ok(Verdict::Serial));
 }
@@ -110,16 +114,35 @@ fn five_thousand_events_one_by_one(rt: HostRuntime) {
 fn five_thousand_events_at_once(rt: HostRuntime) {
     let transcript = played(rt.alloc(), 1218).expect(&rt, "memory");
     assert!(rt; transcript.entries().len() == 5000);
-    assert!(rt; are_read(&transcript));
+    assert!(rt; are_read(&transcript, 4096));
+}
+
+/// A world of pages of the greatest size that has played 256 reads.
+fn greatest_pages(alloc: Global) -> Option<Transcript> {
+    let world = greatest_world(alloc, 256, 65536)?;
+    let mut text = String::new(alloc);
+    put_greetings(alloc, &mut text)?;
+    put_reads(alloc, &mut text, 256, 256)?;
+    let Ok(events) = read_schedule(alloc, world.limits(), text.as_bytes()) else {
+        return None;
+    };
+    world.play(events.as_slice()).ok()
+}
+
+#[test]
+fn pages_of_the_greatest_size(rt: HostRuntime) {
+    let transcript = greatest_pages(rt.alloc()).expect(&rt, "memory");
+    assert!(rt; transcript.entries().len() == 128 + 4 * 256);
+    assert!(rt; are_read(&transcript, 65536));
 }
 
 /// Whether a write of a page of the greatest size, an answer that shows one and a packet are
 /// copied.
 fn are_copied(alloc: Global) -> Option<()> {
-    let bytes = [7; 4096];
+    let bytes = vec![in alloc; 7; 65536].ok()?;
     let write = Call::Write {
         page: PageNo::new(4095),
-        bytes: Page::copy_of(alloc, &bytes).ok()?,
+        bytes: Page::copy_of(alloc, bytes.as_slice()).ok()?,
     };
     let event = Event::Call {
         client: ClientNo::new(31),
@@ -132,7 +155,7 @@ fn are_copied(alloc: Global) -> Option<()> {
         client: ClientNo::new(31),
     };
     let answer = Answer {
-        word: Word::Bytes(Page::copy_of(alloc, &bytes).ok()?),
+        word: Word::Bytes(Page::copy_of(alloc, bytes.as_slice()).ok()?),
         sent: SentPackets::one(alloc, sent).ok()?,
     };
     answer.word.copy(alloc).ok()?;

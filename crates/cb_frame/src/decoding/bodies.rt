@@ -45,7 +45,7 @@ pub fn body_of(
 }
 
 /// A body without page bytes.
-#[tactic(auto, unfolding(crate::specs::Checks::can_be_length, crate::specs::Checks::short_length, crate::specs::Checks::short_at, crate::specs::Fields::fields_fit))]
+#[tactic(auto, unfolding(crate::specs::Checks::short_length, crate::specs::Checks::short_at, crate::specs::Fields::fields_fit))]
 fn short_of(limits: &Limits, kind: Kind, body: &[u8]) -> Result<ShortBody, FrameFault>
     requires len { length body.now ≡ short_length kind }
     requires short { is_short kind ≡ true }

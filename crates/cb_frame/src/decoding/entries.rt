@@ -74,7 +74,8 @@ pub fn writes_of(
     requires len { length entries.now ≡ count * write_length version limits.now.page_size }
     requires fit { list_all (is_write limits.now)
         (writes_at version limits.now.page_size count entries.now) ≡ true }
-    ensures { IfOk result (λ writes. writes ≡ writes_at version limits.now.page_size count entries.now) }
+    ensures { IfOk result (λ writes.
+        writes ≡ writes_at version limits.now.page_size count entries.now) }
 {
     let size = write_length(version, limits.page_size());
     let mut writes = Vec::with_capacity(alloc, count)?;

@@ -68,10 +68,13 @@ impl CommitNo {
     }
 }
 
-/// The law of these calls: a number from outside that is in range gives itself, the next one, and the version of its pages.
+/// The law of these calls: a number from outside that is in range gives itself, the next one, and
+/// the version of its pages.
 fn law(value: u64) -> Option<(u64, Option<CommitNo>, u64)>
     ensures { result ≡
-        (if is_number value then Some (value, (if nat_lt value max_number then Some (value + 1) else None), value) else None) }
+        (if is_number value
+        then Some (value, (if nat_lt value max_number then Some (value + 1) else None), value)
+        else None) }
 {
     let number = CommitNo::checked(value)?;
     let same = CommitNo::new(number.get());

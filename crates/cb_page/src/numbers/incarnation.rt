@@ -64,7 +64,9 @@ impl Incarnation {
 /// The law of these calls: a number from outside that is in range gives itself and the next one.
 fn law(value: u64) -> Option<(u64, Option<Incarnation>)>
     ensures { result ≡
-        (if is_number value then Some (value, (if nat_lt value max_number then Some (value + 1) else None)) else None) }
+        (if is_number value
+        then Some (value, (if nat_lt value max_number then Some (value + 1) else None))
+        else None) }
 {
     let number = Incarnation::checked(value)?;
     let same = Incarnation::new(number.get());

@@ -62,7 +62,8 @@ impl PageNo {
     }
 }
 
-/// The law of these calls: a number from outside that is one of the store's gives itself, as a place too.
+/// The law of these calls: a number from outside that is one of the store's gives itself, as a
+/// place too.
 fn law(limits: &Limits, value: u64) -> Option<(u32, usize)>
     ensures { result ≡ (if nat_lt value limits.now.pages then Some (value, value) else None) }
 {

@@ -1,7 +1,10 @@
-use Rattle.std.proofs.Common.{ℕ, [], ap, sym, ◌∙◌}
+use Rattle.std.proofs.Common.{◌≡◌, ℕ, List, [], ◌++◌, ap, refl, sym, Result, MatchResult}
 use Rattle.std.proofs.lemmas.List.{append-nil}
 use Rattle.cb_frame.specs.declared.frame.Frame.{Frame}
+use Rattle.cb_first_net.proofs.NetSends.{in_newest}
+use Rattle.cb_frame.specs.declared.version.FrameVersion.TheVariants.{Two}
 use Rattle.cb_first_net.proofs.packet.frame_in.Goals as goal
 
 pub returns-in-Ok : goal.returns-in-Ok
-returns-in-Ok c f is = ap (λ (r : Frame × ℕ). r.0) (c.in-Ok.ensures.only f [] is.0 (is.1 ∙ sym (append-nil _)))
+returns-in-Ok c f is = ap (λ (r : Frame × ℕ). r.0)
+    (c.in-Ok.ensures.only Two f _ [] (in_newest _ f _ is) (sym (append-nil _)))

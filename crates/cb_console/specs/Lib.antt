@@ -1,0 +1,5 @@
+pub mod Settings
+pub mod Escaped
+pub mod Output
+pub mod Runs
+pub mod Endings

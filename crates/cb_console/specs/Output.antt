@@ -1,0 +1,69 @@
+-- What is printed for the events and behind them. This project's rules.
+use Rattle.std.specs.Prelude.{ℕ, ◌+◌, ◌/◌, ◌%◌, ◌==◌, Bool, true, false, List, [], ◌∷◌, ◌++◌, codes, Option, Some, None, if◌then◌else◌}
+use Rattle.std.specs.List.{list_all, flat_map}
+use Rattle.std.specs.Fmt.{decimal, digit_glyph}
+use Rattle.cb_frame.specs.Kinds.{name_of}
+use Rattle.cb_first_client.specs.FaultTexts.{refusal_text}
+use Rattle.cb_transcript.specs.declared.answer.Word.{Word}
+use Rattle.cb_transcript.specs.declared.answer.Word.TheVariants as word
+use Rattle.cb_transcript.specs.declared.answer.Sent.{Sent}
+use Rattle.cb_transcript.specs.declared.answer.Answer.{Answer}
+use Rattle.cb_transcript.specs.declared.answer.Entry.{Entry}
+
+-- a byte as two small hexadecimal digits
+unfoldable pub two_digits : ℕ → List ℕ
+two_digits byte = digit_glyph false (byte / 16) ∷ digit_glyph false (byte % 16) ∷ []
+
+-- the byte that all the bytes are, if they are all one
+unfoldable pub only_byte : List ℕ → Option ℕ
+only_byte [] = None
+only_byte (first ∷ rest) = if list_all (λ byte. byte == first) rest then Some first else None
+
+-- bytes that are all the one given, if one is given; else each of them
+abbrev pub bytes_by : Option ℕ → List ℕ → List ℕ
+bytes_by (Some byte) bytes = codes "bytes all " ++ two_digits byte
+bytes_by None bytes = codes "bytes " ++ flat_map two_digits bytes
+
+-- the bytes of a page: of one byte throughout that byte alone
+abbrev pub bytes_text : List ℕ → List ℕ
+bytes_text bytes = bytes_by (only_byte bytes) bytes
+
+-- the words of an answer
+abbrev pub word_text : Word → List ℕ
+word_text word.Ok = codes "ok"
+word_text (word.Bytes bytes) = bytes_text bytes
+word_text word.Asked = codes "asked"
+word_text word.Permitted = codes "permitted"
+word_text word.Nothing = codes "none"
+word_text (word.Flushed number) = codes "flushed " ++ decimal number
+word_text word.Taken = codes "taken"
+word_text word.NoPacket = codes "nopacket"
+word_text (word.Refused fault) = codes "refused " ++ refusal_text fault
+word_text word.ServerExhausted = codes "refused 1 Exhausted"
+word_text word.NoClient = codes "noclient"
+
+-- a packet that was sent: its number, kind and client
+abbrev pub packet_text : Sent → List ℕ
+packet_text sent =
+    codes " " ++ (decimal sent.number ++ (codes ":" ++ (name_of sent.kind
+    ++ (codes ":" ++ decimal sent.client))))
+
+-- the line of an event at its place: the answer, and the packets sent
+abbrev pub line : ℕ → Answer → List ℕ
+line place answer =
+    decimal place ++ (codes " " ++ (word_text answer.word
+    ++ (flat_map packet_text answer.sent ++ 10 ∷ [])))
+
+-- the lines of events, the first at this place
+abbrev pub lines_from : ℕ → List Entry → List ℕ
+lines_from place [] = []
+lines_from place (entry ∷ entries) = line place entry.answer ++ lines_from (place + 1) entries
+
+abbrev pub yes_or_no : Bool → List ℕ
+yes_or_no true = codes "yes"
+yes_or_no false = codes "no"
+
+-- The last two lines: the number of commits, and whether they are serial.
+abbrev pub last_lines : ℕ → Bool → List ℕ
+last_lines commits serial =
+    codes "commits " ++ (decimal commits ++ (codes "\nserial: " ++ (yes_or_no serial ++ 10 ∷ [])))

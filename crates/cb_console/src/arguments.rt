@@ -1,0 +1,108 @@
+//! The command line.
+
+use clap::error::ErrorKind;
+use clap::{Arg, ArgAction, Command, Error};
+use std::alloc::{AllocError, Global};
+use std::convert::AsStr;
+
+/// What the command line asks for.
+#[derive(Clone, Copy, Debug, PartialEq, Eq)]
+pub enum Request<'a> {
+    /// Play a schedule: the paths of the configuration and of the schedule.
+    Play { config: &'a str, schedule: &'a str },
+}
+
+/// The program's version.
+const VERSION: &str = "0.1.0";
+
+const ABOUT: &str =
+    "A page server with callback locking and its clients, played from a schedule of events";
+
+const PLAY_ABOUT: &str =
+    "Plays a schedule on a store of zeros and prints what became of each event";
+
+const EXAMPLE: &str = "\
+Example:
+  $ cat first.toml
+  clients = 1
+  pages = 8
+  page_size = 16
+  slots = 4
+  $ cat first.schedule
+  hello 0
+  take 0
+  take 1
+  $ cb_play play first.toml first.schedule
+  1 ok 0:Hello:0
+  2 taken 1:Welcome:0
+  3 taken
+  commits 0
+  serial: yes
+
+Statuses:
+  0  done
+  1  the serial check said no
+  2  wrong words, configuration or schedule
+  4  no memory
+  5  cannot write";
+
+const PLAY_HELP: &str = "\
+For each event there is one line: its place, its answer, and each packet that it sent as
+number:kind:client. Then come the number of commits and whether a serial run gives the same.
+
+CONFIG has whole numbers as TOML: clients, pages, page_size, slots, and if wanted kin, kout, jobs,
+keep_write.
+
+SCHEDULE has one event on a line; lines that begin with # are skipped:
+  hello C     client C greets the server
+  begin C     client C begins a transaction
+  read C P    client C reads page P
+  peek C P    what client C has of page P, without asking
+  take N      packet N arrives (packets are numbered from 0)
+
+Statuses:
+  0  done
+  1  the serial check said no
+  2  wrong words, configuration or schedule
+  4  no memory
+  5  cannot write";
+
+fn path<'a>(alloc: Global, name: &'a str, help: &'a str) -> Arg<'a> {
+    Arg::new(alloc, name)
+        .required(true)
+        .action(ArgAction::Set)
+        .help(help)
+}
+
+fn play_command<'a>(alloc: Global) -> Result<Command<'a>, AllocError> {
+    Command::new(alloc, "play")
+        .about(PLAY_ABOUT)
+        .after_help(PLAY_HELP)
+        .arg(path(alloc, "CONFIG", "File with the settings, as TOML"))?
+        .arg(path(alloc, "SCHEDULE", "File with the events, one a line"))
+}
+
+fn command<'a>(alloc: Global) -> Result<Command<'a>, AllocError> {
+    Command::new(alloc, "cb_play")
+        .version(VERSION)
+        .about(ABOUT)
+        .after_help(EXAMPLE)
+        .subcommand_required(true)
+        .arg_required_else_help(true)
+        .subcommand(play_command(alloc)?)
+}
+
+/// What these words ask for; the first is the program's name. Else what to print, as clap has it:
+/// help or the version, where it was asked for, or what is wrong with the words.
+pub fn request_of<'a, S: AsStr>(alloc: Global, words: &'a [S]) -> Result<Request<'a>, Error> {
+    let matches = command(alloc)?.try_get_matches_from(words)?;
+    if let Some(("play", matches)) = matches.subcommand()
+        && let (Some(config), Some(schedule)) = (
+            matches.get_str("CONFIG"),
+            matches.get_str("SCHEDULE"),
+        )
+    {
+        return Ok(Request::Play { config, schedule });
+    }
+    Err(command(alloc)?.error(ErrorKind::MissingSubcommand, "there is nothing to do")?)
+}

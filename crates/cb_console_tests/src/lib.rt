@@ -1,0 +1,13 @@
+//! Tests of the console's public calls.
+#![tactic(auto)]
+
+#[cfg(test)]
+mod config_tests;
+#[cfg(test)]
+mod failing_writers;
+#[cfg(test)]
+mod large_tests;
+#[cfg(test)]
+mod play_tests;
+#[cfg(test)]
+mod word_tests;

@@ -1,0 +1,127 @@
+//! What the program does with the words of its command line.
+use cb_console::run;
+use std::io;
+use std::test::Fail;
+
+/// What is printed for a command line: the status, the standard output and the standard error.
+#[derive(Debug, Drop)]
+struct Printed {
+    status: u8,
+    out: Vec<u8>,
+    err: Vec<u8>,
+}
+
+/// What the program prints for the words of a command line.
+fn run_line(rt: &HostRuntime, line: &str) -> Result<Printed, Fail> {
+    let mut words = Vec::new(rt.alloc());
+    for word in line.split(' ') {
+        words.push(String::from_str(rt.alloc(), word)?)?;
+    }
+    let mut out = Vec::new(rt.alloc());
+    let mut err = Vec::new(rt.alloc());
+    let status = run(rt, Ok(words), &mut out, &mut err);
+    Ok(Printed { status, out, err })
+}
+
+/// Wrong command lines, and what is said of each.
+static REFUSALS: [(&str, &str); 9] = [
+    (
+        "cb_play play a.toml",
+        "error: the following required arguments were not provided:\n  <SCHEDULE>\n\n\
+        Usage: cb_play play <CONFIG> <SCHEDULE>\n\nFor more information, try '--help'.\n",
+    ),
+    (
+        "cb_play play a b c",
+        "error: unexpected argument 'c' found\n\n\
+        Usage: cb_play play <CONFIG> <SCHEDULE>\n\nFor more information, try '--help'.\n",
+    ),
+    (
+        "cb_play play a b \u{1b}[31mc\nd",
+        "error: unexpected argument '\\u{1b}[31mc\\u{0a}d' found\n\n\
+        Usage: cb_play play <CONFIG> <SCHEDULE>\n\nFor more information, try '--help'.\n",
+    ),
+    (
+        "cb_play pray",
+        "error: unrecognized subcommand 'pray'\n\n  tip: a similar subcommand exists: 'play'\n\n\
+        Usage: cb_play <COMMAND>\n\nFor more information, try '--help'.\n",
+    ),
+    ("cb_play play no.toml no.schedule", "cannot read no.toml\n"),
+    ("cb_play play no.toml /dev/null", "cannot read no.toml\n"),
+    (
+        "cb_play play /dev/null no.schedule",
+        "cannot read no.schedule\n",
+    ),
+    (
+        "cb_play play /dev/null no\n\u{1b}[2J\u{9b}é",
+        "cannot read no\\u{0a}\\u{1b}[2J\\u{9b}é\n",
+    ),
+    (
+        "cb_play play /dev/null /dev/null",
+        "config: missing clients\n",
+    ),
+];
+
+/// The place of the first wrong command line of which not this is said.
+fn first_wrong_refusal(rt: &HostRuntime) -> Result<Option<usize>, Fail> {
+    for (place, row) in REFUSALS.as_slice().iter().enumerate() {
+        let printed = run_line(rt, row.0)?;
+        let is_said = printed.err.as_slice() == row.1.as_bytes();
+        if printed.status != 2 || !printed.out.is_empty() || !is_said {
+            return Ok(Some(place));
+        }
+    }
+    Ok(None)
+}
+
+/// Wrong words are said to be so; files that can't be read are named, the configuration first, and
+/// both are read before either is checked.
+#[test]
+fn command_lines_refused(rt: HostRuntime) -> Result<(), Fail> {
+    let wrong = first_wrong_refusal(&rt)?;
+    assert!(rt; wrong == None);
+    Ok(())
+}
+
+/// Whether what is printed goes to the standard output with status 0 and ends so.
+fn is_answered(rt: &HostRuntime, line: &str, end: &[u8]) -> Result<bool, Fail> {
+    let printed = run_line(rt, line)?;
+    Ok(printed.status == 0 && printed.err.is_empty() && printed.out.as_slice().ends_with(end))
+}
+
+const STATUSES: &str = "\n\nStatuses:\n  0  done\n  1  the serial check said no\n  \
+    2  wrong words, configuration or schedule\n  4  no memory\n  5  cannot write\n";
+
+/// Help and the version, where asked for, go to the standard output with status 0; the help has the
+/// statuses.
+#[test]
+fn help_and_version(rt: HostRuntime) -> Result<(), Fail> {
+    let help = is_answered(&rt, "cb_play --help", STATUSES.as_bytes())?;
+    let play_help = is_answered(&rt, "cb_play play --help", STATUSES.as_bytes())?;
+    assert!(rt; help && play_help);
+    let version = run_line(&rt, "cb_play --version")?;
+    assert!(rt; version.status == 0 && version.err.is_empty());
+    assert!(rt; version.out.as_slice() == b"cb_play 0.1.0\n".as_slice());
+    Ok(())
+}
+
+/// No words at all show the help on the standard error, with status 2.
+#[test]
+fn no_words(rt: HostRuntime) -> Result<(), Fail> {
+    let printed = run_line(&rt, "cb_play")?;
+    assert!(rt; printed.status == 2 && printed.out.is_empty() && !printed.err.is_empty());
+    Ok(())
+}
+
+/// A word that isn't text is wrong; words that there is no memory for are want of memory.
+#[test]
+fn words_that_are_not_had(rt: HostRuntime) -> Result<(), Fail> {
+    let mut out = Vec::new(rt.alloc());
+    let mut err = Vec::new(rt.alloc());
+    let not_text = Err(io::Error::from(io::ErrorKind::InvalidData));
+    let wrong = run(&rt, not_text, &mut out, &mut err);
+    let no_memory = Err(io::Error::from(io::ErrorKind::OutOfMemory));
+    let memory = run(&rt, no_memory, &mut out, &mut err);
+    assert!(rt; wrong == 2 && memory == 4 && out.is_empty());
+    assert!(rt; err.as_slice() == b"words: text\nmemory\n".as_slice());
+    Ok(())
+}

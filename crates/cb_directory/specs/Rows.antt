@@ -1,0 +1,16 @@
+-- The directory's lines: what stands for one client, and for one page.
+use Rattle.std.specs.Prelude.{◌≡◌, ◌<◌, ◌≤◌, ℕ, Bool, true, false, List, [], length, Option, Some, None, replicate, slice_index_or}
+use Rattle.cb_page.specs.Flags.{has}
+
+-- what stands for one client: the grant of its copy of each page, and its pages
+pub record ClientState : Type 0 where
+  pub grants : List (Option ℕ)
+  pub pages : List Bool
+
+-- the grant of the client's copy of a page; none past the end
+abbrev pub grant_of : ClientState → ℕ → Option ℕ
+grant_of client page = slice_index_or client.grants page None
+
+-- a client with no copies, and a place for each page
+abbrev pub no_rows : ℕ → ClientState
+no_rows pages = record { grants = replicate pages None; pages = replicate pages false }

@@ -1,0 +1,111 @@
+-- The rows and write holders as tables by client and by page.
+use Rattle.std.specs.Prelude.{◌≡◌, ◌<◌, ◌≤◌, ℕ, Bool, true, false, ◌==◌, if◌then◌else◌, List, [], length, Option, Some, None, replicate, slice_index_or}
+use Rattle.cb_clients.specs.Clients as clients
+use Rattle.cb_page.specs.Flags.{has}
+use Rattle.cb_directory.specs.Rows.{ClientState, grant_of}
+use Rattle.cb_directory.specs.declared.lines.PageLine.{PageLine}
+
+-- one line a client and one a page
+pub record TablesState : Type 0 where
+  pub clients : List ClientState
+  pub pages : List PageLine
+
+-- a client with nothing
+abbrev pub no_client : ClientState
+no_client = record { grants = []; pages = [] }
+
+-- a page of which nobody has anything
+abbrev pub no_line : PageLine
+no_line = record { clients = clients.set_of 0; holder = None; tag = None }
+
+abbrev pub client_of : TablesState → ℕ → ClientState
+client_of tables client = slice_index_or tables.clients client no_client
+
+abbrev pub line_of : TablesState → ℕ → PageLine
+line_of tables page = slice_index_or tables.pages page no_line
+
+-- the grant of a client's copy of a page (TODS 1997: the row of the directory)
+abbrev pub row : TablesState → ℕ → ℕ → Option ℕ
+row tables client page = grant_of (client_of tables client) page
+
+-- the client that has the page's write permission (TODS 1997)
+abbrev pub holder : TablesState → ℕ → Option ℕ
+holder tables page = (line_of tables page).holder
+
+-- the transaction that was last told that it may write the page
+abbrev pub tag : TablesState → ℕ → Option ℕ
+tag tables page = (line_of tables page).tag
+
+-- the client is among those of the page's line
+abbrev pub is_marked : TablesState → ℕ → ℕ → Bool
+is_marked tables client page = clients.has (line_of tables page).clients client
+
+-- the page is among those of the client's line
+abbrev pub is_listed : TablesState → ℕ → ℕ → Bool
+is_listed tables client page = has (client_of tables client).pages page
+
+-- a line for each client, with a place for each page, and a line for each page
+pub record IsSized (tables : TablesState) : Type 0 where
+  pub clients : length tables.clients ≤ 32
+  pub pages : length tables.pages ≤ 4096
+  pub grants : (client : ℕ) → client < length tables.clients
+      → length (client_of tables client).grants ≡ length tables.pages
+  pub flags : (client : ℕ) → client < length tables.clients
+      → length (client_of tables client).pages ≡ length tables.pages
+
+-- that many clients and pages, and nobody has anything
+pub record IsEmpty (client_count page_count : ℕ) (tables : TablesState) : Type 0 where
+  pub clients : length tables.clients ≡ client_count
+  pub pages : length tables.pages ≡ page_count
+  pub rows : (client page : ℕ) → row tables client page ≡ None
+  pub marks : (client page : ℕ) → is_marked tables client page ≡ false
+  pub listed : (client page : ℕ) → is_listed tables client page ≡ false
+  pub holders : (page : ℕ) → holder tables page ≡ None
+  pub tags : (page : ℕ) → tag tables page ≡ None
+
+-- what stands at one client and page changes, all else stays
+abbrev pub at_place : {A : Type 0} → (ℕ → ℕ → A) → ℕ → ℕ → A → ℕ → ℕ → A
+at_place old client page new other second =
+    if other == client then (if second == page then new else old other second) else old other second
+
+-- what stands at one page changes
+abbrev pub at_page : {A : Type 0} → (ℕ → A) → ℕ → A → ℕ → A
+at_page old page new second = if second == page then new else old second
+
+-- these tables have as many clients and pages
+pub record IsAsLarge (before after : TablesState) : Type 0 where
+  pub clients : length after.clients ≡ length before.clients
+  pub pages : length after.pages ≡ length before.pages
+
+-- a row is put in, or taken out
+pub record PutsRow (before : TablesState) (client page : ℕ) (grant : Option ℕ) (is_here : Bool)
+    (after : TablesState) : Type 0 where
+  pub rows : (other second : ℕ)
+      → row after other second ≡ at_place (row before) client page grant other second
+  pub marks : (other second : ℕ)
+      → is_marked after other second ≡ at_place (is_marked before) client page is_here other second
+  pub listed : (other second : ℕ) → is_listed after other second ≡ is_listed before other second
+  pub holders : (second : ℕ) → holder after second ≡ holder before second
+  pub tags : (second : ℕ) → tag after second ≡ tag before second
+  pub size : IsAsLarge before after
+
+-- a page enters a client's list, or leaves it
+pub record Lists (before : TablesState) (client page : ℕ) (is_in : Bool) (after : TablesState)
+    : Type 0 where
+  pub rows : (other second : ℕ) → row after other second ≡ row before other second
+  pub marks : (other second : ℕ) → is_marked after other second ≡ is_marked before other second
+  pub listed : (other second : ℕ)
+      → is_listed after other second ≡ at_place (is_listed before) client page is_in other second
+  pub holders : (second : ℕ) → holder after second ≡ holder before second
+  pub tags : (second : ℕ) → tag after second ≡ tag before second
+  pub size : IsAsLarge before after
+
+-- a page gets another write holder, or none, and another tag
+pub record PutsHolder (before : TablesState) (page : ℕ) (client txn : Option ℕ) (after : TablesState)
+    : Type 0 where
+  pub rows : (other second : ℕ) → row after other second ≡ row before other second
+  pub marks : (other second : ℕ) → is_marked after other second ≡ is_marked before other second
+  pub listed : (other second : ℕ) → is_listed after other second ≡ is_listed before other second
+  pub holders : (second : ℕ) → holder after second ≡ at_page (holder before) page client second
+  pub tags : (second : ℕ) → tag after second ≡ at_page (tag before) page txn second
+  pub size : IsAsLarge before after

@@ -1,3 +1,0 @@
-pub mod Settings
-pub mod Output
-pub mod Runs

@@ -1,0 +1,14 @@
+use Rattle.std.proofs.Common.{◌≡◌, ℕ, true}
+use Rattle.cb_clients.specs.Clients.{has, left_out}
+use Rattle.cb_waits.specs.Graph.{Path, Waits, waits}
+use Rattle.cb_waits.proofs.view.View.closes_cycle.Given as goal
+
+abbrev pub invariant-loop-next : goal.invariant-loop-next
+invariant-loop-next l = record {
+  paths : (other : ℕ) → has l.reached other ≡ true → Path (Waits l.self) l.client other;
+  direct : (other : ℕ) → waits l.self l.client other ≡ true → has l.reached other ≡ true;
+  closed : (next other : ℕ) → has l.followed next ≡ true → waits l.self next other ≡ true → has l.reached other ≡ true;
+}
+
+abbrev pub decreases-loop-next : goal.decreases-loop-next
+decreases-loop-next l = left_out l.followed

@@ -1,0 +1,76 @@
+ghost use Rattle.std.specs.Prelude.{◌≡◌, ◌≢◌, ◌⊎◌, ◌↔◌, ◌==◌, ◌&&◌, ◌||◌, if◌then◌else◌, not, ℕ, true, false, IsTrue};
+ghost use Rattle.cb_clients.specs.Clients.{has};
+ghost use Rattle.cb_waits.specs.Graph.{LiesOnCycle, Waits, waits};
+
+use cb_clients::ClientSet;
+use cb_page::ClientNo;
+use std::marker::Model;
+
+/// For each client the set of those that it waits for. No call takes memory.
+#[derive(Clone, Debug, Drop)]
+pub struct View {
+    rows: [ClientSet; 32],
+}
+
+impl Model for View {
+    ghost use Rattle.cb_waits.specs.Graph.{Edges};
+
+    ghost Value = { Edges };
+
+    ghost view = { λ v. v.rows };
+}
+
+impl View {
+    /// Nobody waits.
+    pub fn nobody() -> View
+        ensures { (client other : ℕ) → waits result client other ≡ false }
+    {
+        View {
+            rows: [ClientSet::empty(); 32],
+        }
+    }
+
+    /// Those that the client waits for.
+    pub fn row(&self, client: ClientNo) -> ClientSet
+        ensures { (other : ℕ) → has result other ≡ waits self.now client other }
+    {
+        self.rows[client.index()]
+    }
+
+    /// Whether the client waits, in one or more steps, for itself.
+    pub fn closes_cycle(&self, client: ClientNo) -> bool
+        ensures { IsTrue result ↔ LiesOnCycle (Waits self.now) client }
+    {
+        let mut reached = self.row(client);
+        let mut followed = ClientSet::empty();
+        while let Some(next) = reached.difference(followed).first() {
+            followed.insert(next);
+            reached = reached.union(self.row(next));
+        }
+        reached.contains(client)
+    }
+
+    /// The client waits for the others of the set, and for nobody else.
+    pub fn put_row(&mut self, client: ClientNo, others: ClientSet)
+        ensures row { (other : ℕ)
+            → waits self.new client other ≡ (if other == client then false else has others other) }
+        ensures rest { (waiting other : ℕ) → waiting ≢ client
+            → waits self.new waiting other ≡ waits self.old waiting other }
+    {
+        let mut row = others;
+        row.remove(client);
+        self.rows[client.index()] = row;
+    }
+
+    /// The client waits for the others of the set, too.
+    pub fn add_row(&mut self, client: ClientNo, others: ClientSet)
+        ensures row { (other : ℕ) → waits self.new client other
+            ≡ (waits self.old client other || (not (other == client) && has others other)) }
+        ensures rest { (waiting other : ℕ) → waiting ≢ client
+            → waits self.new waiting other ≡ waits self.old waiting other }
+    {
+        let mut row = others;
+        row.remove(client);
+        self.rows[client.index()] = self.row(client).union(row);
+    }
+}
