@@ -31,12 +31,13 @@ pub record DirectoryRule (server : Server) : Type 0 where
       → (server.session other).row other_page ≡ Some grant
       → (client ≡ other) × (page ≡ other_page)
 
--- the pages after these commits, the newest first; and their versions
+-- the bytes of the pages after these commits, the newest first
 abbrev pub bytes_after : (ℕ → Bytes) → List AppliedCommit → (page : ℕ) → Bytes
 bytes_after opening [] page = opening page
 bytes_after opening (last ∷ earlier) page =
     new_bytes (write_of_page last.writes page) (bytes_after opening earlier page)
 
+-- the versions of the pages after them
 abbrev pub version_after : (ℕ → ℕ) → List AppliedCommit → (page : ℕ) → ℕ
 version_after opening [] page = opening page
 version_after opening (last ∷ earlier) page =

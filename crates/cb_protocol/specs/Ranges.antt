@@ -25,6 +25,7 @@ IsPage limits page = page < limits.pages
 abbrev pub IsPageBytes : Limits → Bytes → Type 0
 IsPageBytes limits bytes = length bytes ≡ limits.page_size
 
+-- a write of a commit
 abbrev pub WriteFits : Limits → PageWrite → Type 0
 WriteFits limits write =
     IsPage limits write.page × IsNumber write.grant × IsPageBytes limits write.bytes
@@ -64,10 +65,12 @@ abbrev pub MessageFits : Limits → Message → Type 0
 MessageFits limits message =
     (message.client < limits.clients) × IsNumber message.incarnation × BodyFits limits message.body
 
+-- each of them fits
 abbrev pub AllBodiesFit : Limits → List Body → Type 0
 AllBodiesFit limits [] = ⊤
 AllBodiesFit limits (body ∷ bodies) = BodyFits limits body × AllBodiesFit limits bodies
 
+-- each of them fits
 abbrev pub AllMessagesFit : Limits → List Message → Type 0
 AllMessagesFit limits [] = ⊤
 AllMessagesFit limits (message ∷ messages) =
