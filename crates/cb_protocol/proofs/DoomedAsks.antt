@@ -1,9 +1,10 @@
 -- An ask enters only of a client that has none and is not doomed. So at every moment a client has at most one ask, and a doomed client has none.
 use Rattle.std.proofs.Common.{◌≡◌, ◌<◌, ℕ, Bool, true, false, not, ◌==◌, ◌&&◌, nat_lt, nat_le, if◌then◌else◌, List, [], ◌∷◌, ◌++◌, Option, Some, None, arith, refl, subst}
 use Rattle.std.specs.Prelude.{⊤}
-use Rattle.cb_protocol.specs.AnyMessages.{Input, MessageComes, SendsAgain, ReachesDisk, input_steps}
-use Rattle.cb_protocol.specs.Basics.{is_exactly}
-use Rattle.cb_protocol.specs.Deadlock.{ask_count, AskInRange, InputInRange, ReachedServer, Opened, AfterInput, DoomedHaveNoAsk, OneAskAlways}
+use Rattle.cb_protocol.specs.World.{Opening}
+use Rattle.cb_protocol.specs.AnyMessages.{Input, MessageComes, SendsAgain, ReachesDisk, input_steps, AfterInput, Opened, ReachedBy}
+use Rattle.cb_protocol.specs.Basics.{is_exactly, Limits}
+use Rattle.cb_protocol.specs.Deadlock.{ask_count, AskInRange, InputInRange, ReachedServer, DoomedHaveNoAsk, OneAskAlways}
 use Rattle.cb_protocol.specs.Flush.{dones_between}
 use Rattle.cb_protocol.specs.Messages.{Body, Hello, AskRead, AskWrite, GiveBack, InUse, Commit, Drop, Downgraded, AbortNow, Done, MayWrite, Welcome}
 use Rattle.cb_protocol.specs.Resend.{again_pages, again_doomed, server_again}
@@ -210,9 +211,12 @@ pub one_ask : OneAskAlways
 one_ask s r i f before after e = let o = (between_steps s r).sound in let t = sound_before s before after (subst (λ (ds : List ServerStep). EntersRight s ds) e (enters_input on_cycle s i o f)) o in (t.one, t.known)
 
 -- of each server that is reached
+quiet_by : (L : Limits) (o : Opening) (s : Server) → ReachedBy L on_cycle o InputInRange s → DoomedQuiet s
+quiet_by L o s Opened = record { quiet = λ c e p. refl }
+quiet_by L o s (AfterInput {server = k} r i f) = quiet_steps NoOne k (input_steps on_cycle k i) (λ c n. absurd n) (right_input on_cycle test_is_exact k i (between_steps k (L, o, r)) f).dooms (enters_input on_cycle k i (between_steps k (L, o, r)).sound f) (quiet_by L o k r)
+
 quiet : (s : Server) → ReachedServer s → DoomedQuiet s
-quiet s (Opened L o) = record { quiet = λ c e p. refl }
-quiet s (AfterInput {s = k} r i f) = quiet_steps NoOne k (input_steps on_cycle k i) (λ c n. absurd n) (right_input on_cycle test_is_exact k i (between_steps k r) f).dooms (enters_input on_cycle k i (between_steps k r).sound f) (quiet k r)
+quiet s r = quiet_by r.0 r.1 s r.2
 
 pub doomed_have_no_ask : DoomedHaveNoAsk
 doomed_have_no_ask s r c e p h = let z = (quiet s r).quiet c e p in let l = has_count c (s.queue p) h in absurd (omega arith)

@@ -1,10 +1,11 @@
 -- Downgrades for one ask are of rising tags.
 use Rattle.std.proofs.Common.{◌≡◌, ◌∙◌, ℕ, ◌<◌, ◌≤◌, Bool, true, false, not, ◌==◌, ◌&&◌, nat_lt, nat_le, if◌then◌else◌, ◌≢◌, ◌⊎◌, List, [], ◌∷◌, ◌++◌, Option, Some, None, ap, arith, refl, sym, subst, inl, inr}
 use Rattle.std.specs.Prelude.{⊤}
-use Rattle.cb_protocol.specs.AnyMessages.{Input, MessageComes, ReachesDisk, SendsAgain, input_steps}
+use Rattle.cb_protocol.specs.World.{Opening}
+use Rattle.cb_protocol.specs.AnyMessages.{Input, MessageComes, ReachesDisk, SendsAgain, input_steps, AfterInput, Opened, ReachedBy}
 use Rattle.cb_protocol.specs.AskLaws.{IsFirst}
-use Rattle.cb_protocol.specs.Basics.{is_exactly, is_none, update}
-use Rattle.cb_protocol.specs.Deadlock.{AfterInput, InputInRange, Opened, ReachedServer}
+use Rattle.cb_protocol.specs.Basics.{is_exactly, is_none, update, Limits}
+use Rattle.cb_protocol.specs.Deadlock.{InputInRange, ReachedServer}
 use Rattle.cb_protocol.specs.Downgrades.{DowngradeIsDue, DowngradesRise, HolderStaysWhileReadWaits}
 use Rattle.cb_protocol.specs.Flush.{dones_between}
 use Rattle.cb_protocol.specs.Messages.{AbortNow, AskRead, AskWrite, Body, Commit, Done, Downgrade, Downgraded, Drop, GiveBack, Hello, InUse, MayWrite, Welcome}
@@ -413,9 +414,12 @@ sent_input s (MessageComes c i b) r f m = sent_steps s (server_take on_cycle s c
 sent_input s SendsAgain r f m = subst Sent (sym (after_sends s (server_again s) (only_again s))) m
 sent_input s (ReachesDisk n) r f m = sent_flush s (dones_between s.commits s.flushed n) n (sends_dones s.commits s.flushed n) m
 
+sent_by : (L : Limits) (o : Opening) (s : Server) → ReachedBy L on_cycle o InputInRange s → Sent s
+sent_by L o s Opened = record { tagged = λ p d e. absurd cc; first = λ p. tt }
+sent_by L o s (AfterInput {server = k} r i f) = sent_input k i (L, o, r) f (sent_by L o k r)
+
 sent : (s : Server) → ReachedServer s → Sent s
-sent s (Opened L o) = record { tagged = λ p d e. absurd cc; first = λ p. tt }
-sent s (AfterInput {s = k} r i f) = sent_input k i r f (sent k r)
+sent s r = sent_by r.0 r.1 s r.2
 
 pub downgrades_rise : DowngradesRise
 downgrades_rise s r (MessageComes c i b) f y before after d j p g t e = (due, (u.more, u.noted))

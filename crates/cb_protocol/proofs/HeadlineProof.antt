@@ -23,14 +23,14 @@ use Rattle.cb_protocol.specs.ClientMessages.{ChoiceAllowed, client_take}
 use Rattle.cb_protocol.specs.Basics.{Bytes, IsIn, Limits, max_number, update}
 use Rattle.cb_protocol.specs.Messages.{Message, GiveBack, to_server}
 use Rattle.cb_protocol.specs.Serial.{Operation, IsSerial, PerformedOperation, TransactionName, store_left, committed_operations}
-use Rattle.cb_protocol.specs.Headline.{BackedByServer, Headline, Promise, Promises, MayWritePage}
+use Rattle.cb_protocol.specs.Headline.{BackedByServer, Headline, Promise, MayWritePage}
 use Rattle.cb_protocol.specs.Server.{DeadlockTest}
 use Rattle.cb_protocol.specs.Session.{Session, Store}
 use Rattle.cb_protocol.specs.Flush.{can_flush, server_flush}
 use Rattle.cb_protocol.specs.Resend.{server_again}
 use Rattle.cb_protocol.specs.ServerMessages.{is_exhausted, server_take}
 use Rattle.cb_protocol.specs.Transcript.{transaction_at, call_operation, transcript_operations, incarnation_at}
-use Rattle.cb_protocol.specs.World.{ServerAgain, Answer, Becomes, ClientCalls, Event, EventChoiceAllowed, FlushAll, FlushTo, MessageChoiceAllowed, Moment, Opening, Plays, Restart, StepResult, TakePacket, World, answer_with, client_does, deliver, flush_up_to, new_world, packet_at, answer_only, restart_client, server_does, step, take_packet}
+use Rattle.cb_protocol.specs.World.{world_after, ServerAgain, Answer, Becomes, ClientCalls, Event, EventChoiceAllowed, FlushAll, FlushTo, MessageChoiceAllowed, Moment, Opening, Plays, Restart, StepResult, TakePacket, World, answer_with, client_does, deliver, flush_up_to, new_world, packet_at, answer_only, restart_client, server_does, step, take_packet}
 
 -- the facts of a welcomed client
 welcomed_apt : (L : Limits) (o : Opening) (v : World) (w : Machine) (c : ℕ) → Mirrors L o v w → (v.client c).cache.welcomed ≡ true → Apt (v.client c).cache
@@ -232,9 +232,11 @@ promised L o v r = record {
     operations : history_operations (r.0).history ≡ committed_operations (committed_names v.server.commits) (transcript_operations v.transcript)
     operations = sym (told_operations r.0 m.recorded) ∙ (ap (λ (ns : List TransactionName). committed_operations ns (r.0).performed) m.names ∙ ap (λ (ls : List PerformedOperation). committed_operations (committed_names v.server.commits) ls) m.performed)
 
-all_promised : (L : Limits) (cycle : DeadlockTest) (o : Opening) (v : World) (ms : List Moment) → Reached L o v → Plays L cycle v ms → Promises o ms
-all_promised L cycle o v [] r p = tt
-all_promised L cycle o v (m ∷ ms) r p = let q = becomes_step L cycle o v m.event m.answer m.world r p.0 in (promised L o m.world q, all_promised L cycle o m.world ms q p.1)
+reached_by : (L : Limits) (cycle : DeadlockTest) (o : Opening) (v : World) (ms : List Moment) → Reached L o v → Plays L cycle v ms → Reached L o (world_after v ms)
+reached_by L cycle o v [] r p = r
+reached_by L cycle o v (m ∷ ms) r p = reached_by L cycle o m.world ms (becomes_step L cycle o v m.event m.answer m.world r p.0) p.1
 
 pub headline : (L : Limits) (cycle : DeadlockTest) → Headline L cycle
-headline L cycle o ms s p = let r : Reached L o (new_world L o) = (start L o, mirrors_start L o s) in (promised L o (new_world L o) r, all_promised L cycle o (new_world L o) ms r p)
+headline L cycle o w s r =
+    let first : Reached L o (new_world L o) = (start L o, mirrors_start L o s) in
+    subst (λ (x : World). Promise o x) r.2 (promised L o (world_after (new_world L o) r.0) (reached_by L cycle o (new_world L o) r.0 first r.1))

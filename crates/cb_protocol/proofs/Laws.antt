@@ -1,18 +1,14 @@
--- Each law by itself, from the whole promise; and the promise of every world that is reached, one step after another.
-use Rattle.std.proofs.Common.{List, [], refl, subst, ◌++◌, ◌∷◌, ◌≡◌}
+-- Each law by itself, from the whole promise; and what is reached, one step after another.
+use Rattle.std.proofs.Common.{List, [], refl, ◌++◌, ◌∷◌, ◌≡◌}
 use Rattle.cb_protocol.specs.Basics.{Limits}
 use Rattle.cb_protocol.specs.Server.{DeadlockTest}
 use Rattle.cb_protocol.proofs.HeadlineProof.{headline}
-use Rattle.cb_protocol.specs.Headline.{Promise, Promises, SoundOpening}
-use Rattle.cb_protocol.specs.Laws.{Always, ReachedWorld, CommittedAlwaysSerial, CopiesAlwaysAgree, CopiesAlwaysBacked, DirectoryAlwaysKept, DonesAlwaysNameCommits, DonesAlwaysOnDisk, EachCommitsOnce, OfEachWorld, WriterAlwaysAlone}
-use Rattle.cb_protocol.specs.World.{Answer, Becomes, Event, Moment, Opening, Plays, World, new_world, world_after}
-
-each_world : (o : Opening) (P : World → Type 0) → ((w : World) → Promise o w → P w) → (w : World) (ms : List Moment) → Promise o w → Promises o ms → OfEachWorld P w ms
-each_world o P f w [] p ps = f w p
-each_world o P f w (m ∷ ms) p ps = (f w p, each_world o P f m.world ms ps.0 ps.1)
+use Rattle.cb_protocol.specs.Headline.{Promise}
+use Rattle.cb_protocol.specs.Laws.{Always, CommittedAlwaysSerial, CopiesAlwaysAgree, CopiesAlwaysBacked, DirectoryAlwaysKept, DonesAlwaysNameCommits, DonesAlwaysOnDisk, EachCommitsOnce, WriterAlwaysAlone}
+use Rattle.cb_protocol.specs.World.{Answer, Becomes, Event, Moment, Opening, Plays, ReachedWorld, World, new_world, world_after}
 
 always : (P : Opening → World → Type 0) → ((o : Opening) (w : World) → Promise o w → P o w) → Always P
-always P f L cycle o ms s plays = let h = headline L cycle o ms s plays in each_world o (P o) (f o) _ ms h.0 h.1
+always P f L cycle o w s r = f o w (headline L cycle o w s r)
 
 pub copies_agree : CopiesAlwaysAgree
 copies_agree = always _ (λ o w p. p.agree)
@@ -57,11 +53,3 @@ reached_step L cycle o w e a v r b = (
   one_more L cycle (new_world L o) r.0 e a v r.1 (rw r.2 b),
   ends_there (new_world L o) r.0 (record { event = e; answer = a; world = v }),
 )
-
-promise_after : (o : Opening) (w : World) (ms : List Moment) → Promise o w → Promises o ms → Promise o (world_after w ms)
-promise_after o w [] p ps = p
-promise_after o w (m ∷ ms) p ps = promise_after o m.world ms ps.0 ps.1
-
--- each world that is reached keeps the promise
-pub reached_promise : (L : Limits) (cycle : DeadlockTest) (o : Opening) (w : World) → SoundOpening o → ReachedWorld L cycle o w → Promise o w
-reached_promise L cycle o w s r = let h = headline L cycle o r.0 s r.1 in subst (λ (x : World). Promise o x) r.2 (promise_after o (new_world L o) r.0 h.0 h.1)

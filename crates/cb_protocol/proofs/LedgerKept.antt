@@ -5,7 +5,7 @@ use Rattle.cb_protocol.proofs.Machine.{ServerMayChange, ServerMaySend}
 use Rattle.cb_protocol.proofs.ServerOrder.{ServerStepMay, ServerStepsMay, Fresh, Orderly, StepsRight, orderly_start}
 use Rattle.cb_protocol.proofs.ServerTakes.{right_again, right_flushes, right_server_take}
 use Rattle.cb_protocol.proofs.SettlingRight.{clients_served}
-use Rattle.cb_protocol.specs.AnyMessages.{MessageComes, ComesFromClient, RulesAlwaysHold, Input, IsCommit, KeepsRules, Numbered, ReachesDisk, SendsAgain, committed_names, input_steps, version_after, bytes_after}
+use Rattle.cb_protocol.specs.AnyMessages.{MessageComes, ComesFromClient, RulesAlwaysHold, Input, IsCommit, Numbered, ReachesDisk, SendsAgain, committed_names, input_steps, version_after, bytes_after, AfterInput, Opened, ReachedBy}
 use Rattle.cb_protocol.specs.Basics.{IsIn, Limits, update}
 use Rattle.cb_protocol.specs.Messages.{Body, Done, Message, PageWrite, write_of_page}
 use Rattle.cb_protocol.specs.Serial.{TransactionName, EachOnce}
@@ -298,17 +298,18 @@ told_done o Came s (SetFlushed m ∷ ds) c i t n b a j = told_done o Came (after
 abbrev All_come : ℕ → ℕ → Body → Type 0
 All_come c i b = ⊤
 
-right_fed : (L : Limits) (cycle : DeadlockTest) (s : Server) (i : Input) → Orderly All_come s → s.clients ≡ L.clients → ComesFromClient L i → StepsRight All_come s (input_steps cycle s i)
+right_fed : (L : Limits) (cycle : DeadlockTest) (s : Server) (i : Input) → Orderly All_come s → s.clients ≡ L.clients → ComesFromClient L s i → StepsRight All_come s (input_steps cycle s i)
 right_fed L cycle s (MessageComes c i b) o e f = right_server_take All_come cycle s c i b o (rw e f) tt
 right_fed L cycle s SendsAgain o e f = right_again All_come s o
 right_fed L cycle s (ReachesDisk n) o e f = right_flushes All_come s n o
 
-books_keep : (L : Limits) (cycle : DeadlockTest) (o : Opening) (s : Server) (is : List Input) → Orderly All_come s → Books o s → s.clients ≡ L.clients → KeepsRules L cycle o s is
-books_keep L cycle o s [] h b e = (record { sole = λ p c d g x y. sym (h.sole p d g c y x); distinct = b.distinct }, record { numbered = b.numbered; bytes = b.bytes; version = b.version; once = b.once })
-books_keep L cycle o s (i ∷ is) h b e = (
-  (record { sole = λ p c d g x y. sym (h.sole p d g c y x); distinct = b.distinct }, record { numbered = b.numbered; bytes = b.bytes; version = b.version; once = b.once }),
-  λ f. let r = right_fed L cycle s i h e f in books_keep L cycle o (server_after s (input_steps cycle s i)) is r.1 (books_all o All_come s (input_steps cycle s i) b r.0) (clients_served s (input_steps cycle s i) ∙ e),
-)
+books_keep : (L : Limits) (cycle : DeadlockTest) (o : Opening) (s : Server) → ReachedBy L cycle o (ComesFromClient L) s → Orderly All_come s × (Books o s × (s.clients ≡ L.clients))
+books_keep L cycle o s Opened = (orderly_start All_come L o, (books_start L o, refl))
+books_keep L cycle o s (AfterInput {server = k} r i f) =
+    let h = books_keep L cycle o k r in
+    let t = right_fed L cycle k i h.0 h.1.1 f in
+    (t.1, (books_all o All_come k (input_steps cycle k i) h.1.0 t.0, clients_served k (input_steps cycle k i) ∙ h.1.1))
 
 pub holds_always : (L : Limits) (cycle : DeadlockTest) → RulesAlwaysHold L cycle
-holds_always L cycle o is = books_keep L cycle o (new_server L.clients L.pages (opening_store L o)) is (orderly_start All_come L o) (books_start L o) refl
+holds_always L cycle o s r = let k = books_keep L cycle o s r in let h = k.0 in let b = k.1.0 in
+    (record { sole = λ p c d g x y. sym (h.sole p d g c y x); distinct = b.distinct }, record { numbered = b.numbered; bytes = b.bytes; version = b.version; once = b.once })

@@ -1,8 +1,10 @@
 -- Without kept write permission each permission is of its holder's live transaction.
 use Rattle.std.proofs.Common.{◌≡◌, ℕ, ◌<◌, true, false, ◌≢◌, ◌⊎◌, List, [], ◌∷◌, Some, None, arith, inl, inr}
 use Rattle.std.specs.Prelude.{⊤}
-use Rattle.cb_protocol.specs.AnyMessages.{Input, MessageComes, SendsAgain, ReachesDisk, input_steps}
-use Rattle.cb_protocol.specs.Deadlock.{InputInRange, ReachedServer, Opened, AfterInput, PermissionsLive, PlainHoldsUp}
+use Rattle.cb_protocol.specs.World.{Opening}
+use Rattle.cb_protocol.specs.Basics.{Limits}
+use Rattle.cb_protocol.specs.AnyMessages.{Input, MessageComes, SendsAgain, ReachesDisk, input_steps, AfterInput, Opened, ReachedBy}
+use Rattle.cb_protocol.specs.Deadlock.{InputInRange, ReachedServer, PermissionsLive, PlainHoldsUp}
 use Rattle.cb_protocol.specs.Messages.{Body}
 use Rattle.cb_protocol.specs.Server.{DeadlockTest, Server, ServerStep, ChangeSession, Send, EnterQueue, LeaveQueue, MarkCalledBack, MarkDowngradeSent, MarkInUse, UnmarkInUse, RemoveAsk, Doom, ForgetTransaction, SetFlushed, after_server_step, server_after, is_live_permission}
 use Rattle.cb_protocol.specs.Session.{SessionChange, Admit, BeginTransaction, DropTransaction, GrantRow, PermitWrite, RemoveRow, EndPermission, ApplyCommit}
@@ -53,9 +55,12 @@ right_input cycle s SendsAgain o f = right_again AnyMessage s o
 right_input cycle s (ReachesDisk n) o f = right_flushes AnyMessage s n o
 
 -- of each server that is reached
+both_by : (L : Limits) (o : Opening) (s : Server) → ReachedBy L on_cycle o InputInRange s → Orderly AnyMessage s × Live s
+both_by L o s Opened = (orderly_start AnyMessage L o, record { live = λ k p d e. absurd cc })
+both_by L o s (AfterInput {server = k} r i f) = let b = both_by L o k r in let t = right_input on_cycle k i b.0 f in (t.1, live_steps k (input_steps on_cycle k i) t.0 b.1)
+
 both : (s : Server) → ReachedServer s → Orderly AnyMessage s × Live s
-both s (Opened L o) = (orderly_start AnyMessage L o, record { live = λ k p d e. absurd cc })
-both s (AfterInput {s = k} r i f) = let b = both k r in let t = right_input on_cycle k i b.0 f in (t.1, live_steps k (input_steps on_cycle k i) t.0 b.1)
+both s r = both_by r.0 r.1 s r.2
 
 is_live : (s : Server) (d p : ℕ) → (s.store.tag p ≡ (s.session d).txn) × ((s.session d).ended < (s.session d).txn) → is_live_permission s d p ≡ true
 is_live s d p e = grind arith

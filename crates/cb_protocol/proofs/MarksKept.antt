@@ -1,8 +1,9 @@
 -- What sets and takes in-use marks.
 use Rattle.std.proofs.Common.{◌≡◌, ◌∙◌, ℕ, ◌+◌, ◌-◌, ◌<◌, ◌≤◌, Bool, true, false, ◌==◌, ◌&&◌, nat_lt, nat_le, if◌then◌else◌, ◌≢◌, ◌⊎◌, List, [], ◌∷◌, Option, Some, None, ap, arith, refl, sym, subst, inl, inr}
-use Rattle.cb_protocol.specs.AnyMessages.{Input, MessageComes, ReachesDisk, SendsAgain, input_steps}
-use Rattle.cb_protocol.specs.Basics.{is_exactly}
-use Rattle.cb_protocol.specs.Deadlock.{AfterInput, InputInRange, Opened, ReachedServer}
+use Rattle.cb_protocol.specs.World.{Opening}
+use Rattle.cb_protocol.specs.AnyMessages.{Input, MessageComes, ReachesDisk, SendsAgain, input_steps, AfterInput, Opened, ReachedBy}
+use Rattle.cb_protocol.specs.Basics.{is_exactly, Limits}
+use Rattle.cb_protocol.specs.Deadlock.{InputInRange, ReachedServer}
 use Rattle.cb_protocol.specs.Marks.{Comes, GivesBack, HasLiveTxn, HasAnyRow, MarksLive, MarksSetAndTaken, SameLiveTxn, SaysInUse}
 use Rattle.cb_protocol.specs.Messages.{AbortNow, AskRead, AskWrite, Body, Callback, Commit, Done, Downgrade, Downgraded, Drop, GiveBack, Granted, Hello, InUse, MayWrite, Welcome}
 use Rattle.cb_protocol.specs.Server.{DeadlockTest, ChangeSession, ForgetTransaction, MarkInUse, Send, Server, ServerStep, UnmarkInUse, server_after}
@@ -17,9 +18,12 @@ use Rattle.cb_protocol.proofs.OthersKeep.{AllGentle, gentle_ask_read, gentle_ask
 use Rattle.cb_protocol.proofs.ServerOrder.{Orderly, after_append, orderly_start}
 
 -- of each server that is reached
+orderly_by : (L : Limits) (o : Opening) (s : Server) → ReachedBy L on_cycle o InputInRange s → Orderly AnyMessage s
+orderly_by L o s Opened = orderly_start AnyMessage L o
+orderly_by L o s (AfterInput {server = k} r i f) = (right_input on_cycle k i (orderly_by L o k r) f).1
+
 pub orderly : (s : Server) → ReachedServer s → Orderly AnyMessage s
-orderly s (Opened L o) = orderly_start AnyMessage L o
-orderly s (AfterInput {s = k} r i f) = (right_input on_cycle k i (orderly k r) f).1
+orderly s r = orderly_by r.0 r.1 s r.2
 
 -- the body says that the page is in use, or gives it back
 abbrev Marks : Server → ℕ → Body → ℕ → Type 0
@@ -481,9 +485,12 @@ step_marks s (MessageComes c i b) o f d h = go (d == c) refl
 step_marks s SendsAgain o f d h = step_leaves s _ SendsAgain d ((others_keep_rows_and_permissions on_cycle s).1 d) h (λ y z. absurd cc)
 step_marks s (ReachesDisk n) o f d h = step_leaves s _ (ReachesDisk n) d ((others_keep_rows_and_permissions on_cycle s).2 n d) h (λ y z. absurd cc)
 
+marks_live_by : (L : Limits) (o : Opening) (s : Server) → ReachedBy L on_cycle o InputInRange s → (d p : ℕ) → s.in_use d p ≡ true → HasAnyRow s d p × HasLiveTxn s d
+marks_live_by L o s Opened d p e = absurd cc
+marks_live_by L o s (AfterInput {server = k} r i f) d p e = (step_marks k i (orderly_by L o k r) f d (marks_live_by L o k r d)).live p e
+
 pub marks_live : MarksLive
-marks_live s (Opened L o) d p e = absurd cc
-marks_live s (AfterInput {s = k} r i f) d p e = (step_marks k i (orderly k r) f d (marks_live k r d)).live p e
+marks_live s r = marks_live_by r.0 r.1 s r.2
 
 pub marks_set_and_taken : MarksSetAndTaken
 marks_set_and_taken s r i f d p = let z = step_marks s i (orderly s r) f d (marks_live s r d) in (z.come p, z.back p)

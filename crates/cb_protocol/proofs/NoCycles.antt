@@ -9,9 +9,9 @@ use Rattle.cb_protocol.specs.Resend.{again_page, again_pages, again_doomed, serv
 use Rattle.cb_protocol.specs.ServerMessages.{begin_transaction, is_empty, enter_queue, has_waiting_ask, new_ask, take_ask_read, take_ask_write, if_live, commit_allowed, repeat_done, direct_answer, named_txn, and_then, take_current, admit_incarnation, server_take}
 use Rattle.cb_protocol.specs.Settling.{send_to, doom_client, send_downgrades, send_callbacks, settle_pages}
 use Rattle.cb_protocol.specs.World.{Opening, opening_store}
-use Rattle.cb_protocol.specs.AnyMessages.{Input, MessageComes, SendsAgain, ReachesDisk, input_steps}
+use Rattle.cb_protocol.specs.AnyMessages.{Input, MessageComes, SendsAgain, ReachesDisk, input_steps, AfterInput, Opened, ReachedBy}
 use Rattle.cb_protocol.specs.WaitsFor.{HoldsUp, on_cycle}
-use Rattle.cb_protocol.specs.Deadlock.{ask_count, AskInRange, InputInRange, ReachedServer, Opened, AfterInput, NoCycleStays, DoomedOnlyOnCycle}
+use Rattle.cb_protocol.specs.Deadlock.{ask_count, AskInRange, InputInRange, ReachedServer, NoCycleStays, DoomedOnlyOnCycle}
 use Rattle.cb_protocol.proofs.CyclePaths.{has_count, count_has, waits_has}
 use Rattle.cb_protocol.proofs.CycleTest.{test_is_exact}
 use Rattle.cb_protocol.proofs.SettlingClears.{Exact, SoundAsks, sound_fewer, count_without, SameElsewhere, stuck_same, NoOne, DoomsRight, dooms_append, dooms_on_cycle, OnlySends, sends_append, after_sends, dooms_sends, sends_callbacks, sends_downgrades, BetweenSteps, settled_stands}
@@ -257,9 +257,12 @@ between_new L o = record {
     sound = record { one = record { here = λ p c. omega arith; apart = λ p q c n. omega arith }; known = λ p c i. absurd i }
 
 -- so each server that is reached is between steps
+between_steps_by : (L : Limits) (o : Opening) (s : Server) → ReachedBy L on_cycle o InputInRange s → BetweenSteps s
+between_steps_by L o s Opened = between_new L o
+between_steps_by L o s (AfterInput {server = k} r i f) = (right_input on_cycle test_is_exact k i (between_steps_by L o k r) f).between
+
 pub between_steps : (s : Server) → ReachedServer s → BetweenSteps s
-between_steps s (Opened L o) = between_new L o
-between_steps s (AfterInput {s = k} r i f) = (right_input on_cycle test_is_exact k i (between_steps k r) f).between
+between_steps s r = between_steps_by r.0 r.1 s r.2
 
 pub no_cycle : NoCycleStays
 no_cycle s r = (between_steps s r).no_cycle

@@ -1,8 +1,9 @@
 -- With kept write permission: holders have rows, who holds up a first ask; and what ends a permission.
 use Rattle.std.proofs.Common.{◌≡◌, ◌∙◌, ℕ, ◌<◌, ◌≤◌, Bool, true, false, not, ◌==◌, ◌&&◌, nat_lt, nat_le, if◌then◌else◌, ◌≢◌, ◌⊎◌, List, [], ◌∷◌, ◌++◌, Option, Some, None, ap, arith, refl, sym, subst, inl, inr}
-use Rattle.cb_protocol.specs.AnyMessages.{MessageComes, input_steps}
-use Rattle.cb_protocol.specs.Basics.{is_exactly, is_none}
-use Rattle.cb_protocol.specs.Deadlock.{AfterInput, Opened, ReachedServer}
+use Rattle.cb_protocol.specs.World.{Opening}
+use Rattle.cb_protocol.specs.AnyMessages.{MessageComes, input_steps, AfterInput, Opened, ReachedBy}
+use Rattle.cb_protocol.specs.Basics.{is_exactly, is_none, Limits}
+use Rattle.cb_protocol.specs.Deadlock.{ReachedServer, InputInRange}
 use Rattle.cb_protocol.specs.Marks.{Comes, DroppedHoldNothing, HasLiveTxn, HasAnyRow, KeptHoldersHaveRows, KeptHoldsUp}
 use Rattle.cb_protocol.specs.Messages.{AbortNow, AskRead, AskWrite, Body, Commit, Done, Downgraded, Drop, GiveBack, Hello, InUse, MayWrite, Welcome}
 use Rattle.cb_protocol.specs.Server.{DeadlockTest, ChangeSession, Doom, EnterQueue, ForgetTransaction, LeaveQueue, MarkCalledBack, MarkInUse, MarkDowngradeSent, RemoveAsk, Send, Server, ServerStep, SetFlushed, UnmarkInUse, after_server_step, is_live_permission, server_after}
@@ -51,9 +52,12 @@ rowed_steps s [] a r = r
 rowed_steps s (x ∷ ds) a r = rowed_steps (after_server_step s x) ds a.1 (rowed_step s x a.0 r)
 
 -- of each server that is reached
+rowed_by : (L : Limits) (o : Opening) (s : Server) → ReachedBy L on_cycle o InputInRange s → Rowed s
+rowed_by L o s Opened = record { rowed = λ k p d e. absurd cc }
+rowed_by L o s (AfterInput {server = k} r i f) = rowed_steps k (input_steps on_cycle k i) (right_input on_cycle k i (orderly k (L, o, r)) f).0 (rowed_by L o k r)
+
 rowed : (s : Server) → ReachedServer s → Rowed s
-rowed s (Opened L o) = record { rowed = λ k p d e. absurd cc }
-rowed s (AfterInput {s = k} r i f) = rowed_steps k (input_steps on_cycle k i) (right_input on_cycle k i (orderly k r) f).0 (rowed k r)
+rowed s r = rowed_by r.0 r.1 s r.2
 
 pub kept_holders_have_rows : KeptHoldersHaveRows
 kept_holders_have_rows s r k d p e = go ((s.session d).row p) refl

@@ -4,10 +4,10 @@ use Rattle.std.specs.Prelude.{⊤}
 use Rattle.cb_protocol.proofs.ServerRanges.{AskFits, Bounded, DoOk, DoingsOk, Here, Room, bounded_after, bounded_start, told_fit}
 use Rattle.cb_protocol.proofs.ServerOrder.{after_append}
 use Rattle.cb_protocol.proofs.ReadAsksWaiting.{count_called, count_push, count_told, count_without, reads_change, reads_fewer, reads_least}
-use Rattle.cb_protocol.specs.AnyMessages.{MessageComes, Input, ReachesDisk, SendsAgain, input_steps}
+use Rattle.cb_protocol.specs.AnyMessages.{MessageComes, Input, ReachesDisk, SendsAgain, input_steps, AfterInput, Opened, ReachedBy}
 use Rattle.cb_protocol.specs.Basics.{IsIn, Limits, is_none, max_number, update, is_exactly}
 use Rattle.cb_protocol.specs.Messages.{AbortNow, AskRead, AskWrite, Body, Commit, Done, Downgraded, Drop, GiveBack, Granted, Hello, InUse, MayWrite, Welcome, PageWrite}
-use Rattle.cb_protocol.specs.Ranges.{BodyFits, InputTaken, IsNumber, IsPage, MessageFits, OpensServer, ServerArises, ServerMessagesInRange, ServesInput, StoreFits}
+use Rattle.cb_protocol.specs.Ranges.{BodyFits, InputTaken, IsNumber, IsPage, MessageFits, ServerMessagesInRange, StoreFits}
 use Rattle.cb_protocol.specs.Server.{DeadlockTest, AppliedCommit, MarkCalledBack, ServerStep, Doom, EnterQueue, SetFlushed, LeaveQueue, MarkInUse, ForgetTransaction, Server, Send, MarkDowngradeSent, ChangeSession, RemoveAsk, UnmarkInUse, WaitingAsk, new_server, after_first, server_after, after_server_step, set_called_back, set_downgrade_sent, without_client}
 use Rattle.cb_protocol.specs.Session.{Admit, ApplyCommit, DropTransaction, GrantRow, BeginTransaction, PermitWrite, RemoveRow, EndPermission}
 use Rattle.cb_protocol.specs.Flush.{dones_between, server_flush}
@@ -578,9 +578,9 @@ reads_none : (L : Limits) (o : Opening) (n : ℕ) → read_asks_below (new_serve
 reads_none L o zero = refl
 reads_none L o (suc n) = let a = reads_none L o n in omega arith
 
-pub steady : (L : Limits) (cycle : DeadlockTest) (o : Opening) (s : Server) → StoreFits L o → ServerArises L cycle o s → Steady L s
-steady L cycle o s f OpensServer = record { bounded = bounded_start L o f; room = let a = reads_none L o L.pages in omega arith }
-steady L cycle o s f (ServesInput t i a u) = (even_fed L cycle t i (steady L cycle o t f a) u).1
+pub steady : (L : Limits) (cycle : DeadlockTest) (o : Opening) (s : Server) → StoreFits L o → ReachedBy L cycle o (InputTaken L) s → Steady L s
+steady L cycle o s f Opened = record { bounded = bounded_start L o f; room = let a = reads_none L o L.pages in omega arith }
+steady L cycle o s f (AfterInput {server = t} a i u) = (even_fed L cycle t i (steady L cycle o t f a) u).1
 
 pub server_messages_in_range : (L : Limits) (cycle : DeadlockTest) → ServerMessagesInRange L cycle
 server_messages_in_range L cycle o s i f a u = told_fit L (input_steps cycle s i) s (even_fed L cycle s i (steady L cycle o s f a) u).0

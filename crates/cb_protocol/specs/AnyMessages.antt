@@ -31,12 +31,13 @@ pub record DirectoryRule (server : Server) : Type 0 where
       → (server.session other).row other_page ≡ Some grant
       → (client ≡ other) × (page ≡ other_page)
 
--- the pages after these commits, the newest first; and their versions
+-- the bytes of the pages after these commits, the newest first
 abbrev pub bytes_after : (ℕ → Bytes) → List AppliedCommit → (page : ℕ) → Bytes
 bytes_after opening [] page = opening page
 bytes_after opening (last ∷ earlier) page =
     new_bytes (write_of_page last.writes page) (bytes_after opening earlier page)
 
+-- the versions of the pages after them
 abbrev pub version_after : (ℕ → ℕ) → List AppliedCommit → (page : ℕ) → ℕ
 version_after opening [] page = opening page
 version_after opening (last ∷ earlier) page =
@@ -77,24 +78,26 @@ input_steps cycle server (MessageComes client incarnation body) =
 input_steps cycle server SendsAgain = server_again server
 input_steps cycle server (ReachesDisk number) = server_flush server number
 
+-- A server that was new over a store, and is reached by inputs that are allowed as it stands then.
+pub data ReachedBy (limits : Limits) (cycle : DeadlockTest) (opening : Opening)
+    (Allowed : Server → Input → Type 0) : Server → Type 0 where
+  Opened : ReachedBy limits cycle opening Allowed
+      (new_server limits.clients limits.pages (opening_store limits opening))
+  AfterInput : {server : Server} → ReachedBy limits cycle opening Allowed server
+      → (input : Input) → Allowed server input
+      → ReachedBy limits cycle opening Allowed
+      (server_after server (input_steps cycle server input))
+
 -- all that is asked of a message: its client is one that there is
-abbrev pub ComesFromClient : Limits → Input → Type 0
-ComesFromClient limits (MessageComes client incarnation body) = client < limits.clients
-ComesFromClient limits _ = ⊤
+abbrev pub ComesFromClient : Limits → Server → Input → Type 0
+ComesFromClient limits server (MessageComes client incarnation body) = client < limits.clients
+ComesFromClient limits server _ = ⊤
 
 -- directory rule and ledger hold of the server
 abbrev pub RulesHold : Opening → Server → Type 0
 RulesHold opening server = DirectoryRule server × Ledger opening server
 
--- they hold of it, and of each that it becomes by these inputs
-abbrev pub KeepsRules : Limits → DeadlockTest → Opening → Server → List Input → Type 0
-KeepsRules limits cycle opening server [] = RulesHold opening server
-KeepsRules limits cycle opening server (input ∷ inputs) =
-    RulesHold opening server × (ComesFromClient limits input
-    → KeepsRules limits cycle opening (server_after server (input_steps cycle server input)) inputs)
-
--- over any opening store, along any list of inputs
+-- over any opening store, whatever messages come
 abbrev pub RulesAlwaysHold : Limits → DeadlockTest → Type 0
-RulesAlwaysHold limits cycle = (opening : Opening) (inputs : List Input)
-    → let first = new_server limits.clients limits.pages (opening_store limits opening) in
-    KeepsRules limits cycle opening first inputs
+RulesAlwaysHold limits cycle = (opening : Opening) (server : Server)
+    → ReachedBy limits cycle opening (ComesFromClient limits) server → RulesHold opening server

@@ -24,15 +24,15 @@ max_number = 4611686018427387903
 abbrev pub update : {A : Type 0} → (ℕ → A) → ℕ → A → ℕ → A
 update entries place value at = if at == place then value else entries at
 
--- x is an element of the list
+-- it is an element of the list
 abbrev pub IsIn : {A : Type 0} → A → List A → Type 0
-IsIn x [] = ⊥
-IsIn x (first ∷ rest) = (first ≡ x) ⊎ IsIn x rest
+IsIn element [] = ⊥
+IsIn element (first ∷ rest) = (first ≡ element) ⊎ IsIn element rest
 
 -- nothing is there
 abbrev pub is_none : {A : Type 0} → Option A → Bool
 is_none None = true
-is_none (Some a) = false
+is_none (Some value) = false
 
 -- exactly that number is there
 abbrev pub is_exactly : Option ℕ → ℕ → Bool

@@ -11,14 +11,17 @@ pub data TransactionState : Type 0 where
   Open : TransactionState
   Committing : TransactionState
 
+-- there is no transaction
 abbrev pub is_idle : TransactionState → Bool
 is_idle Idle = true
 is_idle _ = false
 
+-- the transaction is open
 abbrev pub is_open : TransactionState → Bool
 is_open Open = true
 is_open _ = false
 
+-- the transaction's Commit was sent and not yet answered
 abbrev pub is_committing : TransactionState → Bool
 is_committing Committing = true
 is_committing _ = false

@@ -81,15 +81,17 @@ bodies_said [] = []
 bodies_said (Say body ∷ steps) = body ∷ bodies_said steps
 bodies_said (_ ∷ steps) = bodies_said steps
 
--- a read ask for the page is out; a write ask for it; any ask
+-- a read ask for the page is out
 abbrev pub asks_to_read : Ask → (page : ℕ) → Bool
 asks_to_read (ReadAsk asked) page = asked == page
 asks_to_read _ page = false
 
+-- a write ask for it is out
 abbrev pub asks_to_write : Ask → (page : ℕ) → Bool
 asks_to_write (WriteAsk asked) page = asked == page
 asks_to_write _ page = false
 
+-- any ask is out
 abbrev pub is_asking : Ask → Bool
 is_asking NoAsk = false
 is_asking _ = true
@@ -132,6 +134,7 @@ welcomed_status Idle ask = StatusIdle
 welcomed_status Open ask = if is_asking ask then StatusWaiting else StatusOpen
 welcomed_status Committing ask = StatusCommitting
 
+-- of a client, welcomed or not
 abbrev pub client_status : Client → ClientStatus
 client_status client =
     if not client.cache.welcomed then StatusNotWelcome

@@ -123,11 +123,12 @@ pages_given_back [] = []
 pages_given_back (GiveBack page grant ∷ bodies) = page ∷ pages_given_back bodies
 pages_given_back (_ ∷ bodies) = pages_given_back bodies
 
+-- each of them is greater
 abbrev pub EachGreater : (page : ℕ) → List ℕ → Type 0
 EachGreater page [] = ⊤
 EachGreater page (next ∷ pages) = (page < next) × EachGreater page pages
 
--- strictly
+-- rising strictly
 abbrev pub Rising : List ℕ → Type 0
 Rising [] = ⊤
 Rising (page ∷ pages) = EachGreater page pages × Rising pages
@@ -138,6 +139,7 @@ pub data Ending : Type 0 where
   EndsCommitted : Ending
   EndsDropped : Ending  -- by its own call or by the server
 
+-- it ends so where the test holds
 abbrev pub ending_if : Bool → Ending → Ending
 ending_if test ending = if test then ending else GoesOn
 
@@ -197,6 +199,7 @@ pub record EndSays (before after : Client) (dropped : Bool) (said : List Body) :
   pub none_due : (page : ℕ) → after.due page ≡ false
   pub gone : (page grant : ℕ) → IsIn grant (given_back page said) → after.cache.held page ≡ None
 
+-- what holds after an input, by how the transaction fares at it
 abbrev pub EndsRight : (before after : Client) → (said : List Body) → Ending → Type 0
 EndsRight before after said GoesOn = (page grant : ℕ) → before.due page ≡ true
     → before.cache.held page ≡ Some grant → StaysDue before after said page grant

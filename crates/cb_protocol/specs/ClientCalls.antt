@@ -128,6 +128,7 @@ pub record Reply : Type 0 where
   pub word : AnswerWord
   pub steps : List ClientStep
 
+-- that answer, by these steps
 abbrev pub reply_with : AnswerWord → List ClientStep → Reply
 reply_with word steps = record { word = word; steps = steps }
 

@@ -72,10 +72,11 @@ take_downgrade client page grant tag =
     ∷ Say (InUse client.cache.number page grant) ∷ []
     else ChangeCache (YieldPermission page) ∷ Say (Downgraded page grant tag) ∷ []
 
--- the message is about the open transaction; about the one that is committing
+-- the message is about the open transaction
 abbrev pub of_open_txn : Client → (txn : ℕ) → Bool
 of_open_txn client txn = is_open client.cache.status && (client.cache.number == txn)
 
+-- it is about the transaction that is committing
 abbrev pub of_committing_txn : Client → (txn : ℕ) → Bool
 of_committing_txn client txn = is_committing client.cache.status && (client.cache.number == txn)
 

@@ -3,12 +3,12 @@
 use Rattle.std.specs.Prelude.{◌≡◌, ◌≢◌, ◌≤◌, ◌↔◌, ◌⊎◌, ◌<◌, ◌+◌, ◌==◌, if◌then◌else◌, ℕ, true, false, List, [], ◌∷◌, ◌++◌, length, Some, None, ⊤}
 use Rattle.cb_protocol.specs.Basics.{Limits, IsIn}
 use Rattle.cb_protocol.specs.Messages.{Body, AskRead, AskWrite}
-use Rattle.cb_protocol.specs.Server.{DeadlockTest, WaitingAsk, Server, ServerStep, RemoveAsk, Doom, new_server, server_after, is_live_permission}
+use Rattle.cb_protocol.specs.Server.{DeadlockTest, WaitingAsk, Server, ServerStep, RemoveAsk, Doom, server_after, is_live_permission}
 use Rattle.cb_protocol.specs.ServerMessages.{begin_transaction, direct_answer, take_current, named_txn}
 use Rattle.cb_protocol.specs.Settling.{settle_page, settle_pages}
 use Rattle.cb_protocol.specs.WaitsFor.{HasAsk, HoldsUp, WaitsFor, LiesOnCycle, NoCycle, AsksInRange, on_cycle}
-use Rattle.cb_protocol.specs.World.{Opening, opening_store}
-use Rattle.cb_protocol.specs.AnyMessages.{Input, MessageComes, input_steps}
+use Rattle.cb_protocol.specs.World.{Opening}
+use Rattle.cb_protocol.specs.AnyMessages.{Input, MessageComes, ReachedBy, input_steps}
 
 -- an ask is for a page that there is
 abbrev pub AskInRange : (pages : ℕ) → Body → Type 0
@@ -23,12 +23,10 @@ InputInRange server (MessageComes client incarnation body) =
     (client < server.clients) × AskInRange server.pages body
 InputInRange server _ = ⊤
 
--- a server that a new one becomes by some list of inputs in range, whoever sends them
-pub data ReachedServer : Server → Type 0 where
-  Opened : (limits : Limits) (opening : Opening)
-      → ReachedServer (new_server limits.clients limits.pages (opening_store limits opening))
-  AfterInput : {s : Server} → ReachedServer s → (input : Input) → InputInRange s input
-      → ReachedServer (server_after s (input_steps on_cycle s input))
+-- a server that is reached from some opening store by inputs in range, whoever sends them
+abbrev pub ReachedServer : Server → Type 0
+ReachedServer server = (limits : Limits) × (opening : Opening)
+    × ReachedBy limits on_cycle opening InputInRange server
 
 -- the asks of a client in a queue
 abbrev pub ask_count : (client : ℕ) → List WaitingAsk → ℕ

@@ -1,5 +1,5 @@
 -- What the protocol promises of every world that is reached.
-use Rattle.std.specs.Prelude.{◌≡◌, ◌≤◌, ℕ, false, true, List, [], ◌∷◌, Some, ⊤}
+use Rattle.std.specs.Prelude.{◌≡◌, ◌≤◌, ℕ, false, true, List, Some}
 use Rattle.cb_protocol.specs.AnyMessages.{DirectoryRule, IsCommit, Ledger, committed_names}
 use Rattle.cb_protocol.specs.Basics.{Bytes, IsIn, Limits}
 use Rattle.cb_protocol.specs.Cache.{Open}
@@ -7,7 +7,7 @@ use Rattle.cb_protocol.specs.Messages.{Done, GiveBack}
 use Rattle.cb_protocol.specs.Serial.{EachOnce, IsSerial, Operation, committed_operations, store_left}
 use Rattle.cb_protocol.specs.Server.{DeadlockTest}
 use Rattle.cb_protocol.specs.Transcript.{transcript_operations}
-use Rattle.cb_protocol.specs.World.{Moment, Opening, Plays, World, new_world}
+use Rattle.cb_protocol.specs.World.{Opening, ReachedWorld, World}
 
 -- a client has a readable copy of a page (TODS 1997: a cached copy is the permission to read)
 abbrev pub ReadableCopy : World → (client page : ℕ) → Bytes → Type 0
@@ -107,18 +107,12 @@ pub record Promise (opening : Opening) (world : World) : Type 0 where
   pub disk : DonesOnDisk world
   pub backed : BackedByServer world
 
--- of each world on the way
-abbrev pub Promises : Opening → List Moment → Type 0
-Promises opening [] = ⊤
-Promises opening (moment ∷ moments) = Promise opening moment.world × Promises opening moments
-
 -- a sound opening store: no page is newer than its last commit
 abbrev pub SoundOpening : Opening → Type 0
 SoundOpening opening = (page : ℕ) → opening.version page ≤ opening.number
 
--- From the opening world, along every list of events, each world keeps the promise. `cycle`:
--- whoever is doomed, by whatever test.
+-- From the opening world, by whatever events, each world that is reached keeps the promise.
+-- `cycle`: whoever is doomed, by whatever test.
 abbrev pub Headline : Limits → DeadlockTest → Type 0
-Headline limits cycle = (opening : Opening) (moments : List Moment) → SoundOpening opening
-    → let first = new_world limits opening in Plays limits cycle first moments
-    → Promise opening first × Promises opening moments
+Headline limits cycle = (opening : Opening) (world : World) → SoundOpening opening
+    → ReachedWorld limits cycle opening world → Promise opening world

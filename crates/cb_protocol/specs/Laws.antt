@@ -1,29 +1,16 @@
 -- The laws, each as a statement of its own: of every world that is reached, along every list of
 -- events, with or without kept write permission, and whoever is doomed (`cycle` is any test).
-use Rattle.std.specs.Prelude.{◌≡◌, List, [], ◌∷◌}
 use Rattle.cb_protocol.specs.AnyMessages.{DirectoryRule, RulesAlwaysHold, committed_names}
 use Rattle.cb_protocol.specs.Basics.{Limits}
 use Rattle.cb_protocol.specs.Headline.{BackedByServer, CommittedIsSerial, CopiesAgree, DonesNameCommits, DonesOnDisk, Headline, SoundOpening, WriterAlone}
 use Rattle.cb_protocol.specs.Serial.{EachOnce}
 use Rattle.cb_protocol.specs.Server.{DeadlockTest}
-use Rattle.cb_protocol.specs.World.{Moment, Opening, Plays, World, new_world, world_after}
+use Rattle.cb_protocol.specs.World.{Opening, ReachedWorld, World}
 
--- this holds of a world, and of each that it becomes
-abbrev pub OfEachWorld : (World → Type 0) → World → List Moment → Type 0
-OfEachWorld Claim world [] = Claim world
-OfEachWorld Claim world (moment ∷ moments) = Claim world × OfEachWorld Claim moment.world moments
-
--- this holds at every moment, over every sound opening store
+-- this holds of every world that is reached, over every sound opening store
 abbrev pub Always : (Opening → World → Type 0) → Type 0
-Always Claim = (limits : Limits) (cycle : DeadlockTest) (opening : Opening) (moments : List Moment)
-    → SoundOpening opening → Plays limits cycle (new_world limits opening) moments
-    → OfEachWorld (Claim opening) (new_world limits opening) moments
-
--- the world is reached from the opening world by some run
-abbrev pub ReachedWorld : Limits → DeadlockTest → Opening → World → Type 0
-ReachedWorld limits cycle opening world = (moments : List Moment)
-    × Plays limits cycle (new_world limits opening) moments
-    × (world_after (new_world limits opening) moments ≡ world)
+Always Claim = (limits : Limits) (cycle : DeadlockTest) (opening : Opening) (world : World)
+    → SoundOpening opening → ReachedWorld limits cycle opening world → Claim opening world
 
 -- two readable copies of a page have the same bytes
 abbrev pub CopiesAlwaysAgree : Type 0

@@ -69,6 +69,7 @@ pub record DroppedKeepNothing (old new : Server) (input : Input) (client page : 
       → HasLiveTxn old client → (old.session client).txn < named_txn body
       → new.store.holder page ≡ Some client → is_live_permission new client page ≡ true
 
+-- so after every input
 abbrev pub DroppedHoldNothing : Type 0
 DroppedHoldNothing = (old : Server) → ReachedServer old
     → (input : Input) → InputInRange old input → (client page : ℕ)

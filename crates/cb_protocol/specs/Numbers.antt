@@ -41,8 +41,8 @@ pub record SettlingTakesKeptGrants (cycle : DeadlockTest) (server : Server) : Ty
 
 -- a new server, over any store
 abbrev pub GrantsLeftAtFirst : Limits → Type 0
-GrantsLeftAtFirst L = (opening : Opening)
-    → HasGrantsLeft (new_server L.clients L.pages (opening_store L opening))
+GrantsLeftAtFirst limits = (opening : Opening)
+    → HasGrantsLeft (new_server limits.clients limits.pages (opening_store limits opening))
 
 -- the steps give a row with that grant
 abbrev pub GivesGrant : List ServerStep → ℕ → Type 0
@@ -62,26 +62,28 @@ GrantsNeverRunOut cycle server input = HasGrantsLeft server → IsTaken server i
 abbrev pub messages_for : ℕ → Option ℕ → ℕ
 messages_for clients write_grant = if is_none write_grant then 2 else clients + 1
 
--- for the asks of a queue; at the pages below n
+-- for the asks of a queue
 abbrev pub messages_for_queue : ℕ → List WaitingAsk → ℕ
 messages_for_queue clients [] = 0
 messages_for_queue clients (ask ∷ queue) =
     messages_for clients ask.write_grant + messages_for_queue clients queue
 
+-- for the asks at the pages before `end`
 abbrev pub messages_for_pages : Server → ℕ → ℕ
 messages_for_pages server zero = 0
-messages_for_pages server (suc n) =
-    messages_for_pages server n + messages_for_queue server.clients (server.queue n)
+messages_for_pages server (suc page) =
+    messages_for_pages server page + messages_for_queue server.clients (server.queue page)
 
 -- how many of these steps send a copy of a page
 abbrev pub copies_sent : List ServerStep → ℕ
 copies_sent [] = 0
-copies_sent (Send client i (Granted page grant version bytes) ∷ steps) = copies_sent steps + 1
+copies_sent (Send client incarnation (Granted page grant version bytes) ∷ steps) =
+    copies_sent steps + 1
 copies_sent (_ ∷ steps) = copies_sent steps
 
 -- these steps send at most n messages
 abbrev pub SendsAtMost : List ServerStep → ℕ → Type 0
-SendsAtMost steps n = length (messages_sent steps) ≤ n
+SendsAtMost steps most = length (messages_sent steps) ≤ most
 
 -- Settling sends at most so many messages, by the asks that wait as it begins, and a copy of
 -- a page at most for each read ask. Of any server, and for any test of deadlock.

@@ -4,10 +4,10 @@ use Rattle.cb_protocol.specs.Client.{Client, bodies_said}
 use Rattle.cb_protocol.specs.Basics.{Bytes, Limits, max_number}
 use Rattle.cb_protocol.specs.Messages.{PageWrite, Body, Hello, AskRead, AskWrite, GiveBack, InUse, Commit, Drop, Downgraded, Welcome, Granted, MayWrite, Callback, Done, AbortNow, Downgrade, Message}
 use Rattle.cb_protocol.specs.ClientAlone.{Arises, ClientInput, ReceivesCall, ReceivesMessage, client_steps_at, InputAllowed}
-use Rattle.cb_protocol.specs.Server.{DeadlockTest, Server, new_server, server_after}
+use Rattle.cb_protocol.specs.Server.{DeadlockTest, Server}
 use Rattle.cb_protocol.specs.ServerMessages.{is_exhausted}
-use Rattle.cb_protocol.specs.AnyMessages.{Input, MessageComes, input_steps}
-use Rattle.cb_protocol.specs.World.{Opening, opening_store, messages_sent}
+use Rattle.cb_protocol.specs.AnyMessages.{Input, MessageComes, ReachedBy, input_steps}
+use Rattle.cb_protocol.specs.World.{Opening, messages_sent}
 
 -- a transaction, grant or commit number, or an incarnation: 1 to 2^62 - 1
 abbrev pub IsNumber : ℕ → Type 0
@@ -25,6 +25,7 @@ IsPage limits page = page < limits.pages
 abbrev pub IsPageBytes : Limits → Bytes → Type 0
 IsPageBytes limits bytes = length bytes ≡ limits.page_size
 
+-- a write of a commit
 abbrev pub WriteFits : Limits → PageWrite → Type 0
 WriteFits limits write =
     IsPage limits write.page × IsNumber write.grant × IsPageBytes limits write.bytes
@@ -64,10 +65,12 @@ abbrev pub MessageFits : Limits → Message → Type 0
 MessageFits limits message =
     (message.client < limits.clients) × IsNumber message.incarnation × BodyFits limits message.body
 
+-- each of them fits
 abbrev pub AllBodiesFit : Limits → List Body → Type 0
 AllBodiesFit limits [] = ⊤
 AllBodiesFit limits (body ∷ bodies) = BodyFits limits body × AllBodiesFit limits bodies
 
+-- each of them fits
 abbrev pub AllMessagesFit : Limits → List Message → Type 0
 AllMessagesFit limits [] = ⊤
 AllMessagesFit limits (message ∷ messages) =
@@ -100,18 +103,9 @@ InputTaken limits server (MessageComes client incarnation body) =
     × (is_exhausted server client incarnation body ≡ false)
 InputTaken limits server _ = ⊤
 
--- A server that was new over a store, after messages that fit, whoever sent them, and flushes.
-pub data ServerArises (limits : Limits) (cycle : DeadlockTest) (opening : Opening)
-    : Server → Type 0 where
-  OpensServer : ServerArises limits cycle opening
-      (new_server limits.clients limits.pages (opening_store limits opening))
-  ServesInput : (server : Server) (input : Input) → ServerArises limits cycle opening server
-      → InputTaken limits server input
-      → ServerArises limits cycle opening (server_after server (input_steps cycle server input))
-
 -- Over a store that fits, where what comes fits, every message that the server sends fits.
 abbrev pub ServerMessagesInRange : Limits → DeadlockTest → Type 0
 ServerMessagesInRange limits cycle = (opening : Opening) (server : Server) (input : Input)
-    → StoreFits limits opening → ServerArises limits cycle opening server
+    → StoreFits limits opening → ReachedBy limits cycle opening (InputTaken limits) server
     → InputTaken limits server input
     → AllMessagesFit limits (messages_sent (input_steps cycle server input))

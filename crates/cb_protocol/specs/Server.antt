@@ -56,40 +56,44 @@ pub data ServerStep : Type 0 where
   ForgetTransaction : (client : ℕ) → ServerStep  -- the client's ask, marks and doom go
   SetFlushed : (number : ℕ) → ServerStep
 
--- the queue without its first ask; without the asks of a client
+-- the queue without its first ask
 abbrev pub after_first : List WaitingAsk → List WaitingAsk
 after_first [] = []
 after_first (ask ∷ queue) = queue
 
+-- the queue without the asks of a client
 abbrev pub without_client : ℕ → List WaitingAsk → List WaitingAsk
 without_client client [] = []
 without_client client (ask ∷ queue) =
     if ask.client == client then without_client client queue
     else ask ∷ without_client client queue
 
--- the first ask is noted as called back; the Downgrade of a tag as sent for it
+-- the first ask is noted as called back
 abbrev pub set_called_back : List WaitingAsk → List WaitingAsk
 set_called_back [] = []
 set_called_back (ask ∷ queue) = record ask { called_back = true } ∷ queue
 
+-- a Downgrade of that tag is noted as sent for the first ask
 abbrev pub set_downgrade_sent : ℕ → List WaitingAsk → List WaitingAsk
 set_downgrade_sent tag [] = []
 set_downgrade_sent tag (ask ∷ queue) = record ask { downgrade_sent = Some tag } ∷ queue
 
--- the in-use marks with that of a client on a page set or taken off; without those of a client
+-- the in-use marks with that of a client on a page set or taken off
 abbrev pub set_in_use : (ℕ → ℕ → Bool) → ℕ → ℕ → Bool → ℕ → ℕ → Bool
 set_in_use marks client page marked at_client at_page =
     if (at_client == client) && (at_page == page) then marked else marks at_client at_page
 
+-- the in-use marks without those of a client
 abbrev pub without_marks : (ℕ → ℕ → Bool) → ℕ → ℕ → ℕ → Bool
 without_marks marks client at_client at_page =
     if at_client == client then false else marks at_client at_page
 
--- what a change makes of the next grant number, of its client's outcome and of the list of commits
+-- what a change makes of the next grant number
 abbrev pub next_grant_after : ℕ → SessionChange → ℕ
 next_grant_after next_grant (GrantRow page grant) = next_grant + 1
 next_grant_after next_grant _ = next_grant
 
+-- what a change makes of its client's outcome
 abbrev pub outcome_after : Option ℕ → (last_commit : ℕ) → SessionChange → Option ℕ
 outcome_after outcome last_commit (Admit incarnation) = None
 outcome_after outcome last_commit (BeginTransaction txn) = None
@@ -97,6 +101,7 @@ outcome_after outcome last_commit (DropTransaction txn) = None
 outcome_after outcome last_commit (ApplyCommit txn writes) = Some (last_commit + 1)
 outcome_after outcome last_commit _ = outcome
 
+-- what a change makes of the list of commits
 abbrev pub commits_after : List AppliedCommit → ℕ → ℕ → (last_commit : ℕ) → SessionChange
     → List AppliedCommit
 commits_after commits client incarnation last_commit (ApplyCommit txn writes) =

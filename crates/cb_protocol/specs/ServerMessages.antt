@@ -164,12 +164,13 @@ server_take cycle server client incarnation body =
     if incarnation == (server.session client).current then take_current cycle server client body
     else []
 
--- the read asks in a queue; at the pages before `end`
+-- the read asks in a queue
 abbrev pub read_asks_in : List WaitingAsk → ℕ
 read_asks_in [] = 0
 read_asks_in (ask ∷ queue) =
     if is_none ask.write_grant then read_asks_in queue + 1 else read_asks_in queue
 
+-- the read asks at the pages before `end`
 abbrev pub read_asks_below : Server → (end : ℕ) → ℕ
 read_asks_below server zero = 0
 read_asks_below server (suc page) =

@@ -30,13 +30,14 @@ set_commit_number numbers client incarnation txn number at_client at_incarnation
     if same_transaction at_client at_incarnation at_txn client incarnation txn then Some number
     else numbers at_client at_incarnation at_txn
 
--- a client is write holder of no page any more; of one page
+-- a client is write holder of no page any more
 abbrev pub without_holder : (ℕ → Option ℕ) → (client : ℕ) → ℕ → Option ℕ
 without_holder holder client page = elim (holder page) [
   | None ↦ None
   | Some other ↦ if other == client then None else Some other
 ]
 
+-- a client is not the write holder of that page any more
 abbrev pub without_holder_at : (ℕ → Option ℕ) → (client page : ℕ) → ℕ → Option ℕ
 without_holder_at holder client page at_page =
     if at_page == page then without_holder holder client at_page else holder at_page
@@ -70,11 +71,12 @@ session_after session (RemoveRow page grant) = record session { row = update ses
 session_after session (EndPermission page grant tag) = session
 session_after session (ApplyCommit txn writes) = record session { ended = txn }
 
--- a page's version and bytes after the commit of that number, by what the commit wrote of it
+-- a page's version after the commit of that number, by what the commit wrote of it
 abbrev pub new_version : Option PageWrite → (number old : ℕ) → ℕ
 new_version None number old = old
 new_version (Some write) number old = number
 
+-- the page's bytes after that commit
 abbrev pub new_bytes : Option PageWrite → (old : Bytes) → Bytes
 new_bytes None old = old
 new_bytes (Some write) old = write.bytes

@@ -48,16 +48,18 @@ PacketsOnlyGrow limits cycle = (world : World) (event : Event) (let_go : Option 
     → (added : List Message)
     × ((step limits cycle world event let_go).world.packets ≡ world.packets ++ added)
 
--- whose step an event is: a client's or the server's, or nobody's where there is no such packet
+-- a client, the server, or nobody
 pub data Whose : Type 0 where
   OfClient : ℕ → Whose
   OfServer : Whose
   OfNobody : Whose
 
+-- who takes a packet
 abbrev pub taker : Option Message → Whose
 taker None = OfNobody
 taker (Some message) = if to_server message.body then OfServer else OfClient message.client
 
+-- whose step an event is: a client's or the server's, or nobody's where there is no such packet
 abbrev pub whose : World → Event → Whose
 whose world (ClientCalls client call) = OfClient client
 whose world (TakePacket packet) = taker (packet_at world.packets packet)

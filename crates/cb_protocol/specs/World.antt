@@ -82,13 +82,14 @@ packet_at [] packet = None
 packet_at (message ∷ messages) zero = Some message
 packet_at (message ∷ messages) (suc packet) = packet_at messages packet
 
--- what a client says, as messages; what the server sends in its steps
+-- what a client says, as messages
 abbrev pub messages_said : (client incarnation : ℕ) → List Body → List Message
 messages_said client incarnation [] = []
 messages_said client incarnation (body ∷ bodies) =
     record { client = client; incarnation = incarnation; body = body }
     ∷ messages_said client incarnation bodies
 
+-- what the server sends in its steps
 abbrev pub messages_sent : List ServerStep → List Message
 messages_sent [] = []
 messages_sent (Send client incarnation body ∷ steps) =
@@ -120,7 +121,7 @@ answer_with before event word messages after = record {
   };
 }
 
--- a client makes these steps; the server does
+-- a client makes these steps
 abbrev pub client_does : Limits → World → Event → (client : ℕ) → AnswerWord → List ClientStep
     → StepResult
 client_does limits world event client word steps =
@@ -131,6 +132,7 @@ client_does limits world event client word steps =
           (client_after limits.keep_write (world.client client) steps);
     })
 
+-- the server makes these steps
 abbrev pub server_does : World → Event → AnswerWord → List ServerStep → StepResult
 server_does world event word steps =
     answer_with world event word (messages_sent steps)
@@ -210,14 +212,14 @@ step limits cycle world FlushAll let_go =
     flush_up_to world FlushAll world.server.store.last_commit
 step limits cycle world (FlushTo number) let_go = flush_up_to world (FlushTo number) number
 
--- the law of the pool's choice, where a client takes a packet of its incarnation; at other events
--- nothing is chosen
+-- the law of the pool's choice, where a client takes a packet of its incarnation
 abbrev pub MessageChoiceAllowed : Limits → World → Option Message → (let_go : Option ℕ) → Type 0
 MessageChoiceAllowed limits world None let_go = ⊤
 MessageChoiceAllowed limits world (Some message) let_go =
     message.incarnation ≡ world.incarnation message.client
     → ChoiceAllowed limits (world.client message.client) message.body let_go
 
+-- so at an event; where no packet is taken nothing is chosen
 abbrev pub EventChoiceAllowed : Limits → World → Event → (let_go : Option ℕ) → Type 0
 EventChoiceAllowed limits world (TakePacket packet) let_go =
     MessageChoiceAllowed limits world (packet_at world.packets packet) let_go
@@ -246,3 +248,9 @@ Plays limits cycle world (moment ∷ moments) =
 abbrev pub world_after : World → List Moment → World
 world_after world [] = world
 world_after world (moment ∷ moments) = world_after moment.world moments
+
+-- the world is reached from the opening world by some run
+abbrev pub ReachedWorld : Limits → DeadlockTest → Opening → World → Type 0
+ReachedWorld limits cycle opening world = (moments : List Moment)
+    × Plays limits cycle (new_world limits opening) moments
+    × (world_after (new_world limits opening) moments ≡ world)

@@ -11,9 +11,10 @@ use Rattle.cb_schedule.specs.WorldState.{WorldState, Represents, opened}
 use Rattle.cb_event.specs.declared.event.Event.{Event}
 use Rattle.cb_transcript.specs.declared.answer.Answer.{Answer}
 use Rattle.cb_transcript.specs.declared.answer.Entry.{Entry}
-use Rattle.cb_schedule.proofs.Worlds.{after_more, plays_more, promise_of, promises_more, reached_more}
+use Rattle.cb_schedule.proofs.Worlds.{after_more, plays_more, promises_more, reached_more}
 use Rattle.cb_protocol.specs.Headline.{SoundOpening}
-use Rattle.cb_protocol.specs.Laws.{ReachedWorld, WholePromise}
+use Rattle.cb_protocol.specs.Laws.{WholePromise}
+use Rattle.cb_protocol.specs.World.{ReachedWorld}
 use Rattle.cb_protocol.specs.WaitsFor.{on_cycle}
 use Rattle.cb_protocol.specs.World as protocol
 
@@ -34,7 +35,7 @@ played_none w whole ran s = record {
     represents = s.represents;
     moments = [];
     plays = tt;
-    first_promise = promise_of (limits_of w.limits) (opened w) s.world whole s.sound s.reached;
+    first_promise = whole (limits_of w.limits) on_cycle (opened w) s.world s.sound s.reached;
     promises = tt;
     added = [];
     by_events = refl;
@@ -57,7 +58,7 @@ played_more w es u e a v whole p s =
     let becomes : protocol.Becomes (limits_of w.limits) on_cycle end (event_of e) (answer_of a) next.0
     = subst (λ (l : Bounds). protocol.Becomes (limits_of l) on_cycle end (event_of e) (answer_of a) next.0) p.limits next.1 in
     let reached = reached_more (limits_of w.limits) o end next.0 (event_of e) (answer_of a) p.reached becomes in
-    let promise = promise_of (limits_of w.limits) o next.0 whole p.sound reached in
+    let promise = whole (limits_of w.limits) on_cycle o next.0 p.sound reached in
     let m : protocol.Moment = record { event = event_of e; answer = answer_of a; world = next.0 } in
     let one : Entry = record { event = e; answer = a } in
     let last : protocol.world_after p.played.first (p.played.moments ++ m ∷ []) ≡ next.0 = after_more p.played.first p.played.moments m in

@@ -22,23 +22,13 @@ use Rattle.cb_transcript.specs.declared.answer.Entry.{Entry}
 use Rattle.cb_first_net.proofs.Nets.{spell_length}
 use Rattle.cb_schedule.proofs.SameFrames.{packets_more, all_spelled}
 use Rattle.cb_protocol.specs.Basics.{Limits}
-use Rattle.cb_protocol.specs.Headline.{Promise, Promises, SoundOpening}
-use Rattle.cb_protocol.specs.Laws.{ReachedWorld, WholePromise}
+use Rattle.cb_protocol.specs.Headline.{Promise, SoundOpening}
+use Rattle.cb_protocol.specs.Laws.{WholePromise}
 use Rattle.cb_protocol.specs.Messages.{Message}
 use Rattle.cb_protocol.specs.Server.{Server}
 use Rattle.cb_protocol.specs.WaitsFor.{on_cycle}
 use Rattle.cb_protocol.specs.World as protocol
-use Rattle.cb_protocol.specs.World.{numbered_from}
-
--- the last promise of a run
-last_promise : (o : protocol.Opening) (w : protocol.World) (ms : List protocol.Moment) → Promise o w → Promises o ms → Promise o (protocol.world_after w ms)
-last_promise o w [] p ps = p
-last_promise o w (m ∷ ms) p ps = last_promise o m.world ms ps.0 ps.1
-
-pub promise_of : (L : Limits) (o : protocol.Opening) (w : protocol.World) → WholePromise → SoundOpening o → ReachedWorld L on_cycle o w → Promise o w
-promise_of L o w whole sound r =
-    let all = whole L on_cycle o r.0 sound r.1 in
-    subst (λ (x : protocol.World). Promise o x) r.2 (last_promise o (protocol.new_world L o) r.0 all.0 all.1)
+use Rattle.cb_protocol.specs.World.{ReachedWorld, numbered_from}
 
 pub plays_more : (L : Limits) (w : protocol.World) (ms : List protocol.Moment) (m : protocol.Moment) → protocol.Plays L on_cycle w ms → protocol.Becomes L on_cycle (protocol.world_after w ms) m.event m.answer m.world → protocol.Plays L on_cycle w (ms ++ m ∷ [])
 plays_more L w [] m p b = (b, tt)
@@ -48,7 +38,11 @@ pub after_more : (w : protocol.World) (ms : List protocol.Moment) (m : protocol.
 after_more w [] m = refl
 after_more w (k ∷ ks) m = after_more k.world ks m
 
-pub promises_more : (o : protocol.Opening) (ms : List protocol.Moment) (m : protocol.Moment) → Promises o ms → Promise o m.world → Promises o (ms ++ m ∷ [])
+-- each world on the way keeps the promise
+abbrev AllPromised : protocol.Opening → List protocol.Moment → Type 0
+AllPromised o ms = AllByRecursion (λ moment. Promise o moment.world) ms
+
+pub promises_more : (o : protocol.Opening) (ms : List protocol.Moment) (m : protocol.Moment) → AllPromised o ms → Promise o m.world → AllPromised o (ms ++ m ∷ [])
 promises_more o [] m ps p = (p, tt)
 promises_more o (k ∷ ks) m ps p = (ps.0, promises_more o ks m ps.1 p)
 
@@ -117,7 +111,7 @@ pub steps : (w v : WorldState) (e : Event) (a : Answer) → WholePromise → IsR
 steps w v e a whole s ran runs l o b t =
     let next = net_becomes w v e a s.world s.limits b t s.represents in
     let reached = reached_more (limits_of w.limits) (opened w) s.world next.0 (event_of e) (answer_of a) s.reached next.1 in
-    let promise = promise_of (limits_of w.limits) (opened w) next.0 whole s.sound reached in
+    let promise = whole (limits_of w.limits) on_cycle (opened w) next.0 s.sound reached in
     record {
       ran = ran;
       runs = runs;
@@ -161,7 +155,7 @@ reached_at_first v l s e f k sound sh t =
     )
 
 pub first_promise : (L : Limits) (o : protocol.Opening) → WholePromise → SoundOpening o → Promise o (protocol.new_world L o)
-first_promise L o whole sound = (whole L on_cycle o [] sound tt).0
+first_promise L o whole sound = whole L on_cycle o (protocol.new_world L o) sound ([], tt, refl)
 
 -- no page of a store is newer than its last commit
 pub sound_opening : (s : StoreState) → IsSound s → SoundOpening (opening_of s)

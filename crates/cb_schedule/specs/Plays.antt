@@ -10,8 +10,8 @@ use Rattle.cb_schedule.specs.WorldState.{WorldState, Represents, opened}
 use Rattle.cb_event.specs.declared.event.Event.{Event}
 use Rattle.cb_transcript.specs.declared.answer.Answer.{Answer}
 use Rattle.cb_transcript.specs.declared.answer.Entry.{Entry}
-use Rattle.cb_protocol.specs.Headline.{Promise, Promises, SoundOpening}
-use Rattle.cb_protocol.specs.Laws.{ReachedWorld}
+use Rattle.cb_protocol.specs.Headline.{Promise, SoundOpening}
+use Rattle.cb_protocol.specs.World.{ReachedWorld}
 use Rattle.cb_protocol.specs.WaitsFor.{on_cycle}
 use Rattle.cb_protocol.specs.World as protocol
 
@@ -61,7 +61,7 @@ pub record Played (w : WorldState) (es : List Event) (entries : List Entry) : Ty
   pub moments : List protocol.Moment
   pub plays : protocol.Plays (limits_of w.limits) on_cycle first moments
   pub first_promise : Promise (opened w) first
-  pub promises : Promises (opened w) moments
+  pub promises : AllByRecursion (λ moment. Promise (opened w) moment.world) moments
   pub added : List Entry
   pub by_events : map (λ entry. entry.event) added ≡ es
   pub events : map (λ moment. moment.event) moments ≡ map event_of es
