@@ -1,6 +1,6 @@
 -- What is read fits and is spelled so.
-use Rattle.std.proofs.Common.{◌≡◌, ℕ, zero, suc, ◌+◌, ◌-◌, ◌*◌, ◌%◌, ◌≤◌, ◌&&◌, ◌==◌, true, false, not, nat_lt, nat_le, List, [], ◌∷◌, ◌++◌, length, take, drop, Option, Some, None, refl, sym, ap, subst, ◌∙◌, append_assoc, arith}
-use Rattle.std.specs.Prelude.{slice_index, unwrap_or}
+use Rattle.std.proofs.Common.{◌≡◌, ℕ, zero, suc, ◌+◌, ◌-◌, ◌*◌, ◌%◌, ◌≤◌, ◌&&◌, ◌==◌, true, not, nat_lt, List, [], ◌∷◌, ◌++◌, length, take, drop, Option, Some, None, refl, sym, ap, ◌∙◌, append_assoc, arith}
+use Rattle.std.specs.Prelude.{slice_index}
 use Rattle.std.specs.Int.{w16, w32, w64, to_be_bytes}
 use Rattle.std.specs.List.{flat_map, list_all, AllByRecursion}
 use Rattle.std.proofs.lemmas.Bool.{and_parts, ltb-true, leb-true, eqb-true, ltb-false}
@@ -12,11 +12,9 @@ use Rattle.cb_page.specs.Faults.{first_fault}
 use Rattle.cb_page.proofs.Ranges.{number_tells, rises_tells}
 use Rattle.cb_frame.specs.declared.fields.Fields.{Fields}
 use Rattle.cb_frame.specs.declared.fields.Fields.TheVariants as fields
-use Rattle.cb_frame.specs.declared.frame.Frame.{Frame}
 use Rattle.cb_frame.specs.declared.kind.Kind.{Kind}
 use Rattle.cb_frame.specs.declared.kind.Kind.TheVariants as kind
 use Rattle.cb_frame.specs.declared.version.FrameVersion.{FrameVersion}
-use Rattle.cb_frame.specs.declared.version.FrameVersion.TheVariants.{One, Two}
 use Rattle.cb_frame.specs.declared.fault.FrameFault.TheVariants as fault
 use Rattle.cb_frame.specs.Fields.{FieldsFit, fields_fit, fields_of, fields_spelling, word}
 use Rattle.cb_frame.specs.Grammar.{WriteFits, BodyFits, Fits, IsFrameIn}

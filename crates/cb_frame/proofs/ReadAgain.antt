@@ -7,7 +7,6 @@ use Rattle.std.proofs.lemmas.Nat.{be_bytes_2, be_bytes_4, be_bytes_8, from_be_by
 use Rattle.cb_page.specs.Faults.{first_fault}
 use Rattle.cb_frame.specs.declared.version.FrameVersion.{FrameVersion}
 use Rattle.cb_frame.specs.declared.version.FrameVersion.TheVariants.{One, Two}
-use Rattle.std.specs.Prelude.{nat_le}
 use Rattle.std.proofs.lemmas.Bool.{leb-true}
 use Rattle.cb_frame.specs.Checks.{number}
 use Rattle.cb_frame.specs.Versions.{has_size, size_length, size_width}

@@ -1,6 +1,6 @@
 -- The one spelling of each frame in each version of the format (this project's rule). All numbers
 -- have their highest byte first.
-use Rattle.std.specs.Prelude.{ℕ, List, [], ◌∷◌, ◌++◌, length}
+use Rattle.std.specs.Prelude.{ℕ, List, ◌∷◌, ◌++◌, length}
 use Rattle.std.specs.List.{flat_map}
 use Rattle.std.specs.Int.{w16, w32, w64}
 use Rattle.cb_frame.specs.declared.frame.Frame.{Frame}

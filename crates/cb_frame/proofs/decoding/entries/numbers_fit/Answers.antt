@@ -1,5 +1,4 @@
 use Rattle.std.proofs.Common.{length, arith}
-use Rattle.std.proofs.lemmas.Bool.Decides.{nat_tests}
 use Rattle.cb_frame.proofs.Entries.{entries_left, numbers_end, numbers_step}
 use Rattle.cb_frame.proofs.decoding.entries.numbers_fit.Goals as goal
 
