@@ -1,5 +1,5 @@
 -- Look-ups in tables of equal lines.
-use Rattle.std.proofs.Common.{◌≡◌, ◌<◌, ◌≤◌, ℕ, List, replicate, length, slice_index_or, sym, subst, inl, inr, arith}
+use Rattle.std.proofs.Common.{ℕ, replicate, slice_index_or, sym, subst, inl, inr, arith}
 use Rattle.std.proofs.lemmas.Bool.{cases_lt}
 use Rattle.std.proofs.lemmas.List.{length-replicate, get_or-replicate, get_or_past}
 

@@ -12,10 +12,13 @@ const READS: u64 = 1_650;
 
 /// Every client greets the server and begins a transaction.
 fn put_greetings(schedule: &mut Vec<u8>) -> Result<(), Fail> {
-    for client in 0..32 {
+    for client in 0..32u64 {
         let sent = 2 * client;
         let answered = sent + 1;
-        write!(schedule, "hello {client}\ntake {sent}\ntake {answered}\nbegin {client}\n")?;
+        write!(
+            schedule,
+            "hello {client}\ntake {sent}\ntake {answered}\nbegin {client}\n"
+        )?;
     }
     Ok(())
 }
@@ -27,7 +30,10 @@ fn put_reads(schedule: &mut Vec<u8>) -> Result<(), Fail> {
         let page = (read * 37) % 4096;
         let sent = 64 + 2 * read;
         let answered = sent + 1;
-        write!(schedule, "read {client} {page}\ntake {sent}\ntake {answered}\n")?;
+        write!(
+            schedule,
+            "read {client} {page}\ntake {sent}\ntake {answered}\n"
+        )?;
     }
     Ok(())
 }

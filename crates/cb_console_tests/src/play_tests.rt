@@ -38,7 +38,8 @@ static RUNS: [Run; 13] = [
         err: "",
     },
     Run {
-        schedule: "begin 0\ntake 7\nhello 0\ntake 0\ntake 1\nread 0 1\npeek 0 1\nbegin 0\nbegin 0\n",
+        schedule: "begin 0\ntake 7\nhello 0\ntake 0\ntake 1\nread 0 1\npeek 0 1\n\
+            begin 0\nbegin 0\n",
         status: 0,
         out: "1 refused 1 NotWelcome\n2 nopacket\n3 ok 0:Hello:0\n4 taken 1:Welcome:0\n5 taken\n\
             6 refused 2 NoTransaction\n7 none\n8 ok\n9 refused 3 TransactionOpen\n\

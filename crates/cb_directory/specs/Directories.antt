@@ -1,5 +1,5 @@
 -- A directory as its callers see it, its rule, and what each call makes of it.
-use Rattle.std.specs.Prelude.{◌≡◌, ◌<◌, ◌≤◌, ◌+◌, ◌^◌, ℕ, ◌==◌, if◌then◌else◌, true, false, List, length, Option, Some, None}
+use Rattle.std.specs.Prelude.{◌≡◌, ◌<◌, ◌≤◌, ◌+◌, ◌^◌, ℕ, ◌==◌, if◌then◌else◌, true, false, length, Option, Some, None}
 use Rattle.cb_page.specs.Bounds.{Bounds}
 use Rattle.cb_directory.specs.Tables as tables
 use Rattle.cb_directory.specs.Tables.{TablesState, at_place, at_page, is_listed, is_marked}
@@ -100,7 +100,8 @@ pub record GivesBack (before : DirectoryState) (client page : ℕ) (after : Dire
 pub record Permits (before : DirectoryState) (client page txn : ℕ) (after : DirectoryState)
     : Type 0 where
   pub has : Has before after
-      (row before) (at_page (holder before) page (Some client)) (at_page (tag before) page (Some txn))
+      (row before)
+      (at_page (holder before) page (Some client)) (at_page (tag before) page (Some txn))
   pub next : after.next_grant ≡ before.next_grant
 
 -- a page has no write holder any more; its tag stays
@@ -122,7 +123,8 @@ pub record ReleasesIf (before : DirectoryState) (client page : ℕ) (after : Dir
   pub next : after.next_grant ≡ before.next_grant
 
 -- a client is write holder of no page any more; the tags stay
-pub record ReleasesAll (before : DirectoryState) (client : ℕ) (after : DirectoryState) : Type 0 where
+pub record ReleasesAll (before : DirectoryState) (client : ℕ) (after : DirectoryState)
+    : Type 0 where
   pub has : Has before after
       (row before) (λ page. without_holder (holder before page) client) (tag before)
   pub next : after.next_grant ≡ before.next_grant

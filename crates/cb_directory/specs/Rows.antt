@@ -1,6 +1,5 @@
 -- The directory's lines: what stands for one client, and for one page.
-use Rattle.std.specs.Prelude.{◌≡◌, ◌<◌, ◌≤◌, ℕ, Bool, true, false, List, [], length, Option, Some, None, replicate, slice_index_or}
-use Rattle.cb_page.specs.Flags.{has}
+use Rattle.std.specs.Prelude.{ℕ, Bool, false, List, Option, None, replicate, slice_index_or}
 
 -- what stands for one client: the grant of its copy of each page, and its pages
 pub record ClientState : Type 0 where

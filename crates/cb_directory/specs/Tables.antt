@@ -1,5 +1,5 @@
 -- The rows and write holders as tables by client and by page.
-use Rattle.std.specs.Prelude.{◌≡◌, ◌<◌, ◌≤◌, ℕ, Bool, true, false, ◌==◌, if◌then◌else◌, List, [], length, Option, Some, None, replicate, slice_index_or}
+use Rattle.std.specs.Prelude.{◌≡◌, ◌<◌, ◌≤◌, ℕ, Bool, false, ◌==◌, if◌then◌else◌, List, [], length, Option, None, slice_index_or}
 use Rattle.cb_clients.specs.Clients as clients
 use Rattle.cb_page.specs.Flags.{has}
 use Rattle.cb_directory.specs.Rows.{ClientState, grant_of}
@@ -101,8 +101,8 @@ pub record Lists (before : TablesState) (client page : ℕ) (is_in : Bool) (afte
   pub size : IsAsLarge before after
 
 -- a page gets another write holder, or none, and another tag
-pub record PutsHolder (before : TablesState) (page : ℕ) (client txn : Option ℕ) (after : TablesState)
-    : Type 0 where
+pub record PutsHolder (before : TablesState) (page : ℕ) (client txn : Option ℕ)
+    (after : TablesState) : Type 0 where
   pub rows : (other second : ℕ) → row after other second ≡ row before other second
   pub marks : (other second : ℕ) → is_marked after other second ≡ is_marked before other second
   pub listed : (other second : ℕ) → is_listed after other second ≡ is_listed before other second

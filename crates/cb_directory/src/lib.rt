@@ -1,9 +1,9 @@
 //! Who has a copy of which page, and who may write it.
 //!
-//! The directory of a server with callback locking (Franklin, Carey and Livny, TODS 1997): a row for
-//! each copy that a client has, with the copy's grant, and for each page the write holder, the client
-//! that has its write permission. Grant numbers, and the transaction for which a permission was given,
-//! are this project's.
+//! The directory of a server with callback locking (Franklin, Carey and Livny, TODS 1997): a row
+//! for each copy that a client has, with the copy's grant, and for each page the write holder, the
+//! client that has its write permission. Grant numbers, and the transaction for which a permission
+//! was given, are this project's.
 #![tactic(auto)]
 
 mod directory;

@@ -81,7 +81,8 @@ impl ClientLine {
     pub fn next(&self, from: usize) -> Option<PageNo>
         ensures { MatchOption result
             ((page : ℕ) → from ≤ page → has self.now.pages page ≡ false)
-            (λ page. (from ≤ page) × (page < length self.now.pages) × (has self.now.pages page ≡ true)
+            (λ page. (from ≤ page) × (page < length self.now.pages)
+            × (has self.now.pages page ≡ true)
             × ((other : ℕ) → from ≤ other → other < page → has self.now.pages other ≡ false)) }
     {
         self.pages.next(from)

@@ -118,8 +118,10 @@ impl Tables {
         requires { client < length self.now.clients }
         ensures { MatchOption result
             ((page : ℕ) → from ≤ page → is_listed self.now client page ≡ false)
-            (λ page. (from ≤ page) × (page < length self.now.pages) × (is_listed self.now client page ≡ true)
-            × ((other : ℕ) → from ≤ other → other < page → is_listed self.now client other ≡ false)) }
+            (λ page. (from ≤ page) × (page < length self.now.pages)
+            × (is_listed self.now client page ≡ true)
+            × ((other : ℕ) → from ≤ other → other < page
+            → is_listed self.now client other ≡ false)) }
     {
         self.clients[client.index()].next(from)
     }

@@ -3,12 +3,14 @@ use Rattle.std.proofs.Common.{◌≡◌, ◌≢◌, ◌<◌, ◌==◌, ℕ, Bool
 use Rattle.std.proofs.Math.ListN.{get_or, set, length-set}
 use Rattle.std.proofs.lemmas.List.{get_or-set_same, get_or-set_other}
 use Rattle.std.proofs.lemmas.Bool.Decides.{nat_tests}
-use Rattle.cb_page.specs.Bounds.{Bounds}
+use Rattle.std.specs.Option.{is_some}
+use Rattle.std.proofs.lemmas.List.{length-replicate}
+use Rattle.cb_page.specs.Bounds.{AreInRange, Bounds}
 use Rattle.cb_protocol.specs.Cache.{new_cache}
 use Rattle.cb_protocol.specs.Client.{new_client}
 use Rattle.cb_pool.specs.PoolState.{let_go}
 use Rattle.cb_protocol.specs.Basics.{update}
-use Rattle.cb_first_client.specs.ClientState.{client_of, copy_at, fresh, grant_held, no_copy, version_held}
+use Rattle.cb_first_client.specs.ClientState.{IsClient, client_of, copy_at, fresh, grant_held, no_copy, version_held}
 use Rattle.cb_first_client.specs.declared.copies.PageCopy.{PageCopy}
 
 -- a field of each, where one page is put
@@ -65,4 +67,30 @@ starts b = λ i. record new_client {
     content = λ q. default_everywhere b.pages q None i;
     locked = λ q. (default_everywhere b.pages q no_copy i).locked;
   };
+}
+
+nothing_there : {A : Type 0} (o : Option A) → o ≡ None → is_some o ≡ true → ⊥
+nothing_there None e h = cc
+nothing_there (Some a) e h = cc
+
+not_open : false ≡ true → ⊥
+not_open h = cc
+
+-- what holds of every client holds at the start of an incarnation
+pub starts_sound : (b : Bounds) → AreInRange b → IsClient (fresh b)
+starts_sound b range = record {
+  limits = range;
+  copies = length-replicate b.pages no_copy;
+  pool = record {
+    slots = refl;
+    page_size = refl;
+    pages = length-replicate b.pages None;
+    fixed = length-replicate b.pages false;
+    nothing_fixed = λ p. default_everywhere b.pages p false;
+  };
+  held = λ p there. absurd (nothing_there _ (default_everywhere b.pages p None) there);
+  locked = λ p there. absurd (nothing_there _ (ap (λ (c : PageCopy). c.held) (default_everywhere b.pages p no_copy)) there);
+  asking = tt;
+  begun = λ opened. absurd (not_open opened);
+  greatest = omega arith;
 }

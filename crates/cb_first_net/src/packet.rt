@@ -47,7 +47,8 @@ pub(crate) struct Granting {
     pub bytes: Page,
 }
 
-/// The frame that is spelled. It is refused only where memory is: a spelled frame has no other fault.
+/// The frame that is spelled. It is refused only where memory is: a spelled frame has no other
+/// fault.
 pub(crate) fn frame_in(alloc: Global, limits: &Limits, bytes: &[u8]) -> Result<Frame, AllocError>
     requires { (f : Frame) × IsFrame limits.now f bytes.now }
     ensures { (f : Frame) → IsFrame limits.now f bytes.now → IfOk result (λ r. r ≡ f) }

@@ -1,8 +1,8 @@
 //! Which incarnation and which transaction of each client is current at the server.
 //!
 //! A client's frames name the incarnation that it speaks for, and most of them a transaction.
-//! [`Sessions`] keeps the last of each that the server heard of, so that frames which come late, come
-//! again or come from a client that has restarted since are told from those that count.
+//! [`Sessions`] keeps the last of each that the server heard of, so that frames which come late,
+//! come again or come from a client that has restarted since are told from those that count.
 #![tactic(auto)]
 
 mod sessions;

@@ -148,8 +148,8 @@ impl Sessions {
         self.sessions[client.index()]
     }
 
-    /// What an incarnation is to the server: `Stale` where it is less than the current one, `Unknown`
-    /// where it is greater or there is none.
+    /// What an incarnation is to the server: `Stale` where it is less than the current one,
+    /// `Unknown` where it is greater or there is none.
     pub fn admit(&self, client: ClientNo, incarnation: Incarnation) -> Admission
         requires { client < length self.now }
         ensures { result ≡ admission_of (session_of self.now client).incarnation incarnation }
@@ -176,7 +176,8 @@ impl Sessions {
         self.session(client).transaction.standing(txn)
     }
 
-    /// A Hello of an incarnation that the server didn't know: it becomes current, with no transaction.
+    /// A Hello of an incarnation that the server didn't know: it becomes current, with no
+    /// transaction.
     pub fn hello(&mut self, client: ClientNo, incarnation: Incarnation)
         requires client { client < length self.old }
         requires newer { IsNewer (session_of self.old client).incarnation incarnation }
@@ -224,7 +225,8 @@ impl Sessions {
     /// The client's incarnation stays.
     fn put(&mut self, client: ClientNo, transaction: Transaction)
         requires { client < length self.old }
-        ensures { Becomes self.old client (with_transaction (session_of self.old client) transaction) self.new }
+        ensures { Becomes self.old client
+            (with_transaction (session_of self.old client) transaction) self.new }
     {
         let session = self.sessions[client.index()];
         self.sessions[client.index()] = Session {

@@ -23,9 +23,10 @@ impl Model for Copies {
 
     ghost Value = { CopiesState };
 
-    ghost view = { λ c. record { fixed = c.fixed; pages = c.pages.items } };
+    ghost view = { λ copies. record { fixed = copies.fixed; pages = copies.pages.items } };
 
-    ghost invariant = { λ c. AreCounted c.pages.items c.fixed c.here c.here_fixed };
+    ghost invariant = { λ copies. AreCounted copies.pages.items copies.fixed
+        copies.here copies.here_fixed };
 }
 
 impl Copies {

@@ -292,8 +292,8 @@ fn law_at_each_chooser(rt: HostRuntime) -> Result<(), Fail> {
     Ok(())
 }
 
-/// Each page of the greatest store twice, half of them fixed in turn: how many references were
-/// answered.
+/// Each page of the greatest store twice: how many references were answered, 0 where a slot is free
+/// after.
 fn answered_at_most<Q: TwoForms>(alloc: Global, limits: &Limits) -> Result<usize, AllocError> {
     let mut chooser = Q::make(alloc, limits)?;
     let mut references = Vec::new(alloc);

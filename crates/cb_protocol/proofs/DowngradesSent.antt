@@ -22,7 +22,7 @@ use Rattle.cb_protocol.proofs.NoCycles.{sends_dones, sends_doomed, sends_pages}
 use Rattle.cb_protocol.proofs.ServerOrder.{ServerStepMay, ServerStepsMay}
 use Rattle.cb_protocol.proofs.ServerWalks.{EachStep, Lasting, StepRule, each_after_sends, each_append, each_callbacks, each_settles, each_there}
 use Rattle.cb_protocol.proofs.SettlingAgain.{append_nil}
-use Rattle.cb_protocol.proofs.SettlingClears.{OnlySends, after_sends, sends_append, sends_callbacks}
+use Rattle.cb_protocol.proofs.SettlingClears.{OnlySends, after_sends, put_there, sends_append, sends_callbacks}
 use Rattle.cb_protocol.proofs.SettlingRight.{is_some_is}
 
 -- a Downgrade is for the first ask, of the page's tag, not the one sent last, and noted at once
@@ -446,7 +446,7 @@ downgrades_rise s r (MessageComes c i b) f y before after d j p g t e = (due, (u
         apart = let l = u.fresh in grind arith
 
     due : DowngradeIsDue k d p t
-    due = record { first = u.first; others = u.others; queue = u.queue; reads = u.reads; holder = u.holder; tag = u.tag; greater = greater }
+    due = record { first = u.first; others = u.others; queue = u.queue; reads = u.reads; holder = u.holder; tag = u.tag; greater = greater; kept = rw (put_there k.queue p (set_downgrade_sent t (k.queue p)), u.queue) refl }
 downgrades_rise s r SendsAgain f y before after d j p g t e = absurd y
 downgrades_rise s r (ReachesDisk n) f y before after d j p g t e = absurd y
 

@@ -48,7 +48,9 @@ pub mod NoneWaits
 -- one side alone
 pub mod ClientInvariant
 pub mod DuePages
+pub mod GoingOn
 pub mod TransactionEnds
+pub mod PagesStay
 pub mod OthersKeep
 pub mod StepsAlone
 pub mod ClientRanges

@@ -4,7 +4,7 @@ use Rattle.std.specs.Prelude.{⊤}
 use Rattle.cb_protocol.proofs.Machine.{NoOther, ServerMayChange, ServerMaySend}
 use Rattle.cb_protocol.specs.Basics.{IsIn, Limits, update}
 use Rattle.cb_protocol.specs.Messages.{AskWrite, Body, PageWrite}
-use Rattle.cb_protocol.specs.Server.{AppliedCommit, MarkCalledBack, ServerStep, EnterQueue, LeaveQueue, ForgetTransaction, Server, Send, MarkDowngradeSent, ChangeSession, RemoveAsk, WaitingAsk, new_server, without_marks, after_first, server_after, after_server_step, set_called_back, set_downgrade_sent, without_client}
+use Rattle.cb_protocol.specs.Server.{AppliedCommit, MarkCalledBack, ServerStep, EnterQueue, LeaveQueue, ForgetTransaction, Server, Send, MarkDowngradeSent, ChangeSession, RemoveAsk, WaitingAsk, new_server, after_first, server_after, after_server_step, set_called_back, set_downgrade_sent, without_client}
 use Rattle.cb_protocol.specs.Session.{Admit, ApplyCommit, DropTransaction, GrantRow, BeginTransaction, PermitWrite, RemoveRow, SessionChange, EndPermission, set_commit_number, session_after}
 use Rattle.cb_protocol.specs.World.{Opening, opening_store}
 
@@ -115,7 +115,7 @@ pub orderly_unask : (Came : ℕ → ℕ → Body → Type 0) (s : Server) (c : �
 orderly_unask Came s c o = orderly_queue Came s (λ p. without_client c (s.queue p)) o (λ p a i. o.asking p a (in_without c a (s.queue p) i))
 
 pub orderly_quit : (Came : ℕ → ℕ → Body → Type 0) (s : Server) (c : ℕ) → Orderly Came s → Orderly Came (after_server_step s (ForgetTransaction c))
-orderly_quit Came s c o = orderly_doom Came _ (update s.doomed c false) (orderly_mark Came _ (without_marks s.in_use c) (orderly_unask Came s c o))
+orderly_quit Came s c o = orderly_doom Came _ (update s.doomed c false) (orderly_mark Came _ (after_server_step s (ForgetTransaction c)).in_use (orderly_unask Came s c o))
 
 -- the asks of c are gone
 abbrev pub Quiet : Server → ℕ → Type 0

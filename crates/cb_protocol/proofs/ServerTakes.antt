@@ -5,7 +5,7 @@ use Rattle.cb_protocol.proofs.ServerOrder.{Fresh, Orderly, Quiet, StepsRight, Wa
 use Rattle.cb_protocol.proofs.SettlingRight.{Speaks, is_some_is, right_dooms, right_settles, speaks_append, speaks_callbacks, speaks_downgrades}
 use Rattle.cb_protocol.specs.Basics.{IsIn, is_none, update, is_exactly}
 use Rattle.cb_protocol.specs.Messages.{AbortNow, AskRead, AskWrite, Body, Callback, Commit, Done, Downgrade, Downgraded, Drop, GiveBack, Granted, Hello, InUse, MayWrite, Welcome, PageWrite, write_of_page}
-use Rattle.cb_protocol.specs.Server.{DeadlockTest, AppliedCommit, ServerStep, EnterQueue, SetFlushed, MarkInUse, ForgetTransaction, Server, Send, ChangeSession, UnmarkInUse, WaitingAsk, set_in_use, server_after, after_server_step}
+use Rattle.cb_protocol.specs.Server.{DeadlockTest, AppliedCommit, ServerStep, EnterQueue, SetFlushed, MarkInUse, ForgetTransaction, Server, Send, ChangeSession, UnmarkInUse, WaitingAsk, server_after, after_server_step}
 use Rattle.cb_protocol.specs.Session.{Admit, ApplyCommit, DropTransaction, BeginTransaction, PermitWrite, RemoveRow, SessionChange, EndPermission, session_after, store_after}
 use Rattle.cb_protocol.specs.Flush.{dones_between, server_flush}
 use Rattle.cb_protocol.specs.Resend.{again_doomed, again_page, again_pages, server_again}
@@ -85,12 +85,12 @@ right_answers Came cycle s c (AskWrite t p g) o l came n = right_live Came s c t
 right_answers Came cycle s c (GiveBack p g) o l came n = go (is_exactly ((s.session c).row p) g) refl
   where
     go : (r : Bool) → is_exactly ((s.session c).row p) g ≡ r → StepsRight Came s (if r then UnmarkInUse c p ∷ ChangeSession c (RemoveRow p g) ∷ [] else [])
-    go true e = ((tt, (((came, is_some_is ((s.session c).row p) g e), tt), tt)), orderly_row_gone Came (after_server_step s (UnmarkInUse c p)) c p g (orderly_mark Came s (set_in_use s.in_use c p false) o))
+    go true e = ((tt, (((came, is_some_is ((s.session c).row p) g e), tt), tt)), orderly_row_gone Came (after_server_step s (UnmarkInUse c p)) c p g (orderly_mark Came s (after_server_step s (UnmarkInUse c p)).in_use o))
     go false e = (tt, o)
 right_answers Came cycle s c (InUse t p g) o l came n = go (nat_lt (s.session c).ended t && is_exactly ((s.session c).row p) g)
   where
     go : (r : Bool) → StepsRight Came s (if r then MarkInUse c p ∷ [] else [])
-    go true = ((tt, tt), orderly_mark Came s (set_in_use s.in_use c p true) o)
+    go true = ((tt, tt), orderly_mark Came s (after_server_step s (MarkInUse c p)).in_use o)
     go false = (tt, o)
 right_answers Came cycle s c (Commit t ws) o l came n = go (nat_lt (s.session c).ended t) refl (s.doomed c) (commit_allowed s c ws) refl (t == (s.session c).ended) refl
   where

@@ -9,8 +9,8 @@ use Rattle.cb_protocol.specs.Numbers.{IsMessage}
 use Rattle.cb_protocol.specs.Server.{MarkDowngradeSent, Send, Server, ServerStep, WaitingAsk, after_server_step, server_after}
 use Rattle.cb_protocol.specs.WaitsFor.{on_cycle}
 
--- the first ask for the page is to read, the client is the page's holder by that tag, and each
--- Downgrade that was sent for the ask was of a smaller tag
+-- the first ask for the page is to read, the client is the page's holder by that tag, each
+-- Downgrade that was sent for the ask was of a smaller tag, and the ask keeps the note of this one
 pub record DowngradeIsDue (server : Server) (client page current : ℕ) : Type 0 where
   pub first : WaitingAsk
   pub others : List WaitingAsk
@@ -19,6 +19,8 @@ pub record DowngradeIsDue (server : Server) (client page current : ℕ) : Type 0
   pub holder : server.store.holder page ≡ Some client
   pub tag : server.store.tag page ≡ current
   pub greater : (earlier : ℕ) → first.downgrade_sent ≡ Some earlier → earlier < current
+  pub kept : (after_server_step server (MarkDowngradeSent page current)).queue page
+      ≡ record first { downgrade_sent = Some current } ∷ others
 
 -- A Downgrade that a message brings about is due, and is noted at once. So for an ask Downgrades
 -- are of ever greater tags: of none twice.

@@ -26,6 +26,7 @@ pub mod Ranges
 pub mod AskLaws
 pub mod CommitLaws
 pub mod HelloLaws
+pub mod ClientLaws
 pub mod Numbers
 pub mod Marks
 pub mod Downgrades

@@ -9,11 +9,11 @@ use Rattle.cb_protocol.specs.ServerMessages.{named_txn}
 use Rattle.cb_protocol.specs.WaitsFor.{HoldsUp, on_cycle}
 
 -- the client has a copy of the page
-abbrev pub HasAnyRow : Server → ℕ → ℕ → Type 0
+abbrev pub HasAnyRow : Server → (client page : ℕ) → Type 0
 HasAnyRow server client page = (grant : ℕ) × ((server.session client).row page ≡ Some grant)
 
 -- the client's transaction has begun and not ended
-abbrev pub HasLiveTxn : Server → ℕ → Type 0
+abbrev pub HasLiveTxn : Server → (client : ℕ) → Type 0
 HasLiveTxn server client = (server.session client).ended < (server.session client).txn
 
 -- A mark is of a client with a copy of the page and a live transaction.
@@ -22,23 +22,23 @@ MarksLive = (server : Server) → ReachedServer server → (client page : ℕ)
     → server.in_use client page ≡ true → HasAnyRow server client page × HasLiveTxn server client
 
 -- this message of the client comes, of its current incarnation
-abbrev pub Comes : Server → Input → ℕ → Body → Type 0
+abbrev pub Comes : Server → Input → (client : ℕ) → Body → Type 0
 Comes server input client body = input ≡ MessageComes client (server.session client).current body
 
 -- the client says that a transaction that has not ended uses its copy of the page
-abbrev pub SaysInUse : Server → Input → ℕ → ℕ → Type 0
+abbrev pub SaysInUse : Server → Input → (client page : ℕ) → Type 0
 SaysInUse server input client page = (txn : ℕ) × ((grant : ℕ)
     × Comes server input client (InUse txn page grant)
     × ((server.session client).row page ≡ Some grant) × ((server.session client).ended < txn))
 
 -- the client gives its copy of the page back
-abbrev pub GivesBack : Server → Input → ℕ → ℕ → Type 0
+abbrev pub GivesBack : Server → Input → (client page : ℕ) → Type 0
 GivesBack server input client page = (grant : ℕ)
     × Comes server input client (GiveBack page grant)
     × ((server.session client).row page ≡ Some grant)
 
 -- the client's transaction is the one that it was, and lives
-abbrev pub SameLiveTxn : Server → Server → ℕ → Type 0
+abbrev pub SameLiveTxn : (old new : Server) → (client : ℕ) → Type 0
 SameLiveTxn old new client = ((new.session client).current ≡ (old.session client).current)
     × ((new.session client).txn ≡ (old.session client).txn) × HasLiveTxn new client
 
@@ -75,14 +75,20 @@ DroppedHoldNothing = (old : Server) → ReachedServer old
     → (input : Input) → InputInRange old input → (client page : ℕ)
     → DroppedKeepNothing old (server_after old (input_steps on_cycle old input)) input client page
 
+-- the client has write permission for the page, and of its current transaction
+abbrev pub HoldsForCurrentTxn : Server → (client page : ℕ) → Type 0
+HoldsForCurrentTxn server client page = (server.store.holder page ≡ Some client)
+    × (server.store.tag page ≡ (server.session client).txn)
+
+-- the client uses the page, and the ask is to write, or the permission is the client's
+abbrev pub UsesInTheWay : Server → (client page : ℕ) → WaitingAsk → Type 0
+UsesInTheWay server client page ask = (server.in_use client page ≡ true)
+    × ((ask.write_grant ≢ None) ⊎ (server.store.holder page ≡ Some client))
+
 -- With kept write permission a first ask is held up by exactly the clients with a copy of the page
--- and a live transaction that have write permission for it, or that use the page where the ask is
--- to write or the kept permission is theirs.
+-- and a live transaction that have write permission for it, or use the page in the ask's way.
 abbrev pub KeptHoldsUp : Type 0
 KeptHoldsUp = (server : Server) → ReachedServer server → server.store.keep_write ≡ true
     → (page : ℕ) (ask : WaitingAsk) (client : ℕ) → HoldsUp server page ask client
     ↔ (HasAnyRow server client page × HasLiveTxn server client
-    × (((server.store.holder page ≡ Some client)
-    × (server.store.tag page ≡ (server.session client).txn))
-    ⊎ ((server.in_use client page ≡ true)
-    × ((ask.write_grant ≢ None) ⊎ (server.store.holder page ≡ Some client)))))
+    × (HoldsForCurrentTxn server client page ⊎ UsesInTheWay server client page ask))

@@ -7,6 +7,7 @@
 #![tactic(auto)]
 
 pub mod alone;
+pub mod client;
 pub mod deadlock;
 pub mod marks;
 pub mod numbers;

@@ -36,13 +36,13 @@ fn put_greetings(alloc: Global, text: &mut String) -> Option<()> {
     Some(())
 }
 
-/// Reads of pages from the last one down, each by the next client: it asks, is granted the page and
+/// Reads of pages from that one down, each by the next client: it asks, is granted the page and
 /// reads it.
-fn put_reads(alloc: Global, text: &mut String, pages: u32, reads: u32) -> Option<()> {
+fn put_reads(alloc: Global, text: &mut String, last: u32, reads: u32) -> Option<()> {
     for place in 0..reads {
         let place = u64::from(place);
         let client = place % 32;
-        let page = u64::from(pages) - place % u64::from(pages) - 1;
+        let page = u64::from(last).saturating_sub(place);
         let asked = 64 + 2 * place;
         let granted = asked + 1;
         let lines = format!(in alloc;
@@ -57,7 +57,7 @@ fn put_reads(alloc: Global, text: &mut String, pages: u32, reads: u32) -> Option
 fn long_schedule(alloc: Global, reads: u32) -> Option<String> {
     let mut text = String::new(alloc);
     put_greetings(alloc, &mut text)?;
-    put_reads(alloc, &mut text, 4096, reads)?;
+    put_reads(alloc, &mut text, 4095, reads)?;
     Some(text)
 }
 
@@ -122,7 +122,7 @@ fn greatest_pages(alloc: Global) -> Option<Transcript> {
     let world = greatest_world(alloc, 256, 65536)?;
     let mut text = String::new(alloc);
     put_greetings(alloc, &mut text)?;
-    put_reads(alloc, &mut text, 256, 256)?;
+    put_reads(alloc, &mut text, 255, 256)?;
     let Ok(events) = read_schedule(alloc, world.limits(), text.as_bytes()) else {
         return None;
     };

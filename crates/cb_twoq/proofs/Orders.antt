@@ -1,5 +1,5 @@
 -- Lists that are kept oldest first, or with values beside the pages.
-use Rattle.std.proofs.Common.{◌≡◌, true, false, true≢false, cond, nat_eq, ◌-◌, ◌||◌, take, take_all, ◌<◌, ◌≤◌, suc, ◌+◌, ℕ, Bool, List, [], ◌∷◌, ◌++◌, length, drop, reverse, Option, Some, None, if◌then◌else◌, refl, sym, ◌∙◌, ap, rules, arith, is_some}
+use Rattle.std.proofs.Common.{◌≡◌, true, false, true≢false, cond, nat_eq, ◌-◌, ◌||◌, take, take_all, ◌<◌, suc, ◌+◌, ℕ, Bool, List, [], ◌∷◌, ◌++◌, length, drop, reverse, Some, None, if◌then◌else◌, refl, sym, ◌∙◌, ap, rules, arith, is_some}
 use Rattle.std.proofs.Math.ListN.{get_or}
 use Rattle.std.proofs.Math.Seq.{drop-cons}
 use Rattle.std.proofs.lemmas.List.{reverse-append}

@@ -1,13 +1,13 @@
 -- A page that is placed before another is let go.
-use Rattle.std.proofs.Common.{◌≡◌, true≢false, nat_eq, ◌<◌, ◌≤◌, ◌+◌, ℕ, Bool, true, false, List, ◌∷◌, length, take, Option, Some, None, if◌then◌else◌, refl, sym, ◌∙◌, ap, subst, arith}
+use Rattle.std.proofs.Common.{◌≡◌, true≢false, nat_eq, ◌≤◌, ℕ, Bool, true, false, List, ◌∷◌, length, take, Some, if◌then◌else◌, refl, sym, ◌∙◌, ap, subst, arith}
 use Rattle.std.proofs.lemmas.Grind.{common_steps}
-use Rattle.cb_twoq.specs.Pages.{has, without, one, times}
+use Rattle.cb_twoq.specs.Pages.{has, without, times}
 use Rattle.cb_twoq.specs.Queues.{TwoQState, Slot, Free, OfA1in, OfAm, reclaim, let_go, enter, AreQueues}
 use Rattle.cb_twoq.specs.Indexed.{place, IsSlotOf, IsOff}
 use Rattle.cb_twoq.proofs.PageLists.{without_absent}
-use Rattle.cb_twoq.proofs.Counts.{is_there, isnt_there, not_there, oldest_there}
+use Rattle.cb_twoq.proofs.Counts.{is_there, not_there, oldest_there}
 use Rattle.cb_twoq.proofs.Forgotten.{times_off, length_off}
-use Rattle.cb_twoq.proofs.Entered.{Origin, reclaimed, free_of}
+use Rattle.cb_twoq.proofs.Entered.{reclaimed}
 
 -- a page behind another is taken off
 pub without_behind : (gone page : ℕ) (pages : List ℕ) → has pages gone ≡ true → has pages page ≡ false → without gone (page ∷ pages) ≡ page ∷ without gone pages

@@ -1,9 +1,9 @@
 //! Who waits for whom, and who lies on a cycle of waits.
 //!
 //! The waits-for graph of the textbooks (Bernstein, Hadzilacos and Goodman, Concurrency Control and
-//! Recovery in Database Systems, chapter 3), whose cycles are deadlocks, over at most 32 clients: for
-//! each client the set of those that it waits for. Whoever owns the queues of asks keeps the [`View`] up
-//! to date, row by row, as asks enter and leave them.
+//! Recovery in Database Systems, chapter 3), whose cycles are deadlocks, over at most 32 clients:
+//! for each client the set of those that it waits for. Whoever owns the queues of asks keeps the
+//! [`View`] up to date, row by row, as asks enter and leave them.
 #![tactic(auto)]
 
 mod view;

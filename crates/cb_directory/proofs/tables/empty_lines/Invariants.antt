@@ -1,4 +1,4 @@
-use Rattle.std.proofs.Common.{◌≡◌, ℕ, replicate}
+use Rattle.std.proofs.Common.{◌≡◌, replicate}
 use Rattle.cb_directory.specs.Rows.{no_rows}
 use Rattle.cb_directory.proofs.tables.empty_lines.Given as goal
 

@@ -1,6 +1,5 @@
-use Rattle.std.proofs.Common.{◌≡◌, ◌+◌, ◌<◌, suc, ◌∷◌, [], ◌++◌, take, length, rules, sym, ap, ◌∙◌, arith}
+use Rattle.std.proofs.Common.{◌≡◌, ◌+◌, suc, ◌∷◌, [], ◌++◌, take, rules, sym, ap, ◌∙◌, arith}
 use Rattle.std.proofs.Math.Seq.{take-suc}
-use Rattle.cb_twoq.specs.Runs.{Runs}
 use Rattle.cb_twoq.proofs.Running.{answered, one_more}
 use Rattle.cb_twoq.proofs.runs.run_refs.Goals as goal
 
@@ -14,7 +13,7 @@ loop-i-preserved g c =
     record {
       runs = rw (seen, c.push_reserved.ensures.items) (one_more _ _ (take c.loop-i.i c.args.references.now) c.loop-i.answers.items
           (g.Q.Chooser.members c.loop-i.chooser) (g.Q.Chooser.members c.reference-answer.new.self) c.index-references-i.result c.reference-answer.result c.loop-i.invariant.runs
-          (rw (← c.loop-i.invariant.slots) (answered g.Q.Chooser.members _ c.loop-i.chooser c.reference-answer.new.self _ _ c.reference-answer.result c.reference-answer.ensures.ok c.reference-answer.ensures.full c.reference-answer.ensures.err)));
+          (rw (← c.loop-i.invariant.slots) (answered g.Q.Chooser.members _ c.loop-i.chooser c.reference-answer.new.self _ _ c.reference-answer.result c.reference-answer.ensures.ok c.reference-answer.ensures.member c.reference-answer.ensures.full c.reference-answer.ensures.err)));
       slots = c.reference-answer.ensures.slots ∙ c.loop-i.invariant.slots;
       count = search rules;
       room = search rules;

@@ -1,4 +1,4 @@
-use Rattle.std.proofs.Common.{arith, ◌<◌, ◌^◌, ℕ, sym, rules}
+use Rattle.std.proofs.Common.{arith}
 use Rattle.cb_clients.proofs.Flags.{grows, has_insert}
 use Rattle.cb_clients.proofs.client_set.ClientSet.insert.Goals as goal
 

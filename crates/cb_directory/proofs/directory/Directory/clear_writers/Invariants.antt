@@ -1,4 +1,4 @@
-use Rattle.std.proofs.Common.{◌≡◌, ◌-◌, ◌+◌, ◌<◌, ◌≤◌, ℕ, length}
+use Rattle.std.proofs.Common.{◌≡◌, ◌-◌, ◌<◌, ◌≤◌, ℕ, length}
 use Rattle.cb_directory.specs.Tables as tables
 use Rattle.cb_directory.specs.Directories.{row, holder, tag, without_holder}
 use Rattle.cb_directory.proofs.directory.Directory.clear_writers.Given as goal

@@ -1,4 +1,4 @@
-use Rattle.std.proofs.Common.{◌≡◌, ◌-◌, ◌+◌, ◌<◌, ◌≤◌, ◌==◌, if◌then◌else◌, None, false, ℕ, length}
+use Rattle.std.proofs.Common.{◌≡◌, ◌-◌, ◌<◌, ◌≤◌, ◌==◌, None, false, ℕ, length}
 use Rattle.cb_directory.specs.Tables as tables
 use Rattle.cb_directory.specs.Directories.{row, holder, tag}
 use Rattle.cb_directory.proofs.directory.Directory.forget_client.Given as goal

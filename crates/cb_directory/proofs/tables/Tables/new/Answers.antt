@@ -1,11 +1,11 @@
-use Rattle.std.proofs.Common.{◌≡◌, ℕ, Option, None, false, List, replicate, rules, arith, refl, sym, subst, ap, ◌∙◌}
+use Rattle.std.proofs.Common.{◌≡◌, ℕ, Option, None, false, replicate, rules, refl, sym, subst}
 use Rattle.std.proofs.lemmas.List.{length-replicate}
 use Rattle.cb_page.specs.Flags.{has}
 use Rattle.cb_clients.specs.Clients as clients
 use Rattle.cb_clients.proofs.Flags.{has_none}
 use Rattle.cb_directory.specs.Rows.{ClientState, grant_of, no_rows}
 use Rattle.cb_directory.specs.declared.lines.PageLine.{PageLine}
-use Rattle.cb_directory.specs.Tables.{TablesState, IsEmpty, no_client, no_line}
+use Rattle.cb_directory.specs.Tables.{IsEmpty, no_client, no_line}
 use Rattle.cb_clients.proofs.Lookups.{replicate_gives}
 use Rattle.cb_directory.proofs.tables.Tables.new.Goals as goal
 

@@ -1,4 +1,4 @@
-use Rattle.std.proofs.Common.{◌≡◌, None, Err, rules, refl, sym, ◌∙◌, ap, subst, arith}
+use Rattle.std.proofs.Common.{◌≡◌, None, Err, rules, refl, sym, ◌∙◌, subst, arith}
 use Rattle.cb_twoq.specs.Law.{Chooses, IsFull}
 use Rattle.cb_twoq.specs.Queues.{TwoQState, members_of}
 use Rattle.cb_twoq.specs.declared.chooser.ChooseFault.TheVariants as fault

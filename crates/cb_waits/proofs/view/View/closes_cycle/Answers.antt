@@ -1,7 +1,7 @@
-use Rattle.std.proofs.Common.{◌≡◌, ◌==◌, ◌||◌, ℕ, Bool, true, false, IsTrue, rules, arith, refl, sym, ◌∙◌, subst, inl, inr}
+use Rattle.std.proofs.Common.{◌≡◌, ℕ, Bool, true, false, arith, refl, sym, ◌∙◌, inl, inr}
 use Rattle.std.proofs.lemmas.Bool.{cases_eq}
 use Rattle.cb_clients.specs.Clients.{has}
-use Rattle.cb_waits.specs.Graph.{Path, OneEdge, MoreEdges, LiesOnCycle, Waits, waits}
+use Rattle.cb_waits.specs.Graph.{Path, OneEdge, Waits}
 use Rattle.cb_waits.proofs.Paths.{along, closed_holds}
 use Rattle.cb_waits.proofs.view.View.closes_cycle.Goals as goal
 

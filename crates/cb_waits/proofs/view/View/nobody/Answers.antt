@@ -1,4 +1,4 @@
-use Rattle.std.proofs.Common.{◌≡◌, ℕ, false}
+use Rattle.std.proofs.Common.{◌≡◌, false}
 use Rattle.cb_clients.specs.Clients.{Clients, has, set_of}
 use Rattle.cb_clients.proofs.Flags.{has_none}
 use Rattle.cb_clients.proofs.Lookups.{replicate_gives}

@@ -1,6 +1,6 @@
-use Rattle.std.proofs.Common.{◌≡◌, sym, ◌∙◌, ap, subst, length, ◌≤◌}
+use Rattle.std.proofs.Common.{sym, ◌∙◌, ap, subst, length, ◌≤◌}
 use Rattle.cb_twoq.specs.Queues.{TwoQState, let_go}
-use Rattle.cb_twoq.specs.Indexed.{queues_of, place, IsOff}
+use Rattle.cb_twoq.specs.Indexed.{queues_of, IsOff}
 use Rattle.cb_twoq.proofs.Placed.{placed_off, placed_within, placed_entered}
 use Rattle.cb_twoq.proofs.twoq.queues.IndexedQueues.enter.Goals as goal
 

@@ -1,0 +1,9 @@
+//! Tests of the server's parts by their public calls.
+#![tactic(auto)]
+
+#[cfg(test)]
+mod directory;
+#[cfg(test)]
+mod sessions;
+#[cfg(test)]
+mod waits;

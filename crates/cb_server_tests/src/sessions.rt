@@ -1,0 +1,38 @@
+use cb_links::{Admission, Sessions, Standing};
+use cb_page::{ClientNo, CommitNo, Incarnation, Limits, TxnNo};
+
+/// At the greatest limits: one that gives up from some number of clients on is refused here.
+#[test]
+fn sessions_at_the_greatest_limits(rt: HostRuntime) -> anyhow::Result<()> {
+    let limits = Limits::new(32, 4096, 65_536, 1024, 1, 4096)?;
+    let mut sessions = Sessions::new(rt.alloc(), &limits)?;
+    let client = ClientNo::new(31);
+    let first = Incarnation::new(1);
+    assert!(rt; sessions.admit(client, first) == Admission::Unknown);
+    sessions.hello(client, first);
+    assert!(rt; sessions.admit(client, first) == Admission::Current);
+    Ok(())
+}
+
+/// A transaction begins, is doomed and ends, as its client's frames tell.
+#[test]
+fn transaction_of_a_session(rt: HostRuntime) -> anyhow::Result<()> {
+    let limits = Limits::new(2, 8, 16, 4, 1, 2)?;
+    let mut sessions = Sessions::new(rt.alloc(), &limits)?;
+    let client = ClientNo::new(1);
+    sessions.hello(client, Incarnation::new(3));
+    let stale = sessions.admit(client, Incarnation::new(2));
+    let unknown = sessions.admit(client, Incarnation::new(4));
+    let before = sessions.standing(client, TxnNo::new(1));
+    sessions.begin(client, TxnNo::new(2));
+    let earlier = sessions.standing(client, TxnNo::new(1));
+    let live = sessions.standing(client, TxnNo::new(2));
+    sessions.doom(client);
+    let doomed = sessions.standing(client, TxnNo::new(2));
+    sessions.end(client, Some(CommitNo::new(5)));
+    let ended = sessions.standing(client, TxnNo::new(2));
+    assert!(rt; stale == Admission::Stale && unknown == Admission::Unknown);
+    assert!(rt; before == Standing::Later && earlier == Standing::Ended);
+    assert!(rt; live == Standing::Live && doomed == Standing::Doomed && ended == Standing::Ended);
+    Ok(())
+}
