@@ -2,7 +2,7 @@
 //! world of a run, and the laws that hold of them.
 //!
 //! The crate has no code. The crates of the real client, server and player are proved against its
-//! definitions (`specs/`). Each function below, of `alone` and of `deadlock` carries one law in its
+//! definitions (`specs/`). Each function, here and in the modules below, carries one law in its
 //! contract; `docs/PROTOCOL.md` tells the protocol, `docs/PROOF.md` the proof.
 #![tactic(auto)]
 
