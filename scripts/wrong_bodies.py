@@ -56,27 +56,34 @@ def function_at(source, place):
     return head.group(1) if head else name
 
 
-def stands_on(name):
-    """A crate and the crates of the repository below it."""
-    uses = {}
+def listed():
+    """The lines of crates.txt by crate."""
+    lines = {}
     for line in (TOP / "crates.txt").read_text().splitlines():
-        head, colon, rest = line.partition("#")[0].partition(":")
+        head, colon, _ = line.partition("#")[0].partition(":")
         if colon:
-            uses[head.split()[0]] = rest.split()
+            lines[head.split()[0]] = line
+    return lines
+
+
+def stands_on(name, lines):
+    """A crate and the crates of the repository below it."""
     found, left = [], [name]
     while left:
         it = left.pop()
-        if it in uses and it not in found:
+        if it in lines and it not in found:
             found.append(it)
-            left += uses[it]
+            left += lines[it].partition(":")[2].split()
     return found
 
 
 def copy_of(name, room):
     """A copy of what a check of the crate reads, with what earlier checks kept."""
-    for file in ("crates.txt", "HANDLES"):
-        shutil.copy(TOP / file, room)
-    for each in stands_on(name):
+    lines = listed()
+    below = stands_on(name, lines)
+    (room / "crates.txt").write_text("".join(f"{lines[it]}\n" for it in below))
+    shutil.copy(TOP / "HANDLES", room)
+    for each in below:
         shutil.copytree(TOP / "crates" / each, room / "crates" / each)
     return room / "crates" / name
 
@@ -163,7 +170,7 @@ def alone(crate, kept, edit):
     if names:
         print(f"{edit.name}: refused alone, not proved: {' '.join(sorted(names))}", flush=True)
         return "refused"
-    why = next((line for line in log.splitlines() if "error" in line), "no line says why")
+    why = next((line for line in log.splitlines() if "error" in line), log.strip()[-300:])
     print(f"{edit.name}: it doesn't reach the prover: {why}", flush=True)
     return "bad"
 
