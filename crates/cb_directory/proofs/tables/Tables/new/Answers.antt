@@ -30,4 +30,4 @@ returns c =
     let rows : c.in_ok-empty_lines.field-0.items ≡ replicate c.args.limits.now.clients (no_rows c.args.limits.now.pages) = search rules in
     let lines : c.in_ok-vec.field-0.items ≡ replicate c.args.limits.now.pages line = search rules in
     subst (IsEmpty c.args.limits.now.clients c.args.limits.now.pages) (λ i. record { clients = sym rows i; pages = sym lines i })
-      (empty_tables c.args.limits.now.clients c.args.limits.now.pages line c.empty.ensures refl refl)
+    (empty_tables c.args.limits.now.clients c.args.limits.now.pages line c.empty.ensures refl refl)
