@@ -3,7 +3,7 @@ ghost use Rattle.std.specs.Prelude.{◌≡◌, IfOk};
 ghost use Rattle.cb_frame.specs.Grammar.{IsFrame};
 ghost use Rattle.cb_frame.specs.declared.frame.Frame.{Frame};
 
-use cb_frame::{Frame, decode};
+use cb_frame::{Frame, FrameFault, decode};
 use cb_page::{ClientNo, GrantNo, Incarnation, Limits, Page, PageNo, Version};
 use std::alloc::{AllocError, Global};
 use std::marker::Model;
@@ -55,6 +55,9 @@ pub(crate) fn frame_in(alloc: Global, limits: &Limits, bytes: &[u8]) -> Result<F
 {
     match decode(alloc, limits, bytes) {
         Ok((frame, _)) => Ok(frame),
-        Err(_) => Err(AllocError),
+        Err(fault) => match fault {
+            FrameFault::Memory => Err(AllocError),
+            _ => unreachable!(),
+        },
     }
 }

@@ -8,3 +8,7 @@ use Rattle.cb_first_net.proofs.packet.frame_in.Goals as goal
 pub returns-in-Ok : goal.returns-in-Ok
 returns-in-Ok c f is = ap (λ (r : Frame × ℕ). r.0)
     (c.in-Ok.ensures.only Two f _ [] (in_newest _ f _ is) (sym (append-nil _)))
+
+-- a frame in front is refused only for memory
+pub unreachable-requires : goal.unreachable-requires
+unreachable-requires c = c.in_default.not-Memory (c.in-Err.ensures.only Two c.requires.0 _ [] (in_newest _ c.requires.0 _ c.requires.1) (sym (append-nil _)))
