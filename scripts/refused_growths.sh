@@ -24,9 +24,8 @@ cb_frame_tests pages::refused_growths
 cb_frame_tests frames::refused_growths
 cb_pool_tests twoq_tests::refused_growths_change_nothing
 cb_pool_tests pool_tests::calls_of_a_pool
-cb_commit tests::refused_growths
-cb_schedule text_tests::schedule_without_memory
-cb_schedule world_tests::stopped_world
+cb_schedule_tests text::schedule_without_memory
+cb_schedule_tests world::stopped_world
 cb_console_tests play_tests::play_without_memory
 LIST
 exit $bad
