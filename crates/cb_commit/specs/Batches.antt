@@ -21,18 +21,22 @@ pub record IsBatch (b : BatchState) : Type 0 where
 
 -- a page of a store, to be written
 abbrev pub taken : List StoredPage → ℕ → BatchPage
-taken pages page = record { page = page; version = (slice_index_or pages page no_page).version; bytes = (slice_index_or pages page no_page).bytes }
+taken pages page = let stored = slice_index_or pages page no_page in
+    record { page = page; version = stored.version; bytes = stored.bytes }
 
 -- of the pages below a number, those whose last commit is after the flushed one; rising
 abbrev pub changed_below : ℕ → List StoredPage → ℕ → List BatchPage
 changed_below flushed pages zero = []
 changed_below flushed pages (suc page) = changed_below flushed pages page
-    ++ (if nat_lt flushed (slice_index_or pages page no_page).version then taken pages page ∷ [] else [])
+    ++ (if nat_lt flushed (slice_index_or pages page no_page).version
+    then taken pages page ∷ [] else [])
 
 -- the pages with those of a batch written over them
 abbrev pub overwritten : List StoredPage → List BatchPage → List StoredPage
 overwritten pages [] = pages
-overwritten pages (b ∷ bs) = overwritten (slice_set pages b.page (record { version = b.version; bytes = b.bytes })) bs
+overwritten pages (next ∷ rest) =
+    overwritten
+    (slice_set pages next.page (record { version = next.version; bytes = next.bytes })) rest
 
 -- a store with a batch written over it
 abbrev pub after_batch : StoreState → BatchState → StoreState

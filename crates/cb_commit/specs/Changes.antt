@@ -8,7 +8,8 @@ use Rattle.cb_commit.specs.Stores.{no_page}
 -- A flag for each page: its last commit comes after the flushed one.
 pub record AreChanged (flushed : ℕ) (pages : List StoredPage) (changed : List Bool) : Type 0 where
   pub size : length changed ≡ length pages
-  pub flags : (page : ℕ) → has changed page ≡ nat_lt flushed (slice_index_or pages page no_page).version
+  pub flags : (page : ℕ)
+      → has changed page ≡ nat_lt flushed (slice_index_or pages page no_page).version
 
 -- the flags with those of a commit's pages set
 abbrev pub marked : List Bool → List Write → List Bool

@@ -15,18 +15,24 @@ use Rattle.cb_commit.specs.Batches.{BatchState, changed_below, after_batch}
 -- the pages after a commit of this number wrote these, in order
 abbrev pub rewritten : ℕ → List StoredPage → List Write → List StoredPage
 rewritten number pages [] = pages
-rewritten number pages (w ∷ ws) = rewritten number (slice_set pages w.page (record { version = number; bytes = w.bytes })) ws
+rewritten number pages (write ∷ writes) =
+    rewritten number
+    (slice_set pages write.page (record { version = number; bytes = write.bytes })) writes
 
 -- the store with one commit written over it
 abbrev pub written : StoreState → Commit → StoreState
-written s c = record s { pages = rewritten c.number s.pages c.writes; number = c.number }
+written store commit = record store {
+  pages = rewritten commit.number store.pages commit.writes;
+  number = commit.number;
+}
 
 -- the store with commits written over it, the first one first
 abbrev pub store_after : StoreState → List Commit → StoreState
-store_after s [] = s
-store_after s (c ∷ cs) = store_after (written s c) cs
+store_after store [] = store
+store_after store (commit ∷ commits) = store_after (written store commit) commits
 
--- The opening store, the store now, the commits since, the first one first, and the number of the last commit on disk.
+-- The opening store, the store now, the commits since, the first one first, and the number of the
+-- last commit on disk.
 pub record CommitsState : Type 0 where
   pub opening : StoreState
   pub store : StoreState
@@ -34,9 +40,9 @@ pub record CommitsState : Type 0 where
   pub flushed : ℕ
 
 -- a page that the store has, with as many bytes as a page has
-pub record WritesInto (s : StoreState) (w : Write) : Type 0 where
-  pub page : w.page < length s.pages
-  pub bytes : length w.bytes ≡ s.page_size
+pub record WritesInto (store : StoreState) (write : Write) : Type 0 where
+  pub page : write.page < length store.pages
+  pub bytes : length write.bytes ≡ store.page_size
 
 -- What a commit may write into a store: pages that it has, each once, rising.
 pub record FitsInto (s : StoreState) (writes : List Write) : Type 0 where
@@ -46,14 +52,15 @@ pub record FitsInto (s : StoreState) (writes : List Write) : Type 0 where
 -- the commits have the numbers after this one, one by one
 abbrev pub Numbered : ℕ → List Commit → Type 0
 Numbered last [] = Unit {0}
-Numbered last (c ∷ cs) = (c.number ≡ last + 1) × Numbered (last + 1) cs
+Numbered last (commit ∷ commits) = (commit.number ≡ last + 1) × Numbered (last + 1) commits
 
--- The store is the opening store with the commits written over it; they are numbered on from the opening store's, and each
--- writes a page once; no later commit is on disk than there is (this project's rule).
+-- The store is the opening store with the commits written over it; they are numbered on from the
+-- opening store's, and each writes a page once; no later commit is on disk than there is (this
+-- project's rule).
 pub record AreCommits (s : CommitsState) : Type 0 where
   pub folded : s.store ≡ store_after s.opening s.commits
   pub numbered : Numbered s.opening.number s.commits
-  pub rising : All (λ c. IsRising (map page_of c.writes)) s.commits
+  pub rising : All (λ commit. IsRising (map page_of commit.writes)) s.commits
   pub count : s.store.number ≡ s.opening.number + length s.commits
   pub pages : length s.opening.pages ≡ length s.store.pages
   pub page_size : s.opening.page_size ≡ s.store.page_size
@@ -66,7 +73,8 @@ begun s = record { opening = s; store = s; commits = []; flushed = s.number }
 
 -- one more commit
 abbrev pub applied : CommitsState → Commit → CommitsState
-applied s c = record s { store = written s.store c; commits = s.commits ++ c ∷ [] }
+applied s commit =
+    record s { store = written s.store commit; commits = s.commits ++ commit ∷ [] }
 
 -- the store after the commits up to a number
 abbrev pub store_at : CommitsState → ℕ → StoreState
@@ -74,12 +82,16 @@ store_at s number = store_after s.opening (take (number - s.opening.number) s.co
 
 -- what is to be written next, if anything
 abbrev pub next_batch : CommitsState → Option BatchState
-next_batch s = if nat_lt s.flushed s.store.number then Some (record { number = s.store.number; pages = changed_below s.flushed s.store.pages (length s.store.pages) }) else None
+next_batch s = if nat_lt s.flushed s.store.number then Some (record {
+  number = s.store.number;
+  pages = changed_below s.flushed s.store.pages (length s.store.pages);
+}) else None
 
--- Table rule: whichever commit from the last flushed one on the tables are at, the batch makes them the store (this
--- project's rule).
+-- Table rule: whichever commit from the last flushed one on the tables are at, the batch makes them
+-- the store (this project's rule).
 abbrev pub CatchesUp : CommitsState → BatchState → Type 0
-CatchesUp s b = (number : ℕ) → s.flushed ≤ number → number ≤ s.store.number → after_batch (store_at s number) b ≡ s.store
+CatchesUp s batch = (number : ℕ) → s.flushed ≤ number → number ≤ s.store.number
+    → after_batch (store_at s number) batch ≡ s.store
 
 -- that commit was made, and isn't on disk yet
 pub record CanFlush (s : CommitsState) (number : ℕ) : Type 0 where
@@ -88,9 +100,15 @@ pub record CanFlush (s : CommitsState) (number : ℕ) : Type 0 where
 
 -- the Done of a commit, to its client at its incarnation
 abbrev pub done_of : Commit → Frame
-done_of c = record { client = c.client; incarnation = c.incarnation; body = body.Short (short.Done c.txn c.number) }
+done_of commit = record {
+  client = commit.client;
+  incarnation = commit.incarnation;
+  body = body.Short (short.Done commit.txn commit.number);
+}
 
 -- a Done for each commit above a number up to another, in order
 abbrev pub dones_between : ℕ → ℕ → List Commit → List Frame
 dones_between above last [] = []
-dones_between above last (c ∷ cs) = (if nat_lt above c.number && nat_le c.number last then done_of c ∷ [] else []) ++ dones_between above last cs
+dones_between above last (commit ∷ commits) =
+    (if nat_lt above commit.number && nat_le commit.number last then done_of commit ∷ [] else [])
+    ++ dones_between above last commits

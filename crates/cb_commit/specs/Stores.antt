@@ -4,7 +4,8 @@ use Rattle.std.specs.List.{All}
 use Rattle.cb_page.specs.Bounds.{Bounds}
 use Rattle.cb_commit.specs.declared.store.StoredPage.{StoredPage}
 
--- The pages in the order of their numbers, the size of each, and the number of the last commit in the store.
+-- The pages in the order of their numbers, the size of each, and the number of the last commit in
+-- the store.
 pub record StoreState : Type 0 where
   pub page_size : ℕ
   pub pages : List StoredPage
@@ -31,7 +32,11 @@ zero_page page_size = record { version = 0; bytes = replicate page_size 0 }
 
 -- the store of zeros, before any commit
 abbrev pub zeros : Bounds → StoreState
-zeros limits = record { page_size = limits.page_size; pages = replicate limits.pages (zero_page limits.page_size); number = 0 }
+zeros limits = record {
+  page_size = limits.page_size;
+  pages = replicate limits.pages (zero_page limits.page_size);
+  number = 0;
+}
 
 -- what stands for a page that there isn't
 abbrev pub no_page : StoredPage

@@ -13,7 +13,8 @@ pub struct BatchPage {
     pub bytes: Page,
 }
 
-/// Pages to be written, and the number of the last commit in them. [`crate::Commits::batch`] makes it.
+/// Pages to be written, and the number of the last commit in them. [`crate::Commits::batch`] makes
+/// it.
 ///
 /// The pages rise, and no version is above the number.
 #[derive(Debug, Drop)]

@@ -13,7 +13,8 @@ use cb_page::{ClientNo, CommitNo, Incarnation, Limits, Page, PageSet, TxnNo};
 use std::alloc::{AllocError, Global};
 use std::marker::Model;
 
-/// A page store, the commits that made it from its opening state, and the number of the last commit on disk.
+/// A page store, the commits that made it from its opening state, and the number of the last commit
+/// on disk.
 ///
 /// Commit numbers go on from the opening store's. The commits are kept for good.
 #[derive(Debug, Drop)]
@@ -66,7 +67,8 @@ impl Commits {
         CommitNo::checked(self.store.number() + 1)
     }
 
-    /// Adds a commit, writes it over the store, and answers its number. The list keeps the pages that are handed in.
+    /// Adds a commit, writes it over the store, and answers its number. The list keeps the pages
+    /// that are handed in.
     ///
     /// `AllocError` only where memory was refused.
     pub fn apply(
@@ -102,8 +104,8 @@ impl Commits {
         Ok(number)
     }
 
-    /// What is to be written to disk next: each page that a commit changed which isn't on disk yet, as it is now; `None`
-    /// where every commit is on disk. It costs no more than those pages.
+    /// What is to be written to disk next: each page that a commit changed which isn't on disk yet,
+    /// as it is now; `None` where every commit is on disk. It costs no more than those pages.
     ///
     /// `AllocError` only where memory was refused.
     pub fn batch(&self, alloc: Global) -> Result<Option<Batch>, AllocError>
@@ -131,7 +133,8 @@ impl Commits {
     /// `AllocError` only where memory was refused.
     pub fn flushed(&mut self, alloc: Global, number: CommitNo) -> Result<Vec<Frame>, AllocError>
         requires { CanFlush self.old number }
-        ensures dones { IfOk result (λ frames. frames.items ≡ dones_between self.old.flushed number self.old.commits) }
+        ensures dones { IfOk result (λ frames.
+            frames.items ≡ dones_between self.old.flushed number self.old.commits) }
         ensures ok { OnOk result (self.new ≡ record self.old { flushed = number }) }
         ensures err { OnErr result (self.new ≡ self.old) }
     {
@@ -220,7 +223,8 @@ fn mark(changed: &mut PageSet, writes: &Writes)
 fn unmark(changed: &mut PageSet, store: &Store, number: CommitNo)
     requires { length changed.old ≡ length store.now.pages }
     ensures size { length changed.new ≡ length changed.old }
-    ensures flags { (p : ℕ) → has changed.new p ≡ (has changed.old p && nat_lt number (version_at store.now p)) }
+    ensures flags { (page : ℕ) → has changed.new page
+        ≡ (has changed.old page && nat_lt number (version_at store.now page)) }
 {
     let mut from = 0;
     while let Some(page) = changed.next(from) {

@@ -1,9 +1,11 @@
-//! What a server has committed: the page store, the list of commits that made it, and how much of it is on disk.
+//! What a server has committed: the page store, the list of commits that made it, and how much of
+//! it is on disk.
 //!
-//! A [`Store`] is the pages with their versions and the number of the last commit in it. [`Commits`] keeps the opening
-//! store, the store, every commit since, and the number of the last commit that is on disk: the store is always the
-//! opening store with the commits written over it, in order. [`Commits::batch`] says what is to be written next. Once a
-//! batch is on disk, [`Commits::flushed`] answers a Done for each commit in it that wasn't reported yet.
+//! A [`Store`] is the pages with their versions and the number of the last commit in it.
+//! [`Commits`] keeps the opening store, the store, every commit since, and the number of the last
+//! commit that is on disk: the store is always the opening store with the commits written over it,
+//! in order. [`Commits::batch`] says what is to be written next. Once a batch is on disk,
+//! [`Commits::flushed`] answers a Done for each commit in it that wasn't reported yet.
 #![tactic(auto)]
 
 mod batch;

@@ -51,13 +51,17 @@ impl Store {
         })
     }
 
-    /// The store of these limits with these pages, in the order of their numbers, and this last commit. The pages are
-    /// not copied.
+    /// The store of these limits with these pages, in the order of their numbers, and this last
+    /// commit. The pages are not copied.
     pub fn from_rows(limits: &Limits, pages: Vec<StoredPage>, number: u64) -> Store
         requires count { length pages.items ≡ limits.now.pages }
         requires pages { All (IsStored limits.now.page_size number) pages.items }
         requires number { number < 2 ^ 62 }
-        ensures { result ≡ record { page_size = limits.now.page_size; pages = pages.items; number = number } }
+        ensures { result ≡ record {
+          page_size = limits.now.page_size;
+          pages = pages.items;
+          number = number;
+        } }
     {
         Store {
             page_size: limits.page_size(),
@@ -116,7 +120,10 @@ impl Store {
     pub(crate) fn write(&mut self, number: CommitNo, writes: &[Write])
         requires next { number ≡ self.old.number + 1 }
         requires fit { All (WritesInto self.old) writes.now }
-        ensures { self.new ≡ record self.old { pages = rewritten number self.old.pages writes.now; number = number } }
+        ensures { self.new ≡ record self.old {
+          pages = rewritten number self.old.pages writes.now;
+          number = number;
+        } }
     {
         for write in writes {
             let stored = &mut self.pages[write.page.index()];
@@ -156,7 +163,8 @@ fn zero_pages(alloc: Global, count: usize, page_size: usize) -> Result<Vec<Store
     Ok(pages)
 }
 
-/// What the calls that only read show of a store of these rows. The function does nothing; its contract is this law.
+/// What the calls that only read show of a store of these rows. The function does nothing; its
+/// contract is this law.
 fn shows(
     limits: &Limits,
     pages: Vec<StoredPage>,

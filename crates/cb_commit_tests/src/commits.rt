@@ -1,4 +1,5 @@
-//! What no clause says of the commits: that each call succeeds, and what stands after a refused growth.
+//! What no clause says of the commits: that each call succeeds, and what stands after a refused
+//! growth.
 ghost use Rattle.std.specs.Prelude.{◌≡◌};
 ghost use Rattle.cb_commit.specs.Stores.{IsOf};
 
@@ -172,7 +173,8 @@ fn act(
     }
 }
 
-/// Each step answers what it has to; one whose growth was refused is made again, as if nothing had been refused.
+/// Each step answers what it has to; one whose growth was refused is made again, as if nothing had
+/// been refused.
 fn play(rt: &impl Abort, alloc: Global, limits: &Limits, commits: &mut Commits)
     requires { IsOf limits.now commits.old.store }
     ensures { IsOf limits.now commits.new.store }
