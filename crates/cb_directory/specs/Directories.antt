@@ -1,6 +1,7 @@
 -- A directory as its callers see it, its rule, and what each call makes of it.
-use Rattle.std.specs.Prelude.{◌≡◌, ◌<◌, ◌≤◌, ◌+◌, ◌^◌, ℕ, ◌==◌, if◌then◌else◌, true, false, length, Option, Some, None}
+use Rattle.std.specs.Prelude.{◌≡◌, ◌<◌, ◌≤◌, ◌+◌, ℕ, ◌==◌, if◌then◌else◌, true, false, length, Option, Some, None}
 use Rattle.cb_page.specs.Bounds.{Bounds}
+use Rattle.cb_page.specs.Numbers.{max_number}
 use Rattle.cb_directory.specs.Tables as tables
 use Rattle.cb_directory.specs.Tables.{TablesState, at_place, at_page, is_listed, is_marked}
 
@@ -40,7 +41,7 @@ NoOtherHolder directory client page =
 
 -- a number is left for one more grant
 abbrev pub HasGrantLeft : DirectoryState → Type 0
-HasGrantLeft directory = directory.next_grant < 2 ^ 62
+HasGrantLeft directory = directory.next_grant ≤ max_number
 
 -- The directory rule (TODS 1997; grants are this project's).
 pub record Rule (directory : DirectoryState) : Type 0 where
