@@ -231,3 +231,41 @@ static PAGES_GO_BY_2Q: [(Step, Seen); 29] = [
 fn pages_go_by_2q(rt: HostRuntime) {
     assert!(rt; plays(rt.alloc(), 4, 2, 2, &PAGES_GO_BY_2Q));
 }
+
+static NO_REFERENCES: [(Step, Seen); 26] = [
+    (Welcome, Nothing),
+    (Begin, Began(1)),
+    (Read(0), Asked(1)),
+    (Granted(0, 1, 0, 10), Nothing),
+    (Read(1), Asked(1)),
+    (Granted(1, 2, 0, 11), Nothing),
+    (Read(2), Asked(1)),
+    (Granted(2, 3, 0, 12), Nothing),
+    (Read(3), Asked(1)),
+    (Granted(3, 4, 0, 13), Nothing),
+    // pages 0, 1 and 2 go, and page 0 from A1out too
+    (Read(4), Asked(1)),
+    (Granted(4, 5, 0, 14), Nothing),
+    (Read(5), Asked(1)),
+    (Granted(5, 6, 0, 15), Nothing),
+    (Read(6), Asked(1)),
+    (Granted(6, 7, 0, 16), Nothing),
+    // pages 1 and 2 come to Am for pages 3 and 4
+    (Read(1), Asked(1)),
+    (Granted(1, 2, 0, 11), Nothing),
+    (Read(2), Asked(1)),
+    (Granted(2, 3, 0, 12), Nothing),
+    // neither a refused read nor a repeated grant makes page 1 the newest of Am: it goes
+    (Read(0), Asked(1)),
+    (Read(1), Refused(ClientFault::Waiting)),
+    (Granted(1, 2, 0, 11), Nothing),
+    (Granted(0, 1, 0, 10), Nothing),
+    (Peek(1), Nothing),
+    (Peek(2), Bytes(12)),
+];
+
+/// A read that is refused and a grant that comes again are no references.
+#[test]
+fn refused_reads_and_repeated_grants_are_no_references(rt: HostRuntime) {
+    assert!(rt; plays(rt.alloc(), 4, 2, 2, &NO_REFERENCES));
+}
