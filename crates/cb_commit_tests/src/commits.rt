@@ -53,7 +53,11 @@ fn writes_of(alloc: Global, pages: &[(u32, u8)]) -> Result<Writes, AllocError> {
 }
 
 /// Applies a commit; `false` where the frame is none that fits, or no number is left.
-fn apply(limits: &Limits, commits: &mut Commits, frame: Frame) -> Result<bool, AllocError>
+pub(crate) fn apply(
+    limits: &Limits,
+    commits: &mut Commits,
+    frame: Frame,
+) -> Result<bool, AllocError>
     requires { IsOf limits.now commits.old.store }
     ensures { IsOf limits.now commits.new.store }
 {

@@ -3,3 +3,5 @@
 
 #[cfg(test)]
 mod commits;
+#[cfg(test)]
+mod greatest;
