@@ -8,11 +8,11 @@ use Rattle.cb_page.specs.Bounds.{Bounds}
 use Rattle.cb_frame.specs.Grammar.{Fits, ShortFits}
 use Rattle.cb_frame.specs.Spelling.{spelling}
 use Rattle.cb_frame.specs.Kinds.{code_of, kind_of_body}
-use Rattle.cb_frame.specs.declared.frame.Frame.{Frame}
-use Rattle.cb_frame.specs.declared.frame.Body.{Body}
-use Rattle.cb_frame.specs.declared.frame.Body.TheVariants as body
-use Rattle.cb_frame.specs.declared.frame.ShortBody.{ShortBody}
-use Rattle.cb_frame.specs.declared.frame.ShortBody.TheVariants as short
+use Rattle.cb_frame_types.specs.declared.frame.Frame.{Frame}
+use Rattle.cb_frame_types.specs.declared.frame.Body.{Body}
+use Rattle.cb_frame_types.specs.declared.frame.Body.TheVariants as body
+use Rattle.cb_frame_types.specs.declared.frame.ShortBody.{ShortBody}
+use Rattle.cb_frame_types.specs.declared.frame.ShortBody.TheVariants as short
 use Rattle.cb_transcript.specs.declared.answer.Answer.{Answer}
 use Rattle.cb_transcript.specs.declared.answer.SentPacket.{SentPacket}
 use Rattle.cb_transcript.specs.declared.answer.AnswerWord.{AnswerWord}

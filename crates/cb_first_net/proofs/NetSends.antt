@@ -3,9 +3,9 @@ use Rattle.std.proofs.Common.{ℕ, List, [], ◌∷◌, ◌++◌, refl}
 use Rattle.std.proofs.lemmas.List.Elements.{All-push}
 use Rattle.cb_page.specs.Bounds.{Bounds}
 use Rattle.cb_frame.specs.Grammar.{Fits, IsFrame, IsFrameIn}
-use Rattle.cb_frame.specs.declared.version.FrameVersion.TheVariants.{Two}
+use Rattle.cb_frame_types.specs.declared.version.FrameVersion.TheVariants.{Two}
 use Rattle.cb_frame.specs.Spelling.{spelling}
-use Rattle.cb_frame.specs.declared.frame.Frame.{Frame}
+use Rattle.cb_frame_types.specs.declared.frame.Frame.{Frame}
 use Rattle.cb_first_net.specs.NetMoves.{IsNet, IsPacket}
 use Rattle.cb_first_net.specs.Wire.{body_of, message_of, IsSentSoFar}
 use Rattle.cb_first_net.specs.NetState.{NetState}

@@ -18,10 +18,10 @@ use Rattle.cb_page.specs.Bounds.{Bounds, AreInRange}
 use Rattle.cb_commit.specs.Stores.{StoreState, IsOf, version_at, bytes_at}
 use Rattle.cb_frame.specs.Spelling.{spelling}
 use Rattle.cb_frame.specs.Kinds.{kind_of_body}
-use Rattle.cb_frame.specs.declared.frame.Frame.{Frame}
-use Rattle.cb_frame.specs.declared.frame.Body.TheVariants as body
-use Rattle.cb_frame.specs.declared.frame.ShortBody.{ShortBody}
-use Rattle.cb_frame.specs.declared.frame.ShortBody.TheVariants as short
+use Rattle.cb_frame_types.specs.declared.frame.Frame.{Frame}
+use Rattle.cb_frame_types.specs.declared.frame.Body.TheVariants as body
+use Rattle.cb_frame_types.specs.declared.frame.ShortBody.{ShortBody}
+use Rattle.cb_frame_types.specs.declared.frame.ShortBody.TheVariants as short
 use Rattle.cb_transcript.specs.declared.answer.SentPacket.{SentPacket}
 use Rattle.cb_transcript.specs.declared.answer.AnswerWord.TheVariants as word
 use Rattle.cb_first_net.specs.declared.packet.Granting.{Granting}

@@ -1,7 +1,7 @@
 //! A packet, and what one brings.
 ghost use Rattle.std.specs.Prelude.{◌≡◌, IfOk};
 ghost use Rattle.cb_frame.specs.Grammar.{IsFrame};
-ghost use Rattle.cb_frame.specs.declared.frame.Frame.{Frame};
+ghost use Rattle.cb_frame_types.specs.declared.frame.Frame.{Frame};
 
 use cb_frame::{Frame, FrameFault, decode};
 use cb_page::{ClientNo, GrantNo, Incarnation, Limits, Page, PageNo, Version};

@@ -1,9 +1,9 @@
-pub mod Kinds
-pub mod Fields
-pub mod Versions
-pub mod Spelling
-pub mod Grammar
 pub mod Checks
+pub use Rattle.cb_frame_types.specs.Kinds
+pub use Rattle.cb_frame_types.specs.Fields
+pub use Rattle.cb_frame_types.specs.Versions
+pub use Rattle.cb_frame_types.specs.Spelling
+pub use Rattle.cb_frame_types.specs.Grammar
 pub use Rattle.cb_page.specs.Bounds
 pub use Rattle.cb_page.specs.Faults
 pub use Rattle.cb_page.specs.Numbers

@@ -3,10 +3,10 @@ ghost use Rattle.std.specs.Prelude.{◌≡◌, ◌≢◌, ℕ, Err, false, None,
 ghost use Rattle.cb_page.specs.Bounds.{Bounds, AreInRange};
 ghost use Rattle.cb_page.specs.Faults.{first_fault};
 ghost use Rattle.cb_page.specs.Numbers.{IsNumber};
-ghost use Rattle.cb_frame.specs.Grammar.{IsFrameIn, IsFrameInSome};
-ghost use Rattle.cb_frame.specs.Kinds.{is_short};
-ghost use Rattle.cb_frame.specs.declared.frame.Frame.{Frame};
-ghost use Rattle.cb_frame.specs.declared.version.FrameVersion.{FrameVersion};
+ghost use Rattle.cb_frame_types.specs.Grammar.{IsFrameIn, IsFrameInSome};
+ghost use Rattle.cb_frame_types.specs.Kinds.{is_short};
+ghost use Rattle.cb_frame_types.specs.declared.frame.Frame.{Frame};
+ghost use Rattle.cb_frame_types.specs.declared.version.FrameVersion.{FrameVersion};
 ghost use Rattle.cb_frame.specs.declared.fault.FrameFault.TheVariants as fault;
 ghost use Rattle.cb_frame.specs.Checks.{version_of, kind_of, has_pages, can_be_length, is_sender, body_length, frame_at, frame_in_front, content_causes, causes, fault_in_bytes, Gives};
 

@@ -2,14 +2,15 @@
 ghost use Rattle.std.specs.Prelude.{◌≡◌, ◌+◌, ◌<◌, ◌≤◌, ◌*◌, ◌^◌, ◌∷◌, ◌++◌, length, OnOk, IfOk};
 ghost use Rattle.std.specs.Int.{w16, w32, w64};
 ghost use Rattle.std.specs.List.{flat_map, All};
-ghost use Rattle.cb_frame.specs.Grammar.{FitsSome, BodyFitsSome, WritesFitSome};
-ghost use Rattle.cb_frame.specs.declared.frame.Body.TheVariants.{Granted};
-ghost use Rattle.cb_frame.specs.Kinds.{code_of, kind_of_body};
-ghost use Rattle.cb_frame.specs.declared.version.FrameVersion.TheVariants.{Two};
-ghost use Rattle.cb_frame.specs.Fields.{word};
-ghost use Rattle.cb_frame.specs.Spelling.{spelling, body_spelling, write_spelling, page_spelling};
+ghost use Rattle.cb_frame_types.specs.Grammar.{FitsSome, BodyFitsSome, WritesFitSome};
+ghost use Rattle.cb_frame_types.specs.declared.frame.Body.TheVariants.{Granted};
+ghost use Rattle.cb_frame_types.specs.Kinds.{code_of, kind_of_body};
+ghost use Rattle.cb_frame_types.specs.declared.version.FrameVersion.TheVariants.{Two};
+ghost use Rattle.cb_frame_types.specs.Fields.{word};
+ghost use Rattle.cb_frame_types.specs.Spelling.{spelling, body_spelling, write_spelling, page_spelling};
 
 use crate::{Body, Frame, FrameVersion, Kind, Write};
+use cb_frame_types::{put_u16, put_u32, put_u64};
 use cb_page::{ClientNo, GrantNo, Incarnation, PageNo, Version};
 use std::alloc::{AllocError, Global};
 
@@ -17,7 +18,7 @@ use std::alloc::{AllocError, Global};
 const HEADER: usize = 16;
 
 /// The bytes of a frame. It is refused only where memory is; it takes what the bytes need, at once.
-#[tactic(auto, unfolding(crate::specs::Spelling::spelling, crate::specs::Spelling::spelling_in))]
+#[tactic(auto, unfolding(cb_frame_types::specs::Spelling::spelling, cb_frame_types::specs::Spelling::spelling_in))]
 pub fn encode(alloc: Global, frame: &Frame) -> Result<Vec<u8>, AllocError>
     requires { FitsSome frame.now }
     ensures { IfOk result (λ v. v.items ≡ spelling frame.now) }
@@ -39,7 +40,7 @@ pub fn encode(alloc: Global, frame: &Frame) -> Result<Vec<u8>, AllocError>
 /// no copy of the page before it.
 ///
 /// It is refused only where memory is; it takes what the bytes need, at once.
-#[tactic(auto, using(crate::proofs::Sizes::granted_length, std::proofs::Common::append_assoc), unfolding(crate::specs::Spelling::spelling, crate::specs::Spelling::spelling_in))]
+#[tactic(auto, using(crate::proofs::Sizes::granted_length, std::proofs::Common::append_assoc), unfolding(cb_frame_types::specs::Spelling::spelling, cb_frame_types::specs::Spelling::spelling_in))]
 pub fn encode_granted(
     alloc: Global,
     client: ClientNo,
@@ -64,7 +65,7 @@ pub fn encode_granted(
 }
 
 /// The length of the body's bytes.
-#[tactic(auto, unfolding(crate::specs::Fields::word, crate::specs::Spelling::page_spelling, crate::specs::Spelling::body_spelling))]
+#[tactic(auto, unfolding(cb_frame_types::specs::Fields::word, cb_frame_types::specs::Spelling::page_spelling, cb_frame_types::specs::Spelling::body_spelling))]
 fn body_size(body: &Body) -> usize
     requires { BodyFitsSome body.now }
     ensures value { result ≡ length (body_spelling Two body.now) }
@@ -97,7 +98,7 @@ fn writes_size(writes: &[Write]) -> usize
     }
 }
 
-#[tactic(auto, using(std::proofs::Common::append_assoc), unfolding(crate::specs::Spelling::body_spelling))]
+#[tactic(auto, using(std::proofs::Common::append_assoc), unfolding(cb_frame_types::specs::Spelling::body_spelling))]
 fn put_body(out: &mut Vec<u8>, body: &Body) -> Result<(), AllocError>
     requires { BodyFitsSome body.now }
     ensures { OnOk result (out.new.items ≡ out.old.items ++ body_spelling Two body.now) }
@@ -121,7 +122,7 @@ fn put_body(out: &mut Vec<u8>, body: &Body) -> Result<(), AllocError>
     Ok(())
 }
 
-#[tactic(auto, using(std::proofs::Common::append_assoc), unfolding(crate::specs::Spelling::body_spelling))]
+#[tactic(auto, using(std::proofs::Common::append_assoc), unfolding(cb_frame_types::specs::Spelling::body_spelling))]
 fn put_granted(
     out: &mut Vec<u8>,
     page: PageNo,
@@ -168,7 +169,7 @@ fn put_writes(out: &mut Vec<u8>, writes: &[Write]) -> Result<(), AllocError>
     Ok(())
 }
 
-#[tactic(auto, using(std::proofs::Common::append_assoc), unfolding(crate::specs::Spelling::write_spelling))]
+#[tactic(auto, using(std::proofs::Common::append_assoc), unfolding(cb_frame_types::specs::Spelling::write_spelling))]
 fn put_write(out: &mut Vec<u8>, write: &Write) -> Result<(), AllocError>
     requires { length write.now.bytes < 2 ^ 32 }
     ensures { OnOk result (out.new.items ≡ out.old.items ++ write_spelling Two write.now) }
@@ -177,7 +178,7 @@ fn put_write(out: &mut Vec<u8>, write: &Write) -> Result<(), AllocError>
     put_page(out, write.bytes.as_slice())
 }
 
-#[tactic(auto, using(std::proofs::Common::append_assoc), unfolding(crate::specs::Spelling::page_spelling))]
+#[tactic(auto, using(std::proofs::Common::append_assoc), unfolding(cb_frame_types::specs::Spelling::page_spelling))]
 fn put_page(out: &mut Vec<u8>, bytes: &[u8]) -> Result<(), AllocError>
     requires { length bytes.now < 2 ^ 32 }
     ensures { OnOk result (out.new.items ≡ out.old.items ++ page_spelling Two bytes.now) }
@@ -192,25 +193,4 @@ fn put_page_grant(out: &mut Vec<u8>, page: PageNo, grant: GrantNo) -> Result<(),
 {
     put_u32(out, page.get())?;
     put_u64(out, grant.get())
-}
-
-#[tactic(auto, unfolding(crate::specs::Fields::word))]
-pub fn put_u16(out: &mut Vec<u8>, n: u16) -> Result<(), AllocError>
-    ensures { OnOk result (out.new.items ≡ out.old.items ++ word w16 n) }
-{
-    out.extend_from_slice(&n.to_be_bytes())
-}
-
-#[tactic(auto, unfolding(crate::specs::Fields::word))]
-pub fn put_u32(out: &mut Vec<u8>, n: u32) -> Result<(), AllocError>
-    ensures { OnOk result (out.new.items ≡ out.old.items ++ word w32 n) }
-{
-    out.extend_from_slice(&n.to_be_bytes())
-}
-
-#[tactic(auto, unfolding(crate::specs::Fields::word))]
-pub fn put_u64(out: &mut Vec<u8>, n: u64) -> Result<(), AllocError>
-    ensures { OnOk result (out.new.items ≡ out.old.items ++ word w64 n) }
-{
-    out.extend_from_slice(&n.to_be_bytes())
 }

@@ -10,16 +10,8 @@
 mod decoding;
 mod encoding;
 mod fault;
-mod fields;
-mod frame;
-mod kind;
-mod version;
-mod writes;
 
+pub use cb_frame_types::{Body, Frame, FrameVersion, Kind, ShortBody, ShortFrame, Write, Writes};
 pub use decoding::{decode, one_spelling};
 pub use encoding::{encode, encode_granted};
 pub use fault::{BytesFault, FrameFault};
-pub use frame::{Body, Frame, ShortBody, ShortFrame};
-pub use kind::Kind;
-pub use version::FrameVersion;
-pub use writes::{Write, Writes};

@@ -4,12 +4,12 @@ use Rattle.std.specs.Prelude.{slice_get}
 use Rattle.std.specs.List.{AllByRecursion}
 use Rattle.cb_page.specs.Bounds.{Bounds}
 use Rattle.cb_frame.specs.Spelling.{spelling}
-use Rattle.cb_frame.specs.declared.frame.Frame.{Frame}
-use Rattle.cb_frame.specs.declared.frame.Body.{Body}
-use Rattle.cb_frame.specs.declared.frame.Body.TheVariants as body
-use Rattle.cb_frame.specs.declared.frame.ShortBody.{ShortBody}
-use Rattle.cb_frame.specs.declared.frame.ShortBody.TheVariants as short
-use Rattle.cb_frame.specs.declared.writes.Write.{Write}
+use Rattle.cb_frame_types.specs.declared.frame.Frame.{Frame}
+use Rattle.cb_frame_types.specs.declared.frame.Body.{Body}
+use Rattle.cb_frame_types.specs.declared.frame.Body.TheVariants as body
+use Rattle.cb_frame_types.specs.declared.frame.ShortBody.{ShortBody}
+use Rattle.cb_frame_types.specs.declared.frame.ShortBody.TheVariants as short
+use Rattle.cb_frame_types.specs.declared.writes.Write.{Write}
 use Rattle.cb_schedule.specs.Plays.{IsSpelled}
 use Rattle.cb_first_net.specs.Wire.{AllSpell, Spells, body_of, message_of, page_write, short_of}
 use Rattle.cb_protocol.specs.Messages as protocol

@@ -3,7 +3,7 @@ use Rattle.std.specs.Prelude.{◌≡◌, ℕ, false, List, [], ◌∷◌, ◌++�
 use Rattle.std.specs.List.{AllByRecursion}
 use Rattle.cb_page.specs.Bounds.{Bounds}
 use Rattle.cb_frame.specs.Grammar.{IsFrame}
-use Rattle.cb_frame.specs.declared.frame.Frame.{Frame}
+use Rattle.cb_frame_types.specs.declared.frame.Frame.{Frame}
 use Rattle.cb_transcript.specs.ProtocolEvents.{event_of, answer_of}
 use Rattle.cb_first_client.specs.ProtocolLimits.{limits_of}
 use Rattle.cb_schedule.specs.WorldState.{WorldState, Represents, opened}

@@ -1,8 +1,8 @@
 use Rattle.std.proofs.Common.{◌≡◌, ℕ, List, [], ◌++◌, ap, refl, sym, Result, MatchResult}
 use Rattle.std.proofs.lemmas.List.{append-nil}
-use Rattle.cb_frame.specs.declared.frame.Frame.{Frame}
+use Rattle.cb_frame_types.specs.declared.frame.Frame.{Frame}
 use Rattle.cb_first_net.proofs.NetSends.{in_newest}
-use Rattle.cb_frame.specs.declared.version.FrameVersion.TheVariants.{Two}
+use Rattle.cb_frame_types.specs.declared.version.FrameVersion.TheVariants.{Two}
 use Rattle.cb_first_net.proofs.packet.frame_in.Goals as goal
 
 pub returns-in-Ok : goal.returns-in-Ok

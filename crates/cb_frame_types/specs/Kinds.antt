@@ -1,11 +1,11 @@
 -- The kinds of frames (this project's rule): their codes, their names, and which way they go.
 use Rattle.std.specs.Prelude.{ℕ, Bool, true, false, nat_lt, List, codes}
-use Rattle.cb_frame.specs.declared.kind.Kind.{Kind}
-use Rattle.cb_frame.specs.declared.kind.Kind.TheVariants as kind
-use Rattle.cb_frame.specs.declared.frame.Body.{Body}
-use Rattle.cb_frame.specs.declared.frame.Body.TheVariants as body
-use Rattle.cb_frame.specs.declared.frame.ShortBody.{ShortBody}
-use Rattle.cb_frame.specs.declared.frame.ShortBody.TheVariants as short
+use Rattle.cb_frame_types.specs.declared.kind.Kind.{Kind}
+use Rattle.cb_frame_types.specs.declared.kind.Kind.TheVariants as kind
+use Rattle.cb_frame_types.specs.declared.frame.Body.{Body}
+use Rattle.cb_frame_types.specs.declared.frame.Body.TheVariants as body
+use Rattle.cb_frame_types.specs.declared.frame.ShortBody.{ShortBody}
+use Rattle.cb_frame_types.specs.declared.frame.ShortBody.TheVariants as short
 
 -- the kind of a body
 abbrev pub kind_of_short : ShortBody → Kind

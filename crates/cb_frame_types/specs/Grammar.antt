@@ -5,16 +5,16 @@ use Rattle.std.specs.List.{AllByRecursion}
 use Rattle.cb_page.specs.Bounds.{Bounds, AreInRange}
 use Rattle.cb_page.specs.Numbers.{IsNumber, IsVersion}
 use Rattle.cb_page.specs.Rising.{IsRising}
-use Rattle.cb_frame.specs.declared.frame.Frame.{Frame}
-use Rattle.cb_frame.specs.declared.frame.Body.{Body}
-use Rattle.cb_frame.specs.declared.frame.Body.TheVariants as body
-use Rattle.cb_frame.specs.declared.frame.ShortBody.{ShortBody}
-use Rattle.cb_frame.specs.declared.version.FrameVersion.{FrameVersion}
-use Rattle.cb_frame.specs.declared.writes.Write.{Write}
-use Rattle.cb_frame.specs.Fields.{FieldsFit, fields_of}
-use Rattle.cb_frame.specs.Kinds.{kind_of_body}
-use Rattle.cb_frame.specs.Spelling.{spelling, spelling_in}
-use Rattle.cb_frame.specs.Versions.{has_kind, has_size}
+use Rattle.cb_frame_types.specs.declared.frame.Frame.{Frame}
+use Rattle.cb_frame_types.specs.declared.frame.Body.{Body}
+use Rattle.cb_frame_types.specs.declared.frame.Body.TheVariants as body
+use Rattle.cb_frame_types.specs.declared.frame.ShortBody.{ShortBody}
+use Rattle.cb_frame_types.specs.declared.version.FrameVersion.{FrameVersion}
+use Rattle.cb_frame_types.specs.declared.writes.Write.{Write}
+use Rattle.cb_frame_types.specs.Fields.{FieldsFit, fields_of}
+use Rattle.cb_frame_types.specs.Kinds.{kind_of_body}
+use Rattle.cb_frame_types.specs.Spelling.{spelling, spelling_in}
+use Rattle.cb_frame_types.specs.Versions.{has_kind, has_size}
 
 -- a page that a commit writes, with as many bytes as a page has
 pub record WriteFits (limits : Bounds) (write : Write) : Type 0 where

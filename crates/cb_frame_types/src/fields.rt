@@ -1,8 +1,8 @@
 //! The numbers of a body without page bytes.
 ghost use Rattle.std.specs.Prelude.{◌≡◌, ◌≤◌, ◌++◌, IsTrue, ◌↔◌, length, OnOk};
-ghost use Rattle.cb_frame.specs.Fields.{FieldsFit, fields_length, fields_spelling};
+ghost use Rattle.cb_frame_types.specs.Fields.{FieldsFit, fields_length, fields_spelling};
 
-use crate::encoding::{put_u32, put_u64};
+use crate::words::{put_u32, put_u64};
 use cb_page::{CommitNo, GrantNo, Limits, PageNo, TxnNo};
 use std::alloc::AllocError;
 

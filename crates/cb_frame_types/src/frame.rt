@@ -1,7 +1,7 @@
 //! Frames, as values.
 ghost use Rattle.std.specs.Prelude.{◌≡◌, IsTrue, ◌↔◌};
-ghost use Rattle.cb_frame.specs.Kinds.{kind_of_short, kind_of_body};
-ghost use Rattle.cb_frame.specs.declared.frame.Body.TheVariants.{Short};
+ghost use Rattle.cb_frame_types.specs.Kinds.{kind_of_short, kind_of_body};
+ghost use Rattle.cb_frame_types.specs.declared.frame.Body.TheVariants.{Short};
 
 use crate::fields::Fields;
 use crate::{Kind, Writes};
@@ -101,7 +101,7 @@ pub enum ShortBody {
 }
 
 impl ShortBody {
-    ghost use Rattle.cb_frame.specs.Fields.{fields_of};
+    ghost use Rattle.cb_frame_types.specs.Fields.{fields_of};
 
     /// The kind of a frame with this body.
     pub fn kind(self) -> Kind
@@ -125,7 +125,7 @@ impl ShortBody {
     }
 
     /// The numbers that the body has.
-    pub(crate) fn fields(self) -> Fields
+    pub fn fields(self) -> Fields
         ensures { result ≡ fields_of self }
     {
         match self {
@@ -147,7 +147,7 @@ impl ShortBody {
 }
 
 impl Body {
-    ghost use Rattle.cb_frame.specs.Grammar.{BodyFits};
+    ghost use Rattle.cb_frame_types.specs.Grammar.{BodyFits};
 
     /// The kind of a frame with this body.
     pub fn kind(&self) -> Kind
@@ -184,7 +184,7 @@ impl Body {
 
 impl Frame {
     ghost use Rattle.cb_page.specs.Bounds.{AreInRange};
-    ghost use Rattle.cb_frame.specs.Grammar.{Fits};
+    ghost use Rattle.cb_frame_types.specs.Grammar.{Fits};
 
     /// What the frame is for.
     pub fn kind(&self) -> Kind
@@ -205,7 +205,7 @@ impl Frame {
 }
 
 impl From<ShortFrame> for Frame {
-    ghost use Rattle.cb_frame.specs.declared.frame.Body.TheVariants as body;
+    ghost use Rattle.cb_frame_types.specs.declared.frame.Body.TheVariants as body;
 
     ghost from_gives = { λ short frame. frame ≡ record {
       client = short.client;

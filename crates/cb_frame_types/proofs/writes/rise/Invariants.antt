@@ -1,7 +1,7 @@
 use Rattle.std.proofs.Common.{◌↔◌, drop, map}
 use Rattle.cb_page.specs.Rising.{RisesFrom, IsRising}
-use Rattle.cb_frame.specs.Grammar.{page_of}
-use Rattle.cb_frame.proofs.writes.rise.Given as goal
+use Rattle.cb_frame_types.specs.Grammar.{page_of}
+use Rattle.cb_frame_types.proofs.writes.rise.Given as goal
 
 -- what is left decides
 abbrev pub invariant-loop-write : goal.invariant-loop-write

@@ -1,6 +1,6 @@
 //! The versions of the format.
 ghost use Rattle.std.specs.Prelude.{◌≡◌};
-ghost use Rattle.cb_frame.specs.Versions.{has_kind, has_size, size_length, version_byte};
+ghost use Rattle.cb_frame_types.specs.Versions.{has_kind, has_size, size_length, version_byte};
 
 use crate::Kind;
 
@@ -15,7 +15,7 @@ pub enum FrameVersion {
 
 impl FrameVersion {
     /// The first byte of a frame.
-    pub(crate) fn byte(self) -> u8
+    pub fn byte(self) -> u8
         ensures { result ≡ version_byte self }
     {
         match self {
@@ -25,7 +25,7 @@ impl FrameVersion {
     }
 
     /// How many bytes the size before a page's bytes takes.
-    pub(crate) fn size_length(self) -> usize
+    pub fn size_length(self) -> usize
         ensures { result ≡ size_length self }
     {
         match self {
@@ -35,7 +35,7 @@ impl FrameVersion {
     }
 
     /// Whether frames of this version have pages of this size.
-    pub(crate) fn has_size(self, page_size: usize) -> bool
+    pub fn has_size(self, page_size: usize) -> bool
         ensures { result ≡ has_size self page_size }
     {
         match self {
@@ -45,7 +45,7 @@ impl FrameVersion {
     }
 
     /// Whether this version has frames of this kind.
-    pub(crate) fn has_kind(self, kind: Kind) -> bool
+    pub fn has_kind(self, kind: Kind) -> bool
         ensures { result ≡ has_kind self kind }
     {
         match self {

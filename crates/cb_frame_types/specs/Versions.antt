@@ -1,10 +1,10 @@
 -- The versions of the format (this project's rule), and what a frame of each may be.
 use Rattle.std.specs.Prelude.{ℕ, Bool, true, false, nat_le}
 use Rattle.std.specs.Int.{Width, w16, w32}
-use Rattle.cb_frame.specs.declared.version.FrameVersion.{FrameVersion}
-use Rattle.cb_frame.specs.declared.version.FrameVersion.TheVariants.{One, Two}
-use Rattle.cb_frame.specs.declared.kind.Kind.{Kind}
-use Rattle.cb_frame.specs.declared.kind.Kind.TheVariants as kind
+use Rattle.cb_frame_types.specs.declared.version.FrameVersion.{FrameVersion}
+use Rattle.cb_frame_types.specs.declared.version.FrameVersion.TheVariants.{One, Two}
+use Rattle.cb_frame_types.specs.declared.kind.Kind.{Kind}
+use Rattle.cb_frame_types.specs.declared.kind.Kind.TheVariants as kind
 
 -- the first byte of a frame
 abbrev pub version_byte : FrameVersion → ℕ

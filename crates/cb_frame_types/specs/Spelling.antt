@@ -3,15 +3,15 @@
 use Rattle.std.specs.Prelude.{ℕ, List, ◌∷◌, ◌++◌, length}
 use Rattle.std.specs.List.{flat_map}
 use Rattle.std.specs.Int.{w16, w32, w64}
-use Rattle.cb_frame.specs.declared.frame.Frame.{Frame}
-use Rattle.cb_frame.specs.declared.frame.Body.{Body}
-use Rattle.cb_frame.specs.declared.frame.Body.TheVariants as body
-use Rattle.cb_frame.specs.declared.version.FrameVersion.{FrameVersion}
-use Rattle.cb_frame.specs.declared.version.FrameVersion.TheVariants.{Two}
-use Rattle.cb_frame.specs.declared.writes.Write.{Write}
-use Rattle.cb_frame.specs.Fields.{fields_of, fields_spelling, word}
-use Rattle.cb_frame.specs.Kinds.{code_of, kind_of_body}
-use Rattle.cb_frame.specs.Versions.{size_width, version_byte}
+use Rattle.cb_frame_types.specs.declared.frame.Frame.{Frame}
+use Rattle.cb_frame_types.specs.declared.frame.Body.{Body}
+use Rattle.cb_frame_types.specs.declared.frame.Body.TheVariants as body
+use Rattle.cb_frame_types.specs.declared.version.FrameVersion.{FrameVersion}
+use Rattle.cb_frame_types.specs.declared.version.FrameVersion.TheVariants.{Two}
+use Rattle.cb_frame_types.specs.declared.writes.Write.{Write}
+use Rattle.cb_frame_types.specs.Fields.{fields_of, fields_spelling, word}
+use Rattle.cb_frame_types.specs.Kinds.{code_of, kind_of_body}
+use Rattle.cb_frame_types.specs.Versions.{size_width, version_byte}
 
 -- a page with its size before it
 unfoldable pub page_spelling : FrameVersion → List ℕ → List ℕ

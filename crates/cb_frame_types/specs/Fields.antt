@@ -4,10 +4,10 @@ use Rattle.std.specs.Prelude.{ℕ, ◌<◌, Bool, true, ◌&&◌, nat_lt, List, 
 use Rattle.std.specs.Int.{Width, w32, w64, to_be_bytes}
 use Rattle.cb_page.specs.Bounds.{Bounds}
 use Rattle.cb_page.specs.Numbers.{IsNumber, is_number}
-use Rattle.cb_frame.specs.declared.fields.Fields.{Fields}
-use Rattle.cb_frame.specs.declared.fields.Fields.TheVariants.{Nothing, Txn, TxnPage, TxnPageGrant, TxnCommit, PageGrant, PageGrantTxn}
-use Rattle.cb_frame.specs.declared.frame.ShortBody.{ShortBody}
-use Rattle.cb_frame.specs.declared.frame.ShortBody.TheVariants as short
+use Rattle.cb_frame_types.specs.declared.fields.Fields.{Fields}
+use Rattle.cb_frame_types.specs.declared.fields.Fields.TheVariants.{Nothing, Txn, TxnPage, TxnPageGrant, TxnCommit, PageGrant, PageGrantTxn}
+use Rattle.cb_frame_types.specs.declared.frame.ShortBody.{ShortBody}
+use Rattle.cb_frame_types.specs.declared.frame.ShortBody.TheVariants as short
 
 -- what a body says, in the order of its frame
 abbrev pub fields_of : ShortBody → Fields

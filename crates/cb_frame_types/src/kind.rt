@@ -1,6 +1,6 @@
 //! The kinds of frames.
 ghost use Rattle.std.specs.Prelude.{◌≡◌, Some};
-ghost use Rattle.cb_frame.specs.Kinds.{code_of, name_of, goes_to_server};
+ghost use Rattle.cb_frame_types.specs.Kinds.{code_of, name_of, goes_to_server};
 
 use std::fmt;
 

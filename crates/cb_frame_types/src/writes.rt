@@ -2,7 +2,7 @@
 ghost use Rattle.std.specs.Prelude.{◌≡◌, ◌∷◌, [], ◌++◌, length, map, IsTrue, ◌↔◌, OnOk, OnErr};
 ghost use Rattle.std.specs.List.{AllByRecursion};
 ghost use Rattle.cb_page.specs.Rising.{IsRising};
-ghost use Rattle.cb_frame.specs.Grammar.{WriteFits, page_of};
+ghost use Rattle.cb_frame_types.specs.Grammar.{WriteFits, page_of};
 
 use cb_page::{GrantNo, Limits, Page, PageNo};
 use std::alloc::AllocError;
@@ -25,7 +25,7 @@ pub struct Writes {
 
 impl Model for Writes {
     ghost use Rattle.std.specs.Prelude.{List};
-    ghost use Rattle.cb_frame.specs.declared.writes.Write.{Write};
+    ghost use Rattle.cb_frame_types.specs.declared.writes.Write.{Write};
 
     ghost Value = { List Write };
 

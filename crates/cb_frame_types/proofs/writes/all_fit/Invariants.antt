@@ -1,7 +1,7 @@
 use Rattle.std.proofs.Common.{◌↔◌, drop}
 use Rattle.std.specs.List.{AllByRecursion}
-use Rattle.cb_frame.specs.Grammar.{WriteFits}
-use Rattle.cb_frame.proofs.writes.all_fit.Given as goal
+use Rattle.cb_frame_types.specs.Grammar.{WriteFits}
+use Rattle.cb_frame_types.proofs.writes.all_fit.Given as goal
 
 -- what is left decides
 abbrev pub invariant-loop-write : goal.invariant-loop-write
