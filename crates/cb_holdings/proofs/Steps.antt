@@ -6,14 +6,16 @@ use Rattle.std.proofs.lemmas.Bool.{cases_lt}
 use Rattle.std.proofs.lemmas.Bool.Decides.{nat_tests}
 use Rattle.std.proofs.lemmas.List.{get_or_past, get_or-replicate, length-replicate}
 use Rattle.std.proofs.Math.ListN.{length-set}
-use Rattle.cb_commit.specs.History.{begun}
+use Rattle.cb_commit.specs.History.{CommitsState, begun}
 use Rattle.cb_commit.specs.Stores.{StoreState}
 use Rattle.cb_directory.specs.Directories as directory
 use Rattle.cb_directory.specs.Directories.{DirectoryState, Forgets, GivesBack, IsNew, ReleasesAll, ReleasesIf, holder, row}
 use Rattle.cb_directory.specs.Tables.{at_page}
+use Rattle.cb_links.specs.Admissions.{standing_of}
 use Rattle.cb_links.specs.Changes as links
 use Rattle.cb_links.specs.Changes.{commit_of, ended, greeted, is_live_transaction, session_of, unknown}
 use Rattle.cb_links.specs.declared.sessions.Session.{Session}
+use Rattle.cb_links.specs.declared.sessions.Standing.TheVariants as standing
 use Rattle.cb_links.specs.declared.sessions.Transaction.{Transaction}
 use Rattle.cb_links.specs.declared.sessions.Transaction.TheVariants.{NotBegun, Live, Ended}
 use Rattle.cb_page.specs.Bounds.{Bounds}
@@ -22,6 +24,7 @@ use Rattle.cb_protocol.specs.Session as protocol
 use Rattle.cb_protocol.specs.Session.{Admit, BeginTransaction, DropTransaction, EndPermission, RemoveRow, has_live_txn}
 use Rattle.cb_protocol.specs.World.{opening_store}
 use Rattle.cb_holdings.specs.Holdings.{AreHoldings, Does, HasClient, HoldingsState, begun_txn, client_session, ended_txn, is_victim, limits_of, opening_of, or_zero, server_of, transaction_of}
+use Rattle.cb_holdings.specs.Questions.{IsLastIfLive}
 use Rattle.cb_holdings.proofs.Alike.{Alike, same_server}
 
 -- the state with other sessions and another directory
@@ -30,18 +33,25 @@ with_parts v sessions d = record v { sessions = sessions; directory = d }
 
 -- the steps are done where the two servers are alike
 pub does_alike : (v : HoldingsState) (steps : List ServerStep) (u : HoldingsState)
-    → u.commits ≡ v.commits → Alike (server_of u) (server_after (server_of v) steps) → Does v steps u
-does_alike v steps u same alike = record {
+    → u.commits ≡ v.commits → u.keep_write ≡ v.keep_write → length u.sessions ≡ length v.sessions
+    → Alike (server_of u) (server_after (server_of v) steps) → Does v steps u
+does_alike v steps u same setting clients alike = record {
   becomes = same_server _ _ alike;
-  opening = ap (λ c. c.opening) same;
+  stays = record {
+    keep_write = setting;
+    clients = clients;
+    pages = ap (λ (s : CommitsState). length s.store.pages) same;
+    page_size = ap (λ (s : CommitsState). s.store.page_size) same;
+    opening = ap (λ (s : CommitsState). s.opening) same;
+  };
 }
 
-session_set : (xs : List Session) (c d : ℕ) (s : Session) → c < length xs
+pub session_set : (xs : List Session) (c d : ℕ) (s : Session) → c < length xs
     → session_of (slice_set xs c s) d ≡ (if d == c then s else session_of xs d)
 session_set xs c d s h = grind (arith, common_steps, nat_tests)
 
 -- a client that is no write holder, in the words of the directory and of the protocol
-freed : (f : ℕ → Option ℕ) (c p : ℕ) → directory.without_holder (f p) c ≡ protocol.without_holder f c p
+pub freed : (f : ℕ → Option ℕ) (c p : ℕ) → directory.without_holder (f p) c ≡ protocol.without_holder f c p
 freed f c p = by_holder (f p)
   where
     by_holder : (h : Option ℕ)
@@ -74,7 +84,7 @@ pub admits : (v : HoldingsState) (c i : ℕ) (d : DirectoryState) → HasClient 
     → Forgets v.directory c d
     → Does v (ForgetTransaction c ∷ ChangeSession c (Admit i) ∷ [])
     (with_parts v (slice_set v.sessions c (greeted i)) d)
-admits v c i d h f = does_alike v _ _ refl (record {
+admits v c i d h f = does_alike v _ _ refl refl (length-set v.sessions c (greeted i)) (record {
   holder = λ page. f.has.holders page ∙ freed (holder v.directory) c page;
   tag = λ page. grind (arith, f.has.tags page);
   keep_write = refl;
@@ -106,7 +116,7 @@ pub begins : (v : HoldingsState) (c t : ℕ) (d : DirectoryState) → HasClient 
     → d.next_grant ≡ v.directory.next_grant
     → Does v (ForgetTransaction c ∷ ChangeSession c (BeginTransaction t) ∷ [])
     (with_parts v (slice_set v.sessions c (links.begun (session_of v.sessions c) t)) d)
-begins v c t d h holders rows tags next = does_alike v _ _ refl (record {
+begins v c t d h holders rows tags next = does_alike v _ _ refl refl (length-set v.sessions c s) (record {
   holder = holders;
   tag = λ page. grind (arith, tags page);
   keep_write = refl;
@@ -148,7 +158,7 @@ begins_after v c t h are over = begins v c t v.directory h
     (λ page. rw (lives v c are, over) refl) (λ client page. refl) (λ page. refl) refl
 
 -- a live transaction that has ended
-ended_is : (s : Session) (commit : Option ℕ) → is_live_transaction s.transaction ≡ true
+pub ended_is : (s : Session) (commit : Option ℕ) → is_live_transaction s.transaction ≡ true
     → ended s commit ≡ record s { transaction = Ended (begun_txn s.transaction) commit }
 ended_is s commit live = by_transaction s.transaction live
   where
@@ -163,7 +173,7 @@ pub drops : (v : HoldingsState) (c : ℕ) (d : DirectoryState) → HasClient v c
     → has_live_txn (client_session v c) ≡ true → ReleasesAll v.directory c d
     → Does v (ForgetTransaction c ∷ ChangeSession c (DropTransaction (client_session v c).txn) ∷ [])
     (with_parts v (slice_set v.sessions c (ended (session_of v.sessions c) None)) d)
-drops v c d h are live f = rw is (does_alike v _ _ refl (record {
+drops v c d h are live f = rw is (does_alike v _ _ refl refl (length-set v.sessions c s) (record {
   holder = λ page. f.has.holders page ∙ freed (holder v.directory) c page;
   tag = λ page. grind (arith, f.has.tags page);
   keep_write = refl;
@@ -196,7 +206,7 @@ drops v c d h are live f = rw is (does_alike v _ _ refl (record {
 by_directory : (v : HoldingsState) (step : ServerStep) (d : DirectoryState)
     → Alike (server_of (record v { directory = d })) (server_after (server_of v) (step ∷ []))
     → Does v (step ∷ []) (record v { directory = d })
-by_directory v step d alike = does_alike v (step ∷ []) (record v { directory = d }) refl alike
+by_directory v step d alike = does_alike v (step ∷ []) (record v { directory = d }) refl refl refl alike
 
 pub ends_permission : (v : HoldingsState) (c p : ℕ) (d : DirectoryState)
     → ReleasesIf v.directory c p d → (grant tag : ℕ)
@@ -288,3 +298,29 @@ opens limits store d new pages = same_server _ _ (record {
   clients = length-replicate limits.clients unknown;
   pages = pages;
 })
+
+-- a transaction that neither ended nor is later is the last one
+pub last_if_live : (v : HoldingsState) (c txn : ℕ) → AreHoldings v
+    → IsLastIfLive (standing_of (transaction_of v c) txn) (server_of v) c txn
+last_if_live v c txn are = by_transaction (transaction_of v c) refl
+  where
+    by_order : (t : ℕ) (is_doomed : Bool) → transaction_of v c ≡ Live t is_doomed → (a b : Bool)
+        → nat_lt txn t ≡ a → nat_lt t txn ≡ b
+        → IsLastIfLive (if a then standing.Ended else if b then standing.Later
+        else if is_doomed then standing.Doomed else standing.Live) (server_of v) c txn
+    by_order t is_doomed is true b e f = tt
+    by_order t is_doomed is false true e f = tt
+    by_order t true is false false e f =
+        record { is = rw is (grind (arith, nat_tests)); lives = lives v c are ∙ ap is_live_transaction is }
+    by_order t false is false false e f =
+        record { is = rw is (grind (arith, nat_tests)); lives = lives v c are ∙ ap is_live_transaction is }
+
+    by_end : (b : Bool) → IsLastIfLive (if b then standing.Later else standing.Ended) (server_of v) c txn
+    by_end true = tt
+    by_end false = tt
+
+    by_transaction : (t : Transaction) → transaction_of v c ≡ t
+        → IsLastIfLive (standing_of t txn) (server_of v) c txn
+    by_transaction NotBegun is = tt
+    by_transaction (Live t is_doomed) is = by_order t is_doomed is (nat_lt txn t) (nat_lt t txn) refl refl
+    by_transaction (Ended last commit) is = by_end (nat_lt last txn)

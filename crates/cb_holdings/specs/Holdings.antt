@@ -2,7 +2,7 @@
 -- waits and no page is in use.
 use Rattle.std.specs.Prelude.{◌≡◌, ℕ, ◌-◌, ◌<◌, ◌≤◌, Bool, true, false, if◌then◌else◌, List, [], ◌∷◌, length, map, reverse, Option, Some, None}
 use Rattle.cb_commit.specs.History.{CommitsState}
-use Rattle.cb_commit.specs.Stores.{StoreState, bytes_at, version_at}
+use Rattle.cb_commit.specs.Stores.{IsOf, StoreState, bytes_at, version_at}
 use Rattle.cb_commit.specs.declared.commit.Commit.{Commit}
 use Rattle.cb_directory.specs.Directories.{DirectoryState, holder, row, tag}
 use Rattle.cb_holdings.specs.Messages.{applied_commit}
@@ -117,6 +117,12 @@ HasClient holdings client = client < length holdings.sessions
 abbrev pub HasPage : HoldingsState → ℕ → Type 0
 HasPage holdings page = page < length holdings.commits.store.pages
 
+-- They are of these limits.
+pub record AreOf (limits : Bounds) (holdings : HoldingsState) : Type 0 where
+  pub clients : length holdings.sessions ≡ limits.clients
+  pub store : IsOf limits holdings.commits.store
+  pub keep_write : holdings.keep_write ≡ limits.keep_write
+
 -- Clients and pages are as many in each part, and a live transaction is numbered from 1.
 pub record AreHoldings (holdings : HoldingsState) : Type 0 where
   pub clients : length holdings.directory.tables.clients ≡ length holdings.sessions
@@ -124,8 +130,16 @@ pub record AreHoldings (holdings : HoldingsState) : Type 0 where
   pub numbered : (client : ℕ) → is_live_transaction (transaction_of holdings client) ≡ true
       → 1 ≤ begun_txn (transaction_of holdings client)
 
--- It becomes what the protocol's server becomes by these steps, over the same opening store.
+-- Clients and pages are as many and pages as large, over the same opening store and setting.
+pub record Stays (before after : HoldingsState) : Type 0 where
+  pub keep_write : after.keep_write ≡ before.keep_write
+  pub clients : length after.sessions ≡ length before.sessions
+  pub pages : length after.commits.store.pages ≡ length before.commits.store.pages
+  pub page_size : after.commits.store.page_size ≡ before.commits.store.page_size
+  pub opening : after.commits.opening ≡ before.commits.opening
+
+-- It becomes what the protocol's server becomes by these steps.
 pub record Does (before : HoldingsState) (steps : List ServerStep) (after : HoldingsState)
     : Type 0 where
   pub becomes : server_of after ≡ server_after (server_of before) steps
-  pub opening : after.commits.opening ≡ before.commits.opening
+  pub stays : Stays before after

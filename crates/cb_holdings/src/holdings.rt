@@ -2,10 +2,11 @@
 ghost use Rattle.std.specs.Prelude.{◌≡◌, IfOk};
 ghost use Rattle.cb_commit.specs.Stores.{IsOf};
 ghost use Rattle.cb_commit.specs.History.{begun};
-ghost use Rattle.cb_holdings.specs.Holdings.{limits_of, opening_of, server_of};
+ghost use Rattle.cb_holdings.specs.Holdings.{AreOf, limits_of, opening_of, server_of};
 ghost use Rattle.cb_protocol.specs.Server.{new_server};
 ghost use Rattle.cb_protocol.specs.World.{opening_store};
 
+mod disk;
 mod questions;
 mod steps;
 
@@ -56,6 +57,7 @@ impl Holdings {
         ensures server { IfOk result (λ holdings. server_of holdings
             ≡ new_server limits.now.clients limits.now.pages
             (opening_store (limits_of limits.now) (opening_of store))) }
+        ensures of { IfOk result (AreOf limits.now) }
         ensures commits { IfOk result (λ holdings. holdings.commits ≡ begun store) }
     {
         Ok(Holdings {

@@ -2,7 +2,7 @@
 ghost use Rattle.std.specs.Prelude.{◌≡◌, ℕ, ◌<◌, ◌+◌, ◌≤◌, ◌↔◌, true, not, IfSome, IsSome};
 ghost use Rattle.cb_clients.specs.Clients.{has};
 ghost use Rattle.cb_holdings.specs.Holdings.{HasClient, HasPage, or_zero, server_of};
-ghost use Rattle.cb_holdings.specs.Questions.{admission_in, standing_in};
+ghost use Rattle.cb_holdings.specs.Questions.{IsLastIfLive, admission_in, standing_in};
 ghost use Rattle.cb_protocol.specs.AnyMessages.{DirectoryRule};
 ghost use Rattle.cb_protocol.specs.Basics.{is_none, max_number};
 ghost use Rattle.cb_protocol.specs.Server.{has_row, is_live_permission, is_write_holder};
@@ -27,7 +27,8 @@ impl Holdings {
     /// What a transaction of the current incarnation is beside the client's last one.
     pub fn standing(&self, client: ClientNo, txn: TxnNo) -> Standing
         requires { HasClient self.now client }
-        ensures { result ≡ standing_in (server_of self.now) client txn }
+        ensures value { result ≡ standing_in (server_of self.now) client txn }
+        ensures last { IsLastIfLive result (server_of self.now) client txn }
     {
         // It isn't 0, which stands for a client without a transaction.
         let _least = txn.get();
