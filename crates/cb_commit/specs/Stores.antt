@@ -1,7 +1,8 @@
 -- A page store as its callers see it.
-use Rattle.std.specs.Prelude.{◌≡◌, ℕ, ◌<◌, ◌≤◌, ◌^◌, List, [], length, replicate, slice_index_or}
+use Rattle.std.specs.Prelude.{◌≡◌, ℕ, ◌≤◌, List, [], length, replicate, slice_index_or}
 use Rattle.std.specs.List.{All}
 use Rattle.cb_page.specs.Bounds.{Bounds}
+use Rattle.cb_page.specs.Numbers.{max_number}
 use Rattle.cb_commit.specs.declared.store.StoredPage.{StoredPage}
 
 -- The pages in the order of their numbers, the size of each, and the number of the last commit in
@@ -19,7 +20,7 @@ pub record IsStored (page_size number : ℕ) (page : StoredPage) : Type 0 where
 -- Every page is so, and the number is one that a commit can have, or 0.
 pub record IsSound (s : StoreState) : Type 0 where
   pub pages : All (IsStored s.page_size s.number) s.pages
-  pub number : s.number < 2 ^ 62
+  pub number : s.number ≤ max_number
 
 -- A store of these limits: their count of pages, of their size.
 pub record IsOf (limits : Bounds) (s : StoreState) : Type 0 where

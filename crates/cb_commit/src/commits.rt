@@ -1,7 +1,8 @@
 //! The commits of a server.
-ghost use Rattle.std.specs.Prelude.{◌≡◌, ℕ, ◌+◌, ◌^◌, ◌<◌, ◌≤◌, ◌↔◌, ◌&&◌, nat_lt, List, map, Bool, length, IsTrue, IsSome, IfSome, IfOk, OnOk, OnErr};
+ghost use Rattle.std.specs.Prelude.{◌≡◌, ℕ, ◌+◌, ◌<◌, ◌≤◌, ◌↔◌, ◌&&◌, nat_lt, List, map, Bool, length, IsTrue, IsSome, IfSome, IfOk, OnOk, OnErr};
 ghost use Rattle.std.specs.List.{All};
 ghost use Rattle.cb_page.specs.Flags.{has};
+ghost use Rattle.cb_page.specs.Numbers.{max_number};
 ghost use Rattle.cb_commit.specs.Stores.{IsOf, version_at};
 ghost use Rattle.cb_commit.specs.Changes.{marked};
 ghost use Rattle.cb_commit.specs.Batches.{changed_below};
@@ -62,7 +63,7 @@ impl Commits {
     /// The number that the next commit gets; `None` where all numbers are used up.
     pub fn next_number(&self) -> Option<CommitNo>
         ensures value { IfSome result (λ number. number ≡ self.now.store.number + 1) }
-        ensures succeeds { IsSome result ↔ (self.now.store.number + 1 < 2 ^ 62) }
+        ensures succeeds { IsSome result ↔ (self.now.store.number + 1 ≤ max_number) }
     {
         CommitNo::checked(self.store.number() + 1)
     }
@@ -78,7 +79,7 @@ impl Commits {
         txn: TxnNo,
         writes: Writes,
     ) -> Result<CommitNo, AllocError>
-        requires number { self.old.store.number + 1 < 2 ^ 62 }
+        requires number { self.old.store.number + 1 ≤ max_number }
         requires fit { FitsInto self.old.store writes }
         ensures number { IfOk result (λ number. number ≡ self.old.store.number + 1) }
         ensures ok { OnOk result (self.new ≡ applied self.old (record {

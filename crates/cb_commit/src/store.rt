@@ -1,5 +1,6 @@
-ghost use Rattle.std.specs.Prelude.{◌≡◌, ℕ, ◌+◌, ◌<◌, ◌≤◌, ◌^◌, ◌↔◌, length, replicate, slice_index_or, IfOk, IsTrue};
+ghost use Rattle.std.specs.Prelude.{◌≡◌, ℕ, ◌+◌, ◌<◌, ◌≤◌, ◌↔◌, length, replicate, slice_index_or, IfOk, IsTrue};
 ghost use Rattle.std.specs.List.{All};
+ghost use Rattle.cb_page.specs.Numbers.{max_number};
 ghost use Rattle.cb_commit.specs.Stores.{IsSound, IsStored, IsOf, zeros, zero_page, no_page, version_at, bytes_at};
 ghost use Rattle.cb_commit.specs.History.{WritesInto, rewritten};
 
@@ -56,7 +57,7 @@ impl Store {
     pub fn from_rows(limits: &Limits, pages: Vec<StoredPage>, number: u64) -> Store
         requires count { length pages.items ≡ limits.now.pages }
         requires pages { All (IsStored limits.now.page_size number) pages.items }
-        requires number { number < 2 ^ 62 }
+        requires number { number ≤ max_number }
         ensures { result ≡ record {
           page_size = limits.now.page_size;
           pages = pages.items;
@@ -173,7 +174,7 @@ fn shows(
 ) -> (u64, Version, usize)
     requires count { length pages.items ≡ limits.now.pages }
     requires pages { All (IsStored limits.now.page_size number) pages.items }
-    requires number { number < 2 ^ 62 }
+    requires number { number ≤ max_number }
     requires page { page < limits.now.pages }
     ensures number { result.0 ≡ number }
     ensures version { result.1 ≡ (slice_index_or pages.items page no_page).version }

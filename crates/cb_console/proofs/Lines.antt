@@ -1,10 +1,10 @@
 -- The lines of events, one more at the end.
 use Rattle.std.proofs.Common.{◌≡◌, ℕ, zero, suc, ◌+◌, ◌<◌, List, [], ◌∷◌, ◌++◌, length, take, get_or, append_assoc, append-nil, arith}
 use Rattle.cb_console.specs.Output.{line, lines_from}
-use Rattle.cb_transcript.specs.declared.answer.Entry.{Entry}
+use Rattle.cb_transcript.specs.declared.answer.TranscriptEntry.{TranscriptEntry}
 
 -- the lines up to a place, and the line of the event there
-pub lines-more : (first : ℕ) (entries : List Entry) (i : ℕ) (place : ℕ) (entry : Entry) → i < length entries
+pub lines-more : (first : ℕ) (entries : List TranscriptEntry) (i : ℕ) (place : ℕ) (entry : TranscriptEntry) → i < length entries
     → entry ≡ get_or entries i entry → place ≡ first + i
     → lines_from first (take (suc i) entries) ≡ lines_from first (take i entries) ++ line place entry.answer
 lines-more first [] i place entry within is at = absurd (omega arith)

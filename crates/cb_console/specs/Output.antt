@@ -4,11 +4,11 @@ use Rattle.std.specs.List.{list_all, flat_map}
 use Rattle.std.specs.Fmt.{decimal, digit_glyph}
 use Rattle.cb_frame.specs.Kinds.{name_of}
 use Rattle.cb_first_client.specs.FaultTexts.{refusal_text}
-use Rattle.cb_transcript.specs.declared.answer.Word.{Word}
-use Rattle.cb_transcript.specs.declared.answer.Word.TheVariants as word
-use Rattle.cb_transcript.specs.declared.answer.Sent.{Sent}
+use Rattle.cb_transcript.specs.declared.answer.AnswerWord.{AnswerWord}
+use Rattle.cb_transcript.specs.declared.answer.AnswerWord.TheVariants as word
+use Rattle.cb_transcript.specs.declared.answer.SentPacket.{SentPacket}
 use Rattle.cb_transcript.specs.declared.answer.Answer.{Answer}
-use Rattle.cb_transcript.specs.declared.answer.Entry.{Entry}
+use Rattle.cb_transcript.specs.declared.answer.TranscriptEntry.{TranscriptEntry}
 
 -- a byte as two small hexadecimal digits
 unfoldable pub two_digits : ℕ → List ℕ
@@ -29,7 +29,7 @@ abbrev pub bytes_text : List ℕ → List ℕ
 bytes_text bytes = bytes_by (only_byte bytes) bytes
 
 -- the words of an answer
-abbrev pub word_text : Word → List ℕ
+abbrev pub word_text : AnswerWord → List ℕ
 word_text word.Ok = codes "ok"
 word_text (word.Bytes bytes) = bytes_text bytes
 word_text word.Asked = codes "asked"
@@ -43,7 +43,7 @@ word_text word.ServerExhausted = codes "refused 1 Exhausted"
 word_text word.NoClient = codes "noclient"
 
 -- a packet that was sent: its number, kind and client
-abbrev pub packet_text : Sent → List ℕ
+abbrev pub packet_text : SentPacket → List ℕ
 packet_text sent =
     codes " " ++ (decimal sent.number ++ (codes ":" ++ (name_of sent.kind
     ++ (codes ":" ++ decimal sent.client))))
@@ -55,7 +55,7 @@ line place answer =
     ++ (flat_map packet_text answer.sent ++ 10 ∷ [])))
 
 -- the lines of events, the first at this place
-abbrev pub lines_from : ℕ → List Entry → List ℕ
+abbrev pub lines_from : ℕ → List TranscriptEntry → List ℕ
 lines_from place [] = []
 lines_from place (entry ∷ entries) = line place entry.answer ++ lines_from (place + 1) entries
 

@@ -11,7 +11,7 @@ use Rattle.cb_event.specs.ScheduleText as text
 use Rattle.cb_transcript.specs.Transcripts.{IsSerialOnOpening, TranscriptState}
 use Rattle.cb_first_net.specs.NetState.{opening_of}
 use Rattle.cb_schedule.specs.WorldState.{Represents, WorldState}
-use Rattle.cb_transcript.specs.declared.answer.Entry.{Entry}
+use Rattle.cb_transcript.specs.declared.answer.TranscriptEntry.{TranscriptEntry}
 use Rattle.cb_event.specs.declared.event.Event.{Event}
 use Rattle.cb_event.specs.declared.text.ScheduleFault.{ScheduleFault}
 use Rattle.cb_event.specs.declared.text.ScheduleFault.TheVariants as schedule

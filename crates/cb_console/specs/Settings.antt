@@ -1,6 +1,6 @@
 -- Which texts are configurations, the settings that they mean, and the fault of any other text.
 -- This project's rules.
-use Rattle.std.specs.Prelude.{◌≡◌, ◌≢◌, ◌⊎◌, ℕ, ◌^◌, ◌/◌, ◌==◌, max, pos, Bool, not, ◌&&◌, nat_lt, List, [], ◌∷◌, ◌++◌, map, codes, Option, Some, None, is_some, is_none, unwrap_or, option_map, Result, Ok, Err, if◌then◌else◌, string_bytes}
+use Rattle.std.specs.Prelude.{◌≡◌, ◌≢◌, ◌⊎◌, ℕ, ◌/◌, ◌==◌, max, pos, Bool, not, ◌&&◌, nat_le, nat_lt, List, [], ◌∷◌, ◌++◌, map, codes, Option, Some, None, is_some, is_none, unwrap_or, option_map, Result, Ok, Err, if◌then◌else◌, string_bytes}
 use Rattle.std.specs.List.{list_any}
 use Rattle.std.specs.Option.{option_and_then}
 use Rattle.std.specs.Str.{bytes_eq, IsUtf8}
@@ -9,6 +9,7 @@ use Rattle.toml.specs.Parse.{parse_document}
 use Rattle.cb_page.specs.Bounds.{Bounds}
 use Rattle.cb_page.specs.Faults.{first_fault}
 use Rattle.cb_page.specs.Limits.{limit_causes}
+use Rattle.cb_page.specs.Numbers.{max_number}
 use Rattle.cb_page.specs.declared.limits.LimitFault.{LimitFault}
 use Rattle.cb_page.specs.declared.limits.LimitFault.TheVariants as limit
 use Rattle.cb_console.specs.Escaped.{escaped}
@@ -50,9 +51,9 @@ all_keys =
 unfoldable pub is_known : List ℕ → Bool
 is_known name = list_any (λ known. bytes_eq (key_name known) name) all_keys
 
--- a whole number is one from 0 to 2 ^ 62 - 1
+-- a whole number is one from 0 to 2^62 - 1
 abbrev pub whole_number : Data → Option ℕ
-whole_number (integer (pos n)) = if nat_lt n (2 ^ 62) then Some n else None
+whole_number (integer (pos n)) = if nat_le n max_number then Some n else None
 whole_number other = None
 
 -- what a table has at a key

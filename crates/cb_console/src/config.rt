@@ -10,7 +10,7 @@ ghost use Rattle.cb_console.specs.declared.config.ConfigFault.TheVariants as fau
 ghost use Rattle.cb_console.specs.declared.config.Key.TheVariants as key;
 
 use crate::escaped::Escaped;
-use cb_page::{LimitFault, Limits};
+use cb_page::{LimitFault, Limits, MAX_NUMBER};
 use std::alloc::{AllocError, AllocFailed, Global};
 use std::error::Error;
 use std::fmt;
@@ -139,9 +139,6 @@ pub struct Config {
 
 /// The most jobs of a worker.
 const MOST_JOBS: u64 = 100_000;
-
-/// One above the greatest number that is read.
-const NUMBERS_END: u64 = 1 << 62;
 
 /// The settings that must be there.
 #[derive(Clone, Copy)]
@@ -293,7 +290,7 @@ fn whole_number(value: &Value) -> Option<u64>
     match value {
         Value::Integer(number) => u64::try_from(*number)
             .ok()
-            .filter(|number| *number < NUMBERS_END),
+            .filter(|number| *number <= MAX_NUMBER),
         _ => None,
     }
 }

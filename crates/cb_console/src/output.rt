@@ -5,13 +5,13 @@ ghost use Rattle.std.specs.Io.KnownBytes.{Appends};
 ghost use Rattle.cb_console.specs.Output.{bytes_text, last_lines, line, lines_from, only_byte, packet_text, two_digits, word_text};
 
 use cb_page::Page;
-use cb_schedule::{Answer, Entry, SentPackets, Word};
+use cb_schedule::{Answer, AnswerWord, SentPackets, TranscriptEntry};
 use std::io;
 use std::io::Write;
 
 /// Prints a line for each event: its place from 1, its answer, and each packet sent as
 /// `number:kind:client`.
-pub fn put_entries<O: Write>(out: &mut O, entries: &[Entry]) -> io::Result<()>
+pub fn put_entries<O: Write>(out: &mut O, entries: &[TranscriptEntry]) -> io::Result<()>
     ensures { OnOk result
         (Appends (O.contents out.old) (O.contents out.new) (lines_from 1 entries.now)) }
 {
@@ -40,24 +40,24 @@ fn put_line<O: Write>(out: &mut O, place: usize, answer: &Answer) -> io::Result<
     out.write_all(b"\n")
 }
 
-fn put_word<O: Write>(out: &mut O, word: &Word) -> io::Result<()>
+fn put_word<O: Write>(out: &mut O, word: &AnswerWord) -> io::Result<()>
     ensures { OnOk result (Appends (O.contents out.old) (O.contents out.new) (word_text word.now)) }
 {
     match word {
-        Word::Ok => out.write_all(b"ok"),
-        Word::Bytes(page) => put_bytes(out, page),
-        Word::Asked => out.write_all(b"asked"),
-        Word::Permitted => out.write_all(b"permitted"),
-        Word::Nothing => out.write_all(b"none"),
-        Word::Flushed(number) => {
+        AnswerWord::Ok => out.write_all(b"ok"),
+        AnswerWord::Bytes(page) => put_bytes(out, page),
+        AnswerWord::Asked => out.write_all(b"asked"),
+        AnswerWord::Permitted => out.write_all(b"permitted"),
+        AnswerWord::Nothing => out.write_all(b"none"),
+        AnswerWord::Flushed(number) => {
             let number = number.get();
             write!(out, "flushed {number}")
         }
-        Word::Taken => out.write_all(b"taken"),
-        Word::NoPacket => out.write_all(b"nopacket"),
-        Word::Refused(fault) => write!(out, "refused {fault}"),
-        Word::ServerExhausted => out.write_all(b"refused 1 Exhausted"),
-        Word::NoClient => out.write_all(b"noclient"),
+        AnswerWord::Taken => out.write_all(b"taken"),
+        AnswerWord::NoPacket => out.write_all(b"nopacket"),
+        AnswerWord::Refused(fault) => write!(out, "refused {fault}"),
+        AnswerWord::ServerExhausted => out.write_all(b"refused 1 Exhausted"),
+        AnswerWord::NoClient => out.write_all(b"noclient"),
     }
 }
 

@@ -4,7 +4,8 @@ use cb_console::{Play, play_to, print_outcome, put_entries};
 use cb_frame::Kind;
 use cb_page::{ClientNo, CommitNo, Limits, Page};
 use cb_schedule::{
-    Answer, ClientFault, Entry, Event, Sent, SentPackets, Word, World, read_schedule,
+    Answer, AnswerWord, ClientFault, Event, SentPacket, SentPackets, TranscriptEntry, World,
+    read_schedule,
 };
 use std::alloc::Global;
 use std::test::Fail;
@@ -165,16 +166,16 @@ fn too_many_events(rt: HostRuntime) -> Result<(), Fail> {
 }
 
 /// The entry of an answer that sends one packet.
-fn entry_of(alloc: Global, client: ClientNo, word: Word) -> Result<Entry, Fail> {
+fn entry_of(alloc: Global, client: ClientNo, word: AnswerWord) -> Result<TranscriptEntry, Fail> {
     let sent = SentPackets::one(
         alloc,
-        Sent {
+        SentPacket {
             number: 1000,
             kind: Kind::Granted,
             client,
         },
     )?;
-    Ok(Entry {
+    Ok(TranscriptEntry {
         event: Event::Flush,
         answer: Answer { word, sent },
     })
@@ -189,19 +190,19 @@ fn words_of_answers(rt: HostRuntime) -> Result<(), Fail> {
     let number = CommitNo::checked(4_611_686_018_427_387_903).ok_or("no commit number")?;
     let mut entries = Vec::new(rt.alloc());
     for word in vec![in rt.alloc();
-        Word::Ok,
-        Word::Bytes(Page::copy_of(rt.alloc(), b"\x00\x0f\x10\xff")?),
-        Word::Bytes(Page::copy_of(rt.alloc(), b"\x0a\x0a\x0a")?),
-        Word::Bytes(Page::copy_of(rt.alloc(), b"\x0a\x0a\x0b")?),
-        Word::Asked,
-        Word::Permitted,
-        Word::Nothing,
-        Word::Flushed(number),
-        Word::Taken,
-        Word::NoPacket,
-        Word::Refused(ClientFault::WrongLength),
-        Word::ServerExhausted,
-        Word::NoClient,
+        AnswerWord::Ok,
+        AnswerWord::Bytes(Page::copy_of(rt.alloc(), b"\x00\x0f\x10\xff")?),
+        AnswerWord::Bytes(Page::copy_of(rt.alloc(), b"\x0a\x0a\x0a")?),
+        AnswerWord::Bytes(Page::copy_of(rt.alloc(), b"\x0a\x0a\x0b")?),
+        AnswerWord::Asked,
+        AnswerWord::Permitted,
+        AnswerWord::Nothing,
+        AnswerWord::Flushed(number),
+        AnswerWord::Taken,
+        AnswerWord::NoPacket,
+        AnswerWord::Refused(ClientFault::WrongLength),
+        AnswerWord::ServerExhausted,
+        AnswerWord::NoClient,
     ]? {
         entries.push(entry_of(rt.alloc(), client, word)?)?;
     }

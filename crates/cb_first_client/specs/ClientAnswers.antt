@@ -21,7 +21,7 @@ abbrev pub fault_of : ClientFault → table.ClientFault
 fault_of fault.NotWelcome = table.NotWelcome
 fault_of fault.NoTransaction = table.NoTransaction
 fault_of fault.TransactionOpen = table.TransactionOpen
-fault_of fault.Committing = table.CommittingFault
+fault_of fault.Committing = table.Committing
 fault_of fault.Waiting = table.Waiting
 fault_of fault.PageRange = table.PageRange
 fault_of fault.NotRead = table.NotRead

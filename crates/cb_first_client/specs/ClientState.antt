@@ -4,7 +4,6 @@ use Rattle.std.specs.Prelude.{
   ℕ,
   ◌<◌,
   ◌≤◌,
-  ◌^◌,
   Bool,
   true,
   false,
@@ -25,6 +24,7 @@ use Rattle.std.specs.Prelude.{
 use Rattle.std.specs.Option.{is_some}
 use Rattle.cb_page.specs.Bounds.{Bounds, AreInRange}
 use Rattle.cb_page.specs.Flags.{has}
+use Rattle.cb_page.specs.Numbers.{max_number}
 use Rattle.cb_pool.specs.PoolState.{PoolState, copy_of, empty_pool, let_go}
 use Rattle.cb_first_client.specs.declared.copies.PageCopy.{PageCopy}
 use Rattle.cb_first_client.specs.declared.copies.Held.{Held}
@@ -133,7 +133,7 @@ pub record IsClient (v : ClientState) : Type 0 where
       → (copy_at v.copies p).locked ≡ true
   pub asking : IfSome v.asking (λ p. (v.is_open ≡ true) × (p < v.limits.pages))
   pub begun : v.is_open ≡ true → 1 ≤ v.txn
-  pub greatest : v.txn < 2 ^ 62
+  pub greatest : v.txn ≤ max_number
 
 -- a copy that the transaction reads; one with another grant seen
 abbrev pub locked_copy : PageCopy → PageCopy

@@ -1,6 +1,6 @@
 //! The client of the world: one incarnation of a client, with its copies of pages and its
 //! transaction.
-ghost use Rattle.std.specs.Prelude.{◌≡◌, ℕ, ◌+◌, ◌<◌, ◌≤◌, ◌^◌, Bool, true, false, List, [], ◌∷◌};
+ghost use Rattle.std.specs.Prelude.{◌≡◌, ℕ, ◌+◌, ◌<◌, ◌≤◌, Bool, true, false, List, [], ◌∷◌};
 ghost use Rattle.std.specs.Prelude.{length, replicate, slice_set, Some, None, IfOk, IfErr, OnOk};
 ghost use Rattle.std.specs.Prelude.{OnErr, IsErr, IsNone};
 ghost use Rattle.cb_first_client.specs.ClientState.{ClientState, IsClient, copy_at, no_copy, fresh};
@@ -15,6 +15,7 @@ ghost use Rattle.cb_protocol.specs.ClientCalls.{CallBegin, CallHello, CallPeek, 
 ghost use Rattle.cb_protocol.specs.ClientCalls.{peek_word};
 ghost use Rattle.cb_protocol.specs.Messages.{Granted, Hello, Welcome};
 ghost use Rattle.std.specs.Option.{is_some, option_copied};
+ghost use Rattle.cb_page.specs.Numbers.{max_number};
 ghost use Rattle.cb_pool.specs.PoolState.{MayGo, copy_of};
 ghost use Rattle.cb_protocol.specs.Client.{has_room, new_client};
 ghost use Rattle.cb_protocol.specs.Serial.{Operation};
@@ -22,14 +23,11 @@ ghost use Rattle.cb_first_client.specs.ProtocolLimits.{limits_of};
 
 use crate::client_fault::ClientFault;
 use crate::copies::{Copies, Held, PageCopy};
-use cb_page::{GrantNo, Limits, Page, PageNo, TxnNo, Version};
+use cb_page::{GrantNo, Limits, MAX_NUMBER, Page, PageNo, TxnNo, Version};
 use cb_pool::{Pool, PoolFault};
 use cb_twoq::{Chooser, TwoQ};
 use std::alloc::{AllocError, Global};
 use std::marker::Model;
-
-/// The greatest number of a transaction.
-const LAST_TXN: u64 = (1 << 62) - 1;
 
 /// What a read is answered.
 #[derive(Clone, Copy, Debug, PartialEq, Eq)]
@@ -123,7 +121,7 @@ impl Client {
 
     /// Opens a transaction, with the next number.
     fn open_transaction(&mut self)
-        requires { self.old.txn + 1 < 2 ^ 62 }
+        requires { self.old.txn + 1 ≤ max_number }
         ensures { self.new ≡ record self.old { txn = self.old.txn + 1; is_open = true } }
     {
         self.txn += 1;
@@ -200,7 +198,7 @@ impl Client {
     #[tactic(auto, unfolding(cb_protocol::specs::ClientCalls::call_fault))]
     fn begin_fault(&self) -> Option<ClientFault>
         ensures fault { IsFault self.now CallBegin result }
-        ensures below { IsNone result → self.now.txn + 1 < 2 ^ 62 }
+        ensures below { IsNone result → self.now.txn + 1 ≤ max_number }
     {
         if !self.welcomed {
             return Some(ClientFault::NotWelcome);
@@ -208,7 +206,7 @@ impl Client {
         if self.is_open {
             return Some(ClientFault::TransactionOpen);
         }
-        if self.txn >= LAST_TXN {
+        if self.txn >= MAX_NUMBER {
             return Some(ClientFault::Exhausted);
         }
         None

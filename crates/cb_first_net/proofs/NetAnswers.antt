@@ -14,9 +14,9 @@ use Rattle.cb_frame.specs.declared.frame.Body.TheVariants as body
 use Rattle.cb_frame.specs.declared.frame.ShortBody.{ShortBody}
 use Rattle.cb_frame.specs.declared.frame.ShortBody.TheVariants as short
 use Rattle.cb_transcript.specs.declared.answer.Answer.{Answer}
-use Rattle.cb_transcript.specs.declared.answer.Sent.{Sent}
-use Rattle.cb_transcript.specs.declared.answer.Word.{Word}
-use Rattle.cb_transcript.specs.declared.answer.Word.TheVariants as word
+use Rattle.cb_transcript.specs.declared.answer.SentPacket.{SentPacket}
+use Rattle.cb_transcript.specs.declared.answer.AnswerWord.{AnswerWord}
+use Rattle.cb_transcript.specs.declared.answer.AnswerWord.TheVariants as word
 use Rattle.cb_first_client.specs.declared.client.ReadAnswer.{ReadAnswer}
 use Rattle.cb_first_client.specs.declared.client.ReadAnswer.TheVariants as read
 use Rattle.cb_first_client.specs.declared.client_fault.ClientFault.{ClientFault}
@@ -75,7 +75,7 @@ pub call_silent : (n m : NetState) (c : ℕ) (x : Call) (word : AnswerWord) (s :
     → IsNet n → c < n.limits.clients → Calls (client_at n c) x word [] s performed → m ≡ with_client n c s → word_of a.word ≡ word → a.sent ≡ [] → NetBecomes n (ClientCalls c x) a m
 call_silent n m c x word s performed a z h r e w f =
     subst (λ (u : NetState). NetBecomes n (ClientCalls c x) a u) (ap (λ (ps : List (List ℕ)). record { limits = n.limits; server = n.server; clients = slice_set n.clients c s; packets = ps }) (append-nil n.packets) ∙ sym e)
-    (call_becomes n c x word [] s performed [] a z h r tt w (ap (λ (l : List Sent). map sent_of l) (sym f)))
+    (call_becomes n c x word [] s performed [] a z h r tt w (ap (λ (l : List SentPacket). map sent_of l) (sym f)))
 
 -- a call that says one message
 pub call_sends : (n m : NetState) (c : ℕ) (x : Call) (word : AnswerWord) (s : ClientState) (performed : List Operation) (f : Frame) (a : Answer)
@@ -85,14 +85,14 @@ call_sends n m c x word s performed f a z h r k i y e w q =
     subst (λ (u : NetState). NetBecomes n (ClientCalls c x) a u) (sym e)
     (call_becomes n c x word (body_of f.body ∷ []) s performed (spelling f ∷ []) a z h r
     (subst (λ (ms : List protocol.Message). AllSpell n.limits (spelling f ∷ []) ms) (sym (said_as f c k i)) (one_spelled n.limits f y)) w
-    (ap (λ (ms : List protocol.Message). numbered_from (length n.packets) ms) (said_as f c k i) ∙ (one_sent n f ∙ ap (λ (l : List Sent). map sent_of l) (sym q))))
+    (ap (λ (ms : List protocol.Message). numbered_from (length n.packets) ms) (said_as f c k i) ∙ (one_sent n f ∙ ap (λ (l : List SentPacket). map sent_of l) (sym q))))
 
 -- nothing of the client changes
 pub same_client : (n : NetState) (c : ℕ) → with_client n c (client_at n c) ≡ n
 same_client n c = ap (λ (cs : List ClientState). record { limits = n.limits; server = n.server; clients = cs; packets = n.packets }) (kept_clients n c)
 
 -- the server takes a packet, once its reply was sent
-pub server_answers : (n v m : NetState) (k : ℕ) (x : protocol.Message) (r : ServerReply) (sent : List Sent) → Carries n k x → protocol.to_server x.body ≡ true → is_exhausted (server_of n.server) x.client x.incarnation x.body ≡ false
+pub server_answers : (n v m : NetState) (k : ℕ) (x : protocol.Message) (r : ServerReply) (sent : List SentPacket) → Carries n k x → protocol.to_server x.body ≡ true → is_exhausted (server_of n.server) x.client x.incarnation x.body ≡ false
     → Replies n.server x.client x.incarnation x.body r → Says n x.client x.incarnation (bodies_of n.server.store r) sent v → TakesMessage v.server x.client x.incarnation x.body m.server → m ≡ with_server v m.server
     → NetBecomes n (TakePacket k) (record { word = word.Taken; sent = sent }) m
 server_answers n v m k x r sent z t u y q h e =
@@ -102,7 +102,7 @@ server_answers n v m k x r sent z t u y q h e =
     (server_becomes n k x m.server r q.packets (record { word = word.Taken; sent = sent }) z t u y taken q.spelled refl q.numbered)
 
 -- a client takes a packet, and what it says is sent
-pub client_answers : (n v m : NetState) (k : ℕ) (x : protocol.Message) (bodies : List protocol.Body) (sent : List Sent) → IsNet n → Carries n k x → protocol.to_server x.body ≡ false → x.incarnation ≡ 1 → x.client < n.limits.clients
+pub client_answers : (n v m : NetState) (k : ℕ) (x : protocol.Message) (bodies : List protocol.Body) (sent : List SentPacket) → IsNet n → Carries n k x → protocol.to_server x.body ≡ false → x.incarnation ≡ 1 → x.client < n.limits.clients
     → Takes (client_at n x.client) x.body bodies (client_at v x.client) → v ≡ with_client n x.client (client_at v x.client) → Says v x.client 1 bodies sent m
     → NetBecomes n (TakePacket k) (record { word = word.Taken; sent = sent }) m
 client_answers n v m k x bodies sent y z t o h r e q =
@@ -123,7 +123,7 @@ pub short_fits : (l : Bounds) (c i : ℕ) (b : ShortBody) → c < l.clients → 
 short_fits l c i b h e k = record { client = h; incarnation = subst IsNumber (sym e) is_one; body = k }
 
 -- what a begin is answered
-abbrev begin_word : Result ℕ ClientFault → Word
+abbrev begin_word : Result ℕ ClientFault → AnswerWord
 begin_word (Ok txn) = word.Ok
 begin_word (Err fault) = word.Refused fault
 
@@ -132,7 +132,7 @@ pub begin_answers : (n m : NetState) (c : ℕ) (r : Result ℕ ClientFault) → 
 begin_answers n m c (Ok txn) z h b e = call_silent n m c CallBegin AnsweredOk (client_at m c) [] (record { word = word.Ok; sent = [] }) z h b.1 e refl refl
 begin_answers n m c (Err fault) z h b e = call_silent n m c CallBegin (Refused (fault_of fault)) (client_at m c) [] (record { word = word.Refused fault; sent = [] }) z h b.by_table e refl refl
 
-abbrev peek_answer : Option (List ℕ) → Word
+abbrev peek_answer : Option (List ℕ) → AnswerWord
 peek_answer None = word.Nothing
 peek_answer (Some bytes) = word.Bytes bytes
 

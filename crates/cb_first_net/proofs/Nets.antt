@@ -12,7 +12,7 @@ use Rattle.cb_first_client.specs.ClientAnswers.{Calls, Takes}
 use Rattle.cb_first_client.specs.ProtocolLimits.{limits_of}
 use Rattle.cb_transcript.specs.ProtocolEvents.{word_of, sent_of}
 use Rattle.cb_first_net.specs.NetMoves.{IsNet, NetBecomes, Carries}
-use Rattle.cb_transcript.specs.declared.answer.Sent.{Sent}
+use Rattle.cb_transcript.specs.declared.answer.SentPacket.{SentPacket}
 use Rattle.cb_first_server.specs.declared.server.ServerReply.{ServerReply}
 use Rattle.cb_transcript.specs.declared.answer.Answer.{Answer}
 use Rattle.cb_first_net.specs.NetState.{NetState, RepresentsNet, client_at}
@@ -132,7 +132,7 @@ no_client_becomes n c x a h e f = record {
     w,
     tt,
     step_call_no_client (limits_of n.limits) on_cycle w c x None (not_below c n.limits.clients h) ∙ ap (λ (o : AnswerWord). answer_with w (ClientCalls c x) o [] w) (sym e),
-    ap (λ (l : List Sent). map sent_of l) (sym f),
+    ap (λ (l : List SentPacket). map sent_of l) (sym f),
     record { server = sh.server; clients = sh.clients; incarnations = sh.incarnations; packets = rw (append-nil w.packets) sh.packets },
   );
 }
@@ -173,7 +173,7 @@ no_packet_becomes n k a h e f = record {
         w,
         none_chosen (limits_of n.limits) w k none,
         no_packet (limits_of n.limits) w k none ∙ ap (λ (o : AnswerWord). answer_with w (TakePacket k) o [] w) (sym e),
-        ap (λ (l : List Sent). map sent_of l) (sym f),
+        ap (λ (l : List SentPacket). map sent_of l) (sym f),
         record { server = sh.server; clients = sh.clients; incarnations = sh.incarnations; packets = rw (append-nil w.packets) sh.packets },
       );
 }
@@ -232,7 +232,7 @@ exhausted_becomes n k m a x t z e f = record {
         w,
         chosen_at (limits_of n.limits) w k m None (carried n k m w x sh) (λ i. none_let_go (limits_of n.limits) (w.client m.client) m.body t),
         delivered (limits_of n.limits) w k m None (carried n k m w x sh) ∙ (to_the_server w t gone ∙ ap (λ (o : AnswerWord). answer_with w (TakePacket k) o [] w) (sym e)),
-        ap (λ (l : List Sent). map sent_of l) (sym f),
+        ap (λ (l : List SentPacket). map sent_of l) (sym f),
         record { server = sh.server; clients = sh.clients; incarnations = sh.incarnations; packets = rw (append-nil w.packets) sh.packets },
       );
 }
@@ -287,7 +287,7 @@ other_becomes n k m a x t o e f = record {
         w,
         chosen_at (limits_of n.limits) w k m None (carried n k m w x sh) (λ i. absurd (not_own m.incarnation (w.incarnation m.client) other i)),
         delivered (limits_of n.limits) w k m None (carried n k m w x sh) ∙ (to_nobody w t other ∙ ap (λ (y : AnswerWord). answer_with w (TakePacket k) y [] w) (sym e)),
-        ap (λ (l : List Sent). map sent_of l) (sym f),
+        ap (λ (l : List SentPacket). map sent_of l) (sym f),
         record { server = sh.server; clients = sh.clients; incarnations = sh.incarnations; packets = rw (append-nil w.packets) sh.packets },
       );
 }

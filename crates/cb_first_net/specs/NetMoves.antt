@@ -22,8 +22,8 @@ use Rattle.cb_frame.specs.declared.frame.Frame.{Frame}
 use Rattle.cb_frame.specs.declared.frame.Body.TheVariants as body
 use Rattle.cb_frame.specs.declared.frame.ShortBody.{ShortBody}
 use Rattle.cb_frame.specs.declared.frame.ShortBody.TheVariants as short
-use Rattle.cb_transcript.specs.declared.answer.Sent.{Sent}
-use Rattle.cb_transcript.specs.declared.answer.Word.TheVariants as word
+use Rattle.cb_transcript.specs.declared.answer.SentPacket.{SentPacket}
+use Rattle.cb_transcript.specs.declared.answer.AnswerWord.TheVariants as word
 use Rattle.cb_first_net.specs.declared.packet.Granting.{Granting}
 use Rattle.cb_first_client.specs.declared.client.ReadAnswer.{ReadAnswer}
 use Rattle.cb_first_client.specs.declared.client.ReadAnswer.TheVariants as read
@@ -59,7 +59,7 @@ pub record Carries (n : NetState) (k : ℕ) (m : Message) : Type 0 where
   pub only : (other : Message) → Spells n.limits bytes other → other ≡ m
 
 -- the packet that a frame is sent as, and the net once it was
-abbrev pub sent_as : NetState → Frame → Sent
+abbrev pub sent_as : NetState → Frame → SentPacket
 sent_as n f = record { number = length n.packets; kind = kind_of_body f.body; client = f.client }
 
 abbrev pub sent_net_of : NetState → Frame → NetState
@@ -99,7 +99,7 @@ FrameOfPacket n k None = slice_get n.packets k ≡ None
 FrameOfPacket n k (Some f) = FoundFrame n k f
 
 -- these bodies are sent, to or from the client at that incarnation
-pub record Says (n : NetState) (c i : ℕ) (bodies : List Body) (sent : List Sent)
+pub record Says (n : NetState) (c i : ℕ) (bodies : List Body) (sent : List SentPacket)
     (m : NetState) : Type 0 where
   pub packets : List (List ℕ)
   pub after : m

@@ -37,7 +37,7 @@ use cb_first_client::{Client, ClientFault, ReadAnswer};
 use cb_first_server::{Server, ServerFault, ServerReply};
 use cb_frame::{Body, Frame, Kind, ShortBody, encode, encode_granted};
 use cb_page::{ClientNo, GrantNo, Incarnation, Limits, Page, PageNo, TxnNo, Version};
-use cb_transcript::{Answer, Sent, SentPackets, Word};
+use cb_transcript::{Answer, AnswerWord, SentPacket, SentPackets};
 use std::alloc::{AllocError, Global};
 use std::marker::Model;
 
@@ -107,7 +107,7 @@ impl Net {
             ≡ record { number = length self.old.packets; kind = kind; client = client } ∷ []) }
         ensures err { OnErr result (self.new ≡ self.old) }
     {
-        let sent = Sent {
+        let sent = SentPacket {
             number: self.packets.len() as u64,
             kind,
             client,
@@ -256,7 +256,7 @@ impl Net {
         let first = Incarnation::new(1);
         let sent = self.send_short(alloc, client, first, ShortBody::Hello)?;
         Ok(Answer {
-            word: Word::Ok,
+            word: AnswerWord::Ok,
             sent,
         })
     }
@@ -268,8 +268,8 @@ impl Net {
     {
         self.sound();
         match self.begin_at(client) {
-            Ok(_) => Answer::silent(alloc, Word::Ok),
-            Err(fault) => Answer::silent(alloc, Word::Refused(fault)),
+            Ok(_) => Answer::silent(alloc, AnswerWord::Ok),
+            Err(fault) => Answer::silent(alloc, AnswerWord::Refused(fault)),
         }
     }
 
@@ -283,9 +283,9 @@ impl Net {
         match self.peek_at(client, page) {
             Some(bytes) => {
                 let copy = Page::copy_of(alloc, bytes)?;
-                Ok(Answer::silent(alloc, Word::Bytes(copy)))
+                Ok(Answer::silent(alloc, AnswerWord::Bytes(copy)))
             }
-            None => Ok(Answer::silent(alloc, Word::Nothing)),
+            None => Ok(Answer::silent(alloc, AnswerWord::Nothing)),
         }
     }
 
@@ -299,7 +299,7 @@ impl Net {
         self.sound();
         match self.read_at(client, page) {
             Ok(found) => self.answer_read(alloc, client, page, found),
-            Err(fault) => Ok(Answer::silent(alloc, Word::Refused(fault))),
+            Err(fault) => Ok(Answer::silent(alloc, AnswerWord::Refused(fault))),
         }
     }
 
@@ -334,12 +334,12 @@ impl Net {
         requires client { client < self.now.limits.clients }
         requires here { IsSome (copy_of (client_at self.now client).pool page) }
         ensures { IfOk result (λ a. a
-            ≡ record { word = Word.Bytes (bytes_in (client_at self.now client) page); sent = [] }) }
+            ≡ record { word = AnswerWord.Bytes (bytes_in (client_at self.now client) page); sent = [] }) }
     {
         match self.peek_at(client, page) {
             Some(bytes) => {
                 let copy = Page::copy_of(alloc, bytes)?;
-                Ok(Answer::silent(alloc, Word::Bytes(copy)))
+                Ok(Answer::silent(alloc, AnswerWord::Bytes(copy)))
             }
             None => unreachable!(),
         }
@@ -357,7 +357,7 @@ impl Net {
         requires page { page < self.old.limits.pages }
         ensures sent { IfOk result (λ a. a
             ≡ record {
-              word = Word.Asked;
+              word = AnswerWord.Asked;
               sent = sent_as self.old (asking_frame client txn page) ∷ [];
             }) }
         ensures ok { OnOk result (self.new ≡ sent_net_of self.old (asking_frame client txn page)) }
@@ -367,7 +367,7 @@ impl Net {
         let first = Incarnation::new(1);
         let sent = self.send_short(alloc, client, first, ShortBody::AskRead { txn, page })?;
         Ok(Answer {
-            word: Word::Asked,
+            word: AnswerWord::Asked,
             sent,
         })
     }
@@ -489,7 +489,7 @@ impl Net {
         let sent = self.say(alloc, client, incarnation, reply)?;
         self.serve_hello(client, incarnation);
         Ok(Answer {
-            word: Word::Taken,
+            word: AnswerWord::Taken,
             sent,
         })
     }
@@ -521,11 +521,11 @@ impl Net {
                 let sent = self.say(alloc, client, incarnation, reply)?;
                 self.serve_ask(client, incarnation, txn, page);
                 Ok(Answer {
-                    word: Word::Taken,
+                    word: AnswerWord::Taken,
                     sent,
                 })
             }
-            Err(_) => Ok(Answer::silent(alloc, Word::ServerExhausted)),
+            Err(_) => Ok(Answer::silent(alloc, AnswerWord::ServerExhausted)),
         }
     }
 
@@ -548,7 +548,7 @@ impl Net {
     {
         self.sound();
         self.serve_give_back(client, incarnation, page, grant);
-        Answer::silent(alloc, Word::Taken)
+        Answer::silent(alloc, AnswerWord::Taken)
     }
 
     /// A client takes the server's Welcome.
@@ -568,10 +568,10 @@ impl Net {
     {
         self.sound();
         if incarnation.get() != 1 {
-            return Answer::silent(alloc, Word::Taken);
+            return Answer::silent(alloc, AnswerWord::Taken);
         }
         self.welcome_at(client);
-        Answer::silent(alloc, Word::Taken)
+        Answer::silent(alloc, AnswerWord::Taken)
     }
 
     /// A client takes a page that the server granted.
@@ -596,13 +596,13 @@ impl Net {
             bytes,
         } = frame;
         if incarnation.get() != 1 {
-            return Ok(Answer::silent(alloc, Word::Taken));
+            return Ok(Answer::silent(alloc, AnswerWord::Taken));
         }
         let back = self.replies_at(client, page, grant);
         self.grant_at(client, page, grant, version, bytes)?;
         let sent = self.say_back(alloc, client, page, grant, back)?;
         Ok(Answer {
-            word: Word::Taken,
+            word: AnswerWord::Taken,
             sent,
         })
     }
@@ -678,7 +678,7 @@ impl Net {
     {
         match self.frame(alloc, packet)? {
             Some(frame) => self.deliver(alloc, packet, frame),
-            None => Ok(Answer::silent(alloc, Word::NoPacket)),
+            None => Ok(Answer::silent(alloc, AnswerWord::NoPacket)),
         }
     }
 
@@ -690,7 +690,7 @@ impl Net {
         ensures err { OnErr result (self.new.packets ≡ self.old.packets) }
     {
         if !self.has_client(client) {
-            return Ok(Answer::silent(alloc, Word::NoClient));
+            return Ok(Answer::silent(alloc, AnswerWord::NoClient));
         }
         match call {
             Call::Hello => self.hello(alloc, client),

@@ -1,5 +1,5 @@
 -- What the code of the server answers and becomes is what the protocol's server does.
-use Rattle.std.proofs.Common.{◌≡◌, ◌≢◌, ℕ, ◌<◌, ◌≤◌, ◌+◌, ◌-◌, ◌==◌, ◌^◌, nat_lt, Bool, true, false, ◌&&◌, ◌||◌, List, [], ◌∷◌, Option, None, Some, Result, Ok, Err, IsErr, ◌↔◌, zero, suc, length, refl, ap, sym, ◌∙◌, subst, arith, if◌then◌else◌}
+use Rattle.std.proofs.Common.{◌≡◌, ◌≢◌, ℕ, ◌<◌, ◌≤◌, ◌+◌, ◌-◌, ◌==◌, nat_lt, Bool, true, false, ◌&&◌, ◌||◌, List, [], ◌∷◌, Option, None, Some, Result, Ok, Err, IsErr, ◌↔◌, zero, suc, length, refl, ap, sym, ◌∙◌, subst, arith, if◌then◌else◌}
 use Rattle.std.proofs.lemmas.Bool.Decides.{nat_tests}
 use Rattle.std.specs.Prelude.{slice_set}
 use Rattle.std.proofs.lemmas.Grind.{common_steps, get_or-set_at}
@@ -50,7 +50,7 @@ begun_row v c t p h = rw (begun_is_session v c t h) (session_row (session_at v.s
 begun_same : (v : ServerState) (c t : ℕ) → nat_lt (session_at v.sessions c).txn t ≡ false → begun v c t ≡ v
 begun_same v c t e = rw e refl
 
-session_with : (pages : ℕ) (s : Session) (i t e : ℕ) → IsSession pages s → s.incarnation ≤ i → i < 2 ^ 62 → IsSession pages (renumbered s i t e)
+session_with : (pages : ℕ) (s : Session) (i t e : ℕ) → IsSession pages s → s.incarnation ≤ i → i ≤ max_number → IsSession pages (renumbered s i t e)
 session_with pages s i t e x h k = record { size = x.size; past = λ p row y. let a : row.incarnation ≤ s.incarnation = x.past p row y in omega arith; incarnation = k }
 
 put_sessions : (v : ServerState) (c : ℕ) (s : Session) → IsServer v → c < length v.sessions → IsSession (length v.store.pages) s
@@ -127,12 +127,12 @@ reads_none : (v : ServerState) (n : ℕ) → read_asks_below (server_of v) n ≡
 reads_none v zero = refl
 reads_none v (suc n) = ap (λ (k : ℕ). k + 0) (reads_none v n)
 
-last_number : (n : ℕ) → n ≤ 2 ^ 62 → nat_lt max_number (n + 0) ≡ (n == 2 ^ 62)
-last_number n h = grind (arith, nat_tests)
+last_number : (n : ℕ) → nat_lt max_number (n + 0) ≡ nat_lt max_number n
+last_number n = grind (arith, nat_tests)
 
-lacks_is : (v : ServerState) (c t p : ℕ) → v.next_grant ≤ 2 ^ 62
-    → lacks_number (server_of v) c (AskRead t p) ≡ (nat_lt (session_at v.sessions c).ended t && is_none (row_at (session_at v.sessions c) p) && (v.next_grant == 2 ^ 62))
-lacks_is v c t p h = rw (waits_none v c (length v.store.pages), reads_none v (length v.store.pages), last_number v.next_grant h) (regroup (nat_lt (session_at v.sessions c).ended t) (is_none (row_at (session_at v.sessions c) p)) (v.next_grant == 2 ^ 62))
+lacks_is : (v : ServerState) (c t p : ℕ)
+    → lacks_number (server_of v) c (AskRead t p) ≡ (nat_lt (session_at v.sessions c).ended t && is_none (row_at (session_at v.sessions c) p) && (nat_lt max_number v.next_grant))
+lacks_is v c t p = rw (waits_none v c (length v.store.pages), reads_none v (length v.store.pages), last_number v.next_grant) (regroup (nat_lt (session_at v.sessions c).ended t) (is_none (row_at (session_at v.sessions c) p)) (nat_lt max_number v.next_grant))
   where
     regroup : (a b e : Bool) → (a && true && b && true && e) ≡ (a && b && e)
     regroup true true e = refl
@@ -141,17 +141,17 @@ lacks_is v c t p h = rw (waits_none v c (length v.store.pages), reads_none v (le
 
 lacks_begun : (v : ServerState) (c t p : ℕ) → IsServer v → c < length v.sessions → 1 ≤ t
     → lacks_number (server_of (begun v c t)) c (AskRead t p)
-    ≡ ((nat_lt (session_at v.sessions c).txn t || nat_lt (session_at v.sessions c).ended t) && is_none (row_at (session_at v.sessions c) p) && (v.next_grant == 2 ^ 62))
+    ≡ ((nat_lt (session_at v.sessions c).txn t || nat_lt (session_at v.sessions c).ended t) && is_none (row_at (session_at v.sessions c) p) && (nat_lt max_number v.next_grant))
 lacks_begun v c t p x h o =
-    lacks_is (begun v c t) c t p (rw ((begun_store v c t).1) x.greatest)
-    ∙ (λ j. begun_live v c t h o j && is_none (begun_row v c t p h j) && ((begun_store v c t).1 j == 2 ^ 62))
+    lacks_is (begun v c t) c t p
+    ∙ (λ j. begun_live v c t h o j && is_none (begun_row v c t p h j) && nat_lt max_number ((begun_store v c t).1 j))
 
 pub exhausted_is : (v : ServerState) (c i t p : ℕ) → IsServer v → c < length v.sessions → 1 ≤ t
-    → is_exhausted (server_of v) c i (AskRead t p) ≡ (would_live (session_at v.sessions c) i t && is_none (row_at (session_at v.sessions c) p) && (v.next_grant == 2 ^ 62))
+    → is_exhausted (server_of v) c i (AskRead t p) ≡ (would_live (session_at v.sessions c) i t && is_none (row_at (session_at v.sessions c) p) && (nat_lt max_number v.next_grant))
 exhausted_is v c i t p x h o =
     ap (λ (s : Server). (i == (session_at v.sessions c).incarnation) && lacks_number s c (AskRead t p)) (begun_is v c t h)
     ∙ (ap (λ (b : Bool). (i == (session_at v.sessions c).incarnation) && b) (lacks_begun v c t p x h o)
-    ∙ regroup (i == (session_at v.sessions c).incarnation) (nat_lt (session_at v.sessions c).txn t || nat_lt (session_at v.sessions c).ended t) (is_none (row_at (session_at v.sessions c) p)) (v.next_grant == 2 ^ 62))
+    ∙ regroup (i == (session_at v.sessions c).incarnation) (nat_lt (session_at v.sessions c).txn t || nat_lt (session_at v.sessions c).ended t) (is_none (row_at (session_at v.sessions c) p)) (nat_lt max_number v.next_grant))
   where
     regroup : (a b d e : Bool) → (a && (b && d && e)) ≡ (a && b && d && e)
     regroup true b d e = refl
@@ -195,7 +195,7 @@ asked_reply v c i t p r e = reply_by (would_live (session_at v.sessions c) i t) 
   where
     reply_by : (b : Bool) (row : Option ℕ) → (if b then ask_row_reply v p row else Ok reply.Nothing) ≡ Ok r → (if b then row_reply v p row else reply.Nothing) ≡ r
     reply_by true (Some g) x = cc
-    reply_by true None x = last_by (v.next_grant == 2 ^ 62) x
+    reply_by true None x = last_by (nat_lt max_number v.next_grant) x
       where
         last_by : (e : Bool) → (if e then Err Exhausted else Ok (reply.Granted p v.next_grant)) ≡ Ok r → reply.Granted p v.next_grant ≡ r
         last_by true y = cc
@@ -223,7 +223,7 @@ ask_becomes v c i t p x h k o = took_message v (asked v c i t p) c i (AskRead t 
 
 -- no number is left exactly where the code says so
 pub fault_is : (v : ServerState) (c i t p : ℕ) → IsServer v → c < length v.sessions → 1 ≤ t → IsErr (ask_reply v c i t p) ↔ (is_exhausted (server_of v) c i (AskRead t p) ≡ true)
-fault_is v c i t p x h o = subst (λ (b : Bool). IsErr (ask_reply v c i t p) ↔ (b ≡ true)) (sym (exhausted_is v c i t p x h o)) (fault_by (would_live (session_at v.sessions c) i t) (row_at (session_at v.sessions c) p) (v.next_grant == 2 ^ 62))
+fault_is v c i t p x h o = subst (λ (b : Bool). IsErr (ask_reply v c i t p) ↔ (b ≡ true)) (sym (exhausted_is v c i t p x h o)) (fault_by (would_live (session_at v.sessions c) i t) (row_at (session_at v.sessions c) p) (nat_lt max_number v.next_grant))
   where
     fault_by : (b : Bool) (row : Option ℕ) (e : Bool) → IsErr (if b then elim row as (λ _. Result ServerReply ServerFault) [ Some g ↦ Ok (reply.Granted p g) | None ↦ (if e then Err Exhausted else Ok (reply.Granted p v.next_grant)) ] else Ok reply.Nothing) ↔ ((b && is_none row && e) ≡ true)
     fault_by true (Some g) e = (λ x. cc, λ x. cc)

@@ -4,7 +4,6 @@ use Rattle.std.specs.Prelude.{
   ℕ,
   ◌<◌,
   ◌≤◌,
-  ◌^◌,
   ◌==◌,
   false,
   nat_lt,
@@ -28,6 +27,7 @@ use Rattle.std.specs.Prelude.{
   slice_index_or,
   slice_set,
 }
+use Rattle.cb_page.specs.Numbers.{max_number}
 use Rattle.cb_commit.specs.Stores.{StoreState, IsSound, version_at, bytes_at}
 use Rattle.cb_first_server.specs.declared.server.Session.{Session}
 use Rattle.cb_first_server.specs.declared.server.Row.{Row}
@@ -143,7 +143,7 @@ would_live s i t = (i == s.incarnation) && (nat_lt s.txn t || nat_lt s.ended t)
 -- there is one
 abbrev pub ask_row_reply : ServerState → ℕ → Option ℕ → Result ServerReply ServerFault
 ask_row_reply v p (Some g) = Ok (reply.Granted p g)
-ask_row_reply v p None = if v.next_grant == 2 ^ 62 then Err Exhausted
+ask_row_reply v p None = if nat_lt max_number v.next_grant then Err Exhausted
     else Ok (reply.Granted p v.next_grant)
 
 abbrev pub ask_reply : ServerState → ℕ → ℕ → ℕ → ℕ → Result ServerReply ServerFault
@@ -154,7 +154,7 @@ ask_reply v c i t p = if would_live (session_at v.sessions c) i t
 abbrev pub lacks_grant : ServerState → ℕ → ℕ → ℕ → ℕ → Bool
 lacks_grant v c i t p =
     would_live (session_at v.sessions c) i t && is_none (row_at (session_at v.sessions c) p)
-    && (v.next_grant == 2 ^ 62)
+    && nat_lt max_number v.next_grant
 
 -- what the server of the world becomes by an ask to read
 abbrev pub asked_by : ServerState → ℕ → ℕ → Option ℕ → ServerState
@@ -210,14 +210,14 @@ pub record IsSession (pages : ℕ) (s : Session) : Type 0 where
   pub size : length s.rows ≡ pages
   pub past : (p : ℕ) (row : Row) → slice_index_or s.rows p None ≡ Some row
       → row.incarnation ≤ s.incarnation
-  pub incarnation : s.incarnation < 2 ^ 62
+  pub incarnation : s.incarnation ≤ max_number
 
 pub record IsServer (v : ServerState) : Type 0 where
   pub store : IsSound v.store
   pub sessions : (c : ℕ) → c < length v.sessions
       → IsSession (length v.store.pages) (session_at v.sessions c)
   pub least : 1 ≤ v.next_grant
-  pub greatest : v.next_grant ≤ 2 ^ 62
+  pub greatest : v.next_grant ≤ max_number + 1
 
 -- a page that is granted is one that there is
 abbrev pub ReplyFits : ℕ → ServerReply → Type 0

@@ -1,9 +1,10 @@
-ghost use Rattle.std.specs.Prelude.{◌≡◌, ℕ, ◌+◌, ◌<◌, ◌≤◌, ◌^◌, true, false, List, length};
+ghost use Rattle.std.specs.Prelude.{◌≡◌, ℕ, ◌+◌, ◌<◌, ◌≤◌, true, false, List, length};
 ghost use Rattle.std.specs.Prelude.{replicate, slice_set, slice_index_or, None, IfSome, OnOk};
 ghost use Rattle.std.specs.Prelude.{OnErr, IfOk, IfErr, IsErr, ◌↔◌};
 ghost use Rattle.cb_protocol.specs.Messages.{AskRead, GiveBack, Hello};
 ghost use Rattle.cb_protocol.specs.ServerMessages.{is_exhausted};
 ghost use Rattle.cb_commit.specs.Stores.{IsOf};
+ghost use Rattle.cb_page.specs.Numbers.{max_number};
 ghost use Rattle.cb_first_server.specs.ServerState.{new_state, server_of, Replies, ReplyFits};
 ghost use Rattle.cb_first_server.specs.ServerState.{TakesMessage, session_at, renumbered, with_row};
 ghost use Rattle.cb_first_server.specs.ServerState.{row_at, begun, granted, would_live};
@@ -11,12 +12,9 @@ ghost use Rattle.cb_first_server.specs.ServerState.{lacks_grant, ask_reply, aske
 ghost use Rattle.cb_first_server.specs.ServerState.{welcomed, given_back, IsServer};
 
 use cb_commit::Store;
-use cb_page::{ClientNo, GrantNo, Incarnation, Limits, PageNo, TxnNo};
+use cb_page::{ClientNo, GrantNo, Incarnation, Limits, MAX_NUMBER, PageNo, TxnNo};
 use std::alloc::{AllocError, Global};
 use std::marker::Model;
-
-/// The number of grants, and of each other kind of number, is below this.
-const NUMBERS: u64 = 1 << 62;
 
 /// Why the server refuses a message.
 #[derive(Clone, Copy, Debug, PartialEq, Eq)]
@@ -99,7 +97,7 @@ pub(crate) struct Session {
 #[derive(Debug, Drop)]
 pub struct Server {
     store: Store,
-    /// The number of the next grant; 2^62 where none is left.
+    /// The number of the next grant; one above `MAX_NUMBER` where none is left.
     next_grant: u64,
     sessions: Vec<Session>,
 }
@@ -151,7 +149,7 @@ impl Server {
     fn renumber(&mut self, client: ClientNo, incarnation: u64, txn: u64, ended: u64)
         requires client { client < length self.old.sessions }
         requires later { (session_at self.old.sessions client).incarnation ≤ incarnation }
-        requires greatest { incarnation < 2 ^ 62 }
+        requires greatest { incarnation ≤ max_number }
         ensures { self.new
             ≡ record self.old {
               sessions = slice_set self.old.sessions client
@@ -197,7 +195,7 @@ impl Server {
     fn grant(&mut self, client: ClientNo, page: PageNo)
         requires client { client < length self.old.sessions }
         requires page { page < length self.old.store.pages }
-        requires left { self.old.next_grant < 2 ^ 62 }
+        requires left { self.old.next_grant ≤ max_number }
         ensures { self.new ≡ granted self.old client page }
     {
         let row = Row {
@@ -248,7 +246,7 @@ impl Server {
         }
         match self.row(client, page) {
             Some(grant) => Ok(ServerReply::Granted { page, grant }),
-            None if self.next_grant == NUMBERS => Err(ServerFault::Exhausted),
+            None if self.next_grant > MAX_NUMBER => Err(ServerFault::Exhausted),
             None => Ok(ServerReply::Granted {
                 page,
                 grant: GrantNo::new(self.next_grant),

@@ -1,5 +1,5 @@
 -- Where the lines and words of a text begin and end, and which words are numbers.
-use Rattle.std.proofs.Common.{◌≡◌, ℕ, ◌<◌, ◌≤◌, ◌+◌, ◌^◌, ◌==◌, Bool, true, false, not, List, [], ◌∷◌, Option, Some, None, length, take, drop, get_or, unwrap_or, refl, sym, ◌∙◌, ap, arith, nat_lt, add-one, drop-cons, filter, inl, inr, lit≤, suc, length-drop, ◌-◌, add-zero, if◌then◌else◌}
+use Rattle.std.proofs.Common.{◌≡◌, ℕ, ◌<◌, ◌≤◌, ◌+◌, ◌==◌, Bool, true, false, not, List, [], ◌∷◌, Option, Some, None, length, take, drop, get_or, unwrap_or, refl, sym, ◌∙◌, ap, arith, nat_le, add-one, drop-cons, filter, inl, inr, lit≤, suc, length-drop, ◌-◌, add-zero, if◌then◌else◌}
 use Rattle.std.specs.List.{position, position_or_len, slice_split}
 use Rattle.std.specs.Str.Lines.{lines_of_parts, strip_carriage_return}
 use Rattle.std.specs.Str.Parse.{digits_value, AllDigits}
@@ -7,7 +7,7 @@ use Rattle.std.specs.Char.{is_ascii_digit, digit_value}
 use Rattle.std.proofs.lemmas.Str.{digit_value_digit}
 use Rattle.std.specs.Str.{all_ascii_digits}
 use Rattle.std.specs.Int.{IsInRange}
-use Rattle.std.proofs.lemmas.Bool.{cases_Bool, cases_lt, lt-ltb, le-ltb}
+use Rattle.std.proofs.lemmas.Bool.{cases_Bool, cases_lt}
 use Rattle.std.proofs.lemmas.List.{length-take-le, take_all, drop-drop, get_or-drop}
 use Rattle.std.proofs.Math.Seq.{take-length, drop-length}
 use Rattle.std.proofs.lemmas.Str.Parse.{IsNumeralModel, numerals_by_value, tells_all_ascii_digits, digit_at, digits_value-take-le}
@@ -16,6 +16,8 @@ use Rattle.std.proofs.lemmas.Option.{cond_some}
 use Rattle.std.proofs.lemmas.List.Sums.{prefix_len-le-length, fails_before_first, passes_at_first}
 use Rattle.std.proofs.lemmas.List.Quantifiers.{position-Some}
 use Rattle.std.proofs.lemmas.List.Splits.{slice_split_first, slice_split_none, length-slice_split}
+use Rattle.cb_page.specs.Numbers.{max_number}
+use Rattle.std.proofs.lemmas.Bool.Decides.{nat_tests}
 use Rattle.cb_pieces.specs.Pieces.{lines_of, words_of, is_blank, number_of, is_number}
 
 -- the place of the first element that passes, or the length
@@ -158,21 +160,21 @@ unfolding is_number
 not_a_digit word i h e = elim (cases_Bool (all_ascii_digits word)) [ inl true_ ↦ let digit : IsInRange 48 57 (get_or word i 0) = digit_at word i (model.to word true_) h in absurd (grind arith) | inr false_ ↦ rw false_ refl ]
 
 -- nor is one of which a front is too large
-pub too_large : (word : List ℕ) (i : ℕ) → 2 ^ 62 ≤ digits_value 10 (take i word) → is_number word ≡ false
+pub too_large : (word : List ℕ) (i : ℕ) → max_number < digits_value 10 (take i word) → is_number word ≡ false
 unfolding is_number
 too_large word i h =
-    let large : 2 ^ 62 ≤ digits_value 10 word = omega (arith, digits_value-take-le 10 word i (lit≤ tt)) in
-    let test : nat_lt (digits_value 10 word) (2 ^ 62) ≡ false = le-ltb _ _ large in
+    let large : max_number < digits_value 10 word = omega (arith, digits_value-take-le 10 word i (lit≤ tt)) in
+    let test : nat_le (digits_value 10 word) max_number ≡ false = grind (arith, nat_tests) in
     elim (cases_Bool (all_ascii_digits word)) [ inl true_ ↦ rw (true_, test) refl | inr false_ ↦ rw false_ refl ]
 
-pub a_number : (word : List ℕ) → AllDigits 10 word → digits_value 10 word < 2 ^ 62 → is_number word ≡ true
+pub a_number : (word : List ℕ) → AllDigits 10 word → digits_value 10 word ≤ max_number → is_number word ≡ true
 unfolding is_number
 a_number word digits h =
-    let test : nat_lt (digits_value 10 word) (2 ^ 62) ≡ true = lt-ltb _ _ h in
+    let test : nat_le (digits_value 10 word) max_number ≡ true = grind (arith, nat_tests) in
     rw (model.from word digits, test) refl
 
 -- what the reader made of all digits is what the word says
-pub spelled : (word : List ℕ) (n value : ℕ) → length word ≤ n → AllDigits 10 (take n word) → value ≡ digits_value 10 (take n word) → value < 2 ^ 62 → Some value ≡ (if is_number word then Some (number_of word) else None)
+pub spelled : (word : List ℕ) (n value : ℕ) → length word ≤ n → AllDigits 10 (take n word) → value ≡ digits_value 10 (take n word) → value ≤ max_number → Some value ≡ (if is_number word then Some (number_of word) else None)
 unfolding number_of
 spelled word n value h digits e small =
     let all : take n word ≡ word = take_all n word h in

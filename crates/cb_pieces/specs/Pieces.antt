@@ -1,14 +1,12 @@
 -- The pieces of a schedule's text: lines, words and numbers. This project's rules.
 use Rattle.std.specs.Prelude.{
   ℕ,
-  ◌^◌,
   Bool,
   not,
   ◌&&◌,
   ◌||◌,
   ◌==◌,
   nat_le,
-  nat_lt,
   List,
   length,
   filter,
@@ -17,6 +15,7 @@ use Rattle.std.specs.List.{slice_split, list_all}
 use Rattle.std.specs.Str.{all_ascii_digits}
 use Rattle.std.specs.Str.Lines.{lines}
 use Rattle.std.specs.Str.Parse.{digits_value}
+use Rattle.cb_page.specs.Numbers.{max_number}
 
 -- The lines of a text end with a line feed, which the last may lack: behind a line feed at the end
 -- there is no further line. A carriage return directly before a line feed is dropped.
@@ -43,6 +42,6 @@ is_text line = list_all is_text_byte line
 unfoldable pub number_of : List ℕ → ℕ
 number_of word = digits_value 10 word
 
--- whether a word is a number: decimal digits, of a value below 2 ^ 62
+-- whether a word is a number: decimal digits, of a value up to 2^62 - 1
 unfoldable pub is_number : List ℕ → Bool
-is_number word = all_ascii_digits word && nat_lt (digits_value 10 word) (2 ^ 62)
+is_number word = all_ascii_digits word && nat_le (digits_value 10 word) max_number

@@ -6,8 +6,7 @@ ghost use Rattle.std.specs.Str.Lines.{strip_carriage_return};
 ghost use Rattle.cb_pieces.specs.Pieces.{lines_of, words_of, is_blank, is_text, is_text_byte};
 ghost use Rattle.cb_pieces.specs.Pieces.{number_of, is_number};
 
-/// The greatest number that a schedule may name.
-const GREATEST: u64 = (1 << 62) - 1;
+use cb_page::MAX_NUMBER;
 
 /// The first line of a text, and the text behind it.
 pub fn split_line(text: &[u8]) -> Option<(&[u8], &[u8])>
@@ -95,12 +94,12 @@ pub fn number_of(word: &[u8]) -> Option<u64>
         if !byte.is_ascii_digit() {
             return None;
         }
-        if value > GREATEST / 10 {
+        if value > MAX_NUMBER / 10 {
             return None;
         }
         value = value * 10 + u64::from(*byte - b'0');
     }
-    if value > GREATEST {
+    if value > MAX_NUMBER {
         return None;
     }
     Some(value)

@@ -1,6 +1,6 @@
 -- The tables case by case, to cite in place of opening them: `client_call`, `client_take`, `server_take` and `step` are closed to other proofs.
 use Rattle.std.proofs.Common.{Bool, List, None, Option, Some, [], arith, false, if◌then◌else◌, length, nat_le, nat_lt, not, refl, true, ℕ, ◌&&◌, ◌++◌, ◌<◌, ◌==◌, ◌∷◌, ◌≡◌, ◌≢◌}
-use Rattle.cb_protocol.specs.Answers.{AnsweredOk, ClientFault, CommittingFault, Exhausted, NoClient, NoTransaction, NotHere, NotRead, NotWelcome, NotWritable, PageRange, PoolFull, Refused, TransactionOpen, Waiting, WrongLength}
+use Rattle.cb_protocol.specs.Answers.{AnsweredOk, ClientFault, Committing, Exhausted, NoClient, NoTransaction, NotHere, NotRead, NotWelcome, NotWritable, PageRange, PoolFull, Refused, TransactionOpen, Waiting, WrongLength}
 use Rattle.cb_protocol.specs.Basics.{Bytes, Limits, is_none, max_number}
 use Rattle.cb_protocol.specs.Cache.{TakeWelcome, is_committing, is_idle}
 use Rattle.cb_protocol.specs.Client.{ChangeCache, Client, ClientStep, EndTransaction, MarkDue, MarkDueDowngrade, MarkWanted, Say, SetAsk, after_client_step, bodies_said, client_after, has_room, is_asking}
@@ -41,32 +41,32 @@ unfolding call_fault
 fault_of_begin L k = refl
 
 pub fault_of_read : (L : Limits) (k : Client) (p : ℕ)
-    → call_fault L k (CallRead p) ≡ (if not k.cache.welcomed then Some NotWelcome else if is_idle k.cache.status then Some NoTransaction else if is_committing k.cache.status then Some CommittingFault
+    → call_fault L k (CallRead p) ≡ (if not k.cache.welcomed then Some NotWelcome else if is_idle k.cache.status then Some NoTransaction else if is_committing k.cache.status then Some Committing
     else if is_asking k.ask then Some Waiting else if nat_le L.pages p then Some PageRange else if is_none (k.cache.content p) && not (has_room L k) then Some PoolFull else None)
 unfolding call_fault
 fault_of_read L k p = refl
 
 pub fault_of_want : (L : Limits) (k : Client) (p : ℕ)
-    → call_fault L k (CallWant p) ≡ (if not k.cache.welcomed then Some NotWelcome else if is_idle k.cache.status then Some NoTransaction else if is_committing k.cache.status then Some CommittingFault
+    → call_fault L k (CallWant p) ≡ (if not k.cache.welcomed then Some NotWelcome else if is_idle k.cache.status then Some NoTransaction else if is_committing k.cache.status then Some Committing
     else if is_asking k.ask then Some Waiting else if nat_le L.pages p then Some PageRange else if not (k.cache.locked p) then Some NotRead else if is_none (k.cache.content p) then Some NotHere else None)
 unfolding call_fault
 fault_of_want L k p = refl
 
 pub fault_of_write : (L : Limits) (k : Client) (p : ℕ) (b : Bytes)
-    → call_fault L k (CallWrite p b) ≡ (if not k.cache.welcomed then Some NotWelcome else if is_idle k.cache.status then Some NoTransaction else if is_committing k.cache.status then Some CommittingFault
+    → call_fault L k (CallWrite p b) ≡ (if not k.cache.welcomed then Some NotWelcome else if is_idle k.cache.status then Some NoTransaction else if is_committing k.cache.status then Some Committing
     else if is_asking k.ask then Some Waiting else if nat_le L.pages p then Some PageRange else if not (k.cache.locked p) then Some NotRead else if is_none (k.cache.content p) then Some NotHere
     else if not (k.cache.may_write p) then Some NotWritable else if not (length b == L.page_size) then Some WrongLength else None)
 unfolding call_fault
 fault_of_write L k p b = refl
 
 pub fault_of_finish : (L : Limits) (k : Client)
-    → call_fault L k CallFinish ≡ (if not k.cache.welcomed then Some NotWelcome else if is_idle k.cache.status then Some NoTransaction else if is_committing k.cache.status then Some CommittingFault
+    → call_fault L k CallFinish ≡ (if not k.cache.welcomed then Some NotWelcome else if is_idle k.cache.status then Some NoTransaction else if is_committing k.cache.status then Some Committing
     else if is_asking k.ask then Some Waiting else None)
 unfolding call_fault
 fault_of_finish L k = refl
 
 pub fault_of_drop : (L : Limits) (k : Client)
-    → call_fault L k CallDrop ≡ (if not k.cache.welcomed then Some NotWelcome else if is_idle k.cache.status then Some NoTransaction else if is_committing k.cache.status then Some CommittingFault else None)
+    → call_fault L k CallDrop ≡ (if not k.cache.welcomed then Some NotWelcome else if is_idle k.cache.status then Some NoTransaction else if is_committing k.cache.status then Some Committing else None)
 unfolding call_fault
 fault_of_drop L k = refl
 

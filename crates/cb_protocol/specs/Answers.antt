@@ -8,7 +8,7 @@ pub data ClientFault : Type 0 where
   NotWelcome : ClientFault  -- the server's Welcome has not come
   NoTransaction : ClientFault
   TransactionOpen : ClientFault  -- also while it commits
-  CommittingFault : ClientFault  -- the transaction's Commit is out
+  Committing : ClientFault  -- the transaction's Commit is out
   Waiting : ClientFault  -- an ask is out
   PageRange : ClientFault  -- there is no such page
   NotRead : ClientFault  -- the transaction has not read the page

@@ -1,6 +1,8 @@
 -- Words that every other file uses. Where a definition of this crate names no source, it is this
 -- project's rule.
 use Rattle.std.specs.Prelude.{◌≡◌, ℕ, Bool, true, false, ◌&&◌, if◌then◌else◌, ◌==◌, ◌⊎◌, List, [], ◌∷◌, Option, Some, None}
+-- the greatest transaction, grant and commit number and incarnation, 2^62 - 1
+pub use Rattle.cb_page.specs.Numbers.{max_number}
 
 -- the bytes of a page
 abbrev pub Bytes : Type 0
@@ -15,10 +17,6 @@ pub record Limits : Type 0 where
   -- a client keeps its write permissions after a commit (Callback-All), else they end with the
   -- transaction (Callback-Read) (TODS 1997)
   pub keep_write : Bool
-
--- the greatest transaction, grant and commit number and incarnation, 2^62 - 1
-abbrev pub max_number : ℕ
-max_number = 4611686018427387903
 
 -- a map with one entry replaced
 abbrev pub update : {A : Type 0} → (ℕ → A) → ℕ → A → ℕ → A

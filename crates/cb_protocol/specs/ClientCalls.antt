@@ -1,7 +1,7 @@
 -- What a client answers and does at each call: first the causes of a refusal, then the calls that
 -- are accepted.
 use Rattle.std.specs.Prelude.{ℕ, nat_le, length, Bool, not, ◌&&◌, if◌then◌else◌, ◌==◌, List, [], ◌∷◌, ◌++◌, Option, Some, None, zero, suc}
-use Rattle.cb_protocol.specs.Answers.{AnswerWord, AnsweredBytes, AnsweredOk, Asked, ClientFault, CommittingFault, Exhausted, NoTransaction, NotHere, NotRead, NotWelcome, NotWritable, Nothing, PageRange, Permitted, PoolFull, Refused, TransactionOpen, Waiting, WrongLength}
+use Rattle.cb_protocol.specs.Answers.{AnswerWord, AnsweredBytes, AnsweredOk, Asked, ClientFault, Committing, Exhausted, NoTransaction, NotHere, NotRead, NotWelcome, NotWritable, Nothing, PageRange, Permitted, PoolFull, Refused, TransactionOpen, Waiting, WrongLength}
 use Rattle.cb_protocol.specs.Basics.{Bytes, Limits, is_none, max_number}
 use Rattle.cb_protocol.specs.Cache.{Begin, Finish, Read, WriteBytes, is_committing, is_idle}
 use Rattle.cb_protocol.specs.Client.{Aborted, Ask, ChangeCache, Client, ClientStep, Dropped, LastOutcome, MarkWanted, NoAsk, ReadAsk, Say, SetAsk, WriteAsk, has_room, is_asking}
@@ -39,7 +39,7 @@ abbrev pub open_causes : Client → List Cause
 open_causes client =
     cause_of (not client.cache.welcomed) NotWelcome
     ∷ cause_of (is_idle client.cache.status) NoTransaction
-    ∷ cause_of (is_committing client.cache.status) CommittingFault ∷ []
+    ∷ cause_of (is_committing client.cache.status) Committing ∷ []
 
 -- of one that needs an open transaction that waits for nothing, and a page that there is
 abbrev pub page_causes : Limits → Client → (page : ℕ) → List Cause

@@ -8,14 +8,9 @@ use Rattle.cb_protocol.specs.Server.{DeadlockTest, Server}
 use Rattle.cb_protocol.specs.ServerMessages.{is_exhausted}
 use Rattle.cb_protocol.specs.AnyMessages.{Input, MessageComes, ReachedBy, input_steps}
 use Rattle.cb_protocol.specs.World.{Opening, messages_sent}
-
--- a transaction, grant or commit number, or an incarnation: 1 to 2^62 - 1
-abbrev pub IsNumber : ℕ → Type 0
-IsNumber number = (1 ≤ number) × (number ≤ max_number)
-
--- the version of a page: 0 to 2^62 - 1
-abbrev pub IsVersion : ℕ → Type 0
-IsVersion version = version ≤ max_number
+-- a transaction, grant or commit number, or an incarnation: 1 to 2^62 - 1; the version of a page: 0
+-- to 2^62 - 1
+pub use Rattle.cb_page.specs.Numbers.{IsNumber, IsVersion}
 
 -- a page that there is
 abbrev pub IsPage : Limits → ℕ → Type 0

@@ -10,7 +10,7 @@ use Rattle.cb_first_client.specs.ProtocolLimits.{limits_of}
 use Rattle.cb_schedule.specs.WorldState.{WorldState, Represents, opened}
 use Rattle.cb_event.specs.declared.event.Event.{Event}
 use Rattle.cb_transcript.specs.declared.answer.Answer.{Answer}
-use Rattle.cb_transcript.specs.declared.answer.Entry.{Entry}
+use Rattle.cb_transcript.specs.declared.answer.TranscriptEntry.{TranscriptEntry}
 use Rattle.cb_schedule.proofs.Worlds.{after_more, plays_more, promises_more, reached_more}
 use Rattle.cb_protocol.specs.Headline.{SoundOpening}
 use Rattle.cb_protocol.specs.Laws.{WholePromise}
@@ -60,7 +60,7 @@ played_more w es u e a v whole p s =
     let reached = reached_more (limits_of w.limits) o end next.0 (event_of e) (answer_of a) p.reached becomes in
     let promise = whole (limits_of w.limits) on_cycle o next.0 p.sound reached in
     let m : protocol.Moment = record { event = event_of e; answer = answer_of a; world = next.0 } in
-    let one : Entry = record { event = e; answer = a } in
+    let one : TranscriptEntry = record { event = e; answer = a } in
     let last : protocol.world_after p.played.first (p.played.moments ++ m ∷ []) ≡ next.0 = after_more p.played.first p.played.moments m in
     record {
       played = record {
@@ -72,11 +72,11 @@ played_more w es u e a v whole p s =
         first_promise = p.played.first_promise;
         promises = promises_more o p.played.moments m p.played.promises promise;
         added = p.played.added ++ one ∷ [];
-        by_events = map-append (λ (entry : Entry). entry.event) p.played.added (one ∷ []) ∙ ap (λ (xs : List Event). xs ++ e ∷ []) p.played.by_events;
+        by_events = map-append (λ (entry : TranscriptEntry). entry.event) p.played.added (one ∷ []) ∙ ap (λ (xs : List Event). xs ++ e ∷ []) p.played.by_events;
         events = map-append (λ (moment : protocol.Moment). moment.event) p.played.moments (m ∷ []) ∙ ap (λ (xs : List protocol.Event). xs ++ event_of e ∷ []) p.played.events ∙ sym (map-append event_of es (e ∷ []));
         answers = map-append (λ (moment : protocol.Moment). moment.answer) p.played.moments (m ∷ []) ∙ ap (λ (xs : List protocol.Answer). xs ++ answer_of a ∷ []) p.played.answers
-            ∙ sym (map-append (λ (entry : Entry). answer_of entry.answer) p.played.added (one ∷ []));
-        transcript = s.transcript ∙ ap (λ (xs : List Entry). xs ++ one ∷ []) p.played.transcript ∙ append_assoc w.transcript p.played.added (one ∷ []);
+            ∙ sym (map-append (λ (entry : TranscriptEntry). answer_of entry.answer) p.played.added (one ∷ []));
+        transcript = s.transcript ∙ ap (λ (xs : List TranscriptEntry). xs ++ one ∷ []) p.played.transcript ∙ append_assoc w.transcript p.played.added (one ∷ []);
       };
       limits = s.limits ∙ p.limits;
       opening = s.opening ∙ p.opening;
@@ -86,8 +86,8 @@ played_more w es u e a v whole p s =
     }
 
 -- what was told is what the last world tells
-pub played_end : (w : WorldState) (es : List Event) (v : WorldState) (told : List Entry) → PlayedTo w es v → told ≡ v.transcript → Played w es told
-played_end w es v told p e = subst (λ (xs : List Entry). Played w es xs) (sym e) p.played
+pub played_end : (w : WorldState) (es : List Event) (v : WorldState) (told : List TranscriptEntry) → PlayedTo w es v → told ≡ v.transcript → Played w es told
+played_end w es v told p e = subst (λ (xs : List TranscriptEntry). Played w es xs) (sym e) p.played
 
 none_below : (i : ℕ) → i < 0 → ⊥
 none_below i h = omega (arith, h)

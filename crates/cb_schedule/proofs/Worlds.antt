@@ -17,8 +17,8 @@ use Rattle.cb_first_net.specs.NetState.{NetState, RepresentsNet, opening_of}
 use Rattle.cb_schedule.specs.WorldState.{IsRepresented, WorldState, Represents, opened}
 use Rattle.cb_event.specs.declared.event.Event.{Event}
 use Rattle.cb_transcript.specs.declared.answer.Answer.{Answer}
-use Rattle.cb_transcript.specs.declared.answer.Sent.{Sent}
-use Rattle.cb_transcript.specs.declared.answer.Entry.{Entry}
+use Rattle.cb_transcript.specs.declared.answer.SentPacket.{SentPacket}
+use Rattle.cb_transcript.specs.declared.answer.TranscriptEntry.{TranscriptEntry}
 use Rattle.cb_first_net.proofs.Nets.{spell_length}
 use Rattle.cb_schedule.proofs.SameFrames.{packets_more, all_spelled}
 use Rattle.cb_protocol.specs.Basics.{Limits}
@@ -59,14 +59,14 @@ reached_more L o w v e a r b =
 abbrev After : protocol.World → protocol.Event → Answer → List Message → protocol.World → protocol.World
 After w e a fs u = (protocol.answer_with w e (word_of a.word) fs u).world
 
-transcript_more : (told : List Entry) (e : Event) (a : Answer) → record { event = event_of e; word = word_of a.word } ∷ transcript_of told ≡ transcript_of (told ++ record { event = e; answer = a } ∷ [])
+transcript_more : (told : List TranscriptEntry) (e : Event) (a : Answer) → record { event = event_of e; word = word_of a.word } ∷ transcript_of told ≡ transcript_of (told ++ record { event = e; answer = a } ∷ [])
 transcript_more told e a = sym (ap reverse (map-append entry_of told (record { event = e; answer = a } ∷ [])) ∙ reverse-append (map entry_of told) (entry_of (record { event = e; answer = a }) ∷ []))
 
 as_many : (n : ℕ) (fs : List Message) → length (numbered_from n fs) ≡ length fs
 as_many n [] = refl
 as_many n (f ∷ fs) = ap suc (as_many (n + 1) fs)
 
-sent_length : (ss : List Sent) → length (map sent_of ss) ≡ length ss
+sent_length : (ss : List SentPacket) → length (map sent_of ss) ≡ length ss
 sent_length [] = refl
 sent_length (s ∷ ss) = ap suc (sent_length ss)
 

@@ -9,7 +9,7 @@ use Rattle.cb_first_client.specs.ProtocolLimits.{limits_of}
 use Rattle.cb_schedule.specs.WorldState.{WorldState, Represents, opened}
 use Rattle.cb_event.specs.declared.event.Event.{Event}
 use Rattle.cb_transcript.specs.declared.answer.Answer.{Answer}
-use Rattle.cb_transcript.specs.declared.answer.Entry.{Entry}
+use Rattle.cb_transcript.specs.declared.answer.TranscriptEntry.{TranscriptEntry}
 use Rattle.cb_protocol.specs.Headline.{Promise, SoundOpening}
 use Rattle.cb_protocol.specs.World.{ReachedWorld}
 use Rattle.cb_protocol.specs.WaitsFor.{on_cycle}
@@ -54,7 +54,7 @@ pub record Steps (w : WorldState) (e : Event) (a : Answer) (v : WorldState) : Ty
 -- The world w plays these events, in order: there is a world of the protocol that it is, and a run
 -- from there with just these events and the answers told, and of each world on the way the whole
 -- promise holds. What is told is all that was told before, and these events with their answers.
-pub record Played (w : WorldState) (es : List Event) (entries : List Entry) : Type 0 where
+pub record Played (w : WorldState) (es : List Event) (entries : List TranscriptEntry) : Type 0 where
   pub ran : w.stopped ≡ false
   pub first : protocol.World
   pub represents : Represents w first
@@ -62,7 +62,7 @@ pub record Played (w : WorldState) (es : List Event) (entries : List Entry) : Ty
   pub plays : protocol.Plays (limits_of w.limits) on_cycle first moments
   pub first_promise : Promise (opened w) first
   pub promises : AllByRecursion (λ moment. Promise (opened w) moment.world) moments
-  pub added : List Entry
+  pub added : List TranscriptEntry
   pub by_events : map (λ entry. entry.event) added ≡ es
   pub events : map (λ moment. moment.event) moments ≡ map event_of es
   pub answers : map (λ moment. moment.answer) moments ≡ map (λ entry. answer_of entry.answer) added

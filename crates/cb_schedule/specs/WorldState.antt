@@ -4,7 +4,7 @@ use Rattle.cb_page.specs.Bounds.{Bounds}
 use Rattle.cb_commit.specs.Stores.{StoreState}
 use Rattle.cb_first_net.specs.NetState.{NetState, RepresentsNet, opening_of}
 use Rattle.cb_transcript.specs.ProtocolEvents.{transcript_of}
-use Rattle.cb_transcript.specs.declared.answer.Entry.{Entry}
+use Rattle.cb_transcript.specs.declared.answer.TranscriptEntry.{TranscriptEntry}
 use Rattle.cb_protocol.specs.World as protocol
 
 -- the limits, the net, the store before any event, every event so far with its answer, and whether
@@ -13,7 +13,7 @@ pub record WorldState : Type 0 where
   pub limits : Bounds
   pub net : NetState
   pub opening : StoreState
-  pub transcript : List Entry
+  pub transcript : List TranscriptEntry
   pub stopped : Bool
 
 -- The protocol's world that a world is: its net, and its transcript.

@@ -11,6 +11,7 @@ mod world;
 pub use cb_event::{Call, Event, ScheduleFault, read_schedule};
 pub use cb_first_client::ClientFault;
 pub use cb_transcript::{
-    Answer, CommitName, Entry, Sent, SentPackets, Transcript, Verdict, Word, check_serial,
+    Answer, AnswerWord, SentPacket, SentPackets, TransactionName, Transcript, TranscriptEntry,
+    Verdict, check_serial,
 };
 pub use world::{PlayFault, World};

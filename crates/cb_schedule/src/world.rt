@@ -14,14 +14,14 @@ ghost use Rattle.cb_first_client.specs.ProtocolLimits.{limits_of};
 ghost use Rattle.cb_first_net.specs.NetState.{opening_of};
 ghost use Rattle.cb_schedule.specs.WorldState.{IsRepresented, Represents, opened};
 ghost use Rattle.cb_transcript.specs.declared.answer.Answer.{Answer as AnswerState};
-ghost use Rattle.cb_transcript.specs.declared.answer.Entry.{Entry as EntryState};
+ghost use Rattle.cb_transcript.specs.declared.answer.TranscriptEntry.{TranscriptEntry as EntryState};
 
 use cb_commit::Store;
 use cb_event::Event;
 use cb_first_net::Net;
 use cb_page::Limits;
 use cb_protocol::callback_read;
-use cb_transcript::{Answer, Entry, Transcript};
+use cb_transcript::{Answer, Transcript, TranscriptEntry};
 use std::alloc::{AllocError, Global};
 use std::marker::Model;
 
@@ -246,7 +246,7 @@ fn tell(
 }
 
 /// A copy of the last answer.
-fn last_answer(alloc: Global, entries: &[Entry]) -> Result<Answer, AllocError>
+fn last_answer(alloc: Global, entries: &[TranscriptEntry]) -> Result<Answer, AllocError>
     requires { 0 < length entries.now }
     ensures { IfOk result (λ a. (es : List EntryState) (e : EntryState)
         → entries.now ≡ es ++ e ∷ [] → a ≡ e.answer) }

@@ -4,8 +4,8 @@ use cb_commit::Store;
 use cb_frame::Kind;
 use cb_page::{ClientNo, Limits, Page, PageNo};
 use cb_schedule::{
-    Answer, Call, Event, Sent, SentPackets, Transcript, Verdict, Word, World, check_serial,
-    read_schedule,
+    Answer, AnswerWord, Call, Event, SentPacket, SentPackets, Transcript, Verdict, World,
+    check_serial, read_schedule,
 };
 use std::alloc::Global;
 
@@ -90,9 +90,9 @@ fn are_read(transcript: &Transcript, page_size: usize) -> bool {
     seconds.all(|entry| is_page(&entry.answer.word, page_size))
 }
 
-fn is_page(word: &Word, page_size: usize) -> bool {
+fn is_page(word: &AnswerWord, page_size: usize) -> bool {
     match word {
-        Word::Bytes(page) => are_zeros(page.as_slice(), page_size),
+        AnswerWord::Bytes(page) => are_zeros(page.as_slice(), page_size),
         _ => false,
     }
 }
@@ -149,13 +149,13 @@ fn are_copied(alloc: Global) -> Option<()> {
         call: write.copy(alloc).ok()?,
     };
     event.copy(alloc).ok()?;
-    let sent = Sent {
+    let sent = SentPacket {
         number: 4999,
         kind: Kind::Granted,
         client: ClientNo::new(31),
     };
     let answer = Answer {
-        word: Word::Bytes(Page::copy_of(alloc, bytes.as_slice()).ok()?),
+        word: AnswerWord::Bytes(Page::copy_of(alloc, bytes.as_slice()).ok()?),
         sent: SentPackets::one(alloc, sent).ok()?,
     };
     answer.word.copy(alloc).ok()?;

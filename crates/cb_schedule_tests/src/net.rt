@@ -4,7 +4,7 @@ use cb_commit::Store;
 use cb_first_net::Net;
 use cb_frame::Kind;
 use cb_page::{ClientNo, GrantNo, Limits, PageNo};
-use cb_schedule::{Event, Sent, Word};
+use cb_schedule::{AnswerWord, Event, SentPacket};
 use std::test::Fail;
 
 #[test]
@@ -16,14 +16,14 @@ fn copy_given_back(rt: HostRuntime) -> Result<(), Fail> {
     assert!(rt; store.is_of(&limits));
     let mut net = Net::new(rt.alloc(), &limits, store)?;
     let sent = net.say_back(rt.alloc(), client, page, GrantNo::new(3), true)?;
-    let wanted = Sent {
+    let wanted = SentPacket {
         number: 0,
         kind: Kind::GiveBack,
         client,
     };
     assert!(rt; sent.as_slice() == [wanted].as_slice());
     let answer = net.event(rt.alloc(), &Event::Take { packet: 0 })?;
-    assert!(rt; matches!(answer.word, Word::Taken));
+    assert!(rt; matches!(answer.word, AnswerWord::Taken));
     assert!(rt; answer.sent.as_slice().is_empty());
     Ok(())
 }

@@ -2,7 +2,7 @@
 
 use cb_commit::Store;
 use cb_page::Limits;
-use cb_schedule::{Answer, Event, Verdict, Word, World, check_serial, read_schedule};
+use cb_schedule::{Answer, AnswerWord, Event, Verdict, World, check_serial, read_schedule};
 use std::alloc::Global;
 
 /// A line of a schedule, and what it is answered: the word, and each packet sent as
@@ -19,18 +19,19 @@ fn small_world(alloc: Global, clients: u64) -> Option<World> {
     World::new(alloc, &limits, store).ok()
 }
 
-fn word_text(alloc: Global, word: &Word) -> Option<String> {
+fn word_text(alloc: Global, word: &AnswerWord) -> Option<String> {
     let text = match word {
-        Word::Ok => "ok",
-        Word::Bytes(page) if page.as_slice() == [0; 16].as_slice() => "bytes all 00",
-        Word::Bytes(_) => "other bytes",
-        Word::Asked => "asked",
-        Word::Nothing => "none",
-        Word::Taken => "taken",
-        Word::NoPacket => "nopacket",
-        Word::NoClient => "noclient",
-        Word::Refused(fault) => return format!(in alloc; "refused {fault}").ok(),
-        Word::Permitted | Word::Flushed(_) | Word::ServerExhausted => "a word of later events",
+        AnswerWord::Ok => "ok",
+        AnswerWord::Bytes(page) if page.as_slice() == [0; 16].as_slice() => "bytes all 00",
+        AnswerWord::Bytes(_) => "other bytes",
+        AnswerWord::Asked => "asked",
+        AnswerWord::Nothing => "none",
+        AnswerWord::Taken => "taken",
+        AnswerWord::NoPacket => "nopacket",
+        AnswerWord::NoClient => "noclient",
+        AnswerWord::Refused(fault) => return format!(in alloc; "refused {fault}").ok(),
+        AnswerWord::Permitted | AnswerWord::Flushed(_) | AnswerWord::ServerExhausted =>
+            "a word of later events",
     };
     format!(in alloc; "{text}").ok()
 }
@@ -148,11 +149,11 @@ fn no_such_client_or_page(rt: HostRuntime) {
     let last = events.pop().expect(&rt, "two events");
     assert!(rt; last.is_played());
     let answer = world.step(last).expect(&rt, "memory");
-    assert!(rt; matches!(answer.word, Word::NoClient));
+    assert!(rt; matches!(answer.word, AnswerWord::NoClient));
     let first = events.pop().expect(&rt, "one event");
     assert!(rt; first.is_played());
     let answer = world.step(first).expect(&rt, "memory");
-    assert!(rt; matches!(answer.word, Word::Nothing));
+    assert!(rt; matches!(answer.word, AnswerWord::Nothing));
 }
 
 /// The first run as a list.

@@ -4,11 +4,11 @@ use Rattle.cb_event.specs.declared.event.Call.{Call}
 use Rattle.cb_event.specs.declared.event.Call.TheVariants as call
 use Rattle.cb_event.specs.declared.event.Event.{Event}
 use Rattle.cb_event.specs.declared.event.Event.TheVariants as event
-use Rattle.cb_transcript.specs.declared.answer.Word.{Word}
-use Rattle.cb_transcript.specs.declared.answer.Word.TheVariants as word
-use Rattle.cb_transcript.specs.declared.answer.Sent.{Sent}
+use Rattle.cb_transcript.specs.declared.answer.AnswerWord.{AnswerWord}
+use Rattle.cb_transcript.specs.declared.answer.AnswerWord.TheVariants as word
+use Rattle.cb_transcript.specs.declared.answer.SentPacket.{SentPacket}
 use Rattle.cb_transcript.specs.declared.answer.Answer.{Answer}
-use Rattle.cb_transcript.specs.declared.answer.Entry.{Entry}
+use Rattle.cb_transcript.specs.declared.answer.TranscriptEntry.{TranscriptEntry}
 use Rattle.cb_first_client.specs.ClientAnswers.{fault_of}
 use Rattle.cb_frame.specs.Kinds.{code_of}
 use Rattle.cb_protocol.specs.Answers as answers
@@ -35,7 +35,7 @@ event_of event.AgainServer = world.ServerAgain
 event_of event.Flush = world.FlushAll
 event_of (event.FlushTo number) = world.FlushTo number
 
-abbrev pub word_of : Word → answers.AnswerWord
+abbrev pub word_of : AnswerWord → answers.AnswerWord
 word_of word.Ok = answers.AnsweredOk
 word_of (word.Bytes bytes) = answers.AnsweredBytes bytes
 word_of word.Asked = answers.Asked
@@ -48,16 +48,16 @@ word_of (word.Refused fault) = answers.Refused (fault_of fault)
 word_of word.ServerExhausted = answers.ServerExhausted
 word_of word.NoClient = answers.NoClient
 
-abbrev pub sent_of : Sent → world.SentPacket
+abbrev pub sent_of : SentPacket → world.SentPacket
 sent_of s = record { number = s.number; kind = code_of s.kind; client = s.client }
 
 -- the protocol's answer
 abbrev pub answer_of : Answer → world.Answer
 answer_of a = record { word = word_of a.word; sent = map sent_of a.sent }
 
-abbrev pub entry_of : Entry → world.TranscriptEntry
+abbrev pub entry_of : TranscriptEntry → world.TranscriptEntry
 entry_of e = record { event = event_of e.event; word = word_of e.answer.word }
 
 -- the protocol's transcript, the newest entry first
-abbrev pub transcript_of : List Entry → List world.TranscriptEntry
+abbrev pub transcript_of : List TranscriptEntry → List world.TranscriptEntry
 transcript_of entries = reverse (map entry_of entries)

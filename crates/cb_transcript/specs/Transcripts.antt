@@ -2,22 +2,23 @@
 use Rattle.std.specs.Prelude.{List, map, reverse}
 use Rattle.cb_commit.specs.Stores.{StoreState, bytes_at}
 use Rattle.cb_transcript.specs.ProtocolEvents.{transcript_of}
-use Rattle.cb_transcript.specs.declared.answer.Entry.{Entry}
-use Rattle.cb_transcript.specs.declared.transcript.CommitName.{CommitName}
-use Rattle.cb_protocol.specs.Serial.{IsSerial, Operation, TransactionName, committed_operations}
+use Rattle.cb_transcript.specs.declared.answer.TranscriptEntry.{TranscriptEntry}
+use Rattle.cb_transcript.specs.declared.transcript.TransactionName.{TransactionName}
+use Rattle.cb_protocol.specs.Serial.{IsSerial, Operation, committed_operations}
+use Rattle.cb_protocol.specs.Serial as protocol
 use Rattle.cb_protocol.specs.Transcript.{transcript_operations}
 
 -- the store before any event, every event with its answer, and the transactions that were
 -- committed, in commit order
 pub record TranscriptState : Type 0 where
   pub opening : StoreState
-  pub entries : List Entry
-  pub commits : List CommitName
+  pub entries : List TranscriptEntry
+  pub commits : List TransactionName
 
 -- the protocol's name of a transaction
-abbrev pub name_of : CommitName → TransactionName
+abbrev pub name_of : TransactionName → protocol.TransactionName
 name_of name =
-    record { client = name.client; incarnation = name.incarnation; txn = name.transaction }
+    record { client = name.client; incarnation = name.incarnation; txn = name.txn }
 
 -- the operations of the committed transactions, one transaction after another in commit order
 abbrev pub told_operations : TranscriptState → List (List Operation)

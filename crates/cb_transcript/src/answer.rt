@@ -10,7 +10,7 @@ use std::marker::Model;
 
 /// What an event is answered, apart from the packets sent.
 #[derive(Debug, Drop)]
-pub enum Word {
+pub enum AnswerWord {
     /// A call, a restart or a resend was accepted.
     Ok,
     /// A read or a peek found these bytes.
@@ -35,31 +35,31 @@ pub enum Word {
     NoClient,
 }
 
-impl Word {
+impl AnswerWord {
     /// The same word. It fails only where there is no memory for the bytes of a read.
-    pub fn copy(&self, alloc: Global) -> Result<Word, AllocError>
+    pub fn copy(&self, alloc: Global) -> Result<AnswerWord, AllocError>
         ensures same { IfOk result (λ word. word ≡ self.now) }
         ensures fails { OnErr result (IsBytes self.now) }
     {
         Ok(match self {
-            Word::Ok => Word::Ok,
-            Word::Bytes(bytes) => Word::Bytes(Page::copy_of(alloc, bytes.as_slice())?),
-            Word::Asked => Word::Asked,
-            Word::Permitted => Word::Permitted,
-            Word::Nothing => Word::Nothing,
-            Word::Flushed(number) => Word::Flushed(*number),
-            Word::Taken => Word::Taken,
-            Word::NoPacket => Word::NoPacket,
-            Word::Refused(fault) => Word::Refused(*fault),
-            Word::ServerExhausted => Word::ServerExhausted,
-            Word::NoClient => Word::NoClient,
+            AnswerWord::Ok => AnswerWord::Ok,
+            AnswerWord::Bytes(bytes) => AnswerWord::Bytes(Page::copy_of(alloc, bytes.as_slice())?),
+            AnswerWord::Asked => AnswerWord::Asked,
+            AnswerWord::Permitted => AnswerWord::Permitted,
+            AnswerWord::Nothing => AnswerWord::Nothing,
+            AnswerWord::Flushed(number) => AnswerWord::Flushed(*number),
+            AnswerWord::Taken => AnswerWord::Taken,
+            AnswerWord::NoPacket => AnswerWord::NoPacket,
+            AnswerWord::Refused(fault) => AnswerWord::Refused(*fault),
+            AnswerWord::ServerExhausted => AnswerWord::ServerExhausted,
+            AnswerWord::NoClient => AnswerWord::NoClient,
         })
     }
 }
 
 /// A packet that an event sent.
 #[derive(Clone, Copy, Debug, PartialEq, Eq)]
-pub struct Sent {
+pub struct SentPacket {
     /// Its place among all packets ever sent, from 0.
     pub number: u64,
     pub kind: Kind,
@@ -70,14 +70,14 @@ pub struct Sent {
 /// The packets that an event sent, in order.
 #[derive(Debug, Drop)]
 pub struct SentPackets {
-    list: Vec<Sent>,
+    list: Vec<SentPacket>,
 }
 
 impl Model for SentPackets {
     ghost use Rattle.std.specs.Prelude.{List};
-    ghost use Rattle.cb_transcript.specs.declared.answer.Sent.{Sent};
+    ghost use Rattle.cb_transcript.specs.declared.answer.SentPacket.{SentPacket};
 
-    ghost Value = { List Sent };
+    ghost Value = { List SentPacket };
 
     ghost view = { λ s. s.list.items };
 }
@@ -93,7 +93,7 @@ impl SentPackets {
     }
 
     /// One packet. `AllocError` only where memory was refused.
-    pub fn one(alloc: Global, sent: Sent) -> Result<SentPackets, AllocError>
+    pub fn one(alloc: Global, sent: SentPacket) -> Result<SentPackets, AllocError>
         ensures { IfOk result (λ s. s ≡ sent ∷ []) }
     {
         let mut list = Vec::new(alloc);
@@ -101,7 +101,7 @@ impl SentPackets {
         Ok(SentPackets { list })
     }
 
-    pub fn as_slice(&self) -> &[Sent]
+    pub fn as_slice(&self) -> &[SentPacket]
         ensures { result.now ≡ self.now }
     {
         self.list.as_slice()
@@ -120,13 +120,13 @@ impl SentPackets {
 /// What became of an event: the answer, and the packets sent by it.
 #[derive(Debug, Drop)]
 pub struct Answer {
-    pub word: Word,
+    pub word: AnswerWord,
     pub sent: SentPackets,
 }
 
 impl Answer {
     /// An answer that sends nothing.
-    pub fn silent(alloc: Global, word: Word) -> Answer
+    pub fn silent(alloc: Global, word: AnswerWord) -> Answer
         ensures { result ≡ record { word = word; sent = [] } }
     {
         Answer {
@@ -148,13 +148,13 @@ impl Answer {
 
 /// An event and what became of it.
 #[derive(Debug, Drop)]
-pub struct Entry {
+pub struct TranscriptEntry {
     pub event: Event,
     pub answer: Answer,
 }
 
 /// The law of packets sent: none are none, and a copy of one shows it.
-fn sent_law(alloc: Global, sent: Sent) -> Result<(usize, Option<Sent>), AllocError>
+fn sent_law(alloc: Global, sent: SentPacket) -> Result<(usize, Option<SentPacket>), AllocError>
     ensures { IfOk result (λ shown. shown ≡ (0, Some sent)) }
 {
     let none = SentPackets::none(alloc);
@@ -167,12 +167,16 @@ fn sent_law(alloc: Global, sent: Sent) -> Result<(usize, Option<Sent>), AllocErr
 }
 
 /// The law of copies: a word without page bytes needs no memory, and an answer's copy is the same.
-fn copy_law(alloc: Global, number: CommitNo, answer: &Answer) -> (Option<Word>, Option<Answer>)
-    ensures word { result.0 ≡ Some (Word.Flushed number) }
+fn copy_law(
+    alloc: Global,
+    number: CommitNo,
+    answer: &Answer,
+) -> (Option<AnswerWord>, Option<Answer>)
+    ensures word { result.0 ≡ Some (AnswerWord.Flushed number) }
     ensures answer { IfSome result.1 (λ copy. copy ≡ answer.now) }
 {
     (
-        Word::Flushed(number).copy(alloc).ok(),
+        AnswerWord::Flushed(number).copy(alloc).ok(),
         answer.copy(alloc).ok(),
     )
 }

@@ -7,5 +7,5 @@
 mod answer;
 mod transcript;
 
-pub use answer::{Answer, Entry, Sent, SentPackets, Word};
-pub use transcript::{CommitName, Transcript, Verdict, check_serial};
+pub use answer::{Answer, AnswerWord, SentPacket, SentPackets, TranscriptEntry};
+pub use transcript::{TransactionName, Transcript, Verdict, check_serial};

@@ -1,10 +1,10 @@
 //! The transcript of a world, and the serial check of it.
 ghost use Rattle.std.specs.Prelude.{◌≡◌, List, ◌++◌, [], ◌∷◌, IfOk, OnOk, OnErr, ◌↔◌};
 ghost use Rattle.cb_transcript.specs.Transcripts.{IsSerialOnOpening};
-ghost use Rattle.cb_transcript.specs.declared.answer.Entry.{Entry as EntryState};
+ghost use Rattle.cb_transcript.specs.declared.answer.TranscriptEntry.{TranscriptEntry as EntryState};
 ghost use Rattle.cb_transcript.specs.declared.transcript.Verdict.TheVariants as verdict;
 
-use crate::answer::{Answer, Entry};
+use crate::answer::{Answer, TranscriptEntry};
 use cb_commit::Store;
 use cb_event::Event;
 use cb_page::{ClientNo, Incarnation, TxnNo};
@@ -13,10 +13,10 @@ use std::marker::Model;
 
 /// The name of a transaction: transactions are numbered by each incarnation of a client.
 #[derive(Clone, Copy, Debug, PartialEq, Eq)]
-pub struct CommitName {
+pub struct TransactionName {
     pub client: ClientNo,
     pub incarnation: Incarnation,
-    pub transaction: TxnNo,
+    pub txn: TxnNo,
 }
 
 /// Whether the committed transactions are serial.
@@ -33,8 +33,8 @@ pub enum Verdict {
 #[derive(Debug, Drop)]
 pub struct Transcript {
     opening: Store,
-    entries: Vec<Entry>,
-    commits: Vec<CommitName>,
+    entries: Vec<TranscriptEntry>,
+    commits: Vec<TransactionName>,
 }
 
 impl Model for Transcript {
@@ -72,14 +72,14 @@ impl Transcript {
     }
 
     /// Every event with its answer, in order.
-    pub fn entries(&self) -> &[Entry]
+    pub fn entries(&self) -> &[TranscriptEntry]
         ensures { result.now ≡ self.now.entries }
     {
         self.entries.as_slice()
     }
 
     /// The transactions that were committed, in commit order.
-    pub fn commits(&self) -> &[CommitName]
+    pub fn commits(&self) -> &[TransactionName]
         ensures value { result.now ≡ self.now.commits }
         ensures none { self.now.commits ≡ [] }
     {
@@ -95,7 +95,7 @@ impl Transcript {
         ensures commits { self.new.commits ≡ self.old.commits }
         ensures kept { OnErr result (self.new ≡ self.old) }
     {
-        self.entries.push(Entry { event, answer })?;
+        self.entries.push(TranscriptEntry { event, answer })?;
         Ok(())
     }
 

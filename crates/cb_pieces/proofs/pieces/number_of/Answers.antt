@@ -21,8 +21,8 @@ loop-byte-preserved c =
       bound = omega (arith, here.0, here.1);
     }
 
-pub returns-then-value-gt-GREATEST : goal.returns-then-value-gt-GREATEST
-returns-then-value-gt-GREATEST c =
+pub returns-then-value-gt-MAX_NUMBER : goal.returns-then-value-gt-MAX_NUMBER
+returns-then-value-gt-MAX_NUMBER c =
     rw (too_large c.args.word.now c.loop-byte.byte-index (omega arith)) refl
 
 pub returns : goal.returns
