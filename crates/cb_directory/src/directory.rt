@@ -1,7 +1,7 @@
-ghost use Rattle.std.specs.Prelude.{◌≡◌, ◌^◌, ℕ, ◌<◌, None, Some, IfOk};
+ghost use Rattle.std.specs.Prelude.{◌≡◌, ◌^◌, ◌↔◌, ℕ, ◌<◌, None, Some, IfOk, IfSome, IsSome};
 ghost use Rattle.std.specs.Option.{is_some};
 ghost use Rattle.cb_clients.specs.Clients.{has};
-ghost use Rattle.cb_directory.specs.Directories.{Forgets, GivesBack, Grants, HasClient, HasGrantLeft, HasPage, IsNew, IsSoleRow, NoOtherHolder, Permits, Releases, ReleasesAll, ReleasesIf, row, holder, tag};
+ghost use Rattle.cb_directory.specs.Directories.{Forgets, GivesBack, Grants, HasClient, HasGrantLeft, HasPage, IsNew, IsSoleRow, NoOtherHolder, Permits, Releases, ReleasesAll, ReleasesIf, Rule, row, holder, tag};
 
 use crate::tables::Tables;
 use cb_clients::ClientSet;
@@ -46,7 +46,8 @@ impl Directory {
     pub fn row(&self, client: ClientNo, page: PageNo) -> Option<GrantNo>
         requires client { HasClient self.now client }
         requires page { HasPage self.now page }
-        ensures { result ≡ row self.now client page }
+        ensures value { result ≡ row self.now client page }
+        ensures rule { Rule self.now }
     {
         self.tables.row(client, page)
     }
@@ -54,7 +55,8 @@ impl Directory {
     /// The clients that have a copy of the page.
     pub fn rows_of_page(&self, page: PageNo) -> ClientSet
         requires { HasPage self.now page }
-        ensures { (client : ℕ) → has result client ≡ is_some (row self.now client page) }
+        ensures members { (client : ℕ) → has result client ≡ is_some (row self.now client page) }
+        ensures rule { Rule self.now }
     {
         self.tables.clients(page)
     }
@@ -62,7 +64,9 @@ impl Directory {
     /// The client that has the page's write permission.
     pub fn holder(&self, page: PageNo) -> Option<ClientNo>
         requires { HasPage self.now page }
-        ensures { result ≡ holder self.now page }
+        ensures value { result ≡ holder self.now page }
+        ensures known { IfSome result (HasClient self.now) }
+        ensures rule { Rule self.now }
     {
         self.tables.holder(page)
     }
@@ -73,6 +77,15 @@ impl Directory {
         ensures { result ≡ tag self.now page }
     {
         self.tables.tag(page)
+    }
+
+    /// The number that the next grant gets; `None` where all numbers are used up.
+    pub fn next_grant(&self) -> Option<GrantNo>
+        ensures value { IfSome result (λ grant. grant ≡ self.now.next_grant) }
+        ensures left { IsSome result ↔ HasGrantLeft self.now }
+        ensures rule { Rule self.now }
+    {
+        GrantNo::checked(self.next_grant)
     }
 
     /// The client gets a copy of the page, with the next grant, which is answered.
@@ -130,7 +143,7 @@ impl Directory {
     }
 
     /// The client may not write the page any more. Another write holder stays.
-    fn clear_writer_if(&mut self, client: ClientNo, page: PageNo)
+    pub fn clear_writer_if(&mut self, client: ClientNo, page: PageNo)
         requires { HasPage self.old page }
         ensures { ReleasesIf self.old client page self.new }
     {

@@ -28,6 +28,17 @@ greeted incarnation = record { incarnation = Some incarnation; transaction = Not
 abbrev pub begun : Session → ℕ → Session
 begun session txn = with_transaction session (Live txn false)
 
+-- the number of the transaction, if one has begun
+abbrev pub txn_of : Transaction → Option ℕ
+txn_of NotBegun = None
+txn_of (Live txn is_doomed) = Some txn
+txn_of (Ended txn commit) = Some txn
+
+-- the commit by which it ended
+abbrev pub commit_of : Transaction → Option ℕ
+commit_of (Ended txn commit) = commit
+commit_of transaction = None
+
 -- the client's transaction has begun and not ended
 abbrev pub is_live_transaction : Transaction → Bool
 is_live_transaction (Live txn is_doomed) = true

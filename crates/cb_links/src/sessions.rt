@@ -1,6 +1,6 @@
 ghost use Rattle.std.specs.Prelude.{◌≡◌, ℕ, ◌<◌, Some, None, false, length, replicate, IfOk};
 ghost use Rattle.cb_links.specs.Admissions.{admission_of, standing_of, IsLater, IsNewer};
-ghost use Rattle.cb_links.specs.Changes.{Becomes, begun, doomed, doomed_transaction, ended, ended_transaction, greeted, is_live, session_of, unknown, with_transaction};
+ghost use Rattle.cb_links.specs.Changes.{Becomes, begun, commit_of, doomed, doomed_transaction, ended, ended_transaction, greeted, is_live, is_live_transaction, session_of, txn_of, unknown, with_transaction};
 
 use cb_page::{ClientNo, CommitNo, Incarnation, Limits, TxnNo};
 use std::alloc::{AllocError, Global};
@@ -48,6 +48,36 @@ pub enum Transaction {
 }
 
 impl Transaction {
+    /// Its number; `None` where none has begun.
+    pub fn txn(self) -> Option<TxnNo>
+        ensures { result ≡ txn_of self }
+    {
+        match self {
+            Transaction::NotBegun => None,
+            Transaction::Live { txn, .. } | Transaction::Ended { txn, .. } => Some(txn),
+        }
+    }
+
+    /// The commit by which it ended; `None` where it lives or was dropped.
+    pub fn commit(self) -> Option<CommitNo>
+        ensures { result ≡ commit_of self }
+    {
+        match self {
+            Transaction::Ended { commit, .. } => commit,
+            Transaction::NotBegun | Transaction::Live { .. } => None,
+        }
+    }
+
+    /// Whether it has begun and not ended.
+    pub fn is_live(self) -> bool
+        ensures { result ≡ is_live_transaction self }
+    {
+        match self {
+            Transaction::Live { .. } => true,
+            Transaction::NotBegun | Transaction::Ended { .. } => false,
+        }
+    }
+
     /// What another transaction of the incarnation is beside this one.
     fn standing(self, txn: TxnNo) -> Standing
         ensures { result ≡ standing_of self txn }

@@ -1,0 +1,5 @@
+pub mod Alike
+pub mod Applying
+pub mod Committed
+pub mod Rows
+pub mod Steps
