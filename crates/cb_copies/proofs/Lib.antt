@@ -1,0 +1,4 @@
+pub mod Changing
+pub mod Steps
+pub mod Keeping
+pub mod PoolRoom

@@ -1,0 +1,320 @@
+ghost use Rattle.std.specs.Prelude.{◌≡◌, ℕ, ◌<◌, ◌≤◌, ◌↔◌, ◌||◌, [], ◌∷◌, length, true, false, Some, None, Err, IfOk, OnErr, IsTrue, MatchOption};
+ghost use Rattle.std.specs.Borrow.{sem};
+ghost use Rattle.std.specs.Option.{is_some, option_copied};
+ghost use Rattle.cb_page.specs.Bounds.{AreInRange};
+ghost use Rattle.cb_page.specs.Flags.{has};
+ghost use Rattle.cb_twoq.specs.Pages.{has as on};
+ghost use Rattle.cb_protocol.specs.Cache.{Abandon, Fill, Install, LetGo, RefuseGrant, TakeDone, TakePermission, WriteBytes, YieldPermission};
+ghost use Rattle.cb_protocol.specs.Client.{ChangeCache, Client, EndTransaction, LastOutcome, MarkWanted, has_room};
+ghost use Rattle.cb_copies.specs.CopiesState.{AreCopies, IsFull, client_with, content_at, copy_at, limits_of, no_copies};
+ghost use Rattle.cb_copies.specs.ByTable.{BringsIn, Does, DoesInTxn};
+ghost use Rattle.cb_copies.specs.Lending.{copies_end_as};
+
+use crate::table::{CopyTable, PageCopy};
+use crate::written::{drop_copies, set_versions};
+use cb_page::{CommitNo, GrantNo, Limits, Page, PageNo, PageSet, TxnNo, Version};
+use cb_pool::{Pool, PoolFault};
+use cb_twoq::Chooser;
+use std::alloc::{AllocError, Global};
+use std::marker::Model;
+
+/// A client's copies of pages: of each the grants that came, its version, its bytes in a pool, the
+/// permission to write it, and whether the transaction wrote it or asked to.
+///
+/// Each method that changes something is one step of the protocol; which step comes when, its
+/// caller decides. Only `new`, `install` and `fill` take memory.
+#[derive(Drop)]
+pub struct Copies<Q: Chooser> {
+    limits: Limits,
+    table: CopyTable,
+    may_write: PageSet,
+    wrote: PageSet,
+    wanted: PageSet,
+    pool: Pool<Q>,
+}
+
+impl<Q: Chooser> Model for Copies<Q> {
+    ghost use Rattle.cb_copies.specs.CopiesState.{CopiesState, AreCopies};
+
+    ghost Value = { CopiesState };
+
+    ghost view = { λ copies. record {
+      limits = copies.limits;
+      rows = copies.table;
+      may_write = copies.may_write;
+      wrote = copies.wrote;
+      wanted = copies.wanted;
+      pool = copies.pool;
+    } };
+
+    ghost invariant = { λ copies. AreCopies (record {
+      limits = copies.limits;
+      rows = copies.table;
+      may_write = copies.may_write;
+      wrote = copies.wrote;
+      wanted = copies.wanted;
+      pool = copies.pool;
+    }) };
+}
+
+impl<Q: Chooser> Copies<Q> {
+    /// No grant ever came, over an empty chooser of as many slots as the limits say. It is refused
+    /// only where memory is.
+    pub fn new(alloc: Global, chooser: Q, limits: &Limits) -> Result<Copies<Q>, AllocError>
+        requires members { Q.members chooser ≡ [] }
+        requires slots { Q.slots chooser ≡ limits.now.slots }
+        ensures { IfOk result (λ copies. copies ≡ no_copies limits.now) }
+    {
+        let pages = limits.pages() as usize;
+        Ok(Copies {
+            limits: *limits,
+            table: CopyTable::new(alloc, pages)?,
+            may_write: PageSet::new(alloc, pages)?,
+            wrote: PageSet::new(alloc, pages)?,
+            wanted: PageSet::new(alloc, pages)?,
+            pool: Pool::new(alloc, chooser, limits)?,
+        })
+    }
+
+    /// The limits of the store and the pool.
+    pub fn limits(&self) -> &Limits
+        ensures value { result.now ≡ self.now.limits }
+        ensures sound { AreCopies self.now }
+    {
+        &self.limits
+    }
+
+    /// Lends the pool's chooser, whose members are the pages with bytes in the pool.
+    pub fn chooser(&self) -> &Q
+        ensures { (page : ℕ) → on (Q.members result.now) page ≡ is_some (content_at self.now page) }
+    {
+        self.pool.chooser()
+    }
+
+    /// What is known of a page beside its bytes.
+    pub fn at(&self, page: PageNo) -> PageCopy
+        requires { page < self.now.limits.pages }
+        ensures value { result ≡ copy_at self.now page }
+        ensures sound { AreCopies self.now }
+    {
+        self.table.at(page)
+    }
+
+    /// Whether the client may write the page.
+    pub fn may_write(&self, page: PageNo) -> bool
+        ensures { result ≡ has self.now.may_write page }
+    {
+        self.may_write.contains(page)
+    }
+
+    /// Whether the transaction wrote the page.
+    pub fn wrote(&self, page: PageNo) -> bool
+        ensures { result ≡ has self.now.wrote page }
+    {
+        self.wrote.contains(page)
+    }
+
+    /// Whether the transaction wrote the page or asked to: the pool may not let it go.
+    pub fn is_fixed(&self, page: PageNo) -> bool
+        ensures { result ≡ (has self.now.wanted page || has self.now.wrote page) }
+    {
+        self.wanted.contains(page) || self.wrote.contains(page)
+    }
+
+    /// The first page that the transaction wrote at or after a place.
+    pub fn next_written(&self, from: usize) -> Option<PageNo>
+        ensures { MatchOption result
+            ((page : ℕ) → from ≤ page → has self.now.wrote page ≡ false)
+            (λ page. (from ≤ page) × (has self.now.wrote page ≡ true)
+            × ((other : ℕ) → from ≤ other → other < page → has self.now.wrote other ≡ false)) }
+    {
+        self.wrote.next(from)
+    }
+
+    /// The bytes of the page's copy, if they are in the pool, with no reference to it.
+    pub fn peek(&self, page: PageNo) -> Option<&[u8]>
+        ensures bytes { option_copied result ≡ content_at self.now page }
+        ensures sound { AreCopies self.now }
+    {
+        self.pool.peek(page)
+    }
+
+    /// The same, counted as a reference to the page.
+    ///
+    /// The copies are the same once the loan is over, save that the pool may let another page go
+    /// later.
+    pub fn read(&mut self, page: PageNo) -> Option<&[u8]>
+        ensures* ends { sem 𝓛 (copies_end_as Q.row Q.Chooser self.entry self.old) }
+        ensures bytes { option_copied result ≡ content_at self.old page }
+    {
+        self.refer(page);
+        self.peek(page)
+    }
+
+    /// Refers to a page, if its bytes are in the pool.
+    fn refer(&mut self, page: PageNo)
+        ensures { self.new ≡ self.old }
+    {
+        let _bytes = self.pool.hit(page);
+    }
+
+    /// Whether the pool can take in one more page.
+    pub fn has_room(&self) -> bool
+        ensures { (client : Client)
+            → result ≡ has_room (limits_of self.now.limits) (client_with self.now client) }
+    {
+        self.pool.room()
+    }
+
+    /// A new copy comes. The page answered, if any, went from the pool: its grant is bare now.
+    ///
+    /// `Full` comes where the page isn't in the pool and there is no room, and `Memory` only where a
+    /// growth of the chooser was refused; nothing changes then.
+    pub fn install(
+        &mut self,
+        page: PageNo,
+        grant: GrantNo,
+        version: Version,
+        bytes: Page,
+    ) -> Result<Option<PageNo>, PoolFault>
+        requires page { page < self.old.limits.pages }
+        requires size { length bytes ≡ self.old.limits.page_size }
+        ensures ok { IfOk result (λ gone.
+            BringsIn self.old page (ChangeCache (Install page grant version bytes)) gone self.new) }
+        ensures full { (result ≡ Err PoolFault.Full)
+            ↔ ((content_at self.old page ≡ None) × IsFull self.old) }
+        ensures err { OnErr result (self.new ≡ self.old) }
+    {
+        let gone = self.pool.install(page, bytes)?;
+        let copy = self.table.at(page);
+        self.table.put(
+            page,
+            PageCopy {
+                seen: grant.get(),
+                held: Some(grant),
+                version,
+                ..copy
+            },
+        );
+        Ok(gone)
+    }
+
+    /// Bytes come for a grant that is held. The page answered, if any, went from the pool: its grant
+    /// is bare now.
+    ///
+    /// `Full` comes where the page isn't in the pool and there is no room, and `Memory` only where a
+    /// growth of the chooser was refused; nothing changes then.
+    pub fn fill(&mut self, page: PageNo, bytes: Page) -> Result<Option<PageNo>, PoolFault>
+        requires held { is_some (copy_at self.old page).held ≡ true }
+        requires page { page < self.old.limits.pages }
+        requires size { length bytes ≡ self.old.limits.page_size }
+        ensures ok { IfOk result (λ gone. (grant : ℕ)
+            → BringsIn self.old page (ChangeCache (Fill page grant bytes)) gone self.new) }
+        ensures full { (result ≡ Err PoolFault.Full)
+            ↔ ((content_at self.old page ≡ None) × IsFull self.old) }
+        ensures err { OnErr result (self.new ≡ self.old) }
+    {
+        self.pool.install(page, bytes)
+    }
+
+    /// A grant is seen that isn't held.
+    pub fn refuse(&mut self, page: PageNo, grant: GrantNo)
+        requires { page < self.old.limits.pages }
+        ensures { Does self.old (ChangeCache (RefuseGrant page grant) ∷ []) self.new }
+    {
+        let copy = self.table.at(page);
+        self.table.put(
+            page,
+            PageCopy {
+                seen: copy.seen.max(grant.get()),
+                ..copy
+            },
+        );
+    }
+
+    /// The copy of a page goes, and the permission to write it.
+    pub fn let_go(&mut self, page: PageNo)
+        requires page { page < self.old.limits.pages }
+        requires unwritten { has self.old.wrote page ≡ false }
+        ensures { Does self.old (ChangeCache (LetGo page) ∷ []) self.new }
+    {
+        let copy = self.table.at(page);
+        self.table.put(page, PageCopy { held: None, ..copy });
+        self.may_write.remove(page);
+        self.pool.remove(page);
+    }
+
+    /// The client may write a page that it holds, for this transaction.
+    pub fn take_permission(&mut self, page: PageNo, txn: TxnNo)
+        requires held { is_some (copy_at self.old page).held ≡ true }
+        requires page { page < self.old.limits.pages }
+        ensures { (grant : ℕ)
+            → DoesInTxn txn self.old (ChangeCache (TakePermission page grant) ∷ []) self.new }
+    {
+        let copy = self.table.at(page);
+        self.table.put(
+            page,
+            PageCopy {
+                tag: txn.get(),
+                ..copy
+            },
+        );
+        self.may_write.insert(page);
+    }
+
+    /// The client may not write the page any more.
+    pub fn yield_permission(&mut self, page: PageNo)
+        requires { page < self.old.limits.pages }
+        ensures { Does self.old (ChangeCache (YieldPermission page) ∷ []) self.new }
+    {
+        self.may_write.remove(page);
+    }
+
+    /// The transaction asked to write the page: the pool may not let it go.
+    pub fn want(&mut self, page: PageNo)
+        requires { page < self.old.limits.pages }
+        ensures { Does self.old (MarkWanted page ∷ []) self.new }
+    {
+        self.wanted.insert(page);
+        self.pool.fix(page);
+    }
+
+    /// The transaction writes a page whose bytes are in the pool; they are overwritten in place.
+    pub fn write(&mut self, page: PageNo, bytes: &[u8])
+        requires here { is_some (content_at self.old page) ≡ true }
+        requires size { length bytes.now ≡ self.old.limits.page_size }
+        ensures { Does self.old (ChangeCache (WriteBytes page bytes.now) ∷ []) self.new }
+    {
+        self.pool.write(page, bytes);
+        self.wrote.insert(page);
+        self.pool.fix(page);
+    }
+
+    /// The transaction ends as dropped or aborted: the copies that it wrote go, and all permissions.
+    /// It costs no more than the pages written.
+    pub fn abandon(&mut self)
+        ensures { (outcome : LastOutcome)
+            → Does self.old (EndTransaction outcome ∷ ChangeCache Abandon ∷ []) self.new }
+    {
+        drop_copies(&mut self.table, &mut self.pool, &self.wrote);
+        self.may_write.clear();
+        self.wrote.clear();
+        self.wanted.clear();
+        self.pool.unfix_all();
+    }
+
+    /// The transaction ends as committed with that number, which is the version of what it wrote;
+    /// permissions stay where they are kept. It costs no more than the pages written.
+    pub fn take_done(&mut self, number: CommitNo)
+        ensures { (outcome : LastOutcome)
+            → Does self.old (EndTransaction outcome ∷ ChangeCache (TakeDone number) ∷ []) self.new }
+    {
+        set_versions(&mut self.table, &self.wrote, number);
+        if !self.limits.keep_write() {
+            self.may_write.clear();
+        }
+        self.wrote.clear();
+        self.wanted.clear();
+        self.pool.unfix_all();
+    }
+}

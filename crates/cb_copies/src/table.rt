@@ -1,0 +1,68 @@
+//! What is kept of each page beside its bytes.
+ghost use Rattle.std.specs.Prelude.{◌≡◌, ◌<◌, length, replicate, slice_set, IfOk};
+ghost use Rattle.cb_copies.specs.Rows.{no_copy, row_at};
+
+use cb_page::{GrantNo, PageNo, Version};
+use std::alloc::{AllocError, Global};
+use std::marker::Model;
+
+/// What a client knows of a page beside its bytes.
+#[derive(Clone, Copy, Debug)]
+pub struct PageCopy {
+    /// The greatest grant that ever came for the page, 0 before the first.
+    pub seen: u64,
+    /// The grant of the copy that is held.
+    pub held: Option<GrantNo>,
+    /// The version of the copy held; where none is, that of the last one.
+    pub version: Version,
+    /// The transaction that was last permitted to write the page, 0 before the first.
+    pub tag: u64,
+}
+
+/// What is known of each page.
+#[derive(Debug, Drop)]
+pub(crate) struct CopyTable {
+    rows: Vec<PageCopy>,
+}
+
+impl Model for CopyTable {
+    ghost use Rattle.std.specs.Prelude.{List};
+    ghost use Rattle.cb_copies.specs.declared.table.PageCopy.{PageCopy};
+
+    ghost Value = { List PageCopy };
+
+    ghost view = { λ table. table.rows.items };
+}
+
+impl CopyTable {
+    /// No grant ever came for any of so many pages.
+    pub(crate) fn new(alloc: Global, pages: usize) -> Result<CopyTable, AllocError>
+        ensures { IfOk result (λ table. table ≡ replicate pages no_copy) }
+    {
+        let nothing = PageCopy {
+            seen: 0,
+            held: None,
+            version: Version::new(0),
+            tag: 0,
+        };
+        Ok(CopyTable {
+            rows: vec![in alloc; nothing; pages]?,
+        })
+    }
+
+    /// What is known of a page.
+    pub(crate) fn at(&self, page: PageNo) -> PageCopy
+        requires { page < length self.now }
+        ensures { result ≡ row_at self.now page }
+    {
+        self.rows[page.index()]
+    }
+
+    /// Puts what is known of a page.
+    pub(crate) fn put(&mut self, page: PageNo, copy: PageCopy)
+        requires { page < length self.old }
+        ensures { self.new ≡ slice_set self.old page copy }
+    {
+        self.rows[page.index()] = copy;
+    }
+}
