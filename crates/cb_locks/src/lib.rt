@@ -1,0 +1,15 @@
+//! What a client's transaction reads, and what it owes the server at its end.
+//!
+//! A page that the server calls back while the transaction reads it is in use: the client says so
+//! at once and gives the copy back when the transaction ends (Franklin, Carey and Livny, TODS
+//! 1997). [`ReadLocks`] keeps which pages are locked and what is due of each. A [`CallbackDue`]
+//! stands for a callback that was taken and has no answer yet: it can't be copied or let go, so
+//! each callback is answered, and once.
+#![tactic(auto)]
+
+mod callback_due;
+mod dues;
+mod read_locks;
+
+pub use callback_due::CallbackDue;
+pub use read_locks::ReadLocks;

@@ -1,0 +1,228 @@
+//! The pages that a client's transaction reads.
+ghost use Rattle.std.specs.Prelude.{◌≡◌, ℕ, ◌+◌, ◌<◌, ◌≤◌, IsSome, Some, None, [], ◌++◌, true, false, length, map, count_by, option_to_list, reverse, slice_set, IfOk, IfSome, OnOk, OnErr};
+ghost use Rattle.std.specs.Vec.{vec_capacity, vec_len};
+ghost use Rattle.cb_page.specs.Flags.{has};
+ghost use Rattle.cb_locks.specs.Dues.{is_due, nothing_due};
+ghost use Rattle.cb_locks.specs.Locks.{callback, due_at, ended, no_locks, owed_at, owed_below, unlocked, with_due, with_noted, with_nothing_due};
+
+use crate::CallbackDue;
+use crate::dues::{Dues, PageDue};
+use cb_page::{ClientNo, GrantNo, Incarnation, Limits, PageNo, PageSet, TxnNo};
+use std::alloc::{AllocError, Global};
+use std::marker::Model;
+
+/// The pages that a client's transaction reads, and what is due of each page at its end.
+///
+/// Only `new` and `end` take memory. `end` costs the pages that are due, and what [`PageSet`] says
+/// of a walk; a caller that has more to say of each page ends the transaction by a walk over
+/// `locked` and `unlock` of each page.
+#[derive(Debug, Drop)]
+pub struct ReadLocks {
+    client: ClientNo,
+    incarnation: Incarnation,
+    /// The transaction that began last.
+    txn: Option<TxnNo>,
+    locked: PageSet,
+    dues: Dues,
+}
+
+impl Model for ReadLocks {
+    ghost use Rattle.std.specs.Prelude.{◌≡◌, length};
+    ghost use Rattle.cb_locks.specs.Locks.{LocksState};
+
+    ghost Value = { LocksState };
+
+    ghost view = { λ l. record {
+      client = l.client;
+      incarnation = l.incarnation;
+      txn = l.txn;
+      locked = l.locked;
+      dues = l.dues;
+    } };
+
+    ghost invariant = { λ l. length l.locked ≡ length l.dues };
+}
+
+impl ReadLocks {
+    /// No transaction has begun and nothing is locked or due. `AllocError` only where memory was
+    /// refused.
+    pub fn new(
+        alloc: Global,
+        client: ClientNo,
+        incarnation: Incarnation,
+        limits: &Limits,
+    ) -> Result<ReadLocks, AllocError>
+        ensures { IfOk result (λ locks. locks ≡ no_locks client incarnation limits.now.pages) }
+    {
+        let pages = limits.pages() as usize;
+        Ok(ReadLocks {
+            client,
+            incarnation,
+            txn: None,
+            locked: PageSet::new(alloc, pages)?,
+            dues: Dues::new(alloc, pages)?,
+        })
+    }
+
+    /// A transaction begins: it is the one that uses the pages from now on.
+    pub fn begin(&mut self, txn: TxnNo)
+        ensures { self.new ≡ record self.old { txn = Some txn } }
+    {
+        self.txn = Some(txn);
+    }
+
+    /// The transaction reads the page.
+    pub fn lock(&mut self, page: PageNo)
+        requires { page < length self.old.locked }
+        ensures { self.new ≡ record self.old { locked = slice_set self.old.locked page true } }
+    {
+        self.locked.insert(page);
+    }
+
+    /// Whether the transaction reads the page; `false` for a page past the end.
+    pub fn is_locked(&self, page: PageNo) -> bool
+        ensures { result ≡ has self.now.locked page }
+    {
+        self.locked.contains(page)
+    }
+
+    /// The pages that the transaction reads.
+    pub fn locked(&self) -> &PageSet
+        ensures { result.now ≡ self.now.locked }
+    {
+        &self.locked
+    }
+
+    /// A Callback was taken: the server calls the copy back. It is not due yet.
+    pub fn called(&self, page: PageNo, grant: GrantNo) -> CallbackDue
+        ensures { result ≡ callback self.now page grant None }
+    {
+        self.callback(page, grant, None)
+    }
+
+    /// A Downgrade was taken: the server calls the permission to write the page back that was given
+    /// for that transaction, and not the copy. It is not due yet.
+    pub fn permission_called(&self, page: PageNo, grant: GrantNo, tag: TxnNo) -> CallbackDue
+        ensures { result ≡ callback self.now page grant (Some tag) }
+    {
+        self.callback(page, grant, Some(tag))
+    }
+
+    /// The pages of which something is due at the transaction's end.
+    pub fn due(&self) -> &PageSet
+        ensures { result.now ≡ map is_due self.now.dues }
+    {
+        self.dues.pages()
+    }
+
+    /// How many pages there are of which something is due.
+    pub fn due_count(&self) -> usize
+        ensures { result ≡ count_by is_due self.now.dues }
+    {
+        self.dues.count()
+    }
+
+    /// The transaction uses the page no more: it is not locked, nothing is due of it, and what was
+    /// due is answered. Where both the copy and the permission were called back, the copy is due,
+    /// and the permission with it.
+    pub fn unlock(&mut self, page: PageNo) -> Option<CallbackDue>
+        requires { page < length self.old.locked }
+        ensures due { result ≡ owed_at self.old page }
+        ensures state { self.new ≡ unlocked self.old page }
+    {
+        self.locked.remove(page);
+        self.take_due(page)
+    }
+
+    /// The transaction ends: nothing is locked or due any more. What was due of each page is
+    /// answered once; the greatest page is the first of the list, so `pop` gives them rising.
+    ///
+    /// `AllocError` only where memory for the pages due was refused; nothing changes then.
+    pub fn end(&mut self, alloc: Global) -> Result<Vec<CallbackDue>, AllocError>
+        ensures handed { IfOk result (λ dues.
+            reverse dues.items ≡ owed_below self.old (length self.old.locked)) }
+        ensures ok { OnOk result (self.new ≡ ended self.old) }
+        ensures err { OnErr result (self.new ≡ self.old) }
+    {
+        let mut handed = Vec::with_capacity(alloc, self.due_count())?;
+        self.hand_out(&mut handed);
+        handed.reverse();
+        self.locked.clear();
+        Ok(handed)
+    }
+
+    /// Hands out what is due of each page, rising.
+    fn hand_out(&mut self, handed: &mut Vec<CallbackDue>)
+        requires empty { handed.old.items ≡ [] }
+        requires room { count_by is_due self.old.dues ≤ vec_capacity handed.old }
+        ensures handed { handed.new.items ≡ owed_below self.old (length self.old.locked) }
+        ensures state { self.new ≡ with_nothing_due self.old }
+    {
+        let mut from = 0;
+        while let Some(page) = self.dues.next(from) {
+            self.hand_one(page, handed);
+            from = page.index() + 1;
+        }
+    }
+
+    /// Hands out what is due of a page.
+    fn hand_one(&mut self, page: PageNo, handed: &mut Vec<CallbackDue>)
+        requires page { page < length self.old.locked }
+        requires room { vec_len handed.old < vec_capacity handed.old }
+        ensures handed { handed.new.items
+            ≡ handed.old.items ++ option_to_list (owed_at self.old page) }
+        ensures len { vec_len handed.new ≤ vec_len handed.old + 1 }
+        ensures capacity { vec_capacity handed.new ≡ vec_capacity handed.old }
+        ensures state { self.new ≡ with_due self.old page nothing_due }
+    {
+        if let Some(due) = self.take_due(page) {
+            handed.push_reserved(due);
+        }
+    }
+
+    /// Takes out what is due of a page.
+    fn take_due(&mut self, page: PageNo) -> Option<CallbackDue>
+        requires { page < length self.old.locked }
+        ensures due { result ≡ owed_at self.old page }
+        ensures state { self.new ≡ with_due self.old page nothing_due }
+    {
+        let due = self.dues.at(page);
+        self.dues.put(
+            page,
+            PageDue {
+                callback: None,
+                downgrade: None,
+            },
+        );
+        match due.called_by() {
+            Some((grant, tag)) => Some(self.callback(page, grant, tag)),
+            None => None,
+        }
+    }
+
+    /// This callback is due from now on. Answers the transaction that uses the page.
+    pub(crate) fn note(&mut self, page: PageNo, grant: GrantNo, tag: Option<TxnNo>) -> TxnNo
+        requires begun { IsSome self.old.txn }
+        requires page { page < length self.old.locked }
+        ensures txn { self.old.txn ≡ Some result }
+        ensures due { self.new ≡ with_noted self.old page grant tag }
+    {
+        let Some(txn) = self.txn else { unreachable!() };
+        let due = self.dues.at(page).noted(grant, tag);
+        self.dues.put(page, due);
+        txn
+    }
+
+    /// A callback of this client's copy of the page, or of its permission.
+    fn callback(&self, page: PageNo, grant: GrantNo, tag: Option<TxnNo>) -> CallbackDue
+        ensures { result ≡ callback self.now page grant tag }
+    {
+        CallbackDue {
+            client: self.client,
+            incarnation: self.incarnation,
+            page,
+            grant,
+            tag,
+        }
+    }
+}
