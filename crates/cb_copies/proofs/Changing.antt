@@ -53,3 +53,24 @@ pub none_in : (n q : ℕ) → false ≡ has (replicate n false) q
 none_in zero q = refl
 none_in (suc n) zero = refl
 none_in (suc n) (suc q) = none_in n q
+
+-- one entry goes, another comes, and the first goes again
+pub go_first : {A : Type 0} (entries : ℕ → Option A) (gone page : ℕ) (new : Option A) (q : ℕ) → gone ≢ page
+    → update (update (update entries gone None) page new) gone None q ≡ update (update entries gone None) page new q
+go_first entries gone page new q other = by (q == gone) refl (q == page) refl
+  where
+    by : (b : Bool) → (q == gone) ≡ b → (c : Bool) → (q == page) ≡ c
+        → update (update (update entries gone None) page new) gone None q ≡ update (update entries gone None) page new q
+    by true e true f = absurd (let a : q ≡ gone = grind (arith, nat_tests) in let b : q ≡ page = grind (arith, nat_tests) in other (sym a ∙ b))
+    by true e false f = rw (e, f) refl
+    by false e c f = rw e refl
+
+-- one entry comes, and another goes
+pub go_last : {A : Type 0} (entries : ℕ → Option A) (gone page : ℕ) (new : Option A) (q : ℕ) → gone ≢ page
+    → update (update entries page new) gone None q ≡ update (update entries gone None) page new q
+go_last entries gone page new q other = by (q == gone) refl (q == page) refl
+  where
+    by : (b : Bool) → (q == gone) ≡ b → (c : Bool) → (q == page) ≡ c → update (update entries page new) gone None q ≡ update (update entries gone None) page new q
+    by true e true f = absurd (let a : q ≡ gone = grind (arith, nat_tests) in let b : q ≡ page = grind (arith, nat_tests) in other (sym a ∙ b))
+    by true e false f = rw (e, f) refl
+    by false e c f = rw e refl

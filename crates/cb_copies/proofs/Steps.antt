@@ -1,16 +1,16 @@
 -- What the protocol's steps make of copies.
-use Rattle.std.proofs.Common.{◌≡◌, ◌<◌, ◌≤◌, ℕ, Bool, true, false, max, if◌then◌else◌, List, [], ◌∷◌, ◌++◌, length, replicate, slice_set, Option, Some, None, IfSome, Result, Ok, Err, IfOk, refl, sym, ◌∙◌, ap, arith}
+use Rattle.std.proofs.Common.{◌≡◌, ◌≢◌, ◌<◌, ◌≤◌, ℕ, Bool, true, false, max, if◌then◌else◌, List, [], ◌∷◌, ◌++◌, length, replicate, slice_set, Option, Some, None, IfSome, Result, Ok, Err, IfOk, refl, sym, ◌∙◌, ap, arith}
 use Rattle.cb_page.specs.Flags.{has}
 use Rattle.cb_pool.specs.PoolState.{PoolState, copy_of, let_go, MayGo}
 use Rattle.cb_pool.specs.declared.pool.PoolFault.{PoolFault}
 use Rattle.cb_protocol.specs.Basics.{Bytes, update}
-use Rattle.cb_protocol.specs.Cache.{Abandon, Fill, Install, LetGo, RefuseGrant, TakeDone, TakePermission, WriteBytes}
-use Rattle.cb_protocol.specs.Client.{ChangeCache, Client, EndTransaction, LastOutcome, client_after}
+use Rattle.cb_protocol.specs.Cache.{Abandon, Fill, Install, LetGo, MakeBare, RefuseGrant, TakePermission, WriteBytes}
+use Rattle.cb_protocol.specs.Client.{ChangeCache, Client, ClientStep, EndTransaction, LastOutcome, client_after}
 use Rattle.cb_copies.specs.declared.table.PageCopy.{PageCopy}
-use Rattle.cb_copies.specs.Rows.{Dropped, Written, row_at}
+use Rattle.cb_copies.specs.Rows.{Dropped, row_at}
 use Rattle.cb_copies.specs.CopiesState.{AreCopies, CopiesState, Emptied, HaveSizes, client_with, content_at, copy_at}
-use Rattle.cb_copies.specs.ByTable.{BringsIn, Does, DoesInTxn, lose_bytes}
-use Rattle.cb_copies.proofs.Changing.{none_in, pool_brings, put_entry, put_field, put_same}
+use Rattle.cb_copies.specs.ByTable.{Brings, BringsIn, Does, DoesInTxn, Filled, Installed, lose_bytes}
+use Rattle.cb_copies.proofs.Changing.{go_first, go_last, none_in, pool_brings, put_entry, put_field, put_same}
 use Rattle.cb_copies.proofs.PoolRoom.{may_let_go, within_pool}
 
 pub refuses : (v : CopiesState) (page grant : ℕ) → page < v.limits.pages → HaveSizes v
@@ -204,21 +204,24 @@ abandons v outcome rows pool a b c n dropped emptied = record {
   limits = refl;
 }
 
-pub takes_done : (v : CopiesState) (number : ℕ) (outcome : LastOutcome) (rows : List PageCopy) (may_write : List Bool) (b c n : ℕ) → Written v.rows v.wrote number rows
-    → ((page : ℕ) → (if v.limits.keep_write then has v.may_write page else false) ≡ has may_write page)
-    → Does v (EndTransaction outcome ∷ ChangeCache (TakeDone number) ∷ [])
-    (record v { rows = rows; may_write = may_write; wrote = replicate b false; wanted = replicate c false; pool = record v.pool { fixed = replicate n false } })
-takes_done v number outcome rows may_write b c n written permitted = record {
-  becomes = λ client i. record (client_after v.limits.keep_write (client_with v client) (EndTransaction outcome ∷ ChangeCache (TakeDone number) ∷ [])) {
-    cache = record (client_after v.limits.keep_write (client_with v client) (EndTransaction outcome ∷ ChangeCache (TakeDone number) ∷ [])).cache {
-      seen = λ q. sym (written.seen q) i;
-      held = λ q. sym (written.held q) i;
-      version = λ q. sym (written.version q) i;
-      tag = λ q. sym (written.tag q) i;
-      may_write = λ q. permitted q i;
-      wrote = λ q. none_in b q i;
-    };
-    wanted = λ q. none_in c q i;
+-- A page goes from the pool for one that comes in, and then its grant goes too: the client is what
+-- it would be had its copy gone first.
+pub goes_before : (keep_write : Bool) (client : Client) (gone page : ℕ) (step : ClientStep) → gone ≢ page → Brings page step
+    → client_after keep_write client (ChangeCache (MakeBare gone) ∷ step ∷ ChangeCache (LetGo gone) ∷ [])
+    ≡ client_after keep_write client (ChangeCache (LetGo gone) ∷ step ∷ [])
+goes_before keep_write client gone page _ other (Filled grant bytes) = λ i. record client {
+  cache = record client.cache {
+    may_write = update client.cache.may_write gone false;
+    held = update client.cache.held gone None;
+    content = λ q. go_first client.cache.content gone page (Some bytes) q other i;
   };
-  limits = refl;
+}
+goes_before keep_write client gone page _ other (Installed grant version bytes) = λ i. record client {
+  cache = record client.cache {
+    may_write = update client.cache.may_write gone false;
+    seen = update client.cache.seen page grant;
+    version = update client.cache.version page version;
+    held = λ q. go_last client.cache.held gone page (Some grant) q other i;
+    content = λ q. go_first client.cache.content gone page (Some bytes) q other i;
+  };
 }

@@ -1,6 +1,7 @@
 -- How a change of copies is bound to the protocol's steps.
 use Rattle.std.specs.Prelude.{◌≡◌, ℕ, true, ◌++◌, List, [], ◌∷◌, Option, Some, None}
-use Rattle.cb_protocol.specs.Cache.{MakeBare}
+use Rattle.cb_protocol.specs.Basics.{Bytes}
+use Rattle.cb_protocol.specs.Cache.{Fill, Install, MakeBare}
 use Rattle.cb_protocol.specs.Client.{ChangeCache, Client, ClientStep, client_after}
 use Rattle.cb_protocol.specs.ClientMessages.{MayLetGo}
 use Rattle.cb_copies.specs.CopiesState.{CopiesState, client_with, content_at, limits_of}
@@ -32,4 +33,11 @@ pub record BringsIn (before : CopiesState) (page : ℕ) (step : ClientStep) (gon
     (after : CopiesState) : Type 0 where
   pub does : Does before (lose_bytes gone ++ step ∷ []) after
   pub by_law : content_at before page ≡ None
-      → (client : Client) → MayLetGo (limits_of before.limits) (client_with before client) page gone
+      → (client : Client)
+      → MayLetGo (limits_of before.limits) (client_with before client) page gone
+
+-- the step brings the page's bytes
+pub data Brings (page : ℕ) : ClientStep → Type 0 where
+  Filled : (grant : ℕ) (bytes : Bytes) → Brings page (ChangeCache (Fill page grant bytes))
+  Installed : (grant version : ℕ) (bytes : Bytes)
+      → Brings page (ChangeCache (Install page grant version bytes))

@@ -86,7 +86,8 @@ impl<Q: Chooser> Copies<Q> {
 
     /// Lends the pool's chooser, whose members are the pages with bytes in the pool.
     pub fn chooser(&self) -> &Q
-        ensures { (page : ℕ) → on (Q.members result.now) page ≡ is_some (content_at self.now page) }
+        ensures { (page : ℕ)
+            → on (Q.members result.now) page ≡ is_some (content_at self.now page) }
     {
         self.pool.chooser()
     }
@@ -166,10 +167,11 @@ impl<Q: Chooser> Copies<Q> {
         self.pool.room()
     }
 
-    /// A new copy comes. The page answered, if any, went from the pool: its grant is bare now.
+    /// A new copy comes. The bytes of the page answered, if any, went from the pool, and its grant
+    /// is bare now: a caller that doesn't read it lets it go by `let_go`.
     ///
-    /// `Full` comes where the page isn't in the pool and there is no room, and `Memory` only where a
-    /// growth of the chooser was refused; nothing changes then.
+    /// `Full` comes where the page isn't in the pool and there is no room, and `Memory` only where
+    /// a growth of the chooser was refused; nothing changes then.
     pub fn install(
         &mut self,
         page: PageNo,
@@ -199,11 +201,7 @@ impl<Q: Chooser> Copies<Q> {
         Ok(gone)
     }
 
-    /// Bytes come for a grant that is held. The page answered, if any, went from the pool: its grant
-    /// is bare now.
-    ///
-    /// `Full` comes where the page isn't in the pool and there is no room, and `Memory` only where a
-    /// growth of the chooser was refused; nothing changes then.
+    /// Bytes come for a grant that is held. What is answered and refused is as for `install`.
     pub fn fill(&mut self, page: PageNo, bytes: Page) -> Result<Option<PageNo>, PoolFault>
         requires held { is_some (copy_at self.old page).held ≡ true }
         requires page { page < self.old.limits.pages }
@@ -290,8 +288,8 @@ impl<Q: Chooser> Copies<Q> {
         self.pool.fix(page);
     }
 
-    /// The transaction ends as dropped or aborted: the copies that it wrote go, and all permissions.
-    /// It costs no more than the pages written.
+    /// The transaction ends as dropped or aborted: the copies that it wrote go, and all
+    /// permissions. It costs the pages written, and what [`PageSet`] says of a walk.
     pub fn abandon(&mut self)
         ensures { (outcome : LastOutcome)
             → Does self.old (EndTransaction outcome ∷ ChangeCache Abandon ∷ []) self.new }
@@ -304,7 +302,7 @@ impl<Q: Chooser> Copies<Q> {
     }
 
     /// The transaction ends as committed with that number, which is the version of what it wrote;
-    /// permissions stay where they are kept. It costs no more than the pages written.
+    /// permissions stay where they are kept. It costs the same.
     pub fn take_done(&mut self, number: CommitNo)
         ensures { (outcome : LastOutcome)
             → Does self.old (EndTransaction outcome ∷ ChangeCache (TakeDone number) ∷ []) self.new }
