@@ -1,5 +1,5 @@
 -- A set of clients.
-use Rattle.std.specs.Prelude.{◌≡◌, ◌<◌, ◌-◌, ◌^◌, ℕ, Bool, true, false, ◌==◌, if◌then◌else◌}
+use Rattle.std.specs.Prelude.{◌≡◌, ◌<◌, ◌≤◌, ◌-◌, ◌^◌, ℕ, Bool, true, false, ◌==◌, if◌then◌else◌}
 use Rattle.std.specs.Int.{bit_at}
 
 -- one bit for each client that there may be
@@ -28,3 +28,9 @@ left_out set = 2 ^ 32 - set.bits
 pub record IsLeast (set : Clients) (client : ℕ) : Type 0 where
   pub here : has set client ≡ true
   pub none_before : (other : ℕ) → other < client → has set other ≡ false
+
+-- the client is in the set, from that number on, and none between
+pub record IsNext (set : Clients) (from client : ℕ) : Type 0 where
+  pub here : has set client ≡ true
+  pub above : from ≤ client
+  pub none_between : (other : ℕ) → from ≤ other → other < client → has set other ≡ false

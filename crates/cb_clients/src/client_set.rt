@@ -1,5 +1,5 @@
-ghost use Rattle.std.specs.Prelude.{◌≡◌, ◌<◌, ℕ, ◌&&◌, ◌||◌, not, true, false, MatchOption};
-ghost use Rattle.cb_clients.specs.Clients.{IsLeast, has, left_out, with, without};
+ghost use Rattle.std.specs.Prelude.{◌≡◌, ◌<◌, ◌≤◌, ℕ, ◌&&◌, ◌||◌, not, true, false, MatchOption};
+ghost use Rattle.cb_clients.specs.Clients.{IsLeast, IsNext, has, left_out, with, without};
 
 use cb_page::ClientNo;
 use std::marker::Model;
@@ -71,6 +71,23 @@ impl ClientSet {
     {
         ClientSet {
             bits: self.bits & !other.bits,
+        }
+    }
+
+    /// The client of the least number from this one on; `None` where there is none.
+    pub fn next(self, from: usize) -> Option<ClientNo>
+        ensures { MatchOption result
+            ((client : ℕ) → from ≤ client → has self client ≡ false) (IsNext self from) }
+    {
+        let bits = self.bits;
+        if from >= 32 {
+            return None;
+        }
+        let rest = bits >> from;
+        if rest == 0 {
+            None
+        } else {
+            Some(ClientNo::new(from as u16 + rest.trailing_zeros() as u16))
         }
     }
 

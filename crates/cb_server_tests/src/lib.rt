@@ -4,6 +4,8 @@
 #[cfg(test)]
 mod directory;
 #[cfg(test)]
+mod outbox;
+#[cfg(test)]
 mod sessions;
 #[cfg(test)]
 mod waits;

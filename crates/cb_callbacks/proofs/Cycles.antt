@@ -1,0 +1,35 @@
+-- The view's cycles are the server's.
+use Rattle.std.proofs.Common.{◌≡◌, ℕ, Bool, true, false, IsTrue, ◌↔◌, refl, sym, ◌∙◌, ap}
+use Rattle.cb_protocol.specs.Server.{Server}
+use Rattle.cb_protocol.specs.WaitsFor as protocol
+use Rattle.cb_protocol.specs.WaitsFor.{AsksInRange, WaitsFor, on_cycle, waits_for}
+use Rattle.cb_protocol.proofs.CycleTest.{test_is_exact, waits_is}
+use Rattle.cb_waits.specs.Graph.{Edges, LiesOnCycle, MoreEdges, OneEdge, Path, Waits, waits}
+use Rattle.cb_callbacks.specs.Follows.{Follows}
+
+to_server : {R S : ℕ → ℕ → Type 0} → ((c d : ℕ) → R c d → S c d)
+    → (c d : ℕ) → Path R c d → protocol.Path S c d
+to_server f c d (OneEdge e) = protocol.OneEdge (f c d e)
+to_server f c d (MoreEdges {next = n} e w) = protocol.MoreEdges (f c n e) (to_server f n d w)
+
+to_view : {R S : ℕ → ℕ → Type 0} → ((c d : ℕ) → R c d → S c d)
+    → (c d : ℕ) → protocol.Path R c d → Path S c d
+to_view f c d (protocol.OneEdge e) = OneEdge (f c d e)
+to_view f c d (protocol.MoreEdges {next = n} e w) = MoreEdges (f c n e) (to_view f n d w)
+
+same_test : (x y : Bool) (A : Type 0) → IsTrue x ↔ A → (y ≡ true) ↔ A → x ≡ y
+same_test true true A f g = refl
+same_test false false A f g = refl
+same_test true false A f g = sym (g.1 (f.0 refl))
+same_test false true A f g = f.1 (g.0 refl)
+
+-- the view's answer is the protocol's test
+pub closes_cycle_is_test : (view : Edges) (server : Server) → AsksInRange server
+    → Follows view server → (client : ℕ) (answer : Bool)
+    → IsTrue answer ↔ LiesOnCycle (Waits view) client → answer ≡ on_cycle server client
+closes_cycle_is_test view server range follows client answer exact =
+    let test = test_is_exact server range client in
+    same_test answer (on_cycle server client) (LiesOnCycle (Waits view) client) exact (
+      (λ e. to_view (λ c d w. follows c d ∙ (waits_is server range c d).1 w) client client (test.0 e)),
+      (λ w. test.1 (to_server (λ c d e. (waits_is server range c d).0 (sym (follows c d) ∙ e)) client client w)),
+    )

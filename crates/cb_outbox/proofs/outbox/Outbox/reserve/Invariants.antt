@@ -1,0 +1,11 @@
+use Rattle.std.proofs.Common.{◌≡◌, ◌≤◌, length}
+use Rattle.std.specs.List.{All}
+use Rattle.cb_outbox.proofs.outbox.Outbox.reserve.Given as goal
+
+abbrev pub invariant-loop-made : goal.invariant-loop-made
+invariant-loop-made l = record {
+  frames : l.self-inside.frames ≡ l.initial.self-inside.frames;
+  page_size : l.self-inside.page_size ≡ l.initial.self-inside.page_size;
+  sizes : All (λ page. length page ≡ l.self-inside.page_size) l.self-inside.spare.items;
+  made : l._made ≤ length l.self-inside.spare.items;
+}

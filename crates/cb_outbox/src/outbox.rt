@@ -1,0 +1,132 @@
+//! What is to be sent, in order.
+ghost use Rattle.std.specs.Prelude.{◌≡◌, ◌+◌, ◌++◌, ◌∷◌, ◌-◌, [], ◌<◌, ◌≤◌, ℕ, length, IfOk, OnOk};
+ghost use Rattle.cb_outbox.specs.Messages.{messages_of, short_of};
+ghost use Rattle.cb_protocol.specs.Messages.{Granted};
+
+use cb_frame::{Body, Frame, ShortBody};
+use cb_page::{ClientNo, GrantNo, Incarnation, Limits, Page, PageNo, Version};
+use std::alloc::{AllocError, Global};
+use std::marker::Model;
+use std::mem;
+
+/// Frames in the order in which they are to be sent, and spare pages for the copies that they
+/// carry. Only `reserve` takes memory: it is called before a step, which then can't be refused.
+#[derive(Debug, Drop)]
+pub struct Outbox {
+    frames: Vec<Frame>,
+    spare: Vec<Page>,
+    page_size: usize,
+}
+
+impl Model for Outbox {
+    ghost use Rattle.std.specs.Prelude.{◌≡◌, length};
+    ghost use Rattle.std.specs.List.{All};
+    ghost use Rattle.std.specs.Vec.{vec_capacity};
+    ghost use Rattle.cb_outbox.specs.Messages.{messages_of};
+    ghost use Rattle.cb_outbox.specs.Saying.{OutboxState};
+
+    ghost Value = { OutboxState };
+
+    ghost view = { λ o. record {
+      sent = messages_of o.frames.items;
+      room = vec_capacity o.frames;
+      spare = length o.spare.items;
+      page_size = o.page_size;
+    } };
+
+    ghost invariant = { λ o. All (λ page. length page ≡ o.page_size) o.spare.items };
+}
+
+impl Outbox {
+    /// Nothing is sent, and there is no room. It takes no memory.
+    pub fn new(alloc: Global, limits: &Limits) -> Outbox
+        ensures sent { result.sent ≡ [] }
+        ensures page_size { result.page_size ≡ limits.now.page_size }
+    {
+        Outbox {
+            frames: Vec::new(alloc),
+            spare: Vec::new(alloc),
+            page_size: limits.page_size(),
+        }
+    }
+
+    /// Room for so many frames more, and at least so many spare pages. Spare pages that no step
+    /// used are there the next time.
+    ///
+    /// `AllocError` only where memory was refused; what is sent is as before.
+    pub fn reserve(&mut self, alloc: Global, frames: usize, copies: usize) -> Result<(), AllocError>
+        ensures sent { self.new.sent ≡ self.old.sent }
+        ensures page_size { self.new.page_size ≡ self.old.page_size }
+        ensures room { OnOk result (length self.old.sent + frames ≤ self.new.room) }
+        ensures spare { OnOk result (copies ≤ self.new.spare) }
+    {
+        self.frames.reserve(frames)?;
+        for _made in self.spare.len()..copies {
+            self.spare.push(Page::zeros(alloc, self.page_size)?)?;
+        }
+        Ok(())
+    }
+
+    /// A message without page bytes.
+    pub fn say(&mut self, client: ClientNo, incarnation: Incarnation, body: ShortBody)
+        requires { length self.old.sent < self.old.room }
+        ensures { self.new ≡ record self.old {
+          sent = self.old.sent
+              ++ record { client = client; incarnation = incarnation; body = short_of body } ∷ [];
+        } }
+    {
+        self.frames.push_reserved(Frame {
+            client,
+            incarnation,
+            body: Body::Short(body),
+        });
+    }
+
+    /// A grant, with a copy of these bytes in a spare page.
+    pub fn grant(
+        &mut self,
+        client: ClientNo,
+        incarnation: Incarnation,
+        page: PageNo,
+        grant: GrantNo,
+        version: Version,
+        bytes: &[u8],
+    )
+        requires room { length self.old.sent < self.old.room }
+        requires spare { 0 < self.old.spare }
+        requires size { length bytes.now ≡ self.old.page_size }
+        ensures { self.new ≡ record self.old {
+          sent = self.old.sent ++ record {
+            client = client;
+            incarnation = incarnation;
+            body = Granted page grant version bytes.now;
+          } ∷ [];
+          spare = self.old.spare - 1;
+        } }
+    {
+        let Some(mut copy) = self.spare.pop() else {
+            unreachable!();
+        };
+        copy.write(bytes);
+        self.frames.push_reserved(Frame {
+            client,
+            incarnation,
+            body: Body::Granted {
+                page,
+                grant,
+                version,
+                bytes: copy,
+            },
+        });
+    }
+
+    /// Hands out what is sent; nothing is left.
+    pub fn take(&mut self, alloc: Global) -> Vec<Frame>
+        ensures frames { messages_of result.items ≡ self.old.sent }
+        ensures left { self.new.sent ≡ [] }
+        ensures spare { self.new.spare ≡ self.old.spare }
+        ensures page_size { self.new.page_size ≡ self.old.page_size }
+    {
+        mem::replace(&mut self.frames, Vec::new(alloc))
+    }
+}
