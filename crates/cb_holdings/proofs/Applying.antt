@@ -19,7 +19,7 @@ use Rattle.cb_protocol.specs.Server.{AppliedCommit, ChangeSession, ForgetTransac
 use Rattle.cb_protocol.specs.Session as protocol
 use Rattle.cb_protocol.specs.Session.{ApplyCommit, has_live_txn}
 use Rattle.cb_holdings.specs.Holdings.{AreHoldings, Does, HasClient, HoldingsState, begun_txn, client_session, commit_number_in, newest_first, transaction_of}
-use Rattle.cb_holdings.specs.Messages.{page_writes}
+use Rattle.cb_outbox.specs.Messages.{page_writes}
 use Rattle.cb_holdings.proofs.Alike.{same_server}
 use Rattle.cb_holdings.proofs.Committed.{bytes_written, newest, version_written}
 use Rattle.cb_holdings.proofs.Steps.{ended_is, freed, lives, session_set}

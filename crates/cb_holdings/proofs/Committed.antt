@@ -24,7 +24,8 @@ use Rattle.cb_protocol.specs.Session.{new_bytes, new_version}
 use Rattle.cb_protocol.specs.World.{messages_sent}
 use Rattle.cb_protocol.proofs.Cases.{sent_append, server_after_append}
 use Rattle.cb_holdings.specs.Holdings.{Does, HoldingsState, newest_first, server_of}
-use Rattle.cb_holdings.specs.Messages.{applied_commit, batch_of, batch_page, message_of, messages_of, page_write, page_writes}
+use Rattle.cb_holdings.specs.Commits.{applied_commit, batch_of, batch_page}
+use Rattle.cb_outbox.specs.Messages.{message_of, messages_of, page_write, page_writes}
 
 -- the newest commit is first in the server's list
 pub newest : (cs : List Commit) (c : Commit)

@@ -5,7 +5,7 @@ use Rattle.cb_commit.specs.History.{CommitsState}
 use Rattle.cb_commit.specs.Stores.{IsOf, StoreState, bytes_at, version_at}
 use Rattle.cb_commit.specs.declared.commit.Commit.{Commit}
 use Rattle.cb_directory.specs.Directories.{DirectoryState, holder, row, tag}
-use Rattle.cb_holdings.specs.Messages.{applied_commit}
+use Rattle.cb_holdings.specs.Commits.{applied_commit}
 use Rattle.cb_links.specs.Changes.{commit_of, is_live_transaction, session_of, txn_of}
 use Rattle.cb_links.specs.declared.sessions.Session.{Session}
 use Rattle.cb_links.specs.declared.sessions.Transaction.{Transaction}

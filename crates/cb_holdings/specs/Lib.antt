@@ -1,3 +1,3 @@
-pub mod Messages
+pub mod Commits
 pub mod Holdings
 pub mod Questions

@@ -4,7 +4,7 @@ use Rattle.std.specs.Option.{option_map}
 use Rattle.cb_commit.specs.Batches.{BatchState}
 use Rattle.cb_commit.specs.History as history
 use Rattle.cb_holdings.specs.Holdings.{HoldingsState}
-use Rattle.cb_holdings.specs.Messages.{batch_of}
+use Rattle.cb_holdings.specs.Commits.{batch_of}
 use Rattle.cb_holdings.proofs.Committed.{batches}
 use Rattle.cb_holdings.proofs.holdings.Holdings.batch.Goals as goal
 

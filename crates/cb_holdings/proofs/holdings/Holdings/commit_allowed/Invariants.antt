@@ -1,6 +1,6 @@
 use Rattle.std.proofs.Common.{◌≡◌, drop}
 use Rattle.cb_holdings.specs.Holdings.{server_of}
-use Rattle.cb_holdings.specs.Messages.{page_writes}
+use Rattle.cb_outbox.specs.Messages.{page_writes}
 use Rattle.cb_protocol.specs.ServerMessages.{commit_allowed}
 use Rattle.cb_holdings.proofs.holdings.Holdings.commit_allowed.Given as goal
 

@@ -3,7 +3,7 @@ use Rattle.std.proofs.lemmas.Result.{IfOk-weaker, on_ok_weaker}
 use Rattle.cb_commit.specs.History.{CommitsState, dones_between}
 use Rattle.cb_holdings.specs.Holdings.{Does, HoldingsState, server_of}
 use Rattle.cb_protocol.specs.Flush.{server_flush}
-use Rattle.cb_holdings.specs.Messages.{messages_of}
+use Rattle.cb_outbox.specs.Messages.{messages_of}
 use Rattle.cb_holdings.proofs.Committed.{flush_frames, flushed_does}
 use Rattle.cb_holdings.proofs.holdings.Holdings.flushed.Goals as goal
 
