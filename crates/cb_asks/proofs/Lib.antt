@@ -1,0 +1,4 @@
+pub mod Queues
+pub mod Entries
+pub mod Sums
+pub mod Steps
