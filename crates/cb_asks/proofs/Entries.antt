@@ -1,9 +1,9 @@
 -- The entries of a queue's map as asks.
 use Rattle.std.proofs.Common.{◌≡◌, ◌≢◌, ℕ, ◌+◌, ◌<◌, ◌≤◌, Bool, true, false, cond, nat_eq, ◌==◌, if◌then◌else◌, List, [], ◌∷◌, ◌++◌, length, map, Option, Some, None, refl, sym, ◌∙◌, ap, arith, rules, slice_get, remove, zero, suc}
 use Rattle.std.proofs.lemmas.Grind.{common_steps}
-use Rattle.std.specs.Map.{keys_of, lookup, remove_entry}
-use Rattle.std.specs.Option.{option_map}
-use Rattle.indexmap.specs.IndexMap.{insert_entry}
+use Rattle.std.specs.Map.{lookup, remove_entry, values_of}
+use Rattle.std.specs.Option.{option_map, unwrap_or}
+use Rattle.indexmap.specs.IndexMap.{insert_entry, set_value_at}
 use Rattle.cb_protocol.specs.Deadlock.{ask_count}
 use Rattle.cb_protocol.specs.Server.{WaitingAsk, after_first, set_called_back, set_downgrade_sent, without_client}
 use Rattle.cb_asks.specs.Queues.{ask_by, client_at}
@@ -79,3 +79,28 @@ looked_up client (first ∷ entries) = by (first.0 == client) refl (looked_up cl
 pub first_removed : (entries : List (ℕ × Entry)) → asks_of (remove entries 0) ≡ after_first (asks_of entries)
 first_removed [] = refl
 first_removed (first ∷ entries) = refl
+
+-- the first entry is the first ask
+pub first_is : (entries : List (ℕ × Entry)) (key : ℕ) (entry : Entry) → ◌≡◌ {A = Option (ℕ × Entry)} (slice_get entries 0) (Some (key, entry)) → asks_of entries ≡ ask_of_entry (key, entry) ∷ after_first (asks_of entries)
+first_is [] key entry e = absurd (none_some e)
+  where
+    none_some : ◌≡◌ {A = Option (ℕ × Entry)} None (Some (key, entry)) → ⊥
+    none_some e = grind arith
+first_is (first ∷ entries) key entry e = ap (λ (o : Option (ℕ × Entry)). ask_of_entry (unwrap_or o (key, entry)) ∷ asks_of entries) e
+
+-- a note on the first entry
+pub first_called : (entries : List (ℕ × Entry)) (entry : Entry) → Some entry ≡ slice_get (values_of entries) 0
+    → asks_of (set_value_at entries 0 (record { write_grant = entry.write_grant; called_back = true; downgrade_sent = entry.downgrade_sent })) ≡ set_called_back (asks_of entries)
+first_called [] entry e = refl
+first_called (first ∷ entries) entry e = ap (λ (o : Option Entry). noted (unwrap_or o entry) ∷ asks_of entries) e
+  where
+    noted : Entry → WaitingAsk
+    noted entry = record { client = first.0; write_grant = entry.write_grant; called_back = true; downgrade_sent = entry.downgrade_sent }
+
+pub first_sent : (tag : ℕ) (entries : List (ℕ × Entry)) (entry : Entry) → Some entry ≡ slice_get (values_of entries) 0
+    → asks_of (set_value_at entries 0 (record { write_grant = entry.write_grant; called_back = entry.called_back; downgrade_sent = Some tag })) ≡ set_downgrade_sent tag (asks_of entries)
+first_sent tag [] entry e = refl
+first_sent tag (first ∷ entries) entry e = ap (λ (o : Option Entry). noted (unwrap_or o entry) ∷ asks_of entries) e
+  where
+    noted : Entry → WaitingAsk
+    noted entry = record { client = first.0; write_grant = entry.write_grant; called_back = entry.called_back; downgrade_sent = Some tag }

@@ -2,3 +2,5 @@ pub mod Queues
 pub mod Entries
 pub mod Sums
 pub mod Steps
+pub mod Marking
+pub mod Calls

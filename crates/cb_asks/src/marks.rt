@@ -25,7 +25,10 @@ impl Model for Marks {
 
     ghost view = { λ m. record { by_client = m.by_client.items; by_page = m.by_page.items } };
 
-    ghost invariant = { λ m. IsMarks (record { by_client = m.by_client.items; by_page = m.by_page.items }) };
+    ghost invariant = { λ m. IsMarks (record {
+      by_client = m.by_client.items;
+      by_page = m.by_page.items;
+    }) };
 }
 
 impl Marks {

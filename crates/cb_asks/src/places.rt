@@ -63,6 +63,7 @@ impl Places {
         requires { self.old.reads ≤ 32 }
         ensures places { Puts self.old client (Some page) self.new }
         ensures reads { self.new.reads ≡ self.old.reads + one_if is_read }
+        ensures known { client < 32 }
     {
         self.at[client.index()] = Some(page);
         self.waiting.insert(client);

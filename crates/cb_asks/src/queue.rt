@@ -173,9 +173,10 @@ impl Queue {
         ensures asks { self.new.asks ≡ set_called_back self.old.asks }
         ensures room { self.new.room ≡ self.old.room }
     {
-        if let Some(entry) = self.entries.first_mut() {
-            entry.called_back = true;
-        }
+        let Some(entry) = self.entries.first_mut() else {
+            return;
+        };
+        entry.called_back = true;
     }
 
     /// A Downgrade of the permission with that tag was sent for the first ask.
@@ -183,8 +184,9 @@ impl Queue {
         ensures asks { self.new.asks ≡ set_downgrade_sent tag self.old.asks }
         ensures room { self.new.room ≡ self.old.room }
     {
-        if let Some(entry) = self.entries.first_mut() {
-            entry.downgrade_sent = Some(tag);
-        }
+        let Some(entry) = self.entries.first_mut() else {
+            return;
+        };
+        entry.downgrade_sent = Some(tag);
     }
 }
