@@ -2,19 +2,19 @@
 use Rattle.std.proofs.Common.{◌≡◌, ◌≢◌, ℕ, ◌+◌, ◌<◌, ◌≤◌, Bool, true, false, ◌==◌, if◌then◌else◌, ◌⊎◌, List, [], ◌∷◌, ◌++◌, length, Option, Some, None, zero, suc, refl, sym, subst, ◌∙◌, ap, arith, inl, inr, not, slice_index_or, slice_set}
 use Rattle.std.proofs.lemmas.Bool.{cases_eq, cases_lt}
 use Rattle.std.proofs.lemmas.List.{get_or_past, get_or_read}
-use Rattle.std.specs.Option.{is_some, option_map}
+use Rattle.std.specs.Option.{is_some}
 use Rattle.cb_clients.specs.Clients.{has}
 use Rattle.cb_protocol.specs.Basics.{is_exactly, is_none, update}
 use Rattle.cb_protocol.specs.Deadlock.{ask_count}
-use Rattle.cb_protocol.specs.Server.{WaitingAsk, after_first, set_called_back, set_downgrade_sent, without_client}
+use Rattle.cb_protocol.specs.Server.{WaitingAsk, without_client}
 use Rattle.cb_protocol.specs.ServerMessages.{new_ask, read_asks_in}
 use Rattle.cb_protocol.proofs.NoCycles.{count_push}
-use Rattle.cb_asks.specs.Asks.{AsksState, CallsBack, Enters, Has, HasPage, IsAsks, Leaves, Removes, Reserves, SendsDowngrade, queue_at, room_at}
+use Rattle.cb_asks.specs.Asks.{AsksState, Has, IsAsks, Removes, Reserves, queue_at, room_at}
 use Rattle.cb_asks.specs.Places.{IsNew, PlacesState, Puts, place_of}
-use Rattle.cb_asks.specs.Queues.{Asked, QueueState, ask_by, asked, no_queue}
+use Rattle.cb_asks.specs.Queues.{QueueState, ask_by, no_queue}
 use Rattle.cb_asks.specs.Sums.{one_if, sum_below}
-use Rattle.cb_asks.proofs.Queues.{count_without, found_client, found_counted, length_push, length_without, reads_push, reads_without, without_none}
-use Rattle.cb_asks.proofs.Steps.{Changed, apart_is, changed_is, counted_there, is_same, pages_stepped, place_within, put_other, put_same, queues_stepped, room_other, room_stepped, same_is, waiter}
+use Rattle.cb_asks.proofs.Queues.{count_without, found_counted, length_push, length_without, reads_push, reads_without, without_none}
+use Rattle.cb_asks.proofs.Steps.{apart_is, changed_is, counted_there, pages_stepped, put_other, put_same, queues_stepped, room_other, room_stepped, same_is, waiter}
 use Rattle.cb_asks.proofs.Sums.{sum_none, sum_same}
 
 -- small facts

@@ -1,12 +1,12 @@
 -- The entries of a queue's map as asks.
-use Rattle.std.proofs.Common.{◌≡◌, ◌≢◌, ℕ, ◌+◌, ◌<◌, ◌≤◌, Bool, true, false, cond, nat_eq, ◌==◌, if◌then◌else◌, List, [], ◌∷◌, ◌++◌, length, map, Option, Some, None, refl, sym, ◌∙◌, ap, arith, rules, slice_get, remove, zero, suc}
+use Rattle.std.proofs.Common.{◌≡◌, ℕ, ◌+◌, ◌≤◌, Bool, true, false, cond, nat_eq, ◌==◌, if◌then◌else◌, List, [], ◌∷◌, ◌++◌, length, Option, Some, None, refl, sym, ◌∙◌, ap, arith, slice_get, remove, zero, suc}
 use Rattle.std.proofs.lemmas.Grind.{common_steps}
 use Rattle.std.specs.Map.{lookup, remove_entry, values_of}
 use Rattle.std.specs.Option.{option_map, unwrap_or}
 use Rattle.indexmap.specs.IndexMap.{insert_entry, set_value_at}
 use Rattle.cb_protocol.specs.Deadlock.{ask_count}
 use Rattle.cb_protocol.specs.Server.{WaitingAsk, after_first, set_called_back, set_downgrade_sent, without_client}
-use Rattle.cb_asks.specs.Queues.{ask_by, client_at}
+use Rattle.cb_asks.specs.Queues.{ask_by}
 use Rattle.cb_asks.specs.Entries.{ask_of_entry, asks_of}
 use Rattle.cb_asks.specs.declared.queue.Entry.{Entry}
 use Rattle.cb_asks.proofs.Queues.{without_none}

@@ -6,8 +6,8 @@ use Rattle.cb_clients.specs.Clients.{Clients, has, set_of}
 use Rattle.cb_clients.proofs.Flags.{has_none}
 use Rattle.cb_clients.proofs.Lookups.{replicate_gives}
 use Rattle.cb_page.specs.Flags as flags
-use Rattle.cb_protocol.specs.Server.{set_in_use, without_marks}
-use Rattle.cb_asks.specs.Marks.{IsMarks, MarksState, is_in_use, is_listed}
+use Rattle.cb_protocol.specs.Server.{set_in_use}
+use Rattle.cb_asks.specs.Marks.{IsMarks, MarksState, is_in_use}
 use Rattle.cb_asks.proofs.Steps.{apart_is, same_is}
 
 pub new_none : (clients pages : ℕ) (set : Clients) → ((client : ℕ) → has set client ≡ false)

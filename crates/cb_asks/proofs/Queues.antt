@@ -1,8 +1,8 @@
 -- What a step makes of a queue's counts.
-use Rattle.std.proofs.Common.{◌≡◌, ◌≢◌, ℕ, ◌+◌, ◌<◌, ◌≤◌, Bool, true, false, ◌==◌, if◌then◌else◌, List, [], ◌∷◌, ◌++◌, length, Option, Some, None, zero, suc, ◌||◌, take, slice_get, refl, sym, ◌∙◌, ap, arith}
+use Rattle.std.proofs.Common.{◌≡◌, ℕ, ◌+◌, ◌≤◌, ◌==◌, if◌then◌else◌, List, [], ◌∷◌, ◌++◌, length, Some, None, zero, suc, ◌||◌, take, slice_get, refl, arith}
 use Rattle.cb_protocol.specs.Basics.{is_none}
 use Rattle.cb_protocol.specs.Deadlock.{ask_count}
-use Rattle.cb_protocol.specs.Server.{WaitingAsk, after_first, has_ask, set_called_back, set_downgrade_sent, without_client}
+use Rattle.cb_protocol.specs.Server.{WaitingAsk, has_ask, set_called_back, set_downgrade_sent, without_client}
 use Rattle.cb_protocol.specs.ServerMessages.{read_asks_in}
 use Rattle.cb_asks.specs.Queues.{ask_by}
 use Rattle.cb_asks.specs.Sums.{one_if}

@@ -1,10 +1,10 @@
 -- One step keeps what the places say of the queues.
-use Rattle.std.proofs.Common.{◌≡◌, ◌≢◌, ℕ, ◌+◌, ◌<◌, ◌≤◌, Bool, true, false, ◌==◌, if◌then◌else◌, ◌⊎◌, List, [], ◌∷◌, length, Option, Some, None, zero, suc, refl, sym, ◌∙◌, ap, arith, rules, inl, inr, ◌&&◌, not, slice_index_or, slice_set, IfSome, MatchOption}
+use Rattle.std.proofs.Common.{◌≡◌, ◌≢◌, ℕ, ◌+◌, ◌<◌, ◌≤◌, Bool, true, false, ◌==◌, if◌then◌else◌, ◌⊎◌, List, [], ◌∷◌, length, Option, Some, None, zero, suc, refl, sym, ◌∙◌, ap, arith, inl, inr, ◌&&◌, not, slice_index_or, slice_set, IfSome, MatchOption}
 use Rattle.std.proofs.lemmas.Bool.{cases_eq, cases_lt}
 use Rattle.std.proofs.lemmas.List.{get_or_past, get_or-set_same, get_or-set_other, length-set}
 use Rattle.std.specs.Option.{is_some}
 use Rattle.cb_clients.specs.Clients.{has}
-use Rattle.cb_protocol.specs.Basics.{is_exactly, is_none, update}
+use Rattle.cb_protocol.specs.Basics.{is_exactly, update}
 use Rattle.cb_protocol.specs.Deadlock.{OneAsk, ask_count}
 use Rattle.cb_protocol.specs.Server.{Server, WaitingAsk, has_ask}
 use Rattle.cb_protocol.specs.ServerMessages.{has_waiting_ask, read_asks_below, read_asks_in}
@@ -13,7 +13,7 @@ use Rattle.cb_asks.specs.Places.{IsUpTo, PlacesState, Puts, place_of}
 use Rattle.cb_asks.specs.Queues.{QueueState, no_queue}
 use Rattle.cb_asks.specs.Sums.{one_if, sum_below}
 use Rattle.cb_asks.proofs.Queues.{counted_asks, reads_in_length}
-use Rattle.cb_asks.proofs.Sums.{sum_at_most, sum_changed, sum_ones, sum_same}
+use Rattle.cb_asks.proofs.Sums.{sum_at_most, sum_changed, sum_ones}
 
 -- few asks to read wait
 pub few_reads : (state : AsksState) → IsAsks state → state.places.reads ≤ 32

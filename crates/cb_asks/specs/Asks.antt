@@ -1,5 +1,5 @@
 -- The queues of all pages as their callers see them, and what each call makes of them.
-use Rattle.std.specs.Prelude.{◌≡◌, ◌≢◌, ◌<◌, ◌≤◌, ◌+◌, ℕ, Bool, List, [], ◌∷◌, ◌++◌, length, Option, None, Some, slice_index_or}
+use Rattle.std.specs.Prelude.{◌≡◌, ◌≢◌, ◌<◌, ◌≤◌, ℕ, List, [], ◌∷◌, ◌++◌, length, Option, slice_index_or}
 use Rattle.std.specs.Option.{is_some}
 use Rattle.cb_clients.specs.Clients.{has}
 use Rattle.cb_protocol.specs.Basics.{is_exactly, update}

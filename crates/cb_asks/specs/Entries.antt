@@ -1,5 +1,5 @@
 -- The entries of a queue's map as the protocol's asks.
-use Rattle.std.specs.Prelude.{ℕ, List, [], ◌∷◌, map}
+use Rattle.std.specs.Prelude.{ℕ, List, map}
 use Rattle.cb_protocol.specs.Server.{WaitingAsk}
 use Rattle.cb_asks.specs.declared.queue.Entry.{Entry}
 

@@ -2,7 +2,6 @@
 use Rattle.std.specs.Prelude.{◌≡◌, ◌<◌, ◌≤◌, ℕ, Bool, List, [], length, slice_index_or}
 use Rattle.cb_clients.specs.Clients.{Clients, has, set_of}
 use Rattle.cb_page.specs.Flags as flags
-use Rattle.cb_protocol.specs.Server.{set_in_use, without_marks}
 
 -- the pages that each client uses, and the clients that use each page
 pub record MarksState : Type 0 where

@@ -1,5 +1,5 @@
 -- The queue of a page as its callers see it.
-use Rattle.std.specs.Prelude.{◌≡◌, ℕ, List, [], ◌∷◌, Option, Some, None, slice_get, ◌==◌, if◌then◌else◌}
+use Rattle.std.specs.Prelude.{ℕ, List, [], ◌∷◌, Option, Some, None, slice_get, ◌==◌, if◌then◌else◌}
 use Rattle.std.specs.Option.{option_map}
 use Rattle.cb_protocol.specs.Server.{WaitingAsk}
 use Rattle.cb_asks.specs.declared.queue.Waiting.{Waiting}

@@ -1,5 +1,5 @@
-use Rattle.std.proofs.Common.{◌+◌, ◌≡◌, ◌<◌, ◌≤◌, ◌∷◌, ◌++◌, [], ℕ, length, slice_index_or, ap, sym, ◌∙◌, Some, None, Option, arith, refl}
-use Rattle.cb_asks.specs.Asks.{IsAsks, queue_at}
+use Rattle.std.proofs.Common.{◌+◌, ◌≡◌, ◌<◌, ◌∷◌, ◌++◌, [], ℕ, length, slice_index_or, ap, ◌∙◌}
+use Rattle.cb_asks.specs.Asks.{queue_at}
 use Rattle.cb_asks.specs.Queues.{QueueState, no_queue}
 use Rattle.cb_protocol.specs.ServerMessages.{new_ask}
 use Rattle.cb_protocol.specs.Deadlock.{ask_count}

@@ -1,5 +1,5 @@
-use Rattle.std.proofs.Common.{List, ◌+◌, ◌≡◌, ◌<◌, ◌≤◌, ◌∷◌, ◌++◌, [], ℕ, length, slice_index_or, ap, sym, ◌∙◌, Some, None, Option, arith, refl}
-use Rattle.cb_asks.specs.Asks.{IsAsks, queue_at}
+use Rattle.std.proofs.Common.{List, ◌+◌, ◌≡◌, ◌<◌, ◌∷◌, ℕ, length, slice_index_or, ap, sym, ◌∙◌, arith}
+use Rattle.cb_asks.specs.Asks.{queue_at}
 use Rattle.cb_asks.specs.Queues.{QueueState, no_queue}
 use Rattle.cb_protocol.specs.Server.{WaitingAsk, after_first}
 use Rattle.cb_asks.specs.Queues.{waiting_ask}

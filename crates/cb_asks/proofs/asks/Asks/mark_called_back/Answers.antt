@@ -1,10 +1,10 @@
-use Rattle.std.proofs.Common.{◌≡◌, ◌<◌, ◌≤◌, ◌∷◌, ◌++◌, [], ℕ, length, slice_index_or, ap, sym, ◌∙◌, Some, None, Option, arith, refl}
-use Rattle.cb_asks.specs.Asks.{IsAsks, queue_at}
+use Rattle.std.proofs.Common.{◌≡◌, ◌<◌, length, slice_index_or, ap, ◌∙◌, arith}
+use Rattle.cb_asks.specs.Asks.{queue_at}
 use Rattle.cb_asks.specs.Queues.{QueueState, no_queue}
-use Rattle.cb_asks.proofs.Calls.{has_here, noted_is, read_here, reserved, room_here}
-use Rattle.cb_asks.proofs.Queues.{count_called, count_sent, length_called, length_sent, reads_called, reads_sent}
+use Rattle.cb_asks.proofs.Calls.{has_here, noted_is, read_here, room_here}
+use Rattle.cb_asks.proofs.Queues.{count_called, length_called, reads_called}
 use Rattle.cb_protocol.specs.Deadlock.{ask_count}
-use Rattle.cb_protocol.specs.Server.{WaitingAsk, set_called_back, set_downgrade_sent}
+use Rattle.cb_protocol.specs.Server.{set_called_back}
 use Rattle.cb_protocol.specs.ServerMessages.{read_asks_in}
 use Rattle.cb_asks.proofs.asks.Asks.mark_called_back.Goals as goal
 

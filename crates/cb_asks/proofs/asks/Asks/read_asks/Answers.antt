@@ -1,4 +1,4 @@
-use Rattle.std.proofs.Common.{arith, length, ap, ◌∙◌, sym}
+use Rattle.std.proofs.Common.{◌∙◌, sym}
 use Rattle.cb_asks.proofs.Steps.{reads_below}
 use Rattle.cb_asks.proofs.asks.Asks.read_asks.Goals as goal
 

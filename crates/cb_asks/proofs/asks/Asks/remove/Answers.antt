@@ -1,8 +1,8 @@
-use Rattle.std.proofs.Common.{◌≡◌, ◌<◌, ◌≤◌, ◌+◌, ℕ, length, slice_index_or, ap, sym, subst, ◌∙◌, Some, None, Option, arith}
+use Rattle.std.proofs.Common.{◌≡◌, ◌<◌, ◌≤◌, ◌+◌, ℕ, length, slice_index_or, ap, sym, subst, ◌∙◌, Some, None, arith}
 use Rattle.std.specs.Option.{option_map}
 use Rattle.cb_protocol.specs.Deadlock.{ask_count}
-use Rattle.cb_protocol.specs.Server.{WaitingAsk, without_client}
-use Rattle.cb_asks.specs.Asks.{AsksState, IsAsks, queue_at}
+use Rattle.cb_protocol.specs.Server.{without_client}
+use Rattle.cb_asks.specs.Asks.{AsksState, queue_at}
 use Rattle.cb_asks.specs.Places.{place_of}
 use Rattle.cb_asks.specs.Queues.{Asked, QueueState, ask_by, asked, no_queue, waiting_ask}
 use Rattle.cb_asks.proofs.Calls.{found_there, none_of, not_none, nothing_removed, one_there, only_there, read_here, reads_none, removed_is, removed_reads, removes}

@@ -1,4 +1,4 @@
-use Rattle.std.proofs.Common.{◌≡◌, ℕ, ◌+◌, ◌<◌, ◌≤◌, [], length, slice_index_or, arith, ap, subst, ◌∙◌, sym}
+use Rattle.std.proofs.Common.{◌≡◌, ◌+◌, ◌<◌, [], length, slice_index_or, arith, ap, subst, ◌∙◌}
 use Rattle.cb_asks.specs.Marks.{IsMarks, MarksState, is_in_use}
 use Rattle.cb_asks.proofs.Marking.{Cleared, clear_more, line_read, next_unused, next_within}
 use Rattle.cb_asks.proofs.marks.Marks.clear.Goals as goal

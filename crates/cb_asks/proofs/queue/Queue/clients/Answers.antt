@@ -1,8 +1,8 @@
-use Rattle.std.proofs.Common.{◌≡◌, ℕ, Bool, true, false, ◌==◌, ◌||◌, ◌+◌, if◌then◌else◌, suc, take, Some, slice_get, sym, ◌∙◌, ap, arith, refl}
+use Rattle.std.proofs.Common.{◌≡◌, ℕ, Bool, true, ◌==◌, ◌||◌, ◌+◌, if◌then◌else◌, suc, take, Some, slice_get, sym, ◌∙◌, ap, arith}
 use Rattle.std.specs.Map.Iter.{deref_pair}
 use Rattle.std.specs.Option.{option_map}
 use Rattle.cb_clients.specs.Clients.{has}
-use Rattle.cb_protocol.specs.Server.{WaitingAsk, has_ask}
+use Rattle.cb_protocol.specs.Server.{has_ask}
 use Rattle.cb_asks.specs.Entries.{ask_of_entry}
 use Rattle.cb_asks.proofs.Entries.{get_asks}
 use Rattle.cb_asks.proofs.Queues.{taken}

@@ -1,4 +1,4 @@
-use Rattle.std.proofs.Common.{◌≡◌, ℕ, ap, ◌∙◌, nat_eq, false, None}
+use Rattle.std.proofs.Common.{ℕ, ap, ◌∙◌, nat_eq, false, None}
 use Rattle.indexmap.specs.IndexMap.{insert_entry}
 use Rattle.cb_asks.specs.Entries.{asks_of}
 use Rattle.cb_asks.proofs.Entries.{entered}

@@ -1,7 +1,6 @@
-use Rattle.std.proofs.Common.{◌≡◌, ℕ, Option, None, Some, nat_eq, ap, sym, ◌∙◌}
+use Rattle.std.proofs.Common.{◌≡◌, ℕ, None, Some, nat_eq, ap, sym, ◌∙◌}
 use Rattle.std.specs.Map.{lookup, remove_entry}
 use Rattle.std.specs.Option.{option_map}
-use Rattle.cb_protocol.specs.Server.{WaitingAsk}
 use Rattle.cb_asks.specs.Entries.{ask_of_entry, asks_of}
 use Rattle.cb_asks.specs.Queues.{waiting_ask}
 use Rattle.cb_asks.specs.declared.queue.Entry.{Entry}
