@@ -1,0 +1,6 @@
+pub mod Queues
+pub mod Entries
+pub mod Sums
+pub mod Steps
+pub mod Marking
+pub mod Calls

@@ -1,0 +1,5 @@
+use Rattle.cb_asks.proofs.Entries.{first_sent}
+use Rattle.cb_asks.proofs.queue.Queue.mark_downgrade_sent.Goals as goal
+
+pub returns-clause-asks : goal.returns-clause-asks
+returns-clause-asks c = rw (← c.self.view_is) (first_sent c.args.tag c.self.inside.entries.entries c.in-Some.entry.now c.in-Some.ensures.value)

@@ -1,0 +1,6 @@
+pub mod Queues
+pub mod Entries
+pub mod Sums
+pub mod Places
+pub mod Asks
+pub mod Marks
