@@ -1,6 +1,0 @@
-use Rattle.cb_callbacks.proofs.Cycles.{closes_cycle_is_test}
-use Rattle.cb_callbacks.proofs.Rows.{edges_of_ask}
-use Rattle.cb_callbacks.proofs.laws.waits_by_place.Goals as goal
-
-pub returns : goal.returns
-returns c = record { place = edges_of_ask; test = closes_cycle_is_test }
