@@ -1,10 +1,12 @@
 -- The queues of all pages as their callers see them, and what each call makes of them.
-use Rattle.std.specs.Prelude.{◌≡◌, ◌≢◌, ◌<◌, ◌≤◌, ℕ, List, [], ◌∷◌, ◌++◌, length, Option, slice_index_or}
+use Rattle.std.specs.Prelude.{◌≡◌, ◌≢◌, ◌<◌, ◌≤◌, ℕ, List, [], ◌∷◌, ◌++◌, length, Option}
+use Rattle.std.specs.Prelude.{slice_index_or}
 use Rattle.std.specs.Option.{is_some}
 use Rattle.cb_clients.specs.Clients.{has}
 use Rattle.cb_protocol.specs.Basics.{is_exactly, update}
 use Rattle.cb_protocol.specs.Deadlock.{ask_count}
-use Rattle.cb_protocol.specs.Server.{Server, WaitingAsk, after_first, set_called_back, set_downgrade_sent, without_client}
+use Rattle.cb_protocol.specs.Server.{Server, WaitingAsk, after_first, set_called_back}
+use Rattle.cb_protocol.specs.Server.{set_downgrade_sent, without_client}
 use Rattle.cb_protocol.specs.ServerMessages.{new_ask, read_asks_in}
 use Rattle.cb_asks.specs.Places.{PlacesState, place_of}
 use Rattle.cb_asks.specs.Queues.{QueueState, no_queue}

@@ -1,11 +1,13 @@
 //! The queues of all pages.
-ghost use Rattle.std.specs.Prelude.{◌≡◌, ◌≢◌, ◌⊎◌, ℕ, ◌<◌, ◌≤◌, [], length, None, Some, slice_get, slice_index_or, IfOk, IfSome, OnOk, MatchOption};
+ghost use Rattle.std.specs.Prelude.{◌≡◌, ◌≢◌, ◌⊎◌, ℕ, ◌<◌, ◌≤◌, [], length, None, Some, slice_get};
+ghost use Rattle.std.specs.Prelude.{slice_index_or, IfOk, IfSome, OnOk, MatchOption};
 ghost use Rattle.std.specs.Option.{is_some, option_map};
 ghost use Rattle.cb_protocol.specs.Basics.{is_exactly};
 ghost use Rattle.cb_protocol.specs.Deadlock.{OneAsk, ask_count};
 ghost use Rattle.cb_protocol.specs.Server.{Server};
 ghost use Rattle.cb_protocol.specs.ServerMessages.{has_waiting_ask, read_asks_below};
-ghost use Rattle.cb_asks.specs.Asks.{CallsBack, Enters, HasPage, HasQueues, Leaves, Removes, Reserves, SendsDowngrade, queue_at, queue_of, room_at};
+ghost use Rattle.cb_asks.specs.Asks.{CallsBack, Enters, HasPage, HasQueues, Leaves, Removes};
+ghost use Rattle.cb_asks.specs.Asks.{Reserves, SendsDowngrade, queue_at, queue_of, room_at};
 ghost use Rattle.cb_asks.specs.Places.{IsUpTo};
 ghost use Rattle.cb_asks.specs.Queues.{ask_by, asked, no_queue};
 ghost use Rattle.cb_asks.specs.Sums.{one_if};

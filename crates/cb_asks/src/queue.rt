@@ -2,7 +2,8 @@
 ghost use Rattle.std.specs.Prelude.{◌≡◌, ◌++◌, ◌∷◌, [], ◌<◌, ◌≤◌, ℕ, length, OnOk, MatchOption};
 ghost use Rattle.cb_clients.specs.Clients.{has};
 ghost use Rattle.cb_protocol.specs.Deadlock.{ask_count};
-ghost use Rattle.cb_protocol.specs.Server.{after_first, has_ask, set_called_back, set_downgrade_sent, without_client};
+ghost use Rattle.cb_protocol.specs.Server.{after_first, has_ask, set_called_back};
+ghost use Rattle.cb_protocol.specs.Server.{set_downgrade_sent, without_client};
 ghost use Rattle.cb_protocol.specs.ServerMessages.{is_empty, new_ask};
 ghost use Rattle.std.specs.Option.{option_map};
 ghost use Rattle.cb_asks.specs.Entries.{ask_of_entry};

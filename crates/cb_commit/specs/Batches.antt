@@ -1,5 +1,6 @@
 -- Batches: the pages that commits changed since the last flush, as they are now.
-use Rattle.std.specs.Prelude.{ℕ, ◌≤◌, nat_lt, zero, suc, if◌then◌else◌, List, [], ◌∷◌, ◌++◌, map, slice_set, slice_index_or}
+use Rattle.std.specs.Prelude.{ℕ, ◌≤◌, nat_lt, zero, suc, if◌then◌else◌, List, [], ◌∷◌, ◌++◌, map}
+use Rattle.std.specs.Prelude.{slice_set, slice_index_or}
 use Rattle.std.specs.List.{All}
 use Rattle.cb_page.specs.Rising.{IsRising}
 use Rattle.cb_commit.specs.declared.store.StoredPage.{StoredPage}

@@ -1,5 +1,6 @@
 -- Commits over an opening store, and how far they are on disk.
-use Rattle.std.specs.Prelude.{◌≡◌, ℕ, ◌+◌, ◌-◌, ◌<◌, ◌≤◌, nat_lt, nat_le, ◌&&◌, if◌then◌else◌, List, [], ◌∷◌, ◌++◌, map, take, length, slice_set, Option, Some, None}
+use Rattle.std.specs.Prelude.{◌≡◌, ℕ, ◌+◌, ◌-◌, ◌<◌, ◌≤◌, nat_lt, nat_le, ◌&&◌, if◌then◌else◌, List}
+use Rattle.std.specs.Prelude.{[], ◌∷◌, ◌++◌, map, take, length, slice_set, Option, Some, None}
 use Rattle.std.specs.List.{All}
 use Rattle.cb_frame.specs.Grammar.{page_of}
 use Rattle.cb_page.specs.Rising.{IsRising}

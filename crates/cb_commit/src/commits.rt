@@ -1,12 +1,14 @@
 //! The commits of a server.
-ghost use Rattle.std.specs.Prelude.{◌≡◌, ℕ, ◌+◌, ◌<◌, ◌≤◌, ◌↔◌, ◌&&◌, nat_lt, List, map, Bool, length, IsTrue, IsSome, IfSome, IfOk, OnOk, OnErr};
+ghost use Rattle.std.specs.Prelude.{◌≡◌, ℕ, ◌+◌, ◌<◌, ◌≤◌, ◌↔◌, ◌&&◌, nat_lt, List, map, Bool};
+ghost use Rattle.std.specs.Prelude.{length, IsTrue, IsSome, IfSome, IfOk, OnOk, OnErr};
 ghost use Rattle.std.specs.List.{All};
 ghost use Rattle.cb_page.specs.Flags.{has};
 ghost use Rattle.cb_page.specs.Numbers.{max_number};
 ghost use Rattle.cb_commit.specs.Stores.{IsOf, version_at};
 ghost use Rattle.cb_commit.specs.Changes.{marked};
 ghost use Rattle.cb_commit.specs.Batches.{changed_below};
-ghost use Rattle.cb_commit.specs.History.{AreCommits, CanFlush, CatchesUp, FitsInto, applied, begun, done_of, dones_between, next_batch};
+ghost use Rattle.cb_commit.specs.History.{AreCommits, CanFlush, CatchesUp, FitsInto, applied};
+ghost use Rattle.cb_commit.specs.History.{begun, done_of, dones_between, next_batch};
 
 use crate::{Batch, BatchPage, Commit, Store};
 use cb_frame::{Frame, Writes};
@@ -35,9 +37,19 @@ impl Model for Commits {
 
     ghost Value = { CommitsState };
 
-    ghost view = { λ c. record { opening = c.opening; store = c.store; commits = c.commits.items; flushed = c.flushed } };
+    ghost view = { λ c. record {
+      opening = c.opening;
+      store = c.store;
+      commits = c.commits.items;
+      flushed = c.flushed;
+    } };
 
-    ghost invariant = { λ c. AreCommits (record { opening = c.opening; store = c.store; commits = c.commits.items; flushed = c.flushed })
+    ghost invariant = { λ c. AreCommits (record {
+      opening = c.opening;
+      store = c.store;
+      commits = c.commits.items;
+      flushed = c.flushed;
+    })
         × AreChanged c.flushed c.store.pages c.changed };
 }
 

@@ -1,7 +1,9 @@
-ghost use Rattle.std.specs.Prelude.{◌≡◌, ℕ, ◌+◌, ◌<◌, ◌≤◌, ◌↔◌, length, replicate, slice_index_or, IfOk, IsTrue};
+ghost use Rattle.std.specs.Prelude.{◌≡◌, ℕ, ◌+◌, ◌<◌, ◌≤◌, ◌↔◌, length, replicate, slice_index_or};
+ghost use Rattle.std.specs.Prelude.{IfOk, IsTrue};
 ghost use Rattle.std.specs.List.{All};
 ghost use Rattle.cb_page.specs.Numbers.{max_number};
-ghost use Rattle.cb_commit.specs.Stores.{IsSound, IsStored, IsOf, zeros, zero_page, no_page, version_at, bytes_at};
+ghost use Rattle.cb_commit.specs.Stores.{IsSound, IsStored, IsOf, zeros, zero_page, no_page};
+ghost use Rattle.cb_commit.specs.Stores.{version_at, bytes_at};
 ghost use Rattle.cb_commit.specs.History.{WritesInto, rewritten};
 
 use cb_frame::Write;
@@ -32,9 +34,17 @@ impl Model for Store {
 
     ghost Value = { StoreState };
 
-    ghost view = { λ s. record { page_size = s.page_size; pages = s.pages.items; number = s.number } };
+    ghost view = { λ s. record {
+      page_size = s.page_size;
+      pages = s.pages.items;
+      number = s.number;
+    } };
 
-    ghost invariant = { λ s. IsSound (record { page_size = s.page_size; pages = s.pages.items; number = s.number }) };
+    ghost invariant = { λ s. IsSound (record {
+      page_size = s.page_size;
+      pages = s.pages.items;
+      number = s.number;
+    }) };
 }
 
 impl Store {

@@ -5,7 +5,14 @@ ghost use Rattle.toml.specs.Parse.{parse_document};
 ghost use Rattle.toml.specs.View.{table_view, view};
 ghost use Rattle.cb_page.specs.Bounds.{AreInRange};
 ghost use Rattle.cb_page.specs.Faults.{first_fault};
-ghost use Rattle.cb_console.specs.Settings.{Gives, IsConfig, IsFirst, IsTable, RefusesConfig, bounds_by, bounds_causes, config_by, config_line, config_text, default_kin, default_kout, defaulted_of, defaulted_values, is_known, key_name, number_at, optional_causes, others_causes, range_causes, required_causes, required_number, required_of, required_values, table_causes, unknown_causes, value_at, whole_number};
+ghost use Rattle.cb_console.specs.Settings.{Gives, IsConfig, IsFirst, IsTable, RefusesConfig};
+ghost use Rattle.cb_console.specs.Settings.{bounds_by, bounds_causes, config_by, config_line};
+ghost use Rattle.cb_console.specs.Settings.{config_text, default_kin, default_kout, defaulted_of};
+ghost use Rattle.cb_console.specs.Settings.{defaulted_values, is_known, key_name, number_at};
+ghost use Rattle.cb_console.specs.Settings.{optional_causes, others_causes, range_causes};
+ghost use Rattle.cb_console.specs.Settings.{required_causes, required_number, required_of};
+ghost use Rattle.cb_console.specs.Settings.{required_values, table_causes, unknown_causes};
+ghost use Rattle.cb_console.specs.Settings.{value_at, whole_number};
 ghost use Rattle.cb_console.specs.declared.config.ConfigFault.TheVariants as fault;
 ghost use Rattle.cb_console.specs.declared.config.Key.TheVariants as key;
 

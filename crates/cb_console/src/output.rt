@@ -2,7 +2,8 @@
 ghost use Rattle.std.specs.Prelude.{◌≡◌, ◌==◌, OnOk};
 ghost use Rattle.std.specs.List.{flat_map, list_all};
 ghost use Rattle.std.specs.Io.KnownBytes.{Appends};
-ghost use Rattle.cb_console.specs.Output.{bytes_text, last_lines, line, lines_from, only_byte, packet_text, two_digits, word_text};
+ghost use Rattle.cb_console.specs.Output.{bytes_text, last_lines, line, lines_from, only_byte};
+ghost use Rattle.cb_console.specs.Output.{packet_text, two_digits, word_text};
 
 use cb_page::Page;
 use cb_schedule::{Answer, AnswerWord, SentPackets, TranscriptEntry};

@@ -4,7 +4,9 @@ ghost use Rattle.std.specs.Io.KnownBytes.{Appends};
 ghost use Rattle.std.specs.List.{AllByRecursion};
 ghost use Rattle.cb_event.specs.Events.{IsPlayed};
 ghost use Rattle.cb_console.specs.Output.{lines_from};
-ghost use Rattle.cb_console.specs.Runs.{BecomesOfConfig, BecomesOfSchedule, Ends, IsPlay, IsPlayOf, IsRefusal, IsRun, PrintsAll, PrintsFault, PrintsOutcome, read_fault_line};
+ghost use Rattle.cb_console.specs.Runs.{BecomesOfConfig, BecomesOfSchedule, Ends, IsPlay, IsPlayOf};
+ghost use Rattle.cb_console.specs.Runs.{IsRefusal, IsRun, PrintsAll, PrintsFault, PrintsOutcome};
+ghost use Rattle.cb_console.specs.Runs.{read_fault_line};
 ghost use Rattle.cb_console.specs.declared.play.ReadFault.TheVariants as fault;
 
 use crate::config::{ConfigFault, read_config};

@@ -1,12 +1,16 @@
-ghost use Rattle.std.specs.Prelude.{◌≡◌, ℕ, ◌<◌, ◌≤◌, ◌↔◌, ◌||◌, [], ◌∷◌, length, true, false, Some, None, Err, IfOk, OnErr, IsTrue, MatchOption};
+ghost use Rattle.std.specs.Prelude.{◌≡◌, ℕ, ◌<◌, ◌≤◌, ◌↔◌, ◌||◌, [], ◌∷◌, length, true, false};
+ghost use Rattle.std.specs.Prelude.{Some, None, Err, IfOk, OnErr, IsTrue, MatchOption};
 ghost use Rattle.std.specs.Borrow.{sem};
 ghost use Rattle.std.specs.Option.{is_some, option_copied};
 ghost use Rattle.cb_page.specs.Bounds.{AreInRange};
 ghost use Rattle.cb_page.specs.Flags.{has};
 ghost use Rattle.cb_twoq.specs.Pages.{has as on};
-ghost use Rattle.cb_protocol.specs.Cache.{Abandon, Fill, Install, LetGo, RefuseGrant, TakeDone, TakePermission, WriteBytes, YieldPermission};
-ghost use Rattle.cb_protocol.specs.Client.{ChangeCache, Client, EndTransaction, LastOutcome, MarkWanted, has_room};
-ghost use Rattle.cb_copies.specs.CopiesState.{AreCopies, IsFull, client_with, content_at, copy_at, limits_of, no_copies};
+ghost use Rattle.cb_protocol.specs.Cache.{Abandon, Fill, Install, LetGo, RefuseGrant, TakeDone};
+ghost use Rattle.cb_protocol.specs.Cache.{TakePermission, WriteBytes, YieldPermission};
+ghost use Rattle.cb_protocol.specs.Client.{ChangeCache, Client, EndTransaction, LastOutcome};
+ghost use Rattle.cb_protocol.specs.Client.{MarkWanted, has_room};
+ghost use Rattle.cb_copies.specs.CopiesState.{AreCopies, IsFull, client_with, content_at, copy_at};
+ghost use Rattle.cb_copies.specs.CopiesState.{limits_of, no_copies};
 ghost use Rattle.cb_copies.specs.ByTable.{BringsIn, Does, DoesInTxn};
 ghost use Rattle.cb_copies.specs.Lending.{copies_end_as};
 

@@ -1,5 +1,6 @@
 -- A directory as its callers see it, its rule, and what each call makes of it.
-use Rattle.std.specs.Prelude.{◌≡◌, ◌<◌, ◌≤◌, ◌+◌, ℕ, ◌==◌, if◌then◌else◌, true, false, length, Option, Some, None}
+use Rattle.std.specs.Prelude.{◌≡◌, ◌<◌, ◌≤◌, ◌+◌, ℕ, ◌==◌, if◌then◌else◌, true, false, length}
+use Rattle.std.specs.Prelude.{Option, Some, None}
 use Rattle.cb_page.specs.Bounds.{Bounds}
 use Rattle.cb_page.specs.Numbers.{max_number}
 use Rattle.cb_directory.specs.Tables as tables

@@ -1,5 +1,6 @@
 -- The rows and write holders as tables by client and by page.
-use Rattle.std.specs.Prelude.{◌≡◌, ◌<◌, ◌≤◌, ℕ, Bool, false, ◌==◌, if◌then◌else◌, List, [], length, Option, None, slice_index_or}
+use Rattle.std.specs.Prelude.{◌≡◌, ◌<◌, ◌≤◌, ℕ, Bool, false, ◌==◌, if◌then◌else◌, List, [], length}
+use Rattle.std.specs.Prelude.{Option, None, slice_index_or}
 use Rattle.cb_clients.specs.Clients as clients
 use Rattle.cb_page.specs.Flags.{has}
 use Rattle.cb_directory.specs.Rows.{ClientState, grant_of}

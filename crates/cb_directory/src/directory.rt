@@ -1,7 +1,10 @@
 ghost use Rattle.std.specs.Prelude.{◌≡◌, ◌^◌, ◌↔◌, ℕ, ◌<◌, None, Some, IfOk, IfSome, IsSome};
 ghost use Rattle.std.specs.Option.{is_some};
 ghost use Rattle.cb_clients.specs.Clients.{has};
-ghost use Rattle.cb_directory.specs.Directories.{Forgets, GivesBack, Grants, HasClient, HasGrantLeft, HasPage, IsNew, IsSoleRow, NoOtherHolder, Permits, Releases, ReleasesAll, ReleasesIf, Rule, row, holder, tag};
+ghost use Rattle.cb_directory.specs.Directories.{Forgets, GivesBack, Grants, HasClient};
+ghost use Rattle.cb_directory.specs.Directories.{HasGrantLeft, HasPage, IsNew, IsSoleRow};
+ghost use Rattle.cb_directory.specs.Directories.{NoOtherHolder, Permits, Releases, ReleasesAll};
+ghost use Rattle.cb_directory.specs.Directories.{ReleasesIf, Rule, row, holder, tag};
 
 use crate::tables::Tables;
 use cb_clients::ClientSet;
@@ -26,7 +29,8 @@ impl Model for Directory {
 
     ghost view = { λ d. record { tables = d.tables; next_grant = d.next_grant } };
 
-    ghost invariant = { λ d. IsDirectory (record { tables = d.tables; next_grant = d.next_grant }) };
+    ghost invariant = { λ d.
+        IsDirectory (record { tables = d.tables; next_grant = d.next_grant }) };
 }
 
 impl Directory {

@@ -1,5 +1,6 @@
 //! What stands for one client, and for one page.
-ghost use Rattle.std.specs.Prelude.{◌≡◌, ℕ, ◌<◌, ◌≤◌, true, false, None, replicate, length, slice_set, IfOk, MatchOption};
+ghost use Rattle.std.specs.Prelude.{◌≡◌, ℕ, ◌<◌, ◌≤◌, true, false, None, replicate, length};
+ghost use Rattle.std.specs.Prelude.{slice_set, IfOk, MatchOption};
 ghost use Rattle.cb_page.specs.Flags.{has};
 ghost use Rattle.cb_directory.specs.Rows.{grant_of, no_rows};
 

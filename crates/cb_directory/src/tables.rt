@@ -1,9 +1,11 @@
 //! The rows and write holders as tables by client and by page, without their rule.
-ghost use Rattle.std.specs.Prelude.{◌≡◌, ℕ, ◌<◌, ◌≤◌, None, Some, false, true, length, replicate, IfOk, MatchOption};
+ghost use Rattle.std.specs.Prelude.{◌≡◌, ℕ, ◌<◌, ◌≤◌, None, Some, false, true, length, replicate};
+ghost use Rattle.std.specs.Prelude.{IfOk, MatchOption};
 ghost use Rattle.cb_clients.specs.Clients.{has};
 ghost use Rattle.std.specs.Option.{is_some};
 ghost use Rattle.cb_directory.specs.Rows.{no_rows};
-ghost use Rattle.cb_directory.specs.Tables.{IsEmpty, Lists, PutsHolder, PutsRow, holder, is_listed, is_marked, row, tag};
+ghost use Rattle.cb_directory.specs.Tables.{IsEmpty, Lists, PutsHolder, PutsRow, holder, is_listed};
+ghost use Rattle.cb_directory.specs.Tables.{is_marked, row, tag};
 
 use crate::lines::{ClientLine, PageLine};
 use cb_clients::ClientSet;
@@ -25,7 +27,8 @@ impl Model for Tables {
 
     ghost view = { λ t. record { clients = t.clients.items; pages = t.pages.items } };
 
-    ghost invariant = { λ t. IsSized (record { clients = t.clients.items; pages = t.pages.items }) };
+    ghost invariant = { λ t.
+        IsSized (record { clients = t.clients.items; pages = t.pages.items }) };
 }
 
 impl Tables {

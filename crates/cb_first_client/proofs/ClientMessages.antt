@@ -11,18 +11,33 @@ use Rattle.cb_first_client.specs.ProtocolLimits.{limits_of}
 use Rattle.cb_first_client.specs.declared.client.GrantCase.{GrantCase}
 use Rattle.cb_first_client.specs.declared.client.GrantCase.TheVariants.{Filled, GivenBack, Ignored, Installed}
 use Rattle.cb_first_client.specs.declared.copies.Held.{Held}
+use Rattle.cb_protocol.proofs.Cases.{takes_nothing_unwelcomed, takes_welcome, takes_welcomed}
 use Rattle.cb_protocol.proofs.PageComes.{brings_after}
 use Rattle.cb_protocol.specs.Basics.{Bytes}
 use Rattle.cb_protocol.specs.Cache.{Fill, Install, Lock, MakeBare}
 use Rattle.cb_protocol.specs.Client.{ChangeCache, Client, ClientStep, NoAsk, SetAsk, bodies_said, client_after, pages_in_pool}
 use Rattle.cb_protocol.specs.ClientEnd.{refuse_grant}
-use Rattle.cb_protocol.specs.ClientMessages.{ChoiceAllowed, MayLetGo, brings_page, client_take, let_page_go}
+use Rattle.cb_protocol.specs.ClientMessages.{ChoiceAllowed, MayLetGo, brings_page, client_take, let_page_go, take_granted}
 use Rattle.cb_protocol.specs.Messages.{Body, GiveBack, Granted, Welcome}
 use Rattle.cb_protocol.specs.Serial.{Operation}
 
 pub welcomes : (v : ClientState) → Takes v Welcome [] (record v { welcomed = true })
-unfolding client_take
-welcomes v = record { let_go = None; allowed = λ operations. tt; said = λ operations. refl; after = λ operations. refl; limits = refl }
+welcomes v = record {
+  let_go = None;
+  allowed = λ operations. tt;
+  said = λ operations. ap bodies_said (takes_welcome (limits_of v.limits) (client_of v operations) None);
+  after = λ operations. ap (client_after false (client_of v operations)) (takes_welcome (limits_of v.limits) (client_of v operations) None);
+  limits = refl;
+}
+
+-- a Granted that a client which isn't welcome ignores; one that it takes
+ignores_granted : (v : ClientState) (operations : List Operation) (page grant version : ℕ) (bytes : Bytes) (victim : Option ℕ) → v.welcomed ≡ false
+    → client_take (limits_of v.limits) (client_of v operations) (Granted page grant version bytes) victim ≡ []
+ignores_granted v operations page grant version bytes victim w = takes_nothing_unwelcomed (limits_of v.limits) (client_of v operations) (Granted page grant version bytes) victim w (λ e. cc)
+
+takes_granted : (v : ClientState) (operations : List Operation) (page grant version : ℕ) (bytes : Bytes) (victim : Option ℕ) → v.welcomed ≡ true
+    → client_take (limits_of v.limits) (client_of v operations) (Granted page grant version bytes) victim ≡ take_granted (client_of v operations) page grant version bytes victim (grant_held (copy_at v.copies page).held)
+takes_granted v operations page grant version bytes victim w = takes_welcomed (limits_of v.limits) (client_of v operations) (Granted page grant version bytes) victim w (λ e. cc)
 
 -- the steps at a grant, by its case
 abbrev steps_of : GrantCase → Client → ℕ → ℕ → ℕ → Bytes → Option ℕ → List ClientStep
@@ -54,14 +69,13 @@ steps_bare k page grant version bytes victim false wanted = refl
 steps : (v : ClientState) (operations : List Operation) (page grant version : ℕ) (bytes : Bytes) (victim : Option ℕ)
     → (welcomed : Bool) (copy : Option Held) (content : Option Bytes) → v.welcomed ≡ welcomed → (copy_at v.copies page).held ≡ copy → copy_of v.pool page ≡ content
     → client_take (limits_of v.limits) (client_of v operations) (Granted page grant version bytes) victim ≡ steps_of (case_of v page grant version) (client_of v operations) page grant version bytes victim
-unfolding client_take
-steps v operations page grant version bytes victim false copy content w h c = rw w refl
+steps v operations page grant version bytes victim false copy content w h c = ignores_granted v operations page grant version bytes victim w ∙ rw w refl
 steps v operations page grant version bytes victim true None content w h c =
-    rw (w, h) (steps_new (client_of (record v { welcomed = true }) operations) page grant version bytes victim (nat_lt (copy_at v.copies page).seen grant && asks_for v page))
+    takes_granted v operations page grant version bytes victim w ∙ rw (w, h) (steps_new (client_of (record v { welcomed = true }) operations) page grant version bytes victim (nat_lt (copy_at v.copies page).seen grant && asks_for v page))
 steps v operations page grant version bytes victim true (Some copy) None w h c =
-    rw (w, h, c, h) (steps_bare (client_of (record v { welcomed = true }) operations) page grant version bytes victim (copy.grant == grant) ((copy.version == version) && asks_for v page))
+    takes_granted v operations page grant version bytes victim w ∙ rw (w, h, c, h) (steps_bare (client_of (record v { welcomed = true }) operations) page grant version bytes victim (copy.grant == grant) ((copy.version == version) && asks_for v page))
 steps v operations page grant version bytes victim true (Some copy) (Some content) w h c =
-    rw (w, h, c) (steps_held (client_of (record v { welcomed = true }) operations) page grant version bytes victim (copy.grant == grant))
+    takes_granted v operations page grant version bytes victim w ∙ rw (w, h, c) (steps_held (client_of (record v { welcomed = true }) operations) page grant version bytes victim (copy.grant == grant))
 
 -- what is said, by the case
 abbrev said_in : GrantCase → ℕ → ℕ → List Body

@@ -195,7 +195,7 @@ impl Client {
     }
 
     /// Why a transaction can't begin.
-    #[tactic(auto, unfolding(cb_protocol::specs::ClientCalls::call_fault))]
+    #[tactic(auto, using(cb_protocol::proofs::Cases::fault_of_begin))]
     fn begin_fault(&self) -> Option<ClientFault>
         ensures fault { IsFault self.now CallBegin result }
         ensures below { IsNone result → self.now.txn + 1 ≤ max_number }
@@ -230,12 +230,13 @@ impl Client {
         ensures { (operations : List Operation)
             → result ≡ has_room (limits_of self.now.limits) (client_of self.now operations) }
     {
+        // Its invariant, which ties the pool to the limits, is shown by a look at a field.
         let _limits = &self.limits;
         self.pool.room()
     }
 
     /// Why the page can't be read.
-    #[tactic(auto, unfolding(cb_protocol::specs::ClientCalls::call_fault))]
+    #[tactic(auto, using(cb_protocol::proofs::Cases::fault_of_read))]
     fn read_fault(&self, page: PageNo) -> Option<ClientFault>
         ensures fault { IsFault self.now (CallRead page) result }
         ensures open { IsNone result → self.now.is_open ≡ true }

@@ -81,6 +81,7 @@ impl Net {
         ensures opening { IfOk result
             (λ n. RepresentsNet n (new_world (limits_of limits.now) (opening_of store))) }
     {
+        // The limits are in range by their type: each call on them says so.
         let _in_range = limits.clients();
         let clients = new_clients(alloc, limits)?;
         let server = Server::new(alloc, limits, store)?;
@@ -132,6 +133,7 @@ impl Net {
             } ∷ []) }
         ensures err { OnErr result (self.new ≡ self.old) }
     {
+        // The limits are in range by their type: each call on them says so.
         let _known = self.limits.pages();
         let bytes = encode(alloc, frame)?;
         self.send_bytes(alloc, frame.kind(), frame.client, bytes)
@@ -180,6 +182,7 @@ impl Net {
     fn sound(&self)
         ensures { IsNet self.now }
     {
+        // Nothing is done: to look at a field shows the invariant.
         let _ = &self.limits;
     }
 
@@ -251,6 +254,7 @@ impl Net {
             (λ a. NetBecomes self.old (ClientCalls client CallHello) a self.new) }
         ensures err { OnErr result (self.new.packets ≡ self.old.packets) }
     {
+        // The invariant of the net as it is before the step, which its proof cites.
         self.sound();
         self.hello_at(client);
         let first = Incarnation::new(1);
@@ -266,6 +270,7 @@ impl Net {
         requires { client < self.old.limits.clients }
         ensures { NetBecomes self.old (ClientCalls client CallBegin) result self.new }
     {
+        // The invariant of the net as it is before the step, which its proof cites.
         self.sound();
         match self.begin_at(client) {
             Ok(_) => Answer::silent(alloc, AnswerWord::Ok),
@@ -279,6 +284,7 @@ impl Net {
         ensures { IfOk result
             (λ a. NetBecomes self.now (ClientCalls client (CallPeek page)) a self.now) }
     {
+        // The invariant of the net as it is before the step, which its proof cites.
         self.sound();
         match self.peek_at(client, page) {
             Some(bytes) => {
@@ -296,6 +302,7 @@ impl Net {
             (λ a. NetBecomes self.old (ClientCalls client (CallRead page)) a self.new) }
         ensures err { OnErr result (self.new.packets ≡ self.old.packets) }
     {
+        // The invariant of the net as it is before the step, which its proof cites.
         self.sound();
         match self.read_at(client, page) {
             Ok(found) => self.answer_read(alloc, client, page, found),
@@ -334,7 +341,10 @@ impl Net {
         requires client { client < self.now.limits.clients }
         requires here { IsSome (copy_of (client_at self.now client).pool page) }
         ensures { IfOk result (λ a. a
-            ≡ record { word = AnswerWord.Bytes (bytes_in (client_at self.now client) page); sent = [] }) }
+            ≡ record {
+              word = AnswerWord.Bytes (bytes_in (client_at self.now client) page);
+              sent = [];
+            }) }
     {
         match self.peek_at(client, page) {
             Some(bytes) => {
@@ -363,6 +373,7 @@ impl Net {
         ensures ok { OnOk result (self.new ≡ sent_net_of self.old (asking_frame client txn page)) }
         ensures err { OnErr result (self.new.packets ≡ self.old.packets) }
     {
+        // In range by its type: `get` says so.
         let _named = txn.get();
         let first = Incarnation::new(1);
         let sent = self.send_short(alloc, client, first, ShortBody::AskRead { txn, page })?;
@@ -400,6 +411,7 @@ impl Net {
     fn frame(&self, alloc: Global, number: u64) -> Result<Option<Frame>, AllocError>
         ensures { IfOk result (FrameOfPacket self.now number) }
     {
+        // The invariant of the net as it is before the step, which its proof cites.
         self.sound();
         match self.packet(number) {
             Some(bytes) => {
@@ -459,6 +471,7 @@ impl Net {
             (λ sent. Says self.old client 1 (replies back page grant) sent self.new) }
         ensures err { OnErr result (self.new ≡ self.old) }
     {
+        // In range by its type: `get` says so.
         let _named = grant.get();
         if back {
             let first = Incarnation::new(1);
@@ -484,6 +497,7 @@ impl Net {
         ensures ok { IfOk result (λ a. NetBecomes self.old (TakePacket packet) a self.new) }
         ensures err { OnErr result (self.new.packets ≡ self.old.packets) }
     {
+        // The invariant of the net as it is before the step, which its proof cites.
         self.sound();
         let reply = self.hello_reply(client, incarnation);
         let sent = self.say(alloc, client, incarnation, reply)?;
@@ -515,6 +529,7 @@ impl Net {
             (is_exhausted (server_of self.old.server) client incarnation (AskRead txn page)
             ≡ false) }
     {
+        // The invariant of the net as it is before the step, which its proof cites.
         self.sound();
         match self.ask_reply(client, incarnation, txn, page) {
             Ok(reply) => {
@@ -546,6 +561,7 @@ impl Net {
         }) }
         ensures { NetBecomes self.old (TakePacket packet) result self.new }
     {
+        // The invariant of the net as it is before the step, which its proof cites.
         self.sound();
         self.serve_give_back(client, incarnation, page, grant);
         Answer::silent(alloc, AnswerWord::Taken)
@@ -566,6 +582,7 @@ impl Net {
         }) }
         ensures { NetBecomes self.old (TakePacket packet) result self.new }
     {
+        // The invariant of the net as it is before the step, which its proof cites.
         self.sound();
         if incarnation.get() != 1 {
             return Answer::silent(alloc, AnswerWord::Taken);
@@ -586,6 +603,7 @@ impl Net {
         ensures err { OnErr result (self.new.packets ≡ self.old.packets) }
         ensures first { OnErr result (frame.incarnation ≡ 1) }
     {
+        // The invariant of the net as it is before the step, which its proof cites.
         self.sound();
         let Granting {
             client,
@@ -801,6 +819,7 @@ impl Net {
             self.new) }
         ensures err { OnErr result (self.new ≡ self.old) }
     {
+        // In range by its type: `get` says so.
         let _named = incarnation.get();
         match reply {
             ServerReply::Nothing => Ok(SentPackets::none(alloc)),
@@ -851,9 +870,11 @@ impl Net {
         ensures fits { Fits self.now.limits
             (page_frame self.now.server.store client incarnation page grant) }
     {
+        // In range by its type: `get` says so.
         let _named = (incarnation.get(), grant.get());
         let store = self.server.store();
         let version = store.version(page);
+        // In range by its type: `get` says so.
         let _known = version.get();
         encode_granted(
             alloc,

@@ -13,6 +13,7 @@ use Rattle.cb_first_server.specs.declared.server.ServerFault.{ServerFault}
 use Rattle.cb_first_server.specs.declared.server.ServerFault.TheVariants.{Exhausted}
 use Rattle.cb_first_server.specs.ServerState.{ServerState, no_session, server_of, session_at, row_at, renumbered, with_row, with_session, begun, granted, would_live, ask_row_reply, ask_reply, asked_by, asked, row_reply, next_reply, hello_reply, welcomed, given_back, bodies_of, Replies, TakesMessage, IsServer, IsSession}
 use Rattle.cb_first_server.proofs.Taking.{Took, waits_none, ask_ended, ask_row, ask_new, hello_greater, give_back_held, give_back_other, begun_is}
+use Rattle.cb_protocol.proofs.Cases.{serves_current, serves_hello_again, serves_new_hello, serves_no_old_hello, serves_no_other_incarnation}
 use Rattle.cb_protocol.specs.Basics.{is_none, is_exactly, max_number}
 use Rattle.cb_protocol.specs.Messages.{Body, AskRead, GiveBack, Granted, Hello, Message}
 use Rattle.cb_protocol.specs.Server.{Server}
@@ -107,17 +108,23 @@ not_later s t e = grind (arith, nat_tests)
 is_current : (s : Session) (i : ℕ) → (i == s.incarnation) ≡ true → s.incarnation ≡ i
 is_current s i e = grind (arith, nat_tests)
 
+-- a message of another incarnation is ignored; one of the current is taken
+ignores : (v : ServerState) (c i : ℕ) (b : Body) → b ≢ Hello → (i == (session_at v.sessions c).incarnation) ≡ false → server_take on_cycle (server_of v) c i b ≡ []
+ignores v c i b n f = let other : i ≢ (session_at v.sessions c).incarnation = grind (arith, nat_tests) in serves_no_other_incarnation on_cycle (server_of v) c i b n other
+
+takes : (v : ServerState) (c i : ℕ) (b : Body) → b ≢ Hello → (i == (session_at v.sessions c).incarnation) ≡ true → server_take on_cycle (server_of v) c i b ≡ take_current on_cycle (server_of v) c b
+takes v c i b n f = serves_current on_cycle (server_of v) c i b n (sym (is_current (session_at v.sessions c) i f))
+
 ask_took_by : (v : ServerState) (c i t p : ℕ) (b e : Bool) → IsServer v → c < length v.sessions → p < length v.store.pages → 1 ≤ t
     → (i == (session_at v.sessions c).incarnation) ≡ b → (nat_lt (session_at v.sessions c).txn t || nat_lt (session_at v.sessions c).ended t) ≡ e
     → Took v (server_take on_cycle (server_of v) c i (AskRead t p)) (messages_said c i (bodies_of v.store (next_reply v c i t p))) (asked v c i t p)
-unfolding server_take
-ask_took_by v c i t p false e x h k o f g = rw f (record { sends = refl; after = refl })
+ask_took_by v c i t p false e x h k o f g = rw (ignores v c i (AskRead t p) (λ e. cc) f, f) (record { sends = refl; after = refl })
 ask_took_by v c i t p true false x h k o f g =
-    rw (f, g)
+    rw (takes v c i (AskRead t p) (λ e. cc) f, f, g)
     (subst (λ (u : ServerState). Took v (take_current on_cycle (server_of v) c (AskRead t p)) [] u) (begun_same v c t (not_later (session_at v.sessions c) t g))
     (ask_ended on_cycle v c t p h (begun_live v c t h o ∙ g)))
 ask_took_by v c i t p true true x h k o f g =
-    rw (f, g) (live_took v c i t p (row_at (session_at v.sessions c) p) x h k (is_current (session_at v.sessions c) i f) (begun_live v c t h o ∙ g) refl)
+    rw (takes v c i (AskRead t p) (λ e. cc) f, f, g) (live_took v c i t p (row_at (session_at v.sessions c) p) x h k (is_current (session_at v.sessions c) i f) (begun_live v c t h o ∙ g) refl)
 
 pub ask_took : (v : ServerState) (c i t p : ℕ) → IsServer v → c < length v.sessions → p < length v.store.pages → 1 ≤ t
     → Took v (server_take on_cycle (server_of v) c i (AskRead t p)) (messages_said c i (bodies_of v.store (next_reply v c i t p))) (asked v c i t p)
@@ -160,17 +167,17 @@ exhausted_is v c i t p x h o =
 hello_took_by : (v : ServerState) (c i : ℕ) (b e : Bool) → IsServer v → c < length v.sessions
     → nat_lt (session_at v.sessions c).incarnation i ≡ b → (i == (session_at v.sessions c).incarnation) ≡ e
     → Took v (server_take on_cycle (server_of v) c i Hello) (messages_said c i (bodies_of v.store (hello_reply v c i))) (welcomed v c i)
-unfolding server_take
 hello_took_by v c i true e x h f g =
     let k : (session_at v.sessions c).incarnation < i = grind (arith, nat_tests) in
     let n : nat_lt i (session_at v.sessions c).incarnation ≡ false = grind (arith, nat_tests) in
-    rw (f, n) (hello_greater on_cycle v c i x h k)
+    rw (serves_new_hello on_cycle (server_of v) c i k, f, n) (hello_greater on_cycle v c i x h k)
 hello_took_by v c i false true x h f g =
     let n : nat_lt i (session_at v.sessions c).incarnation ≡ false = grind (arith, nat_tests) in
-    rw (f, g, n) (record { sends = refl; after = refl })
+    rw (serves_hello_again on_cycle (server_of v) c i (sym (is_current (session_at v.sessions c) i g)), f, n) (record { sends = refl; after = refl })
 hello_took_by v c i false false x h f g =
+    let l : i < (session_at v.sessions c).incarnation = grind (arith, nat_tests) in
     let n : nat_lt i (session_at v.sessions c).incarnation ≡ true = grind (arith, nat_tests) in
-    rw (f, g, n) (record { sends = refl; after = refl })
+    rw (serves_no_old_hello on_cycle (server_of v) c i l, f, n) (record { sends = refl; after = refl })
 
 pub hello_took : (v : ServerState) (c i : ℕ) → IsServer v → c < length v.sessions
     → Took v (server_take on_cycle (server_of v) c i Hello) (messages_said c i (bodies_of v.store (hello_reply v c i))) (welcomed v c i)
@@ -179,10 +186,9 @@ hello_took v c i x h = hello_took_by v c i (nat_lt (session_at v.sessions c).inc
 given_took_by : (v : ServerState) (c i p g : ℕ) (b e : Bool) → IsServer v → c < length v.sessions → p < length v.store.pages
     → (i == (session_at v.sessions c).incarnation) ≡ b → is_exactly (row_at (session_at v.sessions c) p) g ≡ e
     → Took v (server_take on_cycle (server_of v) c i (GiveBack p g)) [] (given_back v c i p g)
-unfolding server_take
-given_took_by v c i p g false e x h k f q = rw f (record { sends = refl; after = refl })
-given_took_by v c i p g true false x h k f q = rw (f, q) (give_back_other on_cycle v c p g q)
-given_took_by v c i p g true true x h k f q = rw (f, q) (give_back_held on_cycle v c p g x h k q)
+given_took_by v c i p g false e x h k f q = rw (ignores v c i (GiveBack p g) (λ e. cc) f, f) (record { sends = refl; after = refl })
+given_took_by v c i p g true false x h k f q = rw (takes v c i (GiveBack p g) (λ e. cc) f, f, q) (give_back_other on_cycle v c p g q)
+given_took_by v c i p g true true x h k f q = rw (takes v c i (GiveBack p g) (λ e. cc) f, f, q) (give_back_held on_cycle v c p g x h k q)
 
 pub given_took : (v : ServerState) (c i p g : ℕ) → IsServer v → c < length v.sessions → p < length v.store.pages
     → Took v (server_take on_cycle (server_of v) c i (GiveBack p g)) [] (given_back v c i p g)

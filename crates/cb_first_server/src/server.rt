@@ -137,6 +137,7 @@ impl Server {
             };
             sessions.push(session)?;
         }
+        // The store is sound by its type: each call on it says so.
         let _sound = store.number();
         Ok(Server {
             store,
@@ -261,6 +262,7 @@ impl Server {
         requires left { lacks_grant self.old client incarnation txn page ≡ false }
         ensures { self.new ≡ asked self.old client incarnation txn page }
     {
+        // The invariant of the server as it is before the step, which its proof cites.
         self.sound();
         if !self.lives(client, incarnation, txn) {
             return;
@@ -323,6 +325,7 @@ impl Server {
     fn sound(&self)
         ensures { IsServer self.now }
     {
+        // Nothing is done: to look at a field shows the invariant.
         let _ = &self.store;
     }
 
@@ -345,7 +348,9 @@ impl Server {
             (is_exhausted (server_of self.now) client incarnation (AskRead txn page) ≡ true) }
         ensures page { IfOk result (ReplyFits (length self.now.store.pages)) }
     {
+        // The invariant of the server as it is before the step, which its proof cites.
         self.sound();
+        // In range by its type: `get` says so.
         let _least = txn.get();
         self.ask_reply(client, incarnation, txn, page)
     }
@@ -358,7 +363,9 @@ impl Server {
             ≡ false }
         ensures { TakesMessage self.old client incarnation (AskRead txn page) self.new }
     {
+        // The invariant of the server as it is before the step, which its proof cites.
         self.sound();
+        // In range by its type: `get` says so.
         let _least = txn.get();
         self.ask(client, incarnation, txn, page);
     }
@@ -369,6 +376,7 @@ impl Server {
         ensures reply { Replies self.now client incarnation Hello result }
         ensures page { ReplyFits (length self.now.store.pages) result }
     {
+        // The invariant of the server as it is before the step, which its proof cites.
         self.sound();
         self.hello_reply(client, incarnation)
     }
@@ -378,6 +386,7 @@ impl Server {
         requires { client < length self.old.sessions }
         ensures { TakesMessage self.old client incarnation Hello self.new }
     {
+        // The invariant of the server as it is before the step, which its proof cites.
         self.sound();
         self.welcome(client, incarnation);
     }
@@ -396,6 +405,7 @@ impl Server {
             ServerReply.Nothing }
         ensures after { TakesMessage self.old client incarnation (GiveBack page grant) self.new }
     {
+        // The invariant of the server as it is before the step, which its proof cites.
         self.sound();
         self.give_back(client, incarnation, page, grant);
     }

@@ -1,5 +1,7 @@
 //! From bytes to the frame in front of them.
-ghost use Rattle.std.specs.Prelude.{◌≡◌, ◌≢◌, ℕ, Err, false, None, slice_index, ◌<◌, ◌≤◌, ◌+◌, ◌++◌, List, length, take, true, not, ◌∷◌, [], IfOk, IfErr, MatchResult};
+ghost use Rattle.std.specs.Prelude.{◌≡◌, ◌≢◌, ℕ, Err, false, None, slice_index, ◌<◌, ◌≤◌, ◌+◌};
+ghost use Rattle.std.specs.Prelude.{◌++◌, List, length, take, true, not, ◌∷◌, [], IfOk, IfErr};
+ghost use Rattle.std.specs.Prelude.{MatchResult};
 ghost use Rattle.cb_page.specs.Bounds.{Bounds, AreInRange};
 ghost use Rattle.cb_page.specs.Faults.{first_fault};
 ghost use Rattle.cb_page.specs.Numbers.{IsNumber};
@@ -8,7 +10,9 @@ ghost use Rattle.cb_frame_types.specs.Kinds.{is_short};
 ghost use Rattle.cb_frame_types.specs.declared.frame.Frame.{Frame};
 ghost use Rattle.cb_frame_types.specs.declared.version.FrameVersion.{FrameVersion};
 ghost use Rattle.cb_frame.specs.declared.fault.FrameFault.TheVariants as fault;
-ghost use Rattle.cb_frame.specs.Checks.{version_of, kind_of, has_pages, can_be_length, is_sender, body_length, frame_at, frame_in_front, content_causes, causes, fault_in_bytes, Gives};
+ghost use Rattle.cb_frame.specs.Checks.{version_of, kind_of, has_pages, can_be_length, is_sender};
+ghost use Rattle.cb_frame.specs.Checks.{body_length, frame_at, frame_in_front, content_causes};
+ghost use Rattle.cb_frame.specs.Checks.{causes, fault_in_bytes, Gives};
 
 mod bodies;
 mod entries;

@@ -7,7 +7,8 @@ ghost use Rattle.cb_frame_types.specs.declared.frame.Body.TheVariants.{Granted};
 ghost use Rattle.cb_frame_types.specs.Kinds.{code_of, kind_of_body};
 ghost use Rattle.cb_frame_types.specs.declared.version.FrameVersion.TheVariants.{Two};
 ghost use Rattle.cb_frame_types.specs.Fields.{word};
-ghost use Rattle.cb_frame_types.specs.Spelling.{spelling, body_spelling, write_spelling, page_spelling};
+ghost use Rattle.cb_frame_types.specs.Spelling.{spelling, body_spelling, write_spelling};
+ghost use Rattle.cb_frame_types.specs.Spelling.{page_spelling};
 
 use crate::{Body, Frame, FrameVersion, Kind, Write};
 use cb_frame_types::{put_u16, put_u32, put_u64};

@@ -5,7 +5,9 @@ use Rattle.std.specs.Int.{Width, w32, w64, to_be_bytes}
 use Rattle.cb_page.specs.Bounds.{Bounds}
 use Rattle.cb_page.specs.Numbers.{IsNumber, is_number}
 use Rattle.cb_frame_types.specs.declared.fields.Fields.{Fields}
-use Rattle.cb_frame_types.specs.declared.fields.Fields.TheVariants.{Nothing, Txn, TxnPage, TxnPageGrant, TxnCommit, PageGrant, PageGrantTxn}
+use Rattle.cb_frame_types.specs.declared.fields.Fields.TheVariants.{Nothing, Txn, TxnPage}
+use Rattle.cb_frame_types.specs.declared.fields.Fields.TheVariants.{TxnPageGrant, TxnCommit}
+use Rattle.cb_frame_types.specs.declared.fields.Fields.TheVariants.{PageGrant, PageGrantTxn}
 use Rattle.cb_frame_types.specs.declared.frame.ShortBody.{ShortBody}
 use Rattle.cb_frame_types.specs.declared.frame.ShortBody.TheVariants as short
 

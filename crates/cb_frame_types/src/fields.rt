@@ -28,22 +28,27 @@ impl Fields {
         match self {
             Fields::Nothing => true,
             Fields::Txn(txn) => {
+                // In range by its type: `get` says so.
                 let _in_range = txn.get();
                 true
             }
             Fields::TxnPage(txn, page) => {
+                // In range by its type: `get` says so.
                 let _in_range = txn.get();
                 limits.has_page(page.get())
             }
             Fields::TxnPageGrant(txn, page, grant) | Fields::PageGrantTxn(page, grant, txn) => {
+                // In range by its type: `get` says so.
                 let _in_range = (txn.get(), grant.get());
                 limits.has_page(page.get())
             }
             Fields::TxnCommit(txn, number) => {
+                // In range by its type: `get` says so.
                 let _in_range = (txn.get(), number.get());
                 true
             }
             Fields::PageGrant(page, grant) => {
+                // In range by its type: `get` says so.
                 let _in_range = grant.get();
                 limits.has_page(page.get())
             }

@@ -166,6 +166,7 @@ impl Body {
         match self {
             Body::Short(body) => body.fields().fit(limits),
             Body::Commit { txn, writes } => {
+                // In range by its type: `get` says so.
                 let _in_range = txn.get();
                 writes.fit(limits)
             }
@@ -175,6 +176,7 @@ impl Body {
                 version,
                 bytes,
             } => {
+                // In range by its type: `get` says so.
                 let _in_range = (grant.get(), version.get());
                 limits.has_page(page.get()) && bytes.len() == limits.page_size()
             }
@@ -199,6 +201,7 @@ impl Frame {
         ensures value { IsTrue result ↔ Fits limits.now self.now }
         ensures range { AreInRange limits.now }
     {
+        // In range by its type: `get` says so.
         let _in_range = self.incarnation.get();
         limits.has_client(self.client.get()) && self.body.fits(limits)
     }

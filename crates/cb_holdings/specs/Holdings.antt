@@ -1,6 +1,7 @@
 -- Sessions, directory and commits together, and the protocol's server that they are where nobody
 -- waits and no page is in use.
-use Rattle.std.specs.Prelude.{◌≡◌, ℕ, ◌-◌, ◌<◌, ◌≤◌, Bool, true, false, if◌then◌else◌, List, [], ◌∷◌, length, map, reverse, Option, Some, None}
+use Rattle.std.specs.Prelude.{◌≡◌, ℕ, ◌-◌, ◌<◌, ◌≤◌, Bool, true, false, if◌then◌else◌, List, []}
+use Rattle.std.specs.Prelude.{◌∷◌, length, map, reverse, Option, Some, None}
 use Rattle.cb_commit.specs.History.{CommitsState}
 use Rattle.cb_commit.specs.Stores.{IsOf, StoreState, bytes_at, version_at}
 use Rattle.cb_commit.specs.declared.commit.Commit.{Commit}

@@ -1,5 +1,6 @@
 -- What the server knows of one client, and what each change makes of it.
-use Rattle.std.specs.Prelude.{◌≡◌, ℕ, Bool, true, false, IsTrue, List, Option, Some, None, slice_index_or, slice_set}
+use Rattle.std.specs.Prelude.{◌≡◌, ℕ, Bool, true, false, IsTrue, List, Option, Some, None}
+use Rattle.std.specs.Prelude.{slice_index_or, slice_set}
 use Rattle.cb_links.specs.declared.sessions.Session.{Session}
 use Rattle.cb_links.specs.declared.sessions.Transaction.{Transaction}
 use Rattle.cb_links.specs.declared.sessions.Transaction.TheVariants.{NotBegun, Live, Ended}

@@ -1,6 +1,9 @@
 ghost use Rattle.std.specs.Prelude.{◌≡◌, ℕ, ◌<◌, Some, None, false, length, replicate, IfOk};
 ghost use Rattle.cb_links.specs.Admissions.{admission_of, standing_of, IsLater, IsNewer};
-ghost use Rattle.cb_links.specs.Changes.{Becomes, begun, commit_of, doomed, doomed_transaction, ended, ended_transaction, greeted, is_live, is_live_transaction, session_of, txn_of, unknown, with_transaction};
+ghost use Rattle.cb_links.specs.Changes.{Becomes, begun, commit_of, doomed, doomed_transaction};
+ghost use Rattle.cb_links.specs.Changes.{ended, ended_transaction, greeted, is_live};
+ghost use Rattle.cb_links.specs.Changes.{is_live_transaction, session_of, txn_of, unknown};
+ghost use Rattle.cb_links.specs.Changes.{with_transaction};
 
 use cb_page::{ClientNo, CommitNo, Incarnation, Limits, TxnNo};
 use std::alloc::{AllocError, Global};

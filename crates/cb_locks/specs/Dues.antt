@@ -1,5 +1,6 @@
 -- What a client owes the server of a page when its transaction ends.
-use Rattle.std.specs.Prelude.{◌≡◌, ℕ, Bool, true, false, ◌||◌, List, map, count_by, Option, Some, None}
+use Rattle.std.specs.Prelude.{◌≡◌, ℕ, Bool, true, false, ◌||◌, List, map, count_by, Option, Some}
+use Rattle.std.specs.Prelude.{None}
 use Rattle.std.specs.Option.{is_some}
 use Rattle.cb_locks.specs.declared.dues.DueDowngrade.{DueDowngrade}
 use Rattle.cb_locks.specs.declared.dues.PageDue.{PageDue}

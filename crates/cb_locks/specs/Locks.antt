@@ -1,5 +1,6 @@
 -- What a client's transaction has locked, and what is due at its end.
-use Rattle.std.specs.Prelude.{ℕ, Bool, false, List, [], ◌++◌, length, replicate, option_to_list, slice_index_or, slice_set, Option, Some, None, suc, zero}
+use Rattle.std.specs.Prelude.{ℕ, Bool, false, List, [], ◌++◌, length, replicate, option_to_list}
+use Rattle.std.specs.Prelude.{slice_index_or, slice_set, Option, Some, None, suc, zero}
 use Rattle.cb_locks.specs.declared.callback_due.CallbackDue.{CallbackDue}
 use Rattle.cb_locks.specs.declared.dues.PageDue.{PageDue}
 use Rattle.cb_locks.specs.Dues.{called_by, noted, nothing_due}

@@ -1,5 +1,6 @@
 //! What is due of each page.
-ghost use Rattle.std.specs.Prelude.{◌≡◌, ℕ, ◌+◌, ◌<◌, ◌≤◌, ◌^◌, false, true, length, map, count_by, replicate, slice_index_or, slice_set, IfOk, MatchOption};
+ghost use Rattle.std.specs.Prelude.{◌≡◌, ℕ, ◌+◌, ◌<◌, ◌≤◌, ◌^◌, false, true, length, map, count_by};
+ghost use Rattle.std.specs.Prelude.{replicate, slice_index_or, slice_set, IfOk, MatchOption};
 ghost use Rattle.cb_locks.specs.Dues.{bit, called_by, is_due, noted, nothing_due};
 
 use cb_page::{GrantNo, PageNo, PageSet, TxnNo};

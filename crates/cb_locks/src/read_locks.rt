@@ -1,9 +1,12 @@
 //! The pages that a client's transaction reads.
-ghost use Rattle.std.specs.Prelude.{◌≡◌, ℕ, ◌+◌, ◌<◌, ◌≤◌, IsSome, Some, None, [], ◌++◌, true, false, length, map, count_by, option_to_list, reverse, slice_set, IfOk, IfSome, OnOk, OnErr};
+ghost use Rattle.std.specs.Prelude.{◌≡◌, ℕ, ◌+◌, ◌<◌, ◌≤◌, IsSome, Some, None, [], ◌++◌, true};
+ghost use Rattle.std.specs.Prelude.{false, length, map, count_by, option_to_list, reverse};
+ghost use Rattle.std.specs.Prelude.{slice_set, IfOk, IfSome, OnOk, OnErr};
 ghost use Rattle.std.specs.Vec.{vec_capacity, vec_len};
 ghost use Rattle.cb_page.specs.Flags.{has};
 ghost use Rattle.cb_locks.specs.Dues.{is_due, nothing_due};
-ghost use Rattle.cb_locks.specs.Locks.{callback, due_at, ended, no_locks, owed_at, owed_below, unlocked, with_due, with_noted, with_nothing_due};
+ghost use Rattle.cb_locks.specs.Locks.{callback, due_at, ended, no_locks, owed_at, owed_below};
+ghost use Rattle.cb_locks.specs.Locks.{unlocked, with_due, with_noted, with_nothing_due};
 
 use crate::CallbackDue;
 use crate::dues::{Dues, PageDue};

@@ -1,6 +1,7 @@
 //! How what is said composes, as laws over the protocol's definitions.
 ghost use Rattle.std.specs.Prelude.{List};
-ghost use Rattle.cb_outbox.specs.Laws.{CarriesOn, GoesOnSettling, RoomIsLeft, StopsSettling, TestedAfter};
+ghost use Rattle.cb_outbox.specs.Laws.{CarriesOn, GoesOnSettling, RoomIsLeft, StopsSettling};
+ghost use Rattle.cb_outbox.specs.Laws.{TestedAfter};
 ghost use Rattle.cb_outbox.specs.Saying.{OutboxState};
 ghost use Rattle.cb_protocol.specs.Server.{Server, ServerStep};
 

@@ -1,7 +1,8 @@
 -- The faults of proposed limits.
 use Rattle.std.specs.Prelude.{ℕ, ◌%◌, ◌-◌, Bool, not, ◌||◌, ◌==◌, nat_lt, List, [], ◌∷◌}
 use Rattle.cb_page.specs.declared.limits.LimitFault.{LimitFault}
-use Rattle.cb_page.specs.declared.limits.LimitFault.TheVariants.{Clients, Pages, PageSize, Slots, Kin, Kout}
+use Rattle.cb_page.specs.declared.limits.LimitFault.TheVariants.{Clients, Pages, PageSize, Slots}
+use Rattle.cb_page.specs.declared.limits.LimitFault.TheVariants.{Kin, Kout}
 
 -- whether a number is not from the least to the greatest
 abbrev pub is_outside : ℕ → ℕ → ℕ → Bool

@@ -1,6 +1,7 @@
 //! The limits of one store: how many clients and pages it has, and how its clients' pools are
 //! sized.
-ghost use Rattle.std.specs.Prelude.{◌≡◌, ℕ, ◌^◌, ◌<◌, ◌≤◌, ◌-◌, ◌↔◌, true, false, Some, None, IfOk, IfErr, IsTrue, IsOk};
+ghost use Rattle.std.specs.Prelude.{◌≡◌, ℕ, ◌^◌, ◌<◌, ◌≤◌, ◌-◌, ◌↔◌, true, false, Some, None, IfOk};
+ghost use Rattle.std.specs.Prelude.{IfErr, IsTrue, IsOk};
 ghost use Rattle.cb_page.specs.Faults.{first_fault};
 ghost use Rattle.cb_page.specs.Limits.{limit_causes, is_outside};
 ghost use Rattle.cb_page.specs.Bounds.{Bounds, AreInRange};

@@ -1,5 +1,6 @@
 -- A pool of pages, as its callers see it.
-use Rattle.std.specs.Prelude.{◌≡◌, ◌≢◌, ℕ, ◌<◌, ◌≤◌, ◌⊎◌, Bool, true, false, List, length, slice_set, slice_index_or, replicate, count_by, Option, Some, None}
+use Rattle.std.specs.Prelude.{◌≡◌, ◌≢◌, ℕ, ◌<◌, ◌≤◌, ◌⊎◌, Bool, true, false, List, length}
+use Rattle.std.specs.Prelude.{slice_set, slice_index_or, replicate, count_by, Option, Some, None}
 use Rattle.std.specs.Option.{is_some}
 use Rattle.cb_page.specs.Flags as flags
 

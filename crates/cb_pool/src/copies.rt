@@ -1,6 +1,8 @@
 //! The bytes of the pages that are here, which pages are fixed, and how many of both.
 
-ghost use Rattle.std.specs.Prelude.{◌≡◌, ◌+◌, ◌<◌, ◌≤◌, ◌^◌, ◌↔◌, ◌&&◌, ℕ, List, length, replicate, slice_index_or, slice_set, true, false, Some, None, IfOk, IfSome, IsTrue};
+ghost use Rattle.std.specs.Prelude.{◌≡◌, ◌+◌, ◌<◌, ◌≤◌, ◌^◌, ◌↔◌, ◌&&◌, ℕ, List, length, replicate};
+ghost use Rattle.std.specs.Prelude.{slice_index_or, slice_set, true, false, Some, None, IfOk};
+ghost use Rattle.std.specs.Prelude.{IfSome, IsTrue};
 ghost use Rattle.std.specs.Option.{is_some, option_copied};
 ghost use Rattle.cb_pool.specs.PoolState.{HasLoose, held, let_go};
 ghost use Rattle.cb_pool.specs.CopiesState.{CopiesState, bit, IfHere};

@@ -1,9 +1,11 @@
-ghost use Rattle.std.specs.Prelude.{◌≡◌, ℕ, ◌<◌, ◌↔◌, [], length, replicate, slice_set, true, false, Some, None, IfOk, IfSome, OnErr, IsTrue};
+ghost use Rattle.std.specs.Prelude.{◌≡◌, ℕ, ◌<◌, ◌↔◌, [], length, replicate, slice_set, true};
+ghost use Rattle.std.specs.Prelude.{false, Some, None, IfOk, IfSome, OnErr, IsTrue};
 ghost use Rattle.std.specs.Borrow.{sem};
 ghost use Rattle.std.specs.Option.{is_none, is_some, option_copied};
 ghost use Rattle.cb_twoq.specs.Pages.{has};
 ghost use Rattle.cb_pool.specs.Lending.{pool_ends_as};
-ghost use Rattle.cb_pool.specs.PoolState.{PoolState, empty_pool, copy_of, HasRoom, let_go, MayGo, IsPool};
+ghost use Rattle.cb_pool.specs.PoolState.{PoolState, empty_pool, copy_of, HasRoom, let_go, MayGo};
+ghost use Rattle.cb_pool.specs.PoolState.{IsPool};
 ghost use Rattle.cb_pool.specs.Refusals.{fault_of};
 
 use crate::copies::Copies;

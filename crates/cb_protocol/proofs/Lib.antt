@@ -30,6 +30,7 @@ pub mod LedgerKept
 pub mod ServerWalks
 pub mod FirstAsks
 pub mod ServedSteps
+pub mod AskOrder
 pub mod CommitsApplied
 pub mod HelloStarts
 pub mod DoneOnDisk

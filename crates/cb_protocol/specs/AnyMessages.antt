@@ -5,7 +5,8 @@ use Rattle.cb_protocol.specs.Flush.{server_flush}
 use Rattle.cb_protocol.specs.Messages.{Body, write_of_page}
 use Rattle.cb_protocol.specs.Resend.{server_again}
 use Rattle.cb_protocol.specs.Serial.{EachOnce, TransactionName}
-use Rattle.cb_protocol.specs.Server.{DeadlockTest, AppliedCommit, Server, ServerStep, new_server, server_after}
+use Rattle.cb_protocol.specs.Server.{DeadlockTest, AppliedCommit, Server, ServerStep, new_server}
+use Rattle.cb_protocol.specs.Server.{server_after}
 use Rattle.cb_protocol.specs.ServerMessages.{server_take}
 use Rattle.cb_protocol.specs.Session.{new_bytes, new_version}
 use Rattle.cb_protocol.specs.World.{Opening, opening_store}

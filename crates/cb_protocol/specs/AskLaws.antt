@@ -1,10 +1,12 @@
 -- Laws of asks at the server, whatever messages come: who is granted a page and when. This
 -- project's rules.
-use Rattle.std.specs.Prelude.{◌≡◌, ◌≢◌, ◌<◌, ◌⊎◌, ℕ, List, ◌∷◌, ◌++◌, Option, Some, None}
+use Rattle.std.specs.Prelude.{◌≡◌, ◌≢◌, ◌<◌, ◌⊎◌, ⊤, ◌==◌, if◌then◌else◌, ℕ, List, [], ◌∷◌, ◌++◌}
+use Rattle.std.specs.Prelude.{Option, Some, None}
 use Rattle.cb_protocol.specs.AnyMessages.{Input, input_steps}
 use Rattle.cb_protocol.specs.Deadlock.{ReachedServer}
 use Rattle.cb_protocol.specs.Messages.{Granted, MayWrite}
-use Rattle.cb_protocol.specs.Server.{ChangeSession, DeadlockTest, Send, Server, ServerStep, WaitingAsk, server_after}
+use Rattle.cb_protocol.specs.Server.{ChangeSession, DeadlockTest, EnterQueue, Send, Server}
+use Rattle.cb_protocol.specs.Server.{ServerStep, WaitingAsk, after_server_step, server_after}
 use Rattle.cb_protocol.specs.Session.{GrantRow, PermitWrite}
 
 -- the first ask for the page is that client's: to write by that grant, or to read
@@ -77,3 +79,25 @@ abbrev pub NoneWaitsInVain : Type 0
 NoneWaitsInVain = (server : Server) → ReachedServer server
     → (page : ℕ) (ask : WaitingAsk) (behind : List WaitingAsk)
     → server.queue page ≡ ask ∷ behind → MayBeMet server page ask → ⊥
+
+-- these asks are some of a queue's, in its order; what is noted of an ask may have changed
+abbrev pub AreInOrderOf : (asks queue : List WaitingAsk) → Type 0
+AreInOrderOf [] queue = ⊤
+AreInOrderOf (ask ∷ asks) [] = ⊥
+AreInOrderOf (ask ∷ asks) (first ∷ behind) =
+    ((ask.client ≡ first.client) × (ask.write_grant ≡ first.write_grant)
+    × AreInOrderOf asks behind)
+    ⊎ AreInOrderOf (ask ∷ asks) behind
+
+-- the asks that a step brings into a page's queue
+abbrev pub asks_entering : ServerStep → (page : ℕ) → List WaitingAsk
+asks_entering (EnterQueue asked ask) page = if page == asked then ask ∷ [] else []
+asks_entering _ page = []
+
+-- Asks wait in the order of their coming: after every step of any server a page's queue has those
+-- asks that stay, in the order in which they stood, and behind them the one that came.
+abbrev pub AsksKeepTheirOrder : Type 0
+AsksKeepTheirOrder = (server : Server) (step : ServerStep) (page : ℕ)
+    → (staying : List WaitingAsk)
+    × ((after_server_step server step).queue page ≡ staying ++ asks_entering step page)
+    × AreInOrderOf staying (server.queue page)

@@ -1,6 +1,7 @@
 -- Words that every other file uses. Where a definition of this crate names no source, it is this
 -- project's rule.
-use Rattle.std.specs.Prelude.{◌≡◌, ℕ, Bool, true, false, ◌&&◌, if◌then◌else◌, ◌==◌, ◌⊎◌, List, [], ◌∷◌, Option, Some, None}
+use Rattle.std.specs.Prelude.{◌≡◌, ℕ, Bool, true, false, ◌&&◌, if◌then◌else◌, ◌==◌, ◌⊎◌, List, []}
+use Rattle.std.specs.Prelude.{◌∷◌, Option, Some, None}
 -- the greatest transaction, grant and commit number and incarnation, 2^62 - 1
 pub use Rattle.cb_page.specs.Numbers.{max_number}
 

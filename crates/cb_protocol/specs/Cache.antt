@@ -1,6 +1,7 @@
 -- What one incarnation of a client has: its copies of pages (TODS 1997) and its transaction, and
 -- each change of them.
-use Rattle.std.specs.Prelude.{ℕ, ◌+◌, max, Bool, true, false, if◌then◌else◌, List, [], ◌∷◌, Option, Some, None}
+use Rattle.std.specs.Prelude.{ℕ, ◌+◌, max, Bool, true, false, if◌then◌else◌, List, [], ◌∷◌, Option}
+use Rattle.std.specs.Prelude.{Some, None}
 use Rattle.cb_protocol.specs.Basics.{Bytes, update}
 use Rattle.cb_protocol.specs.Serial.{Operation, Put, Saw}
 

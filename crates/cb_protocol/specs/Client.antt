@@ -1,7 +1,9 @@
 -- A client: its cache and what it waits for and owes, and each step that it makes.
-use Rattle.std.specs.Prelude.{ℕ, ◌+◌, nat_lt, Bool, true, false, not, ◌&&◌, ◌||◌, if◌then◌else◌, ◌==◌, List, [], ◌∷◌, Option, Some, None, zero, suc}
+use Rattle.std.specs.Prelude.{ℕ, ◌+◌, nat_lt, Bool, true, false, not, ◌&&◌, ◌||◌, if◌then◌else◌}
+use Rattle.std.specs.Prelude.{◌==◌, List, [], ◌∷◌, Option, Some, None, zero, suc}
 use Rattle.cb_protocol.specs.Basics.{Limits, is_none, update}
-use Rattle.cb_protocol.specs.Cache.{Cache, CacheChange, Committing, Idle, Open, TransactionState, cache_after, new_cache}
+use Rattle.cb_protocol.specs.Cache.{Cache, CacheChange, Committing, Idle, Open, TransactionState}
+use Rattle.cb_protocol.specs.Cache.{cache_after, new_cache}
 use Rattle.cb_protocol.specs.Messages.{Body}
 
 -- the ask that is out: a client waits for at most one

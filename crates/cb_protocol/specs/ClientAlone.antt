@@ -1,12 +1,16 @@
 -- A client alone: each callback is answered at once, and a page in use is given back once, as its
 -- transaction ends.
-use Rattle.std.specs.Prelude.{◌≡◌, ◌≢◌, ◌<◌, ℕ, Bool, true, false, ◌&&◌, ◌||◌, if◌then◌else◌, ◌==◌, List, [], ◌∷◌, Option, Some, None, ⊤}
+use Rattle.std.specs.Prelude.{◌≡◌, ◌≢◌, ◌<◌, ℕ, Bool, true, false, ◌&&◌, ◌||◌, if◌then◌else◌, ◌==◌}
+use Rattle.std.specs.Prelude.{List, [], ◌∷◌, Option, Some, None, ⊤}
 use Rattle.cb_protocol.specs.Basics.{Limits, IsIn, is_none, update}
-use Rattle.cb_protocol.specs.Messages.{Body, GiveBack, InUse, Callback, Done, AbortNow, Downgrade, Downgraded}
+use Rattle.cb_protocol.specs.Messages.{Body, GiveBack, InUse, Callback, Done, AbortNow, Downgrade}
+use Rattle.cb_protocol.specs.Messages.{Downgraded}
 use Rattle.cb_protocol.specs.Cache.{Idle}
-use Rattle.cb_protocol.specs.Client.{Client, ClientStep, DueDowngrade, new_client, client_after, bodies_said, is_fixed}
+use Rattle.cb_protocol.specs.Client.{Client, ClientStep, DueDowngrade, new_client, client_after}
+use Rattle.cb_protocol.specs.Client.{bodies_said, is_fixed}
 use Rattle.cb_protocol.specs.ClientCalls.{Call, CallDrop, client_call, first_refusal, open_causes}
-use Rattle.cb_protocol.specs.ClientMessages.{ChoiceAllowed, client_take, of_open_txn, of_committing_txn}
+use Rattle.cb_protocol.specs.ClientMessages.{ChoiceAllowed, client_take, of_open_txn}
+use Rattle.cb_protocol.specs.ClientMessages.{of_committing_txn}
 
 -- what comes to a client: a call; or a message of its incarnation, with the page that its pool lets
 -- go should it take one in

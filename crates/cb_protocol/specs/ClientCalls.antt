@@ -1,10 +1,16 @@
 -- What a client answers and does at each call: first the causes of a refusal, then the calls that
 -- are accepted.
-use Rattle.std.specs.Prelude.{ℕ, nat_le, length, Bool, not, ◌&&◌, if◌then◌else◌, ◌==◌, List, [], ◌∷◌, ◌++◌, Option, Some, None, zero, suc}
-use Rattle.cb_protocol.specs.Answers.{AnswerWord, AnsweredBytes, AnsweredOk, Asked, ClientFault, Committing, Exhausted, NoTransaction, NotHere, NotRead, NotWelcome, NotWritable, Nothing, PageRange, Permitted, PoolFull, Refused, TransactionOpen, Waiting, WrongLength}
+use Rattle.std.specs.Prelude.{ℕ, nat_le, length, Bool, not, ◌&&◌, if◌then◌else◌, ◌==◌, List, []}
+use Rattle.std.specs.Prelude.{◌∷◌, ◌++◌, Option, Some, None, zero, suc}
+use Rattle.cb_protocol.specs.Answers.{AnswerWord, AnsweredBytes, AnsweredOk, Asked, ClientFault}
+use Rattle.cb_protocol.specs.Answers.{Committing, Exhausted, NoTransaction, NotHere, NotRead}
+use Rattle.cb_protocol.specs.Answers.{NotWelcome, NotWritable, Nothing, PageRange, Permitted}
+use Rattle.cb_protocol.specs.Answers.{PoolFull, Refused, TransactionOpen, Waiting, WrongLength}
 use Rattle.cb_protocol.specs.Basics.{Bytes, Limits, is_none, max_number}
 use Rattle.cb_protocol.specs.Cache.{Begin, Finish, Read, WriteBytes, is_committing, is_idle}
-use Rattle.cb_protocol.specs.Client.{Aborted, Ask, ChangeCache, Client, ClientStep, Dropped, LastOutcome, MarkWanted, NoAsk, ReadAsk, Say, SetAsk, WriteAsk, has_room, is_asking}
+use Rattle.cb_protocol.specs.Client.{Aborted, Ask, ChangeCache, Client, ClientStep, Dropped}
+use Rattle.cb_protocol.specs.Client.{LastOutcome, MarkWanted, NoAsk, ReadAsk, Say, SetAsk, WriteAsk}
+use Rattle.cb_protocol.specs.Client.{has_room, is_asking}
 use Rattle.cb_protocol.specs.ClientEnd.{drop_transaction}
 use Rattle.cb_protocol.specs.Messages.{AskRead, AskWrite, Commit, Drop, Hello, PageWrite}
 

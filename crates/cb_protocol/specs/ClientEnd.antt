@@ -1,8 +1,10 @@
 -- How a client gives copies back, and how its transaction ends.
-use Rattle.std.specs.Prelude.{ℕ, Bool, true, ◌&&◌, ◌||◌, if◌then◌else◌, List, [], ◌∷◌, ◌++◌, Option, Some, None, zero, suc}
+use Rattle.std.specs.Prelude.{ℕ, Bool, true, ◌&&◌, ◌||◌, if◌then◌else◌, List, [], ◌∷◌, ◌++◌, Option}
+use Rattle.std.specs.Prelude.{Some, None, zero, suc}
 use Rattle.cb_protocol.specs.Basics.{Limits, is_none}
 use Rattle.cb_protocol.specs.Cache.{Abandon, LetGo, RefuseGrant, YieldPermission}
-use Rattle.cb_protocol.specs.Client.{ChangeCache, Client, ClientStep, DueDowngrade, EndTransaction, LastOutcome, Say}
+use Rattle.cb_protocol.specs.Client.{ChangeCache, Client, ClientStep, DueDowngrade, EndTransaction}
+use Rattle.cb_protocol.specs.Client.{LastOutcome, Say}
 use Rattle.cb_protocol.specs.Messages.{Downgraded, Drop, GiveBack}
 
 -- the copy is given up, and its grant given back

@@ -2,8 +2,11 @@
 -- This project's rules.
 use Rattle.std.specs.Prelude.{◌≡◌, ◌≢◌, ℕ, true, Option, Some, None}
 use Rattle.cb_protocol.specs.Basics.{Bytes, Limits}
-use Rattle.cb_protocol.specs.Client.{Aborted, Client, Committed, Dropped, LastOutcome, NoAsk, is_fixed}
-use Rattle.cb_protocol.specs.ClientAlone.{Arises, ClientInput, EndsCommitted, EndsDropped, Ending, GoesOn, InputAllowed, Reading, ReceivesCall, ReceivesMessage, after_input, ending}
+use Rattle.cb_protocol.specs.Client.{Aborted, Client, Committed, Dropped, LastOutcome, NoAsk}
+use Rattle.cb_protocol.specs.Client.{is_fixed}
+use Rattle.cb_protocol.specs.ClientAlone.{Arises, ClientInput, EndsCommitted, EndsDropped, Ending}
+use Rattle.cb_protocol.specs.ClientAlone.{GoesOn, InputAllowed, Reading, ReceivesCall}
+use Rattle.cb_protocol.specs.ClientAlone.{ReceivesMessage, after_input, ending}
 use Rattle.cb_protocol.specs.ClientCalls.{CallDrop}
 use Rattle.cb_protocol.specs.ClientMessages.{brings_page, client_take}
 use Rattle.cb_protocol.specs.Messages.{AbortNow, Done, Granted}

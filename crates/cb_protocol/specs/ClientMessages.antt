@@ -1,11 +1,16 @@
 -- What a client does at each message (TODS 1997; by the grant held and `seen`, the greatest grant
 -- that came, this project's rule).
-use Rattle.std.specs.Prelude.{◌≡◌, ◌<◌, ◌≤◌, ℕ, nat_lt, Bool, true, false, not, ◌&&◌, if◌then◌else◌, ◌==◌, ◌≢◌, List, [], ◌∷◌, ◌++◌, Option, Some, None, ⊤}
+use Rattle.std.specs.Prelude.{◌≡◌, ◌<◌, ◌≤◌, ℕ, nat_lt, Bool, true, false, not, ◌&&◌, if◌then◌else◌}
+use Rattle.std.specs.Prelude.{◌==◌, ◌≢◌, List, [], ◌∷◌, ◌++◌, Option, Some, None, ⊤}
 use Rattle.cb_protocol.specs.Basics.{Bytes, Limits, is_exactly, is_none}
-use Rattle.cb_protocol.specs.Cache.{Fill, Install, Lock, MakeBare, TakeDone, TakePermission, TakeWelcome, YieldPermission, is_committing, is_open}
-use Rattle.cb_protocol.specs.Client.{Aborted, ChangeCache, Client, ClientStep, Committed, EndTransaction, MarkDue, MarkDueDowngrade, NoAsk, Say, SetAsk, asks_to_read, asks_to_write, is_fixed, pages_in_pool}
+use Rattle.cb_protocol.specs.Cache.{Fill, Install, Lock, MakeBare, TakeDone, TakePermission}
+use Rattle.cb_protocol.specs.Cache.{TakeWelcome, YieldPermission, is_committing, is_open}
+use Rattle.cb_protocol.specs.Client.{Aborted, ChangeCache, Client, ClientStep, Committed}
+use Rattle.cb_protocol.specs.Client.{EndTransaction, MarkDue, MarkDueDowngrade, NoAsk, Say, SetAsk}
+use Rattle.cb_protocol.specs.Client.{asks_to_read, asks_to_write, is_fixed, pages_in_pool}
 use Rattle.cb_protocol.specs.ClientEnd.{drop_transaction, end_pages, give_back, refuse_grant}
-use Rattle.cb_protocol.specs.Messages.{AbortNow, Body, Callback, Done, Downgrade, Downgraded, Granted, InUse, MayWrite, Welcome}
+use Rattle.cb_protocol.specs.Messages.{AbortNow, Body, Callback, Done, Downgrade, Downgraded}
+use Rattle.cb_protocol.specs.Messages.{Granted, InUse, MayWrite, Welcome}
 
 -- The pool lets a page go to make room: its grant becomes bare where the transaction reads the
 -- page, else the copy is given back.

@@ -1,12 +1,16 @@
 -- Laws of deadlocks: the test is exact, no step of the server leaves a cycle, and only who lies on
 -- one is doomed. This project's rules.
-use Rattle.std.specs.Prelude.{◌≡◌, ◌≢◌, ◌≤◌, ◌↔◌, ◌⊎◌, ◌<◌, ◌+◌, ◌==◌, if◌then◌else◌, ℕ, true, false, List, [], ◌∷◌, ◌++◌, length, Some, None, ⊤}
+use Rattle.std.specs.Prelude.{◌≡◌, ◌≢◌, ◌≤◌, ◌↔◌, ◌⊎◌, ◌<◌, ◌+◌, ◌==◌, if◌then◌else◌, ℕ, true}
+use Rattle.std.specs.Prelude.{false, List, [], ◌∷◌, ◌++◌, length, Some, None, ⊤}
 use Rattle.cb_protocol.specs.Basics.{Limits, IsIn}
 use Rattle.cb_protocol.specs.Messages.{Body, AskRead, AskWrite}
-use Rattle.cb_protocol.specs.Server.{DeadlockTest, WaitingAsk, Server, ServerStep, RemoveAsk, Doom, server_after, is_live_permission}
-use Rattle.cb_protocol.specs.ServerMessages.{begin_transaction, direct_answer, take_current, named_txn}
+use Rattle.cb_protocol.specs.Server.{DeadlockTest, WaitingAsk, Server, ServerStep, RemoveAsk, Doom}
+use Rattle.cb_protocol.specs.Server.{server_after, is_live_permission}
+use Rattle.cb_protocol.specs.ServerMessages.{begin_transaction, direct_answer, take_current}
+use Rattle.cb_protocol.specs.ServerMessages.{named_txn}
 use Rattle.cb_protocol.specs.Settling.{settle_page, settle_pages}
-use Rattle.cb_protocol.specs.WaitsFor.{HasAsk, HoldsUp, WaitsFor, LiesOnCycle, NoCycle, AsksInRange, on_cycle}
+use Rattle.cb_protocol.specs.WaitsFor.{HasAsk, HoldsUp, WaitsFor, LiesOnCycle, NoCycle, AsksInRange}
+use Rattle.cb_protocol.specs.WaitsFor.{on_cycle}
 use Rattle.cb_protocol.specs.World.{Opening}
 use Rattle.cb_protocol.specs.AnyMessages.{Input, MessageComes, ReachedBy, input_steps}
 

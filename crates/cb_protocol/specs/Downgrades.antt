@@ -6,7 +6,8 @@ use Rattle.cb_protocol.specs.AskLaws.{IsFirst}
 use Rattle.cb_protocol.specs.Deadlock.{InputInRange, ReachedServer}
 use Rattle.cb_protocol.specs.Messages.{Downgrade}
 use Rattle.cb_protocol.specs.Numbers.{IsMessage}
-use Rattle.cb_protocol.specs.Server.{MarkDowngradeSent, Send, Server, ServerStep, WaitingAsk, after_server_step, server_after}
+use Rattle.cb_protocol.specs.Server.{MarkDowngradeSent, Send, Server, ServerStep, WaitingAsk}
+use Rattle.cb_protocol.specs.Server.{after_server_step, server_after}
 use Rattle.cb_protocol.specs.WaitsFor.{on_cycle}
 
 -- the first ask for the page is to read, the client is the page's holder by that tag, each

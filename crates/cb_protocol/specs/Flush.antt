@@ -1,5 +1,6 @@
 -- Commits on disk: which are reported, and what is to be written.
-use Rattle.std.specs.Prelude.{ℕ, nat_lt, nat_le, Bool, ◌&&◌, if◌then◌else◌, List, [], ◌∷◌, ◌++◌, Option, Some, None, zero, suc}
+use Rattle.std.specs.Prelude.{ℕ, nat_lt, nat_le, Bool, ◌&&◌, if◌then◌else◌, List, [], ◌∷◌, ◌++◌}
+use Rattle.std.specs.Prelude.{Option, Some, None, zero, suc}
 use Rattle.cb_protocol.specs.Basics.{Bytes}
 use Rattle.cb_protocol.specs.Messages.{Done}
 use Rattle.cb_protocol.specs.Server.{AppliedCommit, Send, Server, ServerStep, SetFlushed}

@@ -4,7 +4,8 @@ use Rattle.cb_protocol.specs.AnyMessages.{DirectoryRule, IsCommit, Ledger, commi
 use Rattle.cb_protocol.specs.Basics.{Bytes, IsIn, Limits}
 use Rattle.cb_protocol.specs.Cache.{Open}
 use Rattle.cb_protocol.specs.Messages.{Done, GiveBack}
-use Rattle.cb_protocol.specs.Serial.{EachOnce, IsSerial, Operation, committed_operations, store_left}
+use Rattle.cb_protocol.specs.Serial.{EachOnce, IsSerial, Operation, committed_operations}
+use Rattle.cb_protocol.specs.Serial.{store_left}
 use Rattle.cb_protocol.specs.Server.{DeadlockTest}
 use Rattle.cb_protocol.specs.Transcript.{transcript_operations}
 use Rattle.cb_protocol.specs.World.{Opening, ReachedWorld, World}

@@ -2,7 +2,9 @@
 -- events, with or without kept write permission, and whoever is doomed (`cycle` is any test).
 use Rattle.cb_protocol.specs.AnyMessages.{DirectoryRule, RulesAlwaysHold, committed_names}
 use Rattle.cb_protocol.specs.Basics.{Limits}
-use Rattle.cb_protocol.specs.Headline.{BackedByServer, CommittedIsSerial, CopiesAgree, DonesNameCommits, DonesOnDisk, Headline, SoundOpening, WriterAlone}
+use Rattle.cb_protocol.specs.Headline.{BackedByServer, CommittedIsSerial, CopiesAgree}
+use Rattle.cb_protocol.specs.Headline.{DonesNameCommits, DonesOnDisk, Headline, SoundOpening}
+use Rattle.cb_protocol.specs.Headline.{WriterAlone}
 use Rattle.cb_protocol.specs.Serial.{EachOnce}
 use Rattle.cb_protocol.specs.Server.{DeadlockTest}
 use Rattle.cb_protocol.specs.World.{Opening, ReachedWorld, World}

@@ -1,7 +1,8 @@
 -- The messages between clients and server (TODS 1997; grants, incarnations and resending are this
 -- project's rule). A grant is a number that the server gives to one copy of one page at one client;
 -- the messages about the copy name it.
-use Rattle.std.specs.Prelude.{ℕ, Bool, true, false, if◌then◌else◌, ◌==◌, List, [], ◌∷◌, Option, Some, None}
+use Rattle.std.specs.Prelude.{ℕ, Bool, true, false, if◌then◌else◌, ◌==◌, List, [], ◌∷◌, Option}
+use Rattle.std.specs.Prelude.{Some, None}
 use Rattle.cb_protocol.specs.Basics.{Bytes}
 
 -- one page of a commit: its new bytes, and the grant of the copy that was written

@@ -1,11 +1,13 @@
 -- What a step of the server can need: grant numbers for the rows that it gives, and room for the
 -- messages that it sends. With these laws code knows both before it begins. This project's rules.
-use Rattle.std.specs.Prelude.{◌≡◌, ◌≤◌, ◌<◌, ◌+◌, ◌*◌, ℕ, false, if◌then◌else◌, List, [], ◌∷◌, length, Option, zero, suc, ⊤}
+use Rattle.std.specs.Prelude.{◌≡◌, ◌≤◌, ◌<◌, ◌+◌, ◌*◌, ℕ, false, if◌then◌else◌, List, [], ◌∷◌}
+use Rattle.std.specs.Prelude.{length, Option, zero, suc, ⊤}
 use Rattle.cb_protocol.specs.AnyMessages.{Input, MessageComes, input_steps}
 use Rattle.cb_protocol.specs.Basics.{IsIn, Limits, is_none, max_number}
 use Rattle.cb_protocol.specs.Deadlock.{InputInRange, ReachedServer}
 use Rattle.cb_protocol.specs.Messages.{Granted}
-use Rattle.cb_protocol.specs.Server.{DeadlockTest, ChangeSession, Send, Server, ServerStep, WaitingAsk, new_server, server_after}
+use Rattle.cb_protocol.specs.Server.{DeadlockTest, ChangeSession, Send, Server, ServerStep}
+use Rattle.cb_protocol.specs.Server.{WaitingAsk, new_server, server_after}
 use Rattle.cb_protocol.specs.ServerMessages.{is_exhausted, read_asks_below, read_asks_in}
 use Rattle.cb_protocol.specs.Session.{GrantRow}
 use Rattle.cb_protocol.specs.Settling.{decide, decision_steps, settle_page, settle_pages}

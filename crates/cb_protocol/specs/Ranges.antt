@@ -2,8 +2,11 @@
 use Rattle.std.specs.Prelude.{◌≡◌, ◌<◌, ◌≤◌, ℕ, false, length, List, [], ◌∷◌, ⊤}
 use Rattle.cb_protocol.specs.Client.{Client, bodies_said}
 use Rattle.cb_protocol.specs.Basics.{Bytes, Limits, max_number}
-use Rattle.cb_protocol.specs.Messages.{PageWrite, Body, Hello, AskRead, AskWrite, GiveBack, InUse, Commit, Drop, Downgraded, Welcome, Granted, MayWrite, Callback, Done, AbortNow, Downgrade, Message}
-use Rattle.cb_protocol.specs.ClientAlone.{Arises, ClientInput, ReceivesCall, ReceivesMessage, client_steps_at, InputAllowed}
+use Rattle.cb_protocol.specs.Messages.{PageWrite, Body, Hello, AskRead, AskWrite, GiveBack, InUse}
+use Rattle.cb_protocol.specs.Messages.{Commit, Drop, Downgraded, Welcome, Granted, MayWrite}
+use Rattle.cb_protocol.specs.Messages.{Callback, Done, AbortNow, Downgrade, Message}
+use Rattle.cb_protocol.specs.ClientAlone.{Arises, ClientInput, ReceivesCall, ReceivesMessage}
+use Rattle.cb_protocol.specs.ClientAlone.{client_steps_at, InputAllowed}
 use Rattle.cb_protocol.specs.Server.{DeadlockTest, Server}
 use Rattle.cb_protocol.specs.ServerMessages.{is_exhausted}
 use Rattle.cb_protocol.specs.AnyMessages.{Input, MessageComes, ReachedBy, input_steps}

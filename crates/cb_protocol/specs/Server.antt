@@ -1,8 +1,11 @@
 -- The server: sessions, store, queues of asks, in-use marks, commits, and each step that it makes.
-use Rattle.std.specs.Prelude.{ℕ, ◌+◌, nat_lt, Bool, true, false, ◌&&◌, ◌||◌, if◌then◌else◌, ◌==◌, List, [], ◌∷◌, ◌++◌, Option, Some, None}
+use Rattle.std.specs.Prelude.{ℕ, ◌+◌, nat_lt, Bool, true, false, ◌&&◌, ◌||◌, if◌then◌else◌, ◌==◌}
+use Rattle.std.specs.Prelude.{List, [], ◌∷◌, ◌++◌, Option, Some, None}
 use Rattle.cb_protocol.specs.Basics.{is_exactly, update}
 use Rattle.cb_protocol.specs.Messages.{Body, PageWrite}
-use Rattle.cb_protocol.specs.Session.{Admit, ApplyCommit, BeginTransaction, DropTransaction, GrantRow, Session, SessionChange, Store, has_live_txn, session_after, store_after}
+use Rattle.cb_protocol.specs.Session.{Admit, ApplyCommit, BeginTransaction, DropTransaction}
+use Rattle.cb_protocol.specs.Session.{GrantRow, Session, SessionChange, Store, has_live_txn}
+use Rattle.cb_protocol.specs.Session.{session_after, store_after}
 
 -- an ask that waits in a page's queue, of its client's current transaction
 pub record WaitingAsk : Type 0 where

@@ -1,14 +1,22 @@
 -- What the server does at each message: incarnations, transactions, the direct answer, then
 -- settling. `cycle server client` is the test that the client lies on a cycle of waits.
-use Rattle.std.specs.Prelude.{ℕ, ◌+◌, nat_lt, nat_le, Bool, true, false, not, ◌&&◌, ◌||◌, if◌then◌else◌, ◌==◌, List, [], ◌∷◌, ◌++◌, Option, Some, None, zero, suc}
+use Rattle.std.specs.Prelude.{ℕ, ◌+◌, nat_lt, nat_le, Bool, true, false, not, ◌&&◌, ◌||◌}
+use Rattle.std.specs.Prelude.{if◌then◌else◌, ◌==◌, List, [], ◌∷◌, ◌++◌, Option, Some, None, zero}
+use Rattle.std.specs.Prelude.{suc}
 use Rattle.cb_protocol.specs.Basics.{is_none, max_number}
-use Rattle.cb_protocol.specs.Messages.{AbortNow, AskRead, AskWrite, Body, Commit, Done, Downgraded, Drop, GiveBack, Hello, InUse, PageWrite, Welcome}
-use Rattle.cb_protocol.specs.Server.{DeadlockTest, ChangeSession, EnterQueue, ForgetTransaction, MarkInUse, Send, Server, ServerStep, UnmarkInUse, WaitingAsk, after_server_step, has_ask, has_not_ended, has_row, is_write_holder, server_after}
-use Rattle.cb_protocol.specs.Session.{Admit, ApplyCommit, BeginTransaction, DropTransaction, EndPermission, RemoveRow}
-use Rattle.cb_protocol.specs.Settling.{doom_client, send_granted, give_permission, send_to, settle_pages}
+use Rattle.cb_protocol.specs.Messages.{AbortNow, AskRead, AskWrite, Body, Commit, Done, Downgraded}
+use Rattle.cb_protocol.specs.Messages.{Drop, GiveBack, Hello, InUse, PageWrite, Welcome}
+use Rattle.cb_protocol.specs.Server.{DeadlockTest, ChangeSession, EnterQueue, ForgetTransaction}
+use Rattle.cb_protocol.specs.Server.{MarkInUse, Send, Server, ServerStep, UnmarkInUse, WaitingAsk}
+use Rattle.cb_protocol.specs.Server.{after_server_step, has_ask, has_not_ended, has_row}
+use Rattle.cb_protocol.specs.Server.{is_write_holder, server_after}
+use Rattle.cb_protocol.specs.Session.{Admit, ApplyCommit, BeginTransaction, DropTransaction}
+use Rattle.cb_protocol.specs.Session.{EndPermission, RemoveRow}
+use Rattle.cb_protocol.specs.Settling.{doom_client, send_granted, give_permission, send_to}
+use Rattle.cb_protocol.specs.Settling.{settle_pages}
 
--- A message of a later transaction than the current one ends that one, as dropped if it lives,
--- and begins the later.
+-- A message of a later transaction than the client's current one ends that one, as dropped if it
+-- lives, and begins the later.
 abbrev pub begin_transaction : Server → ℕ → ℕ → List ServerStep
 begin_transaction server client txn =
     if nat_lt (server.session client).txn txn
@@ -43,16 +51,17 @@ new_ask client write_grant = record {
   downgrade_sent = None;
 }
 
--- AskRead: a client with a row gets that row's grant again, with the present bytes; one whose ask
--- waits gets nothing; else the ask enters.
+-- AskRead, by the client's row of the page: with a row it gets that grant again, with the present
+-- bytes; while an ask of it waits, nothing; else its ask enters the queue.
 abbrev pub take_ask_read : DeadlockTest → Server → ℕ → ℕ → Option ℕ → List ServerStep
 take_ask_read cycle server client page (Some grant) = send_granted server client page grant ∷ []
 take_ask_read cycle server client page None =
     if has_waiting_ask server client server.pages then []
     else enter_queue cycle server page (new_ask client None)
 
--- AskWrite, by the grant of a row: the write holder is permitted again, for its present
--- transaction; else as AskRead.
+-- AskWrite, which names the grant of a row: without that row, nothing. The write holder is
+-- permitted again, for its present transaction; while an ask of the client waits, nothing; else its
+-- ask enters the queue.
 abbrev pub take_ask_write : DeadlockTest → Server → ℕ → ℕ → ℕ → List ServerStep
 take_ask_write cycle server client page grant =
     if not (has_row server client page grant) then []
@@ -60,12 +69,12 @@ take_ask_write cycle server client page grant =
     else if has_waiting_ask server client server.pages then []
     else enter_queue cycle server page (new_ask client (Some grant))
 
--- what a message of a doomed transaction is answered: AbortNow alone
+-- A message of a doomed transaction is answered AbortNow alone, else by these steps.
 abbrev pub unless_doomed : Server → ℕ → ℕ → List ServerStep → List ServerStep
 unless_doomed server client txn steps =
     if server.doomed client then send_to server client (AbortNow txn) ∷ [] else steps
 
--- a message of a transaction that has ended is ignored
+-- A message of a transaction that has ended is ignored; else by these steps, unless it is doomed.
 abbrev pub if_live : Server → ℕ → ℕ → List ServerStep → List ServerStep
 if_live server client txn steps =
     if has_not_ended server client txn then unless_doomed server client txn steps else []
@@ -77,13 +86,14 @@ commit_allowed server client (write ∷ writes) =
     is_write_holder server client write.page && has_row server client write.page write.grant
     && commit_allowed server client writes
 
--- A repeated Commit is answered once the commit is on disk.
+-- A repeated Commit, by the number that it was given: Done where that commit is on disk, else
+-- nothing.
 abbrev pub repeat_done : Server → ℕ → ℕ → Option ℕ → List ServerStep
 repeat_done server client txn None = []
 repeat_done server client txn (Some number) =
     if nat_le number server.flushed then send_to server client (Done txn number) ∷ [] else []
 
--- a Commit is applied where it is allowed: the transaction ends as committed
+-- A Commit is applied where it is allowed, and its transaction ends as committed; else nothing.
 abbrev pub apply_commit : Server → ℕ → ℕ → List PageWrite → List ServerStep
 apply_commit server client txn writes =
     if commit_allowed server client writes
@@ -98,9 +108,10 @@ take_commit server client txn writes =
     else if txn == (server.session client).ended
     then repeat_done server client txn (server.outcome client) else []
 
--- The direct answer to a message of the current incarnation, after its transaction has begun.
--- GiveBack takes the row and its mark. InUse sets the mark. Drop ends the transaction. Downgraded
--- takes the permission of that very grant and tag.
+-- The direct answer to a message of the current incarnation, after its transaction has begun. The
+-- asks and Commit: as above. GiveBack: the row of that grant goes, with its mark. InUse: that row
+-- is marked as in use. Drop: the transaction ends as dropped. Downgraded: the write permission of
+-- that very grant and tag ends, and the row stays. Other kinds are for clients: nothing.
 abbrev pub direct_answer : DeadlockTest → Server → ℕ → Body → List ServerStep
 direct_answer cycle server client (AskRead txn page) =
     if_live server client txn
@@ -123,7 +134,7 @@ direct_answer cycle server client (Downgraded page grant tag) =
     then ChangeSession client (EndPermission page grant tag) ∷ [] else []
 direct_answer cycle server client _ = []
 
--- the transaction that a message names; 0: none. The one in Downgraded is a permission's tag
+-- The transaction that a message is of; 0: of none. What Downgraded names is a permission's tag.
 abbrev pub named_txn : Body → ℕ
 named_txn (AskRead txn page) = txn
 named_txn (AskWrite txn page grant) = txn
@@ -132,18 +143,20 @@ named_txn (Commit txn writes) = txn
 named_txn (Drop txn) = txn
 named_txn _ = 0
 
--- these steps, then those that the server after them makes
+-- these steps, and then those that follow from the server as they leave it
 abbrev pub and_then : Server → List ServerStep → (Server → List ServerStep) → List ServerStep
 and_then server steps next = steps ++ next (server_after server steps)
 
--- a message of the current incarnation other than Hello
+-- A message of the current incarnation other than Hello: its transaction begins, it is answered,
+-- and all pages are settled.
 abbrev pub take_current : DeadlockTest → Server → ℕ → Body → List ServerStep
 take_current cycle server client body =
     and_then server (begin_transaction server client (named_txn body)) (λ begun.
     and_then begun (direct_answer cycle begun client body) (λ answered.
     settle_pages cycle answered answered.pages))
 
--- a greater Hello: everything of the old incarnation goes, the new one is current
+-- A greater Hello: everything of the old incarnation goes, the new one is current and welcomed, and
+-- all pages are settled.
 abbrev pub admit_incarnation : DeadlockTest → Server → ℕ → ℕ → List ServerStep
 admit_incarnation cycle server client incarnation =
     and_then server (
@@ -164,24 +177,24 @@ server_take cycle server client incarnation body =
     if incarnation == (server.session client).current then take_current cycle server client body
     else []
 
--- the read asks in a queue
+-- how many asks to read wait in a queue
 abbrev pub read_asks_in : List WaitingAsk → ℕ
 read_asks_in [] = 0
 read_asks_in (ask ∷ queue) =
     if is_none ask.write_grant then read_asks_in queue + 1 else read_asks_in queue
 
--- the read asks at the pages before `end`
+-- how many wait at the pages before `end`
 abbrev pub read_asks_below : Server → (end : ℕ) → ℕ
 read_asks_below server zero = 0
 read_asks_below server (suc page) =
     read_asks_below server page + read_asks_in (server.queue page)
 
--- a message of a transaction that has not ended and is not doomed
+-- the transaction has not ended and is not doomed
 abbrev pub may_proceed : Server → ℕ → ℕ → Bool
 may_proceed server client txn = has_not_ended server client txn && not (server.doomed client)
 
--- No number is left: no grant for the read ask that would enter, beyond one for each that waits; or
--- no commit number for the commit that would be applied.
+-- No number is left: no grant number for the read ask that would enter, beyond one for each that
+-- waits; or no commit number for the commit that would be applied.
 abbrev pub lacks_number : Server → ℕ → Body → Bool
 lacks_number server client (AskRead txn page) =
     may_proceed server client txn && is_none ((server.session client).row page)
@@ -192,7 +205,8 @@ lacks_number server client (Commit txn writes) =
     && nat_le max_number server.store.last_commit
 lacks_number server client _ = false
 
--- the message is refused as exhausted, and nothing changes
+-- The message is refused as exhausted: it is of the current incarnation, and once its transaction
+-- has begun, no number is left. Then nothing changes, and that transaction hasn't begun either.
 abbrev pub is_exhausted : Server → ℕ → ℕ → Body → Bool
 is_exhausted server client incarnation body =
     (incarnation == (server.session client).current)

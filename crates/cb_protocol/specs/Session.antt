@@ -1,5 +1,6 @@
 -- What the server has for one client and for all, and each change that is about one client.
-use Rattle.std.specs.Prelude.{ℕ, ◌+◌, ◌-◌, nat_lt, Bool, if◌then◌else◌, ◌==◌, List, Option, Some, None}
+use Rattle.std.specs.Prelude.{ℕ, ◌+◌, ◌-◌, nat_lt, Bool, if◌then◌else◌, ◌==◌, List, Option, Some}
+use Rattle.std.specs.Prelude.{None}
 use Rattle.cb_protocol.specs.Basics.{Bytes, same_transaction, update}
 use Rattle.cb_protocol.specs.Messages.{PageWrite, write_of_page}
 

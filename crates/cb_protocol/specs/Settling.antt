@@ -1,17 +1,20 @@
 -- Settling a page: who is next in its queue gets what it asks for, or those in its way are called
 -- back, or its client is doomed (callback locking: TODS 1997; when each is done is this project's
 -- rule). `cycle server client` is the test that the client lies on a cycle of waits.
-use Rattle.std.specs.Prelude.{ℕ, ◌+◌, length, Bool, true, false, not, ◌&&◌, ◌||◌, if◌then◌else◌, ◌==◌, List, [], ◌∷◌, ◌++◌, Option, Some, None, zero, suc}
+use Rattle.std.specs.Prelude.{ℕ, ◌+◌, length, Bool, true, false, not, ◌&&◌, ◌||◌, if◌then◌else◌}
+use Rattle.std.specs.Prelude.{◌==◌, List, [], ◌∷◌, ◌++◌, Option, Some, None, zero, suc}
 use Rattle.cb_protocol.specs.Basics.{is_exactly, is_none}
 use Rattle.cb_protocol.specs.Messages.{AbortNow, Body, Callback, Downgrade, Granted, MayWrite}
-use Rattle.cb_protocol.specs.Server.{DeadlockTest, ChangeSession, Doom, LeaveQueue, MarkCalledBack, MarkDowngradeSent, RemoveAsk, Send, Server, ServerStep, WaitingAsk, has_row, is_live_permission, server_after}
+use Rattle.cb_protocol.specs.Server.{DeadlockTest, ChangeSession, Doom, LeaveQueue, MarkCalledBack}
+use Rattle.cb_protocol.specs.Server.{MarkDowngradeSent, RemoveAsk, Send, Server, ServerStep}
+use Rattle.cb_protocol.specs.Server.{WaitingAsk, has_row, is_live_permission, server_after}
 use Rattle.cb_protocol.specs.Session.{GrantRow, PermitWrite}
 
 -- a message to a client, at its current incarnation
 abbrev pub send_to : Server → ℕ → Body → ServerStep
 send_to server client body = Send client (server.session client).current body
 
--- the page as it is now, by that grant
+-- Granted: the page as it is now, by that grant
 abbrev pub send_granted : Server → ℕ → ℕ → ℕ → ServerStep
 send_granted server client page grant =
     send_to server client (Granted page grant (server.store.version page) (server.store.bytes page))
@@ -57,13 +60,14 @@ send_downgrade server client page None = []
 send_downgrade server client page (Some grant) =
     send_to server client (Downgrade page grant (server.store.tag page)) ∷ []
 
--- the write holder is another client than the asker, and its permission is merely kept
+-- the write holder is another client than the asker, and merely keeps its permission: it is not of
+-- the transaction that it has now
 abbrev pub keeps_permission : Server → ℕ → ℕ → Option ℕ → Bool
 keeps_permission server page asker None = false
 keeps_permission server page asker (Some holder) =
     not (holder == asker) && not (is_live_permission server holder page)
 
--- a Downgrade to that client, save where it is left out
+-- a Downgrade to a client that merely keeps its permission, save where it is left out
 abbrev pub send_downgrades : Server → (ℕ → Bool) → ℕ → ℕ → Option ℕ → List ServerStep
 send_downgrades server left_out page asker None = []
 send_downgrades server left_out page asker (Some holder) =
@@ -124,7 +128,7 @@ downgrade_once server page ask =
     else []
 
 -- A first write ask: permitted where no other client is write holder and the only row of the page
--- is the asker's; else the other rows are called back.
+-- is the asker's, of the grant that it names; else the other rows are called back.
 abbrev pub decide_write : DeadlockTest → Server → ℕ → WaitingAsk → ℕ → Decision
 decide_write cycle server page ask grant =
     if no_other_holder (server.store.holder page) ask.client
@@ -132,8 +136,8 @@ decide_write cycle server page ask grant =
     then Decided (permit_write server page ask.client grant)
     else wait_or_doom cycle server ask.client (call_back_once server page ask)
 
--- A first read ask: granted where no other client is write holder; else a kept permission is called
--- down.
+-- A first read ask: granted where no other client is write holder and the asker has no row; else
+-- the holder of a kept permission is asked to give it up.
 abbrev pub decide_read : DeadlockTest → Server → ℕ → WaitingAsk → Decision
 decide_read cycle server page ask =
     if no_other_holder (server.store.holder page) ask.client

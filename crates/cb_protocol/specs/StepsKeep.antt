@@ -1,6 +1,7 @@
 -- What one step keeps as it was: of the other clients at the server, and of the other side in the
 -- world.
-use Rattle.std.specs.Prelude.{◌≡◌, ◌≢◌, ◌≤◌, ◌⊎◌, ℕ, true, if◌then◌else◌, List, ◌++◌, Option, Some, None}
+use Rattle.std.specs.Prelude.{◌≡◌, ◌≢◌, ◌≤◌, ◌⊎◌, ℕ, true, if◌then◌else◌, List, ◌++◌, Option, Some}
+use Rattle.std.specs.Prelude.{None}
 use Rattle.cb_protocol.specs.Basics.{Limits}
 use Rattle.cb_protocol.specs.Messages.{Body, Message, to_server}
 use Rattle.cb_protocol.specs.Server.{DeadlockTest, Server, server_after}

@@ -1,7 +1,8 @@
 -- Which client waits for which: the waits-for graph, whose cycles are deadlocks (textbook:
 -- Bernstein, Hadzilacos and Goodman, Concurrency Control and Recovery in Database Systems, chapter
 -- 3). First as a relation and a path in it, then as a test.
-use Rattle.std.specs.Prelude.{◌≡◌, ◌≢◌, ◌⊎◌, ◌<◌, ℕ, Bool, true, false, not, ◌&&◌, ◌||◌, ◌==◌, List, [], ◌∷◌, Some, None, zero, suc}
+use Rattle.std.specs.Prelude.{◌≡◌, ◌≢◌, ◌⊎◌, ◌<◌, ℕ, Bool, true, false, not, ◌&&◌, ◌||◌, ◌==◌, List}
+use Rattle.std.specs.Prelude.{[], ◌∷◌, Some, None, zero, suc}
 use Rattle.cb_protocol.specs.Basics.{is_exactly, is_none}
 use Rattle.cb_protocol.specs.Server.{Server, WaitingAsk, has_ask, is_live_permission}
 

@@ -1,7 +1,9 @@
 -- The world: a server, its clients, every packet that was ever sent, and what each event makes of
 -- it.
-use Rattle.std.specs.Prelude.{◌≡◌, ℕ, ◌+◌, nat_lt, nat_le, length, if◌then◌else◌, ◌==◌, List, [], ◌∷◌, ◌++◌, Option, Some, None, zero, suc, ⊤}
-use Rattle.cb_protocol.specs.Answers.{AnswerWord, AnsweredOk, Exhausted, Flushed, NoClient, NoPacket, Nothing, Refused, ServerExhausted, Taken}
+use Rattle.std.specs.Prelude.{◌≡◌, ℕ, ◌+◌, nat_lt, nat_le, length, if◌then◌else◌, ◌==◌, List, []}
+use Rattle.std.specs.Prelude.{◌∷◌, ◌++◌, Option, Some, None, zero, suc, ⊤}
+use Rattle.cb_protocol.specs.Answers.{AnswerWord, AnsweredOk, Exhausted, Flushed, NoClient}
+use Rattle.cb_protocol.specs.Answers.{NoPacket, Nothing, Refused, ServerExhausted, Taken}
 use Rattle.cb_protocol.specs.Basics.{Bytes, Limits, max_number, update}
 use Rattle.cb_protocol.specs.Client.{Client, ClientStep, bodies_said, client_after, new_client}
 use Rattle.cb_protocol.specs.ClientCalls.{Call, client_call}
@@ -9,7 +11,8 @@ use Rattle.cb_protocol.specs.ClientMessages.{ChoiceAllowed, client_take}
 use Rattle.cb_protocol.specs.Flush.{can_flush, server_flush}
 use Rattle.cb_protocol.specs.Messages.{Body, Message, kind, to_server}
 use Rattle.cb_protocol.specs.Resend.{server_again}
-use Rattle.cb_protocol.specs.Server.{DeadlockTest, Send, Server, ServerStep, new_server, server_after}
+use Rattle.cb_protocol.specs.Server.{DeadlockTest, Send, Server, ServerStep, new_server}
+use Rattle.cb_protocol.specs.Server.{server_after}
 use Rattle.cb_protocol.specs.ServerMessages.{is_exhausted, server_take}
 use Rattle.cb_protocol.specs.Session.{Store}
 

@@ -4,8 +4,10 @@
 ghost use Rattle.std.specs.Prelude.{ℕ, Bool};
 ghost use Rattle.cb_protocol.specs.Basics.{Limits};
 ghost use Rattle.cb_protocol.specs.Server.{DeadlockTest, Server};
-ghost use Rattle.cb_protocol.specs.ClientAlone.{Anything, CallbackAnsweredAtOnce, DowngradeAnsweredAtOnce, InUseGivenBackOnce};
-ghost use Rattle.cb_protocol.specs.StepsKeep.{OthersKeepRowsAndPermissions, PacketsOnlyGrow, StepsAreAlone};
+ghost use Rattle.cb_protocol.specs.ClientAlone.{Anything, CallbackAnsweredAtOnce};
+ghost use Rattle.cb_protocol.specs.ClientAlone.{DowngradeAnsweredAtOnce, InUseGivenBackOnce};
+ghost use Rattle.cb_protocol.specs.StepsKeep.{OthersKeepRowsAndPermissions, PacketsOnlyGrow};
+ghost use Rattle.cb_protocol.specs.StepsKeep.{StepsAreAlone};
 ghost use Rattle.cb_protocol.specs.Ranges.{ClientMessagesInRange, InputFits, ServerMessagesInRange};
 
 /// A welcomed client, whatever its state, answers each Callback of its incarnation at once with one

@@ -1,7 +1,11 @@
 //! Laws of waiting: the deadlock test, that no step leaves a deadlock, who is doomed, and which
 //! pages need settling.
 
-ghost use Rattle.cb_protocol.specs.Deadlock.{CycleTestExact, NoCycleStays, OneAskAlways, DoomedOnlyOnCycle, DoomedHaveNoAsk, SettledStaysSettled, UnchangedNeedsNoSettling, SettlingEnds, EmptyNeedsNoSettling, EmptyPassedOver, ListedAreEnough, PermissionsLive, PlainHoldsUp};
+ghost use Rattle.cb_protocol.specs.Deadlock.{CycleTestExact, NoCycleStays, OneAskAlways};
+ghost use Rattle.cb_protocol.specs.Deadlock.{DoomedOnlyOnCycle, DoomedHaveNoAsk};
+ghost use Rattle.cb_protocol.specs.Deadlock.{SettledStaysSettled, UnchangedNeedsNoSettling};
+ghost use Rattle.cb_protocol.specs.Deadlock.{SettlingEnds, EmptyNeedsNoSettling, EmptyPassedOver};
+ghost use Rattle.cb_protocol.specs.Deadlock.{ListedAreEnough, PermissionsLive, PlainHoldsUp};
 
 /// The deadlock test is exact: of a server whose asks are of clients and for pages that there are,
 /// it answers true exactly of the clients that wait, in one or more steps, for themselves.

@@ -13,7 +13,11 @@ pub mod marks;
 pub mod numbers;
 pub mod server;
 
-ghost use Rattle.cb_protocol.specs.Laws.{CommittedAlwaysSerial, CopiesAlwaysAgree, CopiesAlwaysBacked, DirectoryAlwaysKept, DonesAlwaysNameCommits, DonesAlwaysOnDisk, EachCommitsOnce, RulesHoldUnderAnyMessages, WholePromise, WriterAlwaysAlone};
+ghost use Rattle.cb_protocol.specs.Laws.{CommittedAlwaysSerial, CopiesAlwaysAgree};
+ghost use Rattle.cb_protocol.specs.Laws.{CopiesAlwaysBacked, DirectoryAlwaysKept};
+ghost use Rattle.cb_protocol.specs.Laws.{DonesAlwaysNameCommits, DonesAlwaysOnDisk};
+ghost use Rattle.cb_protocol.specs.Laws.{EachCommitsOnce, RulesHoldUnderAnyMessages, WholePromise};
+ghost use Rattle.cb_protocol.specs.Laws.{WriterAlwaysAlone};
 
 /// Whatever is called, sent, lost, repeated or reordered, whoever restarts, and whatever pages are
 /// let go: at every moment all the laws below hold, with kept write permission and without it, and

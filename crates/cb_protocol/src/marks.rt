@@ -1,7 +1,8 @@
 //! Laws of in-use marks and write permissions at the server.
 
 ghost use Rattle.cb_protocol.specs.Downgrades.{DowngradesRise, HolderStaysWhileReadWaits};
-ghost use Rattle.cb_protocol.specs.Marks.{DroppedHoldNothing, KeptHoldersHaveRows, KeptHoldsUp, MarksLive, MarksSetAndTaken};
+ghost use Rattle.cb_protocol.specs.Marks.{DroppedHoldNothing, KeptHoldersHaveRows, KeptHoldsUp};
+ghost use Rattle.cb_protocol.specs.Marks.{MarksLive, MarksSetAndTaken};
 
 /// A mark is of a client with a copy of the page and a live transaction. It is there exactly from
 /// the client's InUse on until it gives the copy back or its transaction ends; a step for one page

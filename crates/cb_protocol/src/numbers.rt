@@ -4,7 +4,9 @@
 ghost use Rattle.std.specs.Prelude.{ℕ, Bool};
 ghost use Rattle.cb_protocol.specs.AnyMessages.{Input};
 ghost use Rattle.cb_protocol.specs.Basics.{Limits};
-ghost use Rattle.cb_protocol.specs.Numbers.{GrantsLeftAtFirst, GrantsNeverRunOut, SettlingSendsAtMost, SettlingTakesKeptGrants, StepSendsAtMost};
+ghost use Rattle.cb_protocol.specs.Numbers.{GrantsLeftAtFirst, GrantsNeverRunOut};
+ghost use Rattle.cb_protocol.specs.Numbers.{SettlingSendsAtMost, SettlingTakesKeptGrants};
+ghost use Rattle.cb_protocol.specs.Numbers.{StepSendsAtMost};
 ghost use Rattle.cb_protocol.specs.Server.{DeadlockTest, Server};
 
 /// Settling takes no grant number but those kept for the read asks that wait. So a server that

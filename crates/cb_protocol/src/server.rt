@@ -1,8 +1,9 @@
 //! Laws of a server alone, at each message, honest or not: who is granted a page, which commits are
 //! applied, what a Hello leaves.
 
-ghost use Rattle.cb_protocol.specs.AskLaws.{FirstAsksAreMet, NoneWaitsInVain};
-ghost use Rattle.cb_protocol.specs.CommitLaws.{AppliedWhereItMay, DoneFromDiskAlone, NoOtherApplies};
+ghost use Rattle.cb_protocol.specs.AskLaws.{AsksKeepTheirOrder, FirstAsksAreMet, NoneWaitsInVain};
+ghost use Rattle.cb_protocol.specs.CommitLaws.{AppliedWhereItMay, DoneFromDiskAlone};
+ghost use Rattle.cb_protocol.specs.CommitLaws.{NoOtherApplies};
 ghost use Rattle.cb_protocol.specs.HelloLaws.{GreaterHelloStartsAnew};
 
 /// A Commit is applied exactly where it is of the current incarnation, of a transaction that
@@ -29,4 +30,10 @@ pub fn greater_hello_starts_anew()
 pub fn first_asks_are_met()
     ensures in_order { FirstAsksAreMet }
     ensures in_time { NoneWaitsInVain }
+{}
+
+/// Asks for a page wait in the order of their coming: one that enters is behind all that wait, and
+/// those that stay keep their order.
+pub fn asks_keep_their_order()
+    ensures law { AsksKeepTheirOrder }
 {}

@@ -14,7 +14,7 @@ ghost use Rattle.cb_first_client.specs.ProtocolLimits.{limits_of};
 ghost use Rattle.cb_first_net.specs.NetState.{opening_of};
 ghost use Rattle.cb_schedule.specs.WorldState.{IsRepresented, Represents, opened};
 ghost use Rattle.cb_transcript.specs.declared.answer.Answer.{Answer as AnswerState};
-ghost use Rattle.cb_transcript.specs.declared.answer.TranscriptEntry.{TranscriptEntry as EntryState};
+ghost use Rattle.cb_transcript.specs.declared.answer.TranscriptEntry.{TranscriptEntry as EntryData};
 
 use cb_commit::Store;
 use cb_event::Event;
@@ -82,6 +82,7 @@ impl World {
             (λ w. Promise (opened w) (new_world (limits_of limits.now) (opening_of store))) }
     {
         callback_read();
+        // The store is sound by its type: each call on it says so.
         let _number = store.number();
         let opening = store.copy(alloc)?;
         Ok(World {
@@ -248,7 +249,7 @@ fn tell(
 /// A copy of the last answer.
 fn last_answer(alloc: Global, entries: &[TranscriptEntry]) -> Result<Answer, AllocError>
     requires { 0 < length entries.now }
-    ensures { IfOk result (λ a. (es : List EntryState) (e : EntryState)
+    ensures { IfOk result (λ a. (es : List EntryData) (e : EntryData)
         → entries.now ≡ es ++ e ∷ [] → a ≡ e.answer) }
 {
     entries[entries.len() - 1].answer.copy(alloc)

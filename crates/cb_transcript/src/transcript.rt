@@ -1,7 +1,7 @@
 //! The transcript of a world, and the serial check of it.
 ghost use Rattle.std.specs.Prelude.{◌≡◌, List, ◌++◌, [], ◌∷◌, IfOk, OnOk, OnErr, ◌↔◌};
 ghost use Rattle.cb_transcript.specs.Transcripts.{IsSerialOnOpening};
-ghost use Rattle.cb_transcript.specs.declared.answer.TranscriptEntry.{TranscriptEntry as EntryState};
+ghost use Rattle.cb_transcript.specs.declared.answer.TranscriptEntry.{TranscriptEntry as EntryData};
 ghost use Rattle.cb_transcript.specs.declared.transcript.Verdict.TheVariants as verdict;
 
 use crate::answer::{Answer, TranscriptEntry};
@@ -102,10 +102,10 @@ impl Transcript {
     /// Forgets the last event.
     pub fn forget_last(&mut self)
         ensures opening { self.new.opening ≡ self.old.opening }
-        ensures entries { (es : List EntryState) (e : EntryState) → self.old.entries ≡ es ++ e ∷ []
+        ensures entries { (es : List EntryData) (e : EntryData) → self.old.entries ≡ es ++ e ∷ []
             → self.new.entries ≡ es }
     {
-        let _last = self.entries.pop();
+        self.entries.pop();
     }
 }
 

@@ -1,6 +1,7 @@
 -- What a chooser may do: this project's rule, which holds for 2Q and for any other order of letting
 -- go.
-use Rattle.std.specs.Prelude.{◌≡◌, ◌≢◌, ℕ, ◌+◌, ◌<◌, ◌≤◌, Bool, true, false, List, length, Option, Some, None, ◌⊎◌}
+use Rattle.std.specs.Prelude.{◌≡◌, ◌≢◌, ℕ, ◌+◌, ◌<◌, ◌≤◌, Bool, true, false, List, length, Option}
+use Rattle.std.specs.Prelude.{Some, None, ◌⊎◌}
 use Rattle.cb_page.specs.Flags as flags
 use Rattle.cb_twoq.specs.Pages.{has}
 

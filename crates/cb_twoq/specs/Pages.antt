@@ -1,5 +1,6 @@
 -- Lists of pages.
-use Rattle.std.specs.Prelude.{◌≡◌, ◌<◌, ◌≤◌, true, remove, ℕ, ◌+◌, Bool, nat_eq, List, [], ◌∷◌, length, if◌then◌else◌}
+use Rattle.std.specs.Prelude.{◌≡◌, ◌<◌, ◌≤◌, true, remove, ℕ, ◌+◌, Bool, nat_eq, List, [], ◌∷◌}
+use Rattle.std.specs.Prelude.{length, if◌then◌else◌}
 use Rattle.std.specs.List.{list_any}
 
 -- whether a page is on a list

@@ -1,7 +1,8 @@
 -- 2Q, the full version of the article (Johnson and Shasha, VLDB 1994), on three plain lists, newest
 -- first. Where nothing is fixed these are the published cases. That the page leaves A1out before a
 -- slot is reclaimed, and that fixed pages are passed over, is this project's rule.
-use Rattle.std.specs.Prelude.{ℕ, ◌+◌, Bool, nat_lt, List, [], ◌∷◌, length, take, ◌++◌, ◌≤◌, Option, Some, None, if◌then◌else◌}
+use Rattle.std.specs.Prelude.{ℕ, ◌+◌, Bool, nat_lt, List, [], ◌∷◌, length, take, ◌++◌, ◌≤◌, Option}
+use Rattle.std.specs.Prelude.{Some, None, if◌then◌else◌}
 use Rattle.std.specs.Option.{option_or, option_map}
 use Rattle.cb_page.specs.Flags as flags
 use Rattle.cb_twoq.specs.Pages.{has, without, times}

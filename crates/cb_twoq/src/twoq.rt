@@ -3,7 +3,8 @@
 mod queues;
 mod steps;
 
-ghost use Rattle.std.specs.Prelude.{◌≡◌, ◌≤◌, ◌↔◌, [], length, reverse, true, Some, None, IfOk, OnErr};
+ghost use Rattle.std.specs.Prelude.{◌≡◌, ◌≤◌, ◌↔◌, [], length, reverse, true, Some, None, IfOk};
+ghost use Rattle.std.specs.Prelude.{OnErr};
 ghost use Rattle.cb_twoq.specs.Pages.{has};
 ghost use Rattle.cb_twoq.specs.Queues.{TwoQState, empty, reference, forget, members_of};
 ghost use Rattle.cb_twoq.specs.Law.{Chooses, IsFull, Forgets};

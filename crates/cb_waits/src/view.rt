@@ -1,4 +1,5 @@
-ghost use Rattle.std.specs.Prelude.{◌≡◌, ◌≢◌, ◌⊎◌, ◌↔◌, ◌==◌, ◌&&◌, ◌||◌, if◌then◌else◌, not, ℕ, true, false, IsTrue};
+ghost use Rattle.std.specs.Prelude.{◌≡◌, ◌≢◌, ◌⊎◌, ◌↔◌, ◌==◌, ◌&&◌, ◌||◌, if◌then◌else◌, not, ℕ};
+ghost use Rattle.std.specs.Prelude.{true, false, IsTrue};
 ghost use Rattle.cb_clients.specs.Clients.{has};
 ghost use Rattle.cb_waits.specs.Graph.{LiesOnCycle, Waits, waits};
 

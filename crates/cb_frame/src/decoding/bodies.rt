@@ -7,7 +7,9 @@ ghost use Rattle.cb_frame.specs.declared.fault.FrameFault.TheVariants as fault;
 ghost use Rattle.cb_frame_types.specs.Fields.{fields_fit, fields_of};
 ghost use Rattle.cb_frame_types.specs.Kinds.{is_short};
 ghost use Rattle.cb_frame_types.specs.Versions.{size_length};
-ghost use Rattle.cb_frame.specs.Checks.{body_causes, can_be_length, short_at, commit_at, granted_at, body_at, number, short_length, Gives, GivesInRange};
+ghost use Rattle.cb_frame.specs.Checks.{body_causes, can_be_length, short_at, commit_at};
+ghost use Rattle.cb_frame.specs.Checks.{granted_at, body_at, number, short_length, Gives};
+ghost use Rattle.cb_frame.specs.Checks.{GivesInRange};
 
 use crate::decoding::entries::{numbers_fit, pages_rise, writes_of};
 use crate::decoding::lengths::count_in;

@@ -3,7 +3,9 @@ ghost use Rattle.std.specs.Prelude.{◌≡◌, ℕ, ◌<◌, ◌≤◌, true, []
 ghost use Rattle.cb_holdings.specs.Holdings.{Does, HasClient, HasPage, server_of};
 ghost use Rattle.cb_protocol.specs.Basics.{is_none, max_number};
 ghost use Rattle.cb_protocol.specs.Server.{ChangeSession, Doom, ForgetTransaction};
-ghost use Rattle.cb_protocol.specs.Session.{Admit, BeginTransaction, DropTransaction, EndPermission, GrantRow, PermitWrite, RemoveRow, has_live_txn};
+ghost use Rattle.cb_protocol.specs.Session.{Admit, BeginTransaction, DropTransaction};
+ghost use Rattle.cb_protocol.specs.Session.{EndPermission, GrantRow, PermitWrite, RemoveRow};
+ghost use Rattle.cb_protocol.specs.Session.{has_live_txn};
 ghost use Rattle.cb_protocol.specs.Settling.{no_other_holder, sole_row};
 
 use crate::Holdings;

@@ -1,5 +1,6 @@
 //! Numbers of clients.
-ghost use Rattle.std.specs.Prelude.{◌≡◌, ℕ, ◌<◌, ◌↔◌, nat_lt, if◌then◌else◌, Some, None, IsSome, IfSome};
+ghost use Rattle.std.specs.Prelude.{◌≡◌, ℕ, ◌<◌, ◌↔◌, nat_lt, if◌then◌else◌, Some, None, IsSome};
+ghost use Rattle.std.specs.Prelude.{IfSome};
 ghost use Rattle.cb_page.specs.Bounds.{AreInRange};
 
 use crate::Limits;

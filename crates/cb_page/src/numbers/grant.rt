@@ -1,5 +1,6 @@
 //! Numbers of grants.
-ghost use Rattle.std.specs.Prelude.{◌≡◌, ℕ, ◌+◌, ◌≤◌, ◌↔◌, nat_lt, if◌then◌else◌, Some, None, IsSome, IfSome};
+ghost use Rattle.std.specs.Prelude.{◌≡◌, ℕ, ◌+◌, ◌≤◌, ◌↔◌, nat_lt, if◌then◌else◌, Some, None};
+ghost use Rattle.std.specs.Prelude.{IsSome, IfSome};
 ghost use Rattle.cb_page.specs.Numbers.{IsNumber, is_number, max_number};
 
 use crate::MAX_NUMBER;

@@ -1,6 +1,7 @@
 //! Steps on one list of pages, whose newest page is first.
 
-ghost use Rattle.std.specs.Prelude.{◌≡◌, ◌≤◌, ◌+◌, ◌∷◌, length, take, true, false, IsTrue, IfOk, MatchOption};
+ghost use Rattle.std.specs.Prelude.{◌≡◌, ◌≤◌, ◌+◌, ◌∷◌, length, take, true, false, IsTrue, IfOk};
+ghost use Rattle.std.specs.Prelude.{MatchOption};
 ghost use Rattle.std.specs.VecDeque.{deque_capacity};
 ghost use Rattle.cb_twoq.specs.Pages.{has, without, IsPlace};
 ghost use Rattle.cb_twoq.specs.Queues.{oldest_unfixed};
@@ -39,7 +40,7 @@ pub(crate) fn take_off(pages: &mut VecDeque<PageNo>, page: PageNo) -> bool
 {
     match place_on(pages, page) {
         Some(i) => {
-            let _gone = pages.remove(i);
+            pages.remove(i);
             true
         }
         None => false,

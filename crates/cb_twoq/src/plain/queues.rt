@@ -2,7 +2,8 @@
 
 ghost use Rattle.std.specs.Prelude.{◌≡◌, ◌||◌, ◌∷◌, IfOk};
 ghost use Rattle.cb_twoq.specs.Pages.{has, without};
-ghost use Rattle.cb_twoq.specs.Queues.{TwoQState, AreQueues, empty, reclaim, page_of, let_go, enter, renew, forget};
+ghost use Rattle.cb_twoq.specs.Queues.{TwoQState, AreQueues, empty, reclaim, page_of, let_go};
+ghost use Rattle.cb_twoq.specs.Queues.{enter, renew, forget};
 
 use crate::plain::queue::{is_on, oldest_unfixed, remember, take_off};
 use crate::slot::Slot;
@@ -161,6 +162,7 @@ impl PlainQueues {
     pub(crate) fn forget(&mut self, page: PageNo)
         ensures { self.new ≡ forget page self.old }
     {
+        // It is on one of them at most; on which doesn't matter here.
         let _was_on_a1in = take_off(&mut self.a1in, page);
         let _was_on_am = take_off(&mut self.am, page);
     }

@@ -3,7 +3,8 @@
 ghost use Rattle.std.specs.Prelude.{◌≡◌, ◌||◌, ◌<◌, ◌≤◌, ◌+◌, false, length, IfOk, OnOk, OnErr};
 ghost use Rattle.indexmap.specs.IndexSet.{spare};
 ghost use Rattle.cb_twoq.specs.Pages.{has};
-ghost use Rattle.cb_twoq.specs.Queues.{TwoQState, AreQueues, empty, reclaim, page_of, let_go, enter, renew, forget, members_of};
+ghost use Rattle.cb_twoq.specs.Queues.{TwoQState, AreQueues, empty, reclaim, page_of, let_go};
+ghost use Rattle.cb_twoq.specs.Queues.{enter, renew, forget, members_of};
 ghost use Rattle.cb_twoq.specs.Indexed.{queues_of, place, IsSlotOf, IsOff};
 
 use crate::slot::Slot;

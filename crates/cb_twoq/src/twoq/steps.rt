@@ -1,7 +1,8 @@
 //! Steps on a set of pages, whose oldest page is first, and on a cache of pages, whose newest is
 //! first.
 
-ghost use Rattle.std.specs.Prelude.{◌≡◌, ◌<◌, ◌≤◌, ◌+◌, ◌∷◌, length, take, reverse, false, IfOk, OnOk, OnErr, IsOk};
+ghost use Rattle.std.specs.Prelude.{◌≡◌, ◌<◌, ◌≤◌, ◌+◌, ◌∷◌, length, take, reverse, false, IfOk};
+ghost use Rattle.std.specs.Prelude.{OnOk, OnErr, IsOk};
 ghost use Rattle.indexmap.specs.IndexSet.{spare};
 ghost use Rattle.cb_twoq.specs.Pages.{has, without};
 ghost use Rattle.cb_twoq.specs.Queues.{oldest_unfixed};
@@ -37,7 +38,7 @@ pub(crate) fn take_off(pages: &mut IndexSet<PageNo>, page: PageNo)
     ensures pages { newest_first pages.new ≡ without page (newest_first pages.old) }
     ensures room { spare pages.old ≤ spare pages.new }
 {
-    let _was_there = pages.shift_remove(&page);
+    pages.shift_remove(&page);
 }
 
 /// Puts a page into a set as its newest, and drops the oldest beyond a length. There is room.
@@ -47,9 +48,10 @@ pub(crate) fn remember(pages: &mut IndexSet<PageNo>, page: PageNo, most: usize)
     requires within { length (newest_first pages.old) ≤ most }
     ensures { newest_first pages.new ≡ take most (page ∷ newest_first pages.old) }
 {
-    let _room_was_made = add(pages, page);
+    // There is room, so it is not refused.
+    let _added = add(pages, page);
     if pages.len() > most {
-        let _oldest = pages.shift_remove_index(0);
+        pages.shift_remove_index(0);
     }
 }
 
@@ -95,7 +97,7 @@ pub(crate) fn pop(cache: &mut LruCache<PageNo, ()>, page: PageNo)
     ensures pages { cached cache.new ≡ without page (cached cache.old) }
     ensures cap { cache.new.cap ≡ cache.old.cap }
 {
-    let _was_there = cache.pop(&page);
+    cache.pop(&page);
 }
 
 /// The oldest page of a cache that isn't fixed.

@@ -5,5 +5,5 @@ use Rattle.cb_twoq.proofs.twoq.steps.take_off.Goals as goal
 
 pub returns-clause-pages : goal.returns-clause-pages
 returns-clause-pages c =
-    let e = c.shift_remove-was_there.ensures.keys in
-    rw e (newest_removed c.args.page c.args.pages.now.keys (ap (λ l. has l c.args.page) (sym e) ∙ c.shift_remove-was_there.ensures.updates.1))
+    let e = c.shift_remove.ensures.keys in
+    rw e (newest_removed c.args.page c.args.pages.now.keys (ap (λ l. has l c.args.page) (sym e) ∙ c.shift_remove.ensures.updates.1))
