@@ -1,0 +1,5 @@
+use Rattle.std.proofs.Common.{rules}
+use Rattle.cb_frame_types.proofs.kind.Kind.goes_to_server.Goals as goal
+
+pub returns : goal.returns
+returns c = search rules

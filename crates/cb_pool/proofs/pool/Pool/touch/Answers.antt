@@ -1,0 +1,8 @@
+use Rattle.std.proofs.Common.{rules}
+use Rattle.cb_pool.proofs.pool.Pool.touch.Goals as goal
+
+pub invariant_of-self : goal.invariant_of-self
+invariant_of-self g c = search rules
+
+pub returns-then-has : goal.returns-then-has
+returns-then-has g c = search rules
