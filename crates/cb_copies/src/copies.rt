@@ -190,6 +190,7 @@ impl<Q: Chooser> Copies<Q> {
         ensures full { (result ≡ Err PoolFault.Full)
             ↔ ((content_at self.old page ≡ None) × IsFull self.old) }
         ensures err { OnErr result (self.new ≡ self.old) }
+        ensures limits { self.new.limits ≡ self.old.limits }
     {
         let gone = self.pool.install(page, bytes)?;
         let copy = self.table.at(page);
@@ -215,6 +216,7 @@ impl<Q: Chooser> Copies<Q> {
         ensures full { (result ≡ Err PoolFault.Full)
             ↔ ((content_at self.old page ≡ None) × IsFull self.old) }
         ensures err { OnErr result (self.new ≡ self.old) }
+        ensures limits { self.new.limits ≡ self.old.limits }
     {
         self.pool.install(page, bytes)
     }
@@ -250,8 +252,9 @@ impl<Q: Chooser> Copies<Q> {
     pub fn take_permission(&mut self, page: PageNo, txn: TxnNo)
         requires held { is_some (copy_at self.old page).held ≡ true }
         requires page { page < self.old.limits.pages }
-        ensures { (grant : ℕ)
+        ensures by_table { (grant : ℕ)
             → DoesInTxn txn self.old (ChangeCache (TakePermission page grant) ∷ []) self.new }
+        ensures limits { self.new.limits ≡ self.old.limits }
     {
         let copy = self.table.at(page);
         self.table.put(
@@ -295,8 +298,9 @@ impl<Q: Chooser> Copies<Q> {
     /// The transaction ends as dropped or aborted: the copies that it wrote go, and all
     /// permissions. It costs the pages written, and what [`PageSet`] says of a walk.
     pub fn abandon(&mut self)
-        ensures { (outcome : LastOutcome)
+        ensures by_table { (outcome : LastOutcome)
             → Does self.old (EndTransaction outcome ∷ ChangeCache Abandon ∷ []) self.new }
+        ensures limits { self.new.limits ≡ self.old.limits }
     {
         drop_copies(&mut self.table, &mut self.pool, &self.wrote);
         self.may_write.clear();
@@ -308,8 +312,9 @@ impl<Q: Chooser> Copies<Q> {
     /// The transaction ends as committed with that number, which is the version of what it wrote;
     /// permissions stay where they are kept. It costs the same.
     pub fn take_done(&mut self, number: CommitNo)
-        ensures { (outcome : LastOutcome)
+        ensures by_table { (outcome : LastOutcome)
             → Does self.old (EndTransaction outcome ∷ ChangeCache (TakeDone number) ∷ []) self.new }
+        ensures limits { self.new.limits ≡ self.old.limits }
     {
         set_versions(&mut self.table, &self.wrote, number);
         if !self.limits.keep_write() {
