@@ -1,1 +1,4 @@
 pub mod Paths
+pub mod Rows
+pub mod Cycles
+pub mod Following

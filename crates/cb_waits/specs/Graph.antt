@@ -1,4 +1,5 @@
 -- The waits-for graph and its cycles.
+pub use Rattle.cb_protocol.specs.WaitsFor.{LiesOnCycle, MoreEdges, OneEdge, Path}
 use Rattle.std.specs.Prelude.{◌≡◌, ℕ, Bool, true, List, slice_index_or}
 use Rattle.cb_clients.specs.Clients.{Clients, has, set_of}
 
@@ -12,13 +13,3 @@ waits edges client other = has (slice_index_or edges client (set_of 0)) other
 
 abbrev pub Waits : Edges → ℕ → ℕ → Type 0
 Waits edges client other = waits edges client other ≡ true
-
--- a path of one or more edges, from a client to another (textbook)
-pub data Path (Edge : ℕ → ℕ → Type 0) : ℕ → ℕ → Type 0 where
-  OneEdge : {client other : ℕ} → Edge client other → Path Edge client other
-  MoreEdges : {client next other : ℕ} → Edge client next → Path Edge next other
-      → Path Edge client other
-
--- a client waits, in one or more steps, for itself (textbook: a deadlock)
-abbrev pub LiesOnCycle : (ℕ → ℕ → Type 0) → ℕ → Type 0
-LiesOnCycle Edge client = Path Edge client client

@@ -6,6 +6,8 @@
 //! [`View`] up to date, row by row, as asks enter and leave them.
 #![tactic(auto)]
 
+mod laws;
 mod view;
 
+pub use laws::waits_by_place;
 pub use view::View;

@@ -1,8 +1,11 @@
 ghost use Rattle.std.specs.Prelude.{◌≡◌, ◌≢◌, ◌⊎◌, ◌↔◌, ◌==◌, ◌&&◌, ◌||◌, if◌then◌else◌, not, ℕ};
 ghost use Rattle.std.specs.Prelude.{true, false, IsTrue};
 ghost use Rattle.cb_clients.specs.Clients.{has};
-ghost use Rattle.cb_waits.specs.Graph.{LiesOnCycle, Waits, waits};
+ghost use Rattle.cb_protocol.specs.WaitsFor.{LiesOnCycle};
+ghost use Rattle.cb_waits.specs.Follows.{FollowsQueue};
+ghost use Rattle.cb_waits.specs.Graph.{Waits, waits};
 
+use cb_asks::Queue;
 use cb_clients::ClientSet;
 use cb_page::ClientNo;
 use std::marker::Model;
@@ -61,6 +64,24 @@ impl View {
         let mut row = others;
         row.remove(client);
         self.rows[client.index()] = row;
+    }
+
+    /// Follows a change at a page: each ask of its queue waits for all ahead of it, and the first
+    /// for those who hold it up. A client whose ask has left the queue keeps its row: that is for
+    /// [`View::put_row`]. It costs as many steps as asks wait there.
+    pub fn follow(&mut self, queue: &Queue, held_up_by: ClientSet)
+        ensures { FollowsQueue self.old queue.now.asks held_up_by self.new }
+    {
+        let mut ahead = ClientSet::empty();
+        let mut waited_for = held_up_by;
+        for place in 0..queue.len() {
+            let Some(client) = queue.client_at(place) else {
+                unreachable!();
+            };
+            self.put_row(client, waited_for);
+            ahead.insert(client);
+            waited_for = ahead;
+        }
     }
 
     /// The client waits for the others of the set, too.

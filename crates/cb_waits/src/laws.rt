@@ -1,0 +1,20 @@
+//! Laws of the kept waits-for view.
+ghost use Rattle.std.specs.Prelude.{◌≡◌, ◌<◌, ◌++◌, ◌∷◌, ◌&&◌, ◌==◌, ◌↔◌, not, ℕ, List, Bool, IsTrue};
+ghost use Rattle.cb_protocol.specs.Deadlock.{OneAsk};
+ghost use Rattle.cb_protocol.specs.Server.{Server, WaitingAsk};
+ghost use Rattle.cb_protocol.specs.WaitsFor.{AsksInRange, LiesOnCycle, holds_up, on_cycle, waits_for};
+ghost use Rattle.cb_waits.specs.Graph.{Edges, Waits};
+ghost use Rattle.cb_waits.specs.Follows.{Follows, waited_for};
+
+/// A client waits by the place of its ask in its queue, and for nobody without one. A view that has
+/// these edges answers as the protocol's deadlock test does.
+pub fn waits_by_place()
+    ensures place { (server : Server) → OneAsk server.queue → (page : ℕ) → page < server.pages
+        → (front back : List WaitingAsk) (ask : WaitingAsk)
+        → server.queue page ≡ front ++ ask ∷ back
+        → (other : ℕ) → waits_for server ask.client other
+        ≡ (not (ask.client == other) && waited_for (holds_up server page ask) front other) }
+    ensures test { (view : Edges) (server : Server) → AsksInRange server
+        → Follows view server → (client : ℕ) (answer : Bool)
+        → IsTrue answer ↔ LiesOnCycle (Waits view) client → answer ≡ on_cycle server client }
+{}
