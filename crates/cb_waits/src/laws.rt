@@ -1,8 +1,10 @@
 //! Laws of the kept waits-for view.
-ghost use Rattle.std.specs.Prelude.{◌≡◌, ◌<◌, ◌++◌, ◌∷◌, ◌&&◌, ◌==◌, ◌↔◌, not, ℕ, List, Bool, IsTrue};
+ghost use Rattle.std.specs.Prelude.{◌≡◌, ◌<◌, ◌++◌, ◌∷◌, ◌&&◌, ◌==◌, ◌↔◌, not, ℕ, List, Bool};
+ghost use Rattle.std.specs.Prelude.{IsTrue};
 ghost use Rattle.cb_protocol.specs.Deadlock.{OneAsk};
 ghost use Rattle.cb_protocol.specs.Server.{Server, WaitingAsk};
-ghost use Rattle.cb_protocol.specs.WaitsFor.{AsksInRange, LiesOnCycle, holds_up, on_cycle, waits_for};
+ghost use Rattle.cb_protocol.specs.WaitsFor.{AsksInRange, LiesOnCycle, holds_up, on_cycle};
+ghost use Rattle.cb_protocol.specs.WaitsFor.{waits_for};
 ghost use Rattle.cb_waits.specs.Graph.{Edges, Waits};
 ghost use Rattle.cb_waits.specs.Follows.{Follows, waited_for};
 
