@@ -3,3 +3,5 @@
 
 #[cfg(test)]
 mod copies;
+#[cfg(test)]
+mod locks;
