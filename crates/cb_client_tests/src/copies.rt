@@ -338,7 +338,10 @@ fn takes_all<Q: Chooser>(alloc: Global, copies: &mut Copies<Q>) -> Result<bool, 
             return Ok(false);
         }
         let bytes = Page::from_vec(vec![in alloc; 2u8; 4096]?);
-        if copies.at(page).held.is_none() || copies.fill(page, bytes).is_err() {
+        if copies.at(page).held.is_none() {
+            return Ok(false);
+        }
+        if copies.fill(page, bytes).is_err() {
             return Ok(false);
         }
     }
