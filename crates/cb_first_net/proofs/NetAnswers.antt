@@ -30,7 +30,8 @@ use Rattle.cb_first_net.specs.NetMoves.{Says, AnswersRead, asking_frame, IsNet, 
 use Rattle.cb_first_net.specs.Wire.{body_of, message_of, AllSpell}
 use Rattle.cb_first_net.specs.NetState.{NetState, client_at, with_client, with_server}
 use Rattle.cb_first_net.proofs.Nets.{call_becomes, server_becomes, client_becomes, exhausted_becomes, other_becomes, no_packet_becomes, no_client_becomes, kept_clients}
-use Rattle.cb_protocol.specs.Answers.{AnswerWord, AnsweredBytes, AnsweredOk, Asked, Refused}
+use Rattle.cb_protocol.specs.Answers as answers
+use Rattle.cb_protocol.specs.Answers.{AnsweredBytes, AnsweredOk, Asked, Refused}
 use Rattle.cb_protocol.specs.ClientCalls.{Call, CallBegin, CallPeek, CallRead, peek_word}
 use Rattle.cb_protocol.specs.Messages as protocol
 use Rattle.cb_protocol.specs.Serial.{Operation}
@@ -71,14 +72,14 @@ said_as : (f : Frame) (c : ℕ) → f.client ≡ c → f.incarnation ≡ 1 → m
 said_as f c e i = λ j. record { client = sym e j; incarnation = sym i j; body = body_of f.body } ∷ []
 
 -- a call that says nothing
-pub call_silent : (n m : NetState) (c : ℕ) (x : Call) (word : AnswerWord) (s : ClientState) (performed : List Operation) (a : Answer)
+pub call_silent : (n m : NetState) (c : ℕ) (x : Call) (word : answers.AnswerWord) (s : ClientState) (performed : List Operation) (a : Answer)
     → IsNet n → c < n.limits.clients → Calls (client_at n c) x word [] s performed → m ≡ with_client n c s → word_of a.word ≡ word → a.sent ≡ [] → NetBecomes n (ClientCalls c x) a m
 call_silent n m c x word s performed a z h r e w f =
     subst (λ (u : NetState). NetBecomes n (ClientCalls c x) a u) (ap (λ (ps : List (List ℕ)). record { limits = n.limits; server = n.server; clients = slice_set n.clients c s; packets = ps }) (append-nil n.packets) ∙ sym e)
     (call_becomes n c x word [] s performed [] a z h r tt w (ap (λ (l : List SentPacket). map sent_of l) (sym f)))
 
 -- a call that says one message
-pub call_sends : (n m : NetState) (c : ℕ) (x : Call) (word : AnswerWord) (s : ClientState) (performed : List Operation) (f : Frame) (a : Answer)
+pub call_sends : (n m : NetState) (c : ℕ) (x : Call) (word : answers.AnswerWord) (s : ClientState) (performed : List Operation) (f : Frame) (a : Answer)
     → IsNet n → c < n.limits.clients → Calls (client_at n c) x word (body_of f.body ∷ []) s performed → f.client ≡ c → f.incarnation ≡ 1 → Fits n.limits f
     → m ≡ sent_net_of (with_client n c s) f → word_of a.word ≡ word → a.sent ≡ sent_as n f ∷ [] → NetBecomes n (ClientCalls c x) a m
 call_sends n m c x word s performed f a z h r k i y e w q =
