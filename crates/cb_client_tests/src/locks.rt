@@ -1,3 +1,5 @@
+ghost use Rattle.std.specs.Prelude.{◌≤◌, length, IsSome};
+
 use cb_frame::{Body, Frame, ShortBody};
 use cb_locks::{CallbackDue, ReadLocks};
 use cb_page::{ClientNo, GrantNo, Incarnation, Limits, PageNo, TxnNo};
@@ -80,10 +82,14 @@ fn permissions_in_use_are_given_up_at_the_end(rt: HostRuntime) -> anyhow::Result
     let (tag, txn, grant) = (TxnNo::new(6), TxnNo::new(7), GrantNo::new(11));
     let (alone, both, third) = (PageNo::new(2), PageNo::new(5), PageNo::new(6));
     locks.begin(txn);
-    for page in [alone, both, third] {
-        locks.lock(page);
-        let _in_use = locks.permission_called(page, grant, tag).in_use(&mut locks);
-    }
+    let _first = locks
+        .permission_called(alone, grant, tag)
+        .in_use(&mut locks);
+    let _second = locks.permission_called(both, grant, tag).in_use(&mut locks);
+    let _third = locks
+        .permission_called(third, grant, tag)
+        .in_use(&mut locks);
+    locks.lock(both);
     let _copy_in_use = locks.called(both, grant).in_use(&mut locks);
     let down = match locks.unlock(alone) {
         Some(due) => says(
@@ -123,6 +129,18 @@ fn permissions_in_use_are_given_up_at_the_end(rt: HostRuntime) -> anyhow::Result
     Ok(())
 }
 
+/// The transaction reads so many pages, and each is called back.
+fn use_all(locks: &mut ReadLocks, pages: u32, grant: GrantNo)
+    requires store { pages ≤ 4096 }
+    requires pages { pages ≤ length locks.old.locked }
+    requires begun { IsSome locks.old.txn }
+{
+    for page in 0..pages {
+        locks.lock(PageNo::new(page));
+        let _in_use = locks.called(PageNo::new(page), grant).in_use(locks);
+    }
+}
+
 /// At the greatest limits with every page due: one that gives up from some number of pages on is
 /// refused here.
 #[test]
@@ -131,10 +149,7 @@ fn locks_at_the_greatest_limits(rt: HostRuntime) -> anyhow::Result<()> {
     let mut locks = ReadLocks::new(rt.alloc(), ClientNo::new(1), Incarnation::new(3), &limits)?;
     let grant = GrantNo::new(1);
     locks.begin(TxnNo::new(1));
-    for page in 0..4096 {
-        locks.lock(PageNo::new(page));
-        let _in_use = locks.called(PageNo::new(page), grant).in_use(&mut locks);
-    }
+    use_all(&mut locks, 4096, grant);
     let mut dues = locks.end(rt.alloc())?;
     let mut rises = true;
     for page in 0..4096 {
