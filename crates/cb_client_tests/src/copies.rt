@@ -5,8 +5,10 @@ ghost use Rattle.std.specs.Prelude.{◌≡◌, ◌≤◌, ◌<◌, length, IfOk}
 ghost use Rattle.cb_copies.specs.CopiesState.{no_copies};
 
 use Seen::{Byte, Full, Known, Memory, No, Nothing, Page as PageSeen, Yes};
-use Step::{Abandon, At, Done, Fill, Install, IsFixed, LetGo, MayWrite, Next, Peek, Permit, Read};
-use Step::{Refuse, Room, Want, Write, Yield};
+use Step::{
+    Abandon, At, Done, Fill, Install, IsFixed, LetGo, MayWrite, Next, Peek, Permit, Read, Refuse,
+    Room, Want, Write, Yield,
+};
 use cb_copies::Copies;
 use cb_page::{CommitNo, GrantNo, Limits, Page, PageNo, TxnNo, Version};
 use cb_pool::PoolFault;
@@ -334,7 +336,10 @@ fn takes_all<Q: Chooser>(alloc: Global, copies: &mut Copies<Q>) -> Result<bool, 
     for number in 0..4096u32 {
         let page = PageNo::new(number);
         let bytes = Page::from_vec(vec![in alloc; 1u8; 4096]?);
-        if copies.install(page, GrantNo::new(1), Version::new(0), bytes).is_err() {
+        if copies
+            .install(page, GrantNo::new(1), Version::new(0), bytes)
+            .is_err()
+        {
             return Ok(false);
         }
         let bytes = Page::from_vec(vec![in alloc; 2u8; 4096]?);
