@@ -87,9 +87,9 @@ shifted : (from bits at : ℕ) → bit_at (bits / 2 ^ from) at ≡ bit_at bits (
 shifted zero bits at = ap (λ (n : ℕ). bit_at n at) (div-one bits) ∙ ap (λ (n : ℕ). bit_at bits n) (omega arith)
 shifted (suc from) bits at =
     let halves : bits / 2 ^ suc from ≡ bits / 2 / 2 ^ from =
-        ap (λ (n : ℕ). bits / n) (pow-succ' 2 from) ∙ sym (div-div-eq-div-mul bits 2 (2 ^ from)) in
+    ap (λ (n : ℕ). bits / n) (pow-succ' 2 from) ∙ sym (div-div-eq-div-mul bits 2 (2 ^ from)) in
     let place : bit_at bits (suc from + at) ≡ bit_at (bits / 2) (from + at) =
-        ap (λ (n : ℕ). bit_at bits n) (omega arith) ∙ bit_at-suc bits (from + at) in
+    ap (λ (n : ℕ). bit_at bits n) (omega arith) ∙ bit_at-suc bits (from + at) in
     ap (λ (n : ℕ). bit_at n at) halves ∙ shifted from (bits / 2) at ∙ sym place
 
 -- a place from that one on
@@ -120,17 +120,20 @@ next_there bits from fits within some =
     let found = least (bits / 2 ^ from) (less_fits (div-le_self bits (2 ^ from))) some in
     let place : from + trailing_zeros w32 (bits / 2 ^ from) - from ≡ trailing_zeros w32 (bits / 2 ^ from) = omega arith in
     let here : has (set_of bits) (from + trailing_zeros w32 (bits / 2 ^ from)) ≡ true =
-        has_shifted bits from _ (omega arith)
-        ∙ ap (λ (n : ℕ). has (set_of (bits / 2 ^ from)) n) place ∙ found.1.here in
-    (below here (cases_lt (from + trailing_zeros w32 (bits / 2 ^ from)) 32), record {
-      here = here;
-      above = omega arith;
-      none_between = λ other le lt. has_shifted bits from other le
-          ∙ found.1.none_before (other - from) (omega (arith, le, lt));
-    })
+    has_shifted bits from _ (omega arith)
+    ∙ ap (λ (n : ℕ). has (set_of (bits / 2 ^ from)) n) place ∙ found.1.here in (
+      below here (cases_lt (from + trailing_zeros w32 (bits / 2 ^ from)) 32),
+      record {
+        here = here;
+        above = omega arith;
+        none_between = λ other le lt. has_shifted bits from other le
+            ∙ found.1.none_before (other - from) (omega (arith, le, lt));
+      },
+    )
   where
     less_fits : {less : ℕ} → less ≤ bits → less < 2 ^ 32
     less_fits le = omega (arith, le, fits)
+
     below : {at : ℕ} → has (set_of bits) at ≡ true → (at < 32) ⊎ (32 ≤ at) → at < 32
     below here (inl lt) = lt
     below {at} here (inr past) = let none = has_above bits at fits past in absurd (cc)

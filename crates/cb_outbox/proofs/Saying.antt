@@ -42,12 +42,12 @@ says_then v w u f g a b d x y = record {
       ∙ sym (sent_append (f v) (g (server_after v (f v)))))));
   room = y.room ∙ x.room;
   spare =
-    let more : copies_sent (f v ++ g (server_after v (f v))) ≡ copies_sent (f v) + copies_sent (g w) =
-        copies_append (f v) (g (server_after v (f v)))
-        ∙ ap (λ (s : Server). copies_sent (f v) + copies_sent (g s)) (sym x.becomes) in
-    let one = x.spare in
-    let two = y.spare in
-    omega (arith, more, one, two);
+      let more : copies_sent (f v ++ g (server_after v (f v))) ≡ copies_sent (f v) + copies_sent (g w) =
+      copies_append (f v) (g (server_after v (f v)))
+      ∙ ap (λ (s : Server). copies_sent (f v) + copies_sent (g s)) (sym x.becomes) in
+      let one = x.spare in
+      let two = y.spare in
+      omega (arith, more, one, two);
   page_size = y.page_size ∙ x.page_size;
 }
 
@@ -163,9 +163,9 @@ pub room_first : (xs ys : List ServerStep) (a : OutboxState)
     → HasRoomFor (xs ++ ys) a → HasRoomFor xs a
 room_first xs ys a r = record {
   frames =
-    let all = ap (λ (l : List Message). length l) (sent_append xs ys) ∙ length-append (messages_sent xs) (messages_sent ys) in
-    let room = r.frames in
-    omega (arith, all, room);
+      let all = ap (λ (l : List Message). length l) (sent_append xs ys) ∙ length-append (messages_sent xs) (messages_sent ys) in
+      let room = r.frames in
+      omega (arith, all, room);
   copies = let all = copies_append xs ys in let spare = r.copies in omega (arith, all, spare);
 }
 
@@ -173,14 +173,14 @@ pub room_after : (v u : Server) (f : Server → List ServerStep) (ys : List Serv
     → HasRoomFor (f v ++ ys) a → Says v f u a b → HasRoomFor ys b
 room_after v u f ys a b r x = record {
   frames =
-    let all = ap (λ (l : List Message). length l) (sent_append (f v) ys) ∙ length-append (messages_sent (f v)) (messages_sent ys) in
-    let now = ap (λ (l : List Message). length l) x.sends ∙ length-append a.sent (messages_sent (f v)) in
-    let room = r.frames in
-    let same = x.room in
-    omega (arith, all, now, room, same);
+      let all = ap (λ (l : List Message). length l) (sent_append (f v) ys) ∙ length-append (messages_sent (f v)) (messages_sent ys) in
+      let now = ap (λ (l : List Message). length l) x.sends ∙ length-append a.sent (messages_sent (f v)) in
+      let room = r.frames in
+      let same = x.room in
+      omega (arith, all, now, room, same);
   copies =
-    let all = copies_append (f v) ys in
-    let spare = r.copies in
-    let left = x.spare in
-    omega (arith, all, spare, left);
+      let all = copies_append (f v) ys in
+      let spare = r.copies in
+      let left = x.spare in
+      omega (arith, all, spare, left);
 }

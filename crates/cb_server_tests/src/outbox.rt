@@ -24,9 +24,23 @@ fn copies_in_order(rt: HostRuntime) -> anyhow::Result<()> {
     outbox.reserve(rt.alloc(), 3, 2)?;
     let (client, first) = (ClientNo::new(1), Incarnation::new(1));
     let page = PageNo::new(5);
-    outbox.grant(client, first, page, GrantNo::new(1), Version::new(0), &[7; 16]);
+    outbox.grant(
+        client,
+        first,
+        page,
+        GrantNo::new(1),
+        Version::new(0),
+        &[7; 16],
+    );
     outbox.say(client, first, ShortBody::Welcome);
-    outbox.grant(client, first, page, GrantNo::new(2), Version::new(1), &[8; 16]);
+    outbox.grant(
+        client,
+        first,
+        page,
+        GrantNo::new(2),
+        Version::new(1),
+        &[8; 16],
+    );
     let frames = outbox.take(rt.alloc());
     let mut firsts = [0; 3];
     for place in 0..3 {
