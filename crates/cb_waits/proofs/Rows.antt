@@ -1,10 +1,10 @@
 -- A client waits for others only by its ask, so at that ask's page alone.
-use Rattle.std.proofs.Common.{◌≡◌, ◌≢◌, ℕ, ◌<◌, ◌+◌, ◌≤◌, Bool, true, false, not, ◌||◌, ◌&&◌, ◌==◌, List, [], ◌∷◌, ◌++◌, zero, suc, refl, sym, ap, ◌∙◌, subst, inl, inr, arith}
+use Rattle.std.proofs.Common.{◌≡◌, ◌≢◌, ℕ, ◌<◌, ◌+◌, Bool, true, false, not, ◌||◌, ◌&&◌, ◌==◌, List, [], ◌∷◌, ◌++◌, zero, suc, refl, sym, ap, ◌∙◌, inl, inr, arith}
 use Rattle.std.proofs.lemmas.Bool.{cases_eq}
 use Rattle.std.proofs.lemmas.Bool.Decides.{nat_tests}
 use Rattle.cb_protocol.specs.Deadlock.{OneAsk, ask_count}
 use Rattle.cb_protocol.specs.Server.{Server, WaitingAsk, has_ask}
-use Rattle.cb_protocol.specs.WaitsFor.{AsksInRange, HasAsk, first_waits_for, holds_up, is_behind, waits_for, waits_for_below}
+use Rattle.cb_protocol.specs.WaitsFor.{first_waits_for, holds_up, is_behind, waits_for, waits_for_below}
 use Rattle.cb_waits.specs.Follows.{waited_for}
 
 pub none_left : (x y : Bool) → (x || y) ≡ false → x ≡ false
@@ -58,9 +58,11 @@ waits_nowhere : (server : Server) (client other end : ℕ)
 waits_nowhere server client other zero none = refl
 waits_nowhere server client other (suc page) none =
     let here = none page (omega arith) in
-    rw (waits_nowhere server client other page (λ q l. none q (omega (arith, l))),
-    not_behind (server.queue page) client other here,
-    not_first server page (server.queue page) client other here) refl
+    rw (
+      waits_nowhere server client other page (λ q l. none q (omega (arith, l))),
+      not_behind (server.queue page) client other here,
+      not_first server page (server.queue page) client other here,
+    ) refl
 
 waits_there : (server : Server) (client other page end : ℕ) → page < end
     → ((q : ℕ) → q ≢ page → has_ask client (server.queue q) ≡ false)
@@ -72,9 +74,11 @@ waits_there server client other page (suc last) l none = elim (cases_eq last pag
   | inl e ↦ rw (waits_nowhere server client other last (λ q k. none q (λ f. omega (arith, e, f, k))), e) refl
   | inr ne ↦
       let here = none last ne in
-      rw (waits_there server client other page last (omega (arith, l, ne)) none,
-      not_behind (server.queue last) client other here,
-      not_first server last (server.queue last) client other here) (or_none _)
+      rw (
+        waits_there server client other page last (omega (arith, l, ne)) none,
+        not_behind (server.queue last) client other here,
+        not_first server last (server.queue last) client other here,
+      ) (or_none _)
 ]
 
 -- a client without an ask waits for nobody
@@ -108,9 +112,11 @@ behind_those_ahead : (front back : List WaitingAsk) (ask : WaitingAsk) (other : 
 behind_those_ahead [] back ask other f b =
     rw (b, not_behind back ask.client other b) (or_false _ ∙ and_false (ask.client == other))
 behind_those_ahead (first ∷ front) back ask other f b =
-    rw (there front back ask ask.client refl,
-    behind_those_ahead front back ask other (none_right (first.client == ask.client) (has_ask ask.client front) f) b,
-    and_true (first.client == other)) refl
+    rw (
+      there front back ask ask.client refl,
+      behind_those_ahead front back ask other (none_right (first.client == ask.client) (has_ask ask.client front) f) b,
+      and_true (first.client == other),
+    ) refl
 
 -- an ask's edges at its page, by its place in the queue
 edges_by_place : (server : Server) (page : ℕ) (front back : List WaitingAsk) (ask : WaitingAsk) (other : ℕ)
@@ -121,8 +127,10 @@ edges_by_place : (server : Server) (page : ℕ) (front back : List WaitingAsk) (
 edges_by_place server page [] back ask other f b =
     rw (behind_those_ahead [] back ask other f b, same_client ask.client) refl
 edges_by_place server page (first ∷ front) back ask other f b =
-    rw (behind_those_ahead (first ∷ front) back ask other f b,
-    none_left (first.client == ask.client) (has_ask ask.client front) f) (or_false _)
+    rw (
+      behind_those_ahead (first ∷ front) back ask other f b,
+      none_left (first.client == ask.client) (has_ask ask.client front) f,
+    ) (or_false _)
 
 -- an ask counted is an ask that waits
 counted : (client : ℕ) (queue : List WaitingAsk) → ask_count client queue ≡ 0 → has_ask client queue ≡ false
