@@ -1,9 +1,9 @@
 -- The view's cycles are the server's.
 use Rattle.std.proofs.Common.{◌≡◌, ℕ, Bool, true, false, IsTrue, ◌↔◌, refl, sym, ◌∙◌}
 use Rattle.cb_protocol.specs.Server.{Server}
-use Rattle.cb_protocol.specs.WaitsFor.{AsksInRange, LiesOnCycle, MoreEdges, OneEdge, Path, WaitsFor, on_cycle, waits_for}
+use Rattle.cb_protocol.specs.WaitsFor.{AsksInRange, LiesOnCycle, MoreEdges, OneEdge, Path, on_cycle}
 use Rattle.cb_protocol.proofs.CycleTest.{test_is_exact, waits_is}
-use Rattle.cb_waits.specs.Graph.{Edges, Waits, waits}
+use Rattle.cb_waits.specs.Graph.{Edges, Waits}
 use Rattle.cb_waits.specs.Follows.{Follows}
 
 -- a path of one relation is a path of a wider one

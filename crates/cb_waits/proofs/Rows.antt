@@ -1,10 +1,10 @@
 -- A client waits for others only by its ask, so at that ask's page alone.
-use Rattle.std.proofs.Common.{◌≡◌, ◌≢◌, ℕ, ◌<◌, ◌+◌, ◌≤◌, Bool, true, false, not, ◌||◌, ◌&&◌, ◌==◌, List, [], ◌∷◌, ◌++◌, zero, suc, refl, sym, ap, ◌∙◌, subst, inl, inr, arith}
+use Rattle.std.proofs.Common.{◌≡◌, ◌≢◌, ℕ, ◌<◌, ◌+◌, Bool, true, false, not, ◌||◌, ◌&&◌, ◌==◌, List, [], ◌∷◌, ◌++◌, zero, suc, refl, sym, ap, ◌∙◌, inl, inr, arith}
 use Rattle.std.proofs.lemmas.Bool.{cases_eq}
 use Rattle.std.proofs.lemmas.Bool.Decides.{nat_tests}
 use Rattle.cb_protocol.specs.Deadlock.{OneAsk, ask_count}
 use Rattle.cb_protocol.specs.Server.{Server, WaitingAsk, has_ask}
-use Rattle.cb_protocol.specs.WaitsFor.{AsksInRange, HasAsk, first_waits_for, holds_up, is_behind, waits_for, waits_for_below}
+use Rattle.cb_protocol.specs.WaitsFor.{first_waits_for, holds_up, is_behind, waits_for, waits_for_below}
 use Rattle.cb_waits.specs.Follows.{waited_for}
 
 pub none_left : (x y : Bool) → (x || y) ≡ false → x ≡ false

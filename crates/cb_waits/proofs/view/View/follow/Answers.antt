@@ -1,6 +1,6 @@
-use Rattle.std.proofs.Common.{◌≡◌, ℕ, ◌+◌, ◌<◌, suc, Some, None, take, length, refl, sym, ◌∙◌, ap, subst, arith, rules}
+use Rattle.std.proofs.Common.{◌≡◌, ℕ, ◌+◌, suc, Some, None, take, length, refl, sym, ◌∙◌, ap, subst, arith, rules}
 use Rattle.cb_clients.specs.Clients.{has}
-use Rattle.cb_protocol.specs.Server.{WaitingAsk, has_ask}
+use Rattle.cb_protocol.specs.Server.{has_ask}
 use Rattle.cb_asks.specs.Queues.{client_at}
 use Rattle.cb_waits.specs.Follows.{waited_for}
 use Rattle.cb_waits.proofs.Following.{Followed, ahead_more, follow_all, follow_more, place_has, row_more}
