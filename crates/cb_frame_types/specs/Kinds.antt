@@ -1,5 +1,5 @@
 -- The kinds of frames (this project's rule): their codes, their names, and which way they go.
-use Rattle.std.specs.Prelude.{ℕ, Bool, true, false, nat_lt, List, codes}
+use Rattle.std.specs.Prelude.{◌≡◌, ℕ, Bool, true, false, nat_lt, List, codes}
 use Rattle.cb_frame_types.specs.declared.kind.Kind.{Kind}
 use Rattle.cb_frame_types.specs.declared.kind.Kind.TheVariants as kind
 use Rattle.cb_frame_types.specs.declared.frame.Body.{Body}
@@ -74,3 +74,7 @@ abbrev pub is_short : Kind → Bool
 is_short kind.Commit = false
 is_short kind.Granted = false
 is_short _ = true
+
+-- no two kinds have one code
+abbrev pub CodesDiffer : Type 0
+CodesDiffer = (one other : Kind) → code_of one ≡ code_of other → one ≡ other

@@ -1,6 +1,6 @@
 //! The kinds of frames.
 ghost use Rattle.std.specs.Prelude.{◌≡◌, Some};
-ghost use Rattle.cb_frame_types.specs.Kinds.{code_of, name_of, goes_to_server};
+ghost use Rattle.cb_frame_types.specs.Kinds.{CodesDiffer, code_of, name_of, goes_to_server};
 
 use std::fmt;
 
@@ -104,3 +104,8 @@ impl fmt::Display for Kind {
         write!(f, "{name}")
     }
 }
+
+/// The law of the kinds' codes: each kind has one of its own.
+fn codes_differ()
+    ensures { CodesDiffer }
+{}
