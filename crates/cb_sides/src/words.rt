@@ -1,0 +1,46 @@
+//! The words of a line.
+
+use cb_page::{Limits, PageNo};
+use std::io;
+use std::str::SplitWhitespace;
+
+/// What a line that isn't of a list is answered.
+pub(crate) fn not_a_line() -> io::Error {
+    io::Error::from(io::ErrorKind::InvalidData)
+}
+
+/// The number that the next word spells.
+pub(crate) fn number(words: &mut SplitWhitespace<'_>) -> io::Result<u64> {
+    let word = words.next().ok_or(not_a_line())?;
+    word.parse::<u64>().map_err(|_| not_a_line())
+}
+
+/// The page that the next word names.
+pub(crate) fn page(words: &mut SplitWhitespace<'_>) -> io::Result<PageNo> {
+    let page = u32::try_from(number(words)?).map_err(|_| not_a_line())?;
+    PageNo::checked(page).ok_or(not_a_line())
+}
+
+/// The number behind the next word, which is its name.
+fn named(words: &mut SplitWhitespace<'_>) -> io::Result<u64> {
+    words.next().ok_or(not_a_line())?;
+    number(words)
+}
+
+/// The limits that the first line of a list names, behind its side.
+pub(crate) fn limits(line: &str) -> io::Result<Limits> {
+    let mut words = line.split_whitespace();
+    words.next().ok_or(not_a_line())?;
+    let clients = named(&mut words)?;
+    let pages = named(&mut words)?;
+    let page_size = named(&mut words)?;
+    let slots = named(&mut words)?;
+    let kin = named(&mut words)?;
+    let kout = named(&mut words)?;
+    let limits = Limits::new(clients, pages, page_size, slots, kin, kout)
+        .map_err(|_| not_a_line())?;
+    match named(&mut words)? {
+        0 => Ok(limits),
+        _ => Ok(limits.keeping()),
+    }
+}

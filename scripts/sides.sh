@@ -1,0 +1,28 @@
+#!/usr/bin/env bash
+# Plays lists of frames and calls to one side alone, and compares each answer with the list's own.
+#
+#   scripts/sides.sh FILE..
+#
+# A FILE is a list as docs/FORMATS.md says, packed by gzip where its name ends in .gz. For each it prints how many lines
+# were compared and how many differ; the status is 1 where one does, and 2 where the program isn't proved or built. RT is
+# the command, `rt` if it isn't set.
+set -u
+top=$(cd "$(dirname "$0")/.." && pwd)
+program="$top/crates/cb_sides/out/cb_sides"
+(cd "$top/crates/cb_sides" && "${RT:-rt}" run </dev/null >/dev/null 2>&1)
+[ -x "$program" ] || { echo "cb_sides: not built" >&2; exit 2; }
+list=$(mktemp) answers=$(mktemp)
+trap 'rm -f "$list" "$answers"' EXIT
+bad=0
+for file in "$@"; do
+  case $file in
+    *.gz) gzip -dc "$file" >"$list" ;;
+    *) cat "$file" >"$list" ;;
+  esac || { bad=1; continue; }
+  "$program" <"$list" >"$answers"
+  lines=$(wc -l <"$list")
+  differ=$(diff "$list" "$answers" | grep -c '^[<>]')
+  echo "$file: $lines lines compared, $differ differ"
+  [ "$differ" -eq 0 ] || bad=1
+done
+exit $bad
