@@ -1,8 +1,9 @@
 //! A client alone, as a list plays it: number 0 at incarnation 1, over 2Q of the limits.
 
-use crate::words::{limits, not_a_line, page};
+use crate::frames::{put_frame, put_frames};
+use crate::words::{bytes, limits, not_a_line, page};
 use cb_client::{Client, ClientFault, Outcome, ReadAnswer, WantAnswer};
-use cb_frame::{Frame, encode};
+use cb_frame::{Frame, ShortFrame};
 use cb_page::{ClientNo, Incarnation, Limits, PageNo};
 use cb_twoq::{Chooser, TwoQ};
 use std::alloc::Global;
@@ -15,29 +16,6 @@ use std::str::SplitWhitespace;
 pub(crate) struct ClientSide {
     client: Client<TwoQ>,
     limits: Limits,
-}
-
-/// Prints a frame that was answered.
-fn put_frame<O: Write>(alloc: Global, limits: &Limits, frame: &Frame, out: &mut O) -> io::Result<()> {
-    if !frame.fits(limits) {
-        return writeln!(out, "< a frame that doesn't fit");
-    }
-    let bytes = encode(alloc, frame)?;
-    let digits = hex::encode(alloc, bytes)?;
-    writeln!(out, "< {digits}")
-}
-
-/// Prints the frames that were answered.
-fn put_frames<O: Write>(
-    alloc: Global,
-    limits: &Limits,
-    frames: &[Frame],
-    out: &mut O,
-) -> io::Result<()> {
-    for frame in frames {
-        put_frame(alloc, limits, frame, out)?;
-    }
-    Ok(())
 }
 
 /// Prints that a call of one word was refused.
@@ -108,7 +86,7 @@ impl ClientSide {
         out: &mut O,
     ) -> io::Result<()> {
         let digits = words.next().ok_or(not_a_line())?;
-        let bytes = hex::decode(alloc, digits).map_err(|_| not_a_line())?;
+        let bytes = bytes(alloc, digits)?;
         writeln!(out, "> {digits}")?;
         match self.client.take_bytes(alloc, bytes.as_slice()) {
             Ok((frames, _)) => put_frames(alloc, &self.limits, frames.as_slice(), out),
@@ -200,7 +178,7 @@ impl ClientSide {
     fn read<O: Write>(&mut self, alloc: Global, page: PageNo, out: &mut O) -> io::Result<()> {
         match self.client.read(page) {
             Ok(ReadAnswer::Bytes(bytes)) => put_bytes(alloc, Some(bytes), out),
-            Ok(ReadAnswer::Asked(frame)) => self.asked(alloc, &frame, out),
+            Ok(ReadAnswer::Asked(frame)) => self.asked(alloc, frame, out),
             Err(fault) => writeln!(out, " ! {fault:?}"),
         }
     }
@@ -209,15 +187,15 @@ impl ClientSide {
     fn want<O: Write>(&mut self, alloc: Global, page: PageNo, out: &mut O) -> io::Result<()> {
         match self.client.want(page) {
             Ok(WantAnswer::Permitted) => writeln!(out, " permitted"),
-            Ok(WantAnswer::Asked(frame)) => self.asked(alloc, &frame, out),
+            Ok(WantAnswer::Asked(frame)) => self.asked(alloc, frame, out),
             Err(fault) => writeln!(out, " ! {fault:?}"),
         }
     }
 
     /// An ask is out by this frame.
-    fn asked<O: Write>(&self, alloc: Global, frame: &Frame, out: &mut O) -> io::Result<()> {
+    fn asked<O: Write>(&self, alloc: Global, ask: ShortFrame, out: &mut O) -> io::Result<()> {
         writeln!(out, " asked")?;
-        put_frame(alloc, &self.limits, frame, out)
+        put_frame(alloc, &self.limits, &Frame::from(ask), out)
     }
 
     /// The transaction writes a page.
@@ -233,7 +211,7 @@ impl ClientSide {
             Some(word) if word != "!" => word,
             _ => "",
         };
-        let bytes = hex::decode(alloc, digits).map_err(|_| not_a_line())?;
+        let bytes = bytes(alloc, digits)?;
         match self.client.write(page, bytes.as_slice()) {
             Ok(()) => writeln!(out, " {digits} = ok"),
             Err(fault) => writeln!(out, " {digits} ! {fault:?}"),

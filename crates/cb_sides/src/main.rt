@@ -6,9 +6,11 @@
 #![tactic(auto)]
 
 mod client_side;
+mod frames;
 mod words;
 
 use client_side::ClientSide;
+use std::alloc::Global;
 use std::io;
 use std::io::{BufWriter, Write};
 

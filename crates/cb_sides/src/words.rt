@@ -1,6 +1,7 @@
 //! The words of a line.
 
 use cb_page::{Limits, PageNo};
+use std::alloc::Global;
 use std::io;
 use std::str::SplitWhitespace;
 
@@ -19,6 +20,11 @@ pub(crate) fn number(words: &mut SplitWhitespace<'_>) -> io::Result<u64> {
 pub(crate) fn page(words: &mut SplitWhitespace<'_>) -> io::Result<PageNo> {
     let page = u32::try_from(number(words)?).map_err(|_| not_a_line())?;
     PageNo::checked(page).ok_or(not_a_line())
+}
+
+/// The bytes that a word of hexadecimal digits spells.
+pub(crate) fn bytes(alloc: Global, digits: &str) -> io::Result<Vec<u8>> {
+    hex::decode(alloc, digits).map_err(|_| not_a_line())
 }
 
 /// The number behind the next word, which is its name.

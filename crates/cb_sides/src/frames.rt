@@ -1,0 +1,30 @@
+//! Frames that are answered.
+
+use cb_frame::{Frame, encode};
+use cb_page::Limits;
+use std::alloc::Global;
+use std::io;
+use std::io::Write;
+
+/// Prints a frame that was answered.
+pub(crate) fn put_frame<O: Write>(alloc: Global, limits: &Limits, frame: &Frame, out: &mut O) -> io::Result<()> {
+    if !frame.fits(limits) {
+        return writeln!(out, "< a frame that doesn't fit");
+    }
+    let bytes = encode(alloc, frame)?;
+    let digits = hex::encode(alloc, bytes)?;
+    writeln!(out, "< {digits}")
+}
+
+/// Prints the frames that were answered.
+pub(crate) fn put_frames<O: Write>(
+    alloc: Global,
+    limits: &Limits,
+    frames: &[Frame],
+    out: &mut O,
+) -> io::Result<()> {
+    for frame in frames {
+        put_frame(alloc, limits, frame, out)?;
+    }
+    Ok(())
+}
