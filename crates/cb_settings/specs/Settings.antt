@@ -15,14 +15,14 @@ use Rattle.cb_page.specs.Limits.{limit_causes}
 use Rattle.cb_page.specs.Numbers.{max_number}
 use Rattle.cb_page.specs.declared.limits.LimitFault.{LimitFault}
 use Rattle.cb_page.specs.declared.limits.LimitFault.TheVariants as limit
-use Rattle.cb_console.specs.Escaped.{escaped}
-use Rattle.cb_console.specs.declared.config.Config.{Config}
-use Rattle.cb_console.specs.declared.config.ConfigFault.{ConfigFault}
-use Rattle.cb_console.specs.declared.config.ConfigFault.TheVariants as fault
-use Rattle.cb_console.specs.declared.config.Key.{Key}
-use Rattle.cb_console.specs.declared.config.Key.TheVariants as key
-use Rattle.cb_console.specs.declared.config.RequiredNumbers.{RequiredNumbers}
-use Rattle.cb_console.specs.declared.config.DefaultedNumbers.{DefaultedNumbers}
+use Rattle.cb_settings.specs.Escaped.{escaped}
+use Rattle.cb_settings.specs.declared.config.Config.{Config}
+use Rattle.cb_settings.specs.declared.config.ConfigFault.{ConfigFault}
+use Rattle.cb_settings.specs.declared.config.ConfigFault.TheVariants as fault
+use Rattle.cb_settings.specs.declared.config.Key.{Key}
+use Rattle.cb_settings.specs.declared.config.Key.TheVariants as key
+use Rattle.cb_settings.specs.declared.config.RequiredNumbers.{RequiredNumbers}
+use Rattle.cb_settings.specs.declared.config.DefaultedNumbers.{DefaultedNumbers}
 
 -- As the article on 2Q suggests (VLDB 1994): a quarter of the slots for A1in, and at least one
 -- page.

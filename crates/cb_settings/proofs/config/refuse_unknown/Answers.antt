@@ -1,7 +1,7 @@
 use Rattle.std.proofs.Common.{List, String, Global, ap, map, string_bytes, sym, ◌∙◌}
 use Rattle.cb_page.specs.Faults.{first_fault}
-use Rattle.cb_console.proofs.ConfigLemmas.{name_causes, unknown-names}
-use Rattle.cb_console.proofs.config.refuse_unknown.Goals as goal
+use Rattle.cb_settings.proofs.ConfigLemmas.{name_causes, unknown-names}
+use Rattle.cb_settings.proofs.config.refuse_unknown.Goals as goal
 
 pub loop-name-init : goal.loop-name-init
 loop-name-init c =

@@ -1,6 +1,6 @@
 //! How a line shows a text of others.
 ghost use Rattle.std.specs.Prelude.{Some};
-ghost use Rattle.cb_console.specs.Escaped.{escaped, escaped_character};
+ghost use Rattle.cb_settings.specs.Escaped.{escaped, escaped_character};
 
 use std::fmt;
 
@@ -29,7 +29,7 @@ struct EscapedCharacter(char);
 impl fmt::Display for EscapedCharacter {
     ghost output = { λ character. Some (escaped_character character.0) };
 
-    #[tactic(auto, using(std::proofs::lemmas::Fmt::hex_byte), unfolding(crate::specs::Escaped::escaped_character, crate::specs::Output::two_digits))]
+    #[tactic(auto, using(std::proofs::lemmas::Fmt::hex_byte), unfolding(crate::specs::Escaped::escaped_character, crate::specs::Escaped::two_digits))]
     fn fmt<W: fmt::Write>(&self, f: &mut fmt::Formatter<W>) -> fmt::Result {
         let character = self.0;
         if character.is_control() {

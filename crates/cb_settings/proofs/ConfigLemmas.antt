@@ -6,10 +6,10 @@ use Rattle.toml.specs.View.{members_view}
 use Rattle.toml.specs.declared.value.Value.{Value}
 use Rattle.cb_page.specs.Faults.{first_fault}
 use Rattle.cb_page.specs.declared.limits.LimitFault.{LimitFault}
-use Rattle.cb_console.specs.Settings.{IsFirst, is_known, limit_cause, limit_text, unknown_causes}
+use Rattle.cb_settings.specs.Settings.{IsFirst, is_known, limit_cause, limit_text, unknown_causes}
 use Rattle.toml.specs.Data.{Members}
-use Rattle.cb_console.specs.declared.config.Key.TheVariants as key
-use Rattle.cb_console.specs.declared.config.ConfigFault.{ConfigFault}
+use Rattle.cb_settings.specs.declared.config.Key.TheVariants as key
+use Rattle.cb_settings.specs.declared.config.ConfigFault.{ConfigFault}
 
 -- behind what isn't wrong the next decides
 pub clear_append : (xs ys : List (Bool × List ℕ)) → first_fault xs ≡ None → first_fault (xs ++ ys) ≡ first_fault ys

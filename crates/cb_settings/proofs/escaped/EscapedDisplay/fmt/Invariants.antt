@@ -1,7 +1,7 @@
 use Rattle.std.specs.Fmt.{HasWritten, IsPlainFormatter}
 use Rattle.std.specs.List.{flat_map}
-use Rattle.cb_console.specs.Escaped.{escaped_character}
-use Rattle.cb_console.proofs.escaped.EscapedDisplay.fmt.Given as goal
+use Rattle.cb_settings.specs.Escaped.{escaped_character}
+use Rattle.cb_settings.proofs.escaped.EscapedDisplay.fmt.Given as goal
 
 abbrev pub invariant-loop-character : goal.invariant-loop-character
 invariant-loop-character g l =

@@ -2,8 +2,8 @@ use Rattle.std.proofs.Common.{ℕ, List, ap, ◌∙◌}
 use Rattle.toml.proofs.Views.{table_get}
 use Rattle.toml.specs.Data.{get_member}
 use Rattle.toml.specs.View.{table_view}
-use Rattle.cb_console.specs.Settings.{value_at}
-use Rattle.cb_console.proofs.config.value_at.Goals as goal
+use Rattle.cb_settings.specs.Settings.{value_at}
+use Rattle.cb_settings.proofs.config.value_at.Goals as goal
 
 pub returns : goal.returns
 unfolding value_at

@@ -2,8 +2,8 @@ use Rattle.std.proofs.Common.{rules, ◌≡◌, ◌∙◌, sym, map-id}
 use Rattle.std.proofs.lemmas.Iterator.{YieldsList-from_chars}
 use Rattle.std.proofs.lemmas.Iterator.Consumers.{YieldsList-end}
 use Rattle.std.specs.Str.{IsUtf8, chars}
-use Rattle.cb_console.specs.Escaped.{escaped}
-use Rattle.cb_console.proofs.escaped.EscapedDisplay.fmt.Goals as goal
+use Rattle.cb_settings.specs.Escaped.{escaped}
+use Rattle.cb_settings.proofs.escaped.EscapedDisplay.fmt.Goals as goal
 
 pub returns-clause-writes : goal.returns-clause-writes
 unfolding escaped
