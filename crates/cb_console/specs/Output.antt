@@ -1,8 +1,9 @@
 -- What is printed for the events and behind them. This project's rules.
-use Rattle.std.specs.Prelude.{ℕ, ◌+◌, ◌/◌, ◌%◌, ◌==◌, Bool, true, false, List, [], ◌∷◌, ◌++◌, codes}
+use Rattle.std.specs.Prelude.{ℕ, ◌+◌, ◌==◌, Bool, true, false, List, [], ◌∷◌, ◌++◌, codes}
 use Rattle.std.specs.Prelude.{Option, Some, None, if◌then◌else◌}
 use Rattle.std.specs.List.{list_all, flat_map}
-use Rattle.std.specs.Fmt.{decimal, digit_glyph}
+use Rattle.std.specs.Fmt.{decimal}
+use Rattle.cb_settings.specs.Escaped.{two_digits}
 use Rattle.cb_frame.specs.Kinds.{name_of}
 use Rattle.cb_first_client.specs.FaultTexts.{refusal_text}
 use Rattle.cb_transcript.specs.declared.answer.AnswerWord.{AnswerWord}
@@ -10,10 +11,6 @@ use Rattle.cb_transcript.specs.declared.answer.AnswerWord.TheVariants as word
 use Rattle.cb_transcript.specs.declared.answer.SentPacket.{SentPacket}
 use Rattle.cb_transcript.specs.declared.answer.Answer.{Answer}
 use Rattle.cb_transcript.specs.declared.answer.TranscriptEntry.{TranscriptEntry}
-
--- a byte as two small hexadecimal digits
-unfoldable pub two_digits : ℕ → List ℕ
-two_digits byte = digit_glyph false (byte / 16) ∷ digit_glyph false (byte % 16) ∷ []
 
 -- the byte that all the bytes are, if they are all one
 unfoldable pub only_byte : List ℕ → Option ℕ

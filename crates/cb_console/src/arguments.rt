@@ -1,7 +1,7 @@
 //! The command line.
 
 use clap::error::ErrorKind;
-use clap::{Arg, ArgAction, Command, Error};
+use clap::{Arg, ArgAction, ArgMatches, Command, Error};
 use std::alloc::{AllocError, Global};
 use std::convert::AsStr;
 
@@ -92,17 +92,28 @@ fn command<'a>(alloc: Global) -> Result<Command<'a>, AllocError> {
         .subcommand(play_command(alloc)?)
 }
 
+/// What a command line that was read asks for, if it asks for anything.
+fn asked<'a>(matches: &ArgMatches<'a>) -> Option<Request<'a>> {
+    match matches.subcommand() {
+        Some(("play", matches)) => Some(Request::Play {
+            config: matches.get_str("CONFIG")?,
+            schedule: matches.get_str("SCHEDULE")?,
+        }),
+        _ => None,
+    }
+}
+
+/// What to print where there is nothing to do.
+fn nothing_to_do(alloc: Global) -> Result<Error, AllocError> {
+    command(alloc)?.error(ErrorKind::MissingSubcommand, "there is nothing to do")
+}
+
 /// What these words ask for; the first is the program's name. Else what to print, as clap has it:
 /// help or the version, where it was asked for, or what is wrong with the words.
 pub fn request_of<'a, S: AsStr>(alloc: Global, words: &'a [S]) -> Result<Request<'a>, Error> {
     let matches = command(alloc)?.try_get_matches_from(words)?;
-    if let Some(("play", matches)) = matches.subcommand()
-        && let (Some(config), Some(schedule)) = (
-            matches.get_str("CONFIG"),
-            matches.get_str("SCHEDULE"),
-        )
-    {
-        return Ok(Request::Play { config, schedule });
+    match asked(&matches) {
+        Some(request) => Ok(request),
+        None => Err(nothing_to_do(alloc)?),
     }
-    Err(command(alloc)?.error(ErrorKind::MissingSubcommand, "there is nothing to do")?)
 }

@@ -1,23 +1,21 @@
-//! The program's console: the words of its command line, the settings of a run, what a run prints,
-//! and how it ends.
+//! The program's console: the words of its command line, what a run prints, and how it ends.
 //!
 //! [`run`] does what the words ask for. [`play_to`] plays a schedule's text under a configuration's
 //! text and prints what became of each event, in two steps: [`read_and_play`], then
-//! [`print_outcome`]. [`read_config`] reads the settings.
+//! [`print_outcome`]. The settings are those of `cb_settings`.
 #![tactic(auto)]
 
+/// The settings, where the console's callers look for them.
+pub use cb_settings::{Config, ConfigFault, Escaped, Key, read_config};
+
 mod arguments;
-mod config;
 mod endings;
-mod escaped;
 mod output;
 mod play;
 mod program;
 
 pub use arguments::{Request, request_of};
-pub use config::{Config, ConfigFault, Key, read_config};
 pub use endings::end_by;
-pub use escaped::Escaped;
 pub use output::{put_entries, put_verdict};
 pub use play::{Play, ReadFault, play_to, print_outcome, read_and_play};
 pub use program::{command_line, run};

@@ -9,11 +9,11 @@ ghost use Rattle.cb_console.specs.Runs.{IsRefusal, IsRun, PrintsAll, PrintsFault
 ghost use Rattle.cb_console.specs.Runs.{read_fault_line};
 ghost use Rattle.cb_console.specs.declared.play.ReadFault.TheVariants as fault;
 
-use crate::config::{ConfigFault, read_config};
 use crate::endings::{DONE, NO_MEMORY, NOT_SERIAL, WRONG_INPUT};
 use crate::output::{put_entries, put_verdict};
 use cb_commit::Store;
 use cb_page::Limits;
+use cb_settings::{ConfigFault, read_config};
 use cb_schedule::{Event, ScheduleFault, Transcript, Verdict, World, check_serial, read_schedule};
 use std::alloc::{AllocError, Global};
 use std::error::Error;

@@ -2,12 +2,12 @@
 ghost use Rattle.std.specs.Prelude.{◌≡◌, ◌∷◌, ◌++◌, [], codes, IfOk, MatchOption};
 ghost use Rattle.std.specs.Io.KnownBytes.{Appends};
 ghost use Rattle.cb_console.specs.Endings.{IsAnswered, IsStatus};
-ghost use Rattle.cb_console.specs.Escaped.{escaped};
+ghost use Rattle.cb_settings.specs.Escaped.{escaped};
 
 use crate::arguments::{Request, request_of};
 use crate::endings::{DONE, WRONG_INPUT, end_by};
-use crate::escaped::Escaped;
 use crate::play::play_to;
+use cb_settings::Escaped;
 use clap::error::ErrorKind;
 use std::io::Write;
 use std::{env, fs, io};

@@ -191,12 +191,17 @@ fn texts_of_pool_faults(rt: HostRuntime) -> Result<(), Fail> {
     Ok(())
 }
 
+/// Whether a new pool has room.
+fn has_room<Q: Chooser>(alloc: Global, limits: &Limits) -> Result<bool, AllocError> {
+    let pool = pool_of::<Q>(alloc, limits)?;
+    Ok(pool.room())
+}
+
 /// A pool is refused only where memory is; the tests below also run where it is.
 #[test]
 fn pool_is_made(rt: HostRuntime) -> Result<(), Fail> {
     let limits = Limits::new(1, 8, 16, 4, 1, 4)?;
-    let pool = pool_of::<TwoQ>(rt.alloc(), &limits)?;
-    assert!(rt; pool.room());
+    assert!(rt; has_room::<TwoQ>(rt.alloc(), &limits)?);
     Ok(())
 }
 
@@ -300,18 +305,40 @@ fn play_drawn<Q: Chooser>(
     Ok(())
 }
 
+/// A pool of eight pages over a chooser that keeps the list of its calls, and has one on it.
+fn recorded<Q: Chooser>(alloc: Global, limits: &Limits) -> Result<Pool<Recorder<Q>>, AllocError>
+    ensures { IfOk result (λ pool.
+        pool ≡ empty_pool limits.now.slots limits.now.pages limits.now.page_size) }
+{
+    let mut recorder = Recorder::<Q>::make(alloc, limits)?;
+    recorder.note(Called::Forget(PageNo::new(5)));
+    Pool::new(alloc, recorder, limits)
+}
+
+/// Whether drawn calls of such a pool call its chooser for those that have to, and for no other.
+fn are_recorded<Q: Chooser>(alloc: Global, pool: &mut Pool<Recorder<Q>>) -> Result<bool, AllocError>
+    requires pages { 8 ≤ length pool.old.fixed }
+    requires size { pool.old.page_size ≡ 16 }
+{
+    let mut wanted = Vec::new(alloc);
+    wanted.push(Called::Forget(PageNo::new(5)))?;
+    play_drawn(alloc, pool, &mut wanted)?;
+    Ok(pool.chooser().calls() == wanted.as_slice())
+}
+
+/// The same from a new pool on.
+fn calls_are_recorded<Q: Chooser>(alloc: Global) -> Result<bool, AllocError> {
+    match Limits::new(1, 8, 16, 4, 1, 4) {
+        Ok(limits) => are_recorded(alloc, &mut recorded::<Q>(alloc, &limits)?),
+        Err(_) => Ok(false),
+    }
+}
+
 /// Three thousand drawn calls: the chooser that was handed in is called for those that have to, and
 /// for no other.
 #[test]
 fn calls_of_the_chooser(rt: HostRuntime) -> Result<(), Fail> {
-    let limits = Limits::new(1, 8, 16, 4, 1, 4)?;
-    let mut recorder = Recorder::<TwoQ>::make(rt.alloc(), &limits)?;
-    recorder.note(Called::Forget(PageNo::new(5)));
-    let mut pool = Pool::new(rt.alloc(), recorder, &limits)?;
-    let mut wanted = Vec::new(rt.alloc());
-    wanted.push(Called::Forget(PageNo::new(5)))?;
-    play_drawn(rt.alloc(), &mut pool, &mut wanted)?;
-    assert!(rt; pool.chooser().calls() == wanted.as_slice());
+    assert!(rt; calls_are_recorded::<TwoQ>(rt.alloc())?);
     Ok(())
 }
 
@@ -345,12 +372,20 @@ fn takes_all<Q: Chooser>(alloc: Global, pool: &mut Pool<Q>) -> Result<bool, Allo
     Ok(true)
 }
 
+/// Whether a pool of the greatest limits takes in each page twice.
+fn takes_all_twice<Q: Chooser>(alloc: Global) -> Result<bool, AllocError> {
+    match Limits::new(32, 4096, 4096, 1024, 1023, 4096) {
+        Ok(limits) => {
+            let mut pool = pool_of::<Q>(alloc, &limits)?;
+            Ok(takes_all(alloc, &mut pool)? && takes_all(alloc, &mut pool)?)
+        }
+        Err(_) => Ok(false),
+    }
+}
+
 /// At the greatest limits no call wants memory.
 #[test]
 fn greatest_pool(rt: HostRuntime) -> Result<(), Fail> {
-    let limits = Limits::new(32, 4096, 4096, 1024, 1023, 4096)?;
-    let mut pool = pool_of::<TwoQ>(rt.alloc(), &limits)?;
-    assert!(rt; takes_all(rt.alloc(), &mut pool)?);
-    assert!(rt; takes_all(rt.alloc(), &mut pool)?);
+    assert!(rt; takes_all_twice::<TwoQ>(rt.alloc())?);
     Ok(())
 }

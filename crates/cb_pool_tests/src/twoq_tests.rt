@@ -192,32 +192,31 @@ fn texts_of_choose_faults(rt: HostRuntime) -> Result<(), Fail> {
     Ok(())
 }
 
-/// Whether both forms have the same lists.
-fn alike(alloc: Global, indexed: &TwoQ, plain: &PlainTwoQ) -> Result<bool, AllocError> {
-    let (left, right) = (indexed.lists(alloc)?, plain.lists(alloc)?);
-    Ok(
-        left.a1in.as_slice() == right.a1in.as_slice()
-            && left.am.as_slice() == right.am.as_slice()
-            && left.a1out.as_slice() == right.a1out.as_slice(),
-    )
+/// Whether two choosers' lists are the same.
+fn are_alike(left: &Lists, right: &Lists) -> bool {
+    left.a1in.as_slice() == right.a1in.as_slice()
+        && left.am.as_slice() == right.am.as_slice()
+        && left.a1out.as_slice() == right.a1out.as_slice()
 }
 
-/// Whether both forms answer a reference alike and have the same lists then, with no want of
-/// memory.
-fn answer_alike(
-    alloc: Global,
-    indexed: &mut TwoQ,
-    plain: &mut PlainTwoQ,
+/// Whether both forms have the same lists.
+fn alike<L: TwoForms, R: TwoForms>(alloc: Global, left: &L, right: &R) -> Result<bool, AllocError> {
+    Ok(are_alike(&left.copied(alloc)?, &right.copied(alloc)?))
+}
+
+/// Whether both forms answer a reference alike, with no want of memory.
+fn answer_alike<L: TwoForms, R: TwoForms>(
+    left: &mut L,
+    right: &mut R,
     page: PageNo,
     fixed: &PageSet,
-) -> Result<bool, AllocError> {
-    let (left, right) = (indexed.reference(page, fixed), plain.reference(page, fixed));
-    Ok(left == right && left != Err(ChooseFault::Memory) && alike(alloc, indexed, plain)?)
+) -> bool {
+    let answer = left.reference(page, fixed);
+    answer == right.reference(page, fixed) && answer != Err(ChooseFault::Memory)
 }
 
-/// Fixes or lets loose a drawn page, one in four of all being fixed, and forgets one now and then.
-fn draw_others(draw: &mut Draw, fixed: &mut PageSet, indexed: &mut TwoQ, plain: &mut PlainTwoQ) {
-    let page = PageNo::new(draw.below(64) % 64);
+/// Fixes or lets loose a drawn page, one in four of all being fixed.
+fn draw_fixed(draw: &mut Draw, fixed: &mut PageSet, page: PageNo) {
     if page.index() < fixed.pages() {
         if draw.below(4) == 0 {
             fixed.insert(page);
@@ -225,29 +224,50 @@ fn draw_others(draw: &mut Draw, fixed: &mut PageSet, indexed: &mut TwoQ, plain: 
             fixed.remove(page);
         }
     }
+}
+
+/// Whether both forms go on alike at a drawn reference with drawn fixed pages; a page is forgotten
+/// now and then.
+fn go_on_alike<L: TwoForms, R: TwoForms>(
+    draw: &mut Draw,
+    fixed: &mut PageSet,
+    left: &mut L,
+    right: &mut R,
+) -> bool {
+    let page = PageNo::new(draw.below(64) % 64);
+    draw_fixed(draw, fixed, page);
     if draw.below(50) == 0 {
-        indexed.forget(page);
-        plain.forget(page);
+        left.forget(page);
+        right.forget(page);
     }
+    answer_alike(left, right, PageNo::new(draw.below(48) % 64), fixed)
+}
+
+/// Whether both forms are alike after each of ten thousand drawn references.
+fn both_alike<L: TwoForms, R: TwoForms>(
+    alloc: Global,
+    limits: &Limits,
+) -> Result<bool, AllocError> {
+    let mut draw = Draw::new(20);
+    let mut fixed = PageSet::new(alloc, 64)?;
+    let mut left = L::make(alloc, limits)?;
+    let mut right = R::make(alloc, limits)?;
+    for _ in 0..10000 {
+        if !go_on_alike(&mut draw, &mut fixed, &mut left, &mut right)
+            || !alike(alloc, &left, &right)?
+        {
+            return Ok(false);
+        }
+    }
+    Ok(true)
 }
 
 /// Ten thousand drawn references with drawn fixed pages: after each, both forms have the same
 /// lists.
 #[test]
 fn both_forms_alike(rt: HostRuntime) -> Result<(), Fail> {
-    let mut draw = Draw::new(20);
-    let mut fixed = PageSet::new(rt.alloc(), 64)?;
-    let mut indexed = TwoQ::new(rt.alloc(), 16, 4, 8)?;
-    let mut plain = PlainTwoQ::new(rt.alloc(), 16, 4, 8)?;
-    let mut are_alike = true;
-    for _ in 0..10000 {
-        draw_others(&mut draw, &mut fixed, &mut indexed, &mut plain);
-        let page = PageNo::new(draw.below(48) % 64);
-        if !answer_alike(rt.alloc(), &mut indexed, &mut plain, page, &fixed)? {
-            are_alike = false;
-        }
-    }
-    assert!(rt; are_alike);
+    let limits = Limits::new(1, 64, 16, 16, 4, 8)?;
+    assert!(rt; both_alike::<TwoQ, PlainTwoQ>(rt.alloc(), &limits)?);
     Ok(())
 }
 
@@ -317,47 +337,63 @@ fn greatest_limits(rt: HostRuntime) -> Result<(), Fail> {
     Ok(())
 }
 
+/// Whether nothing changed between two copies of the lists, as far as there are both.
+fn is_kept(before: &Result<Lists, AllocError>, after: &Result<Lists, AllocError>) -> bool {
+    match (before, after) {
+        (Ok(left), Ok(right)) => are_alike(left, right),
+        _ => true,
+    }
+}
+
 /// Refers to a page, and once more where memory was wanted: whether the answer is right, and
 /// nothing changed before.
-fn goes_on(alloc: Global, chooser: &mut TwoQ, page: u32, fixed: &PageSet, goes: bool) -> bool {
-    let before = chooser.lists(alloc);
-    let page = PageNo::new(page % 16);
+fn goes_on<Q: TwoForms>(
+    alloc: Global,
+    chooser: &mut Q,
+    page: PageNo,
+    fixed: &PageSet,
+    goes: bool,
+) -> bool {
+    let before = chooser.copied(alloc);
     let mut answer = chooser.reference(page, fixed);
     if answer == Err(ChooseFault::Memory) {
-        let after = chooser.lists(alloc);
-        if let (Ok(left), Ok(right)) = (&before, &after) {
-            if left.a1in.as_slice() != right.a1in.as_slice()
-                || left.am.as_slice() != right.am.as_slice()
-                || left.a1out.as_slice() != right.a1out.as_slice()
-            {
-                return false;
-            }
+        if !is_kept(&before, &chooser.copied(alloc)) {
+            return false;
         }
         answer = chooser.reference(page, fixed);
     }
     matches!(answer, Ok(gone) if gone.is_some() == goes)
 }
 
+/// References, and whether each lets a page go.
+static GO_ON: [(u32, bool); 8] = [
+    (1, false),
+    (2, false),
+    (3, true),
+    (1, true),
+    (4, true),
+    (3, false),
+    (1, true),
+    (3, true),
+];
+
+/// Whether a chooser of two slots goes on so, as far as there is memory for it.
+fn all_go_on<Q: TwoForms>(alloc: Global, limits: &Limits) -> Result<bool, AllocError> {
+    let fixed = PageSet::new(alloc, 16)?;
+    let mut chooser = Q::make(alloc, limits)?;
+    for &(page, goes) in &GO_ON {
+        if !goes_on(alloc, &mut chooser, PageNo::new(page % 16), &fixed, goes) {
+            return Ok(false);
+        }
+    }
+    Ok(true)
+}
+
 /// With the Nth growth refused: what was refused is as before, and goes on as if nothing had been
 /// refused.
 #[test]
-fn refused_growths_change_nothing(rt: HostRuntime) {
-    let Ok(fixed) = PageSet::new(rt.alloc(), 16) else {
-        return;
-    };
-    let Ok(mut chooser) = TwoQ::new(rt.alloc(), 2, 1, 1) else {
-        return;
-    };
-    for (page, goes) in [
-        (1, false),
-        (2, false),
-        (3, true),
-        (1, true),
-        (4, true),
-        (3, false),
-        (1, true),
-        (3, true),
-    ] {
-        assert!(rt; goes_on(rt.alloc(), &mut chooser, page, &fixed, goes));
-    }
+fn refused_growths_change_nothing(rt: HostRuntime) -> Result<(), Fail> {
+    let limits = Limits::new(1, 16, 16, 2, 1, 1)?;
+    assert!(rt; all_go_on::<TwoQ>(rt.alloc(), &limits).unwrap_or(true));
+    Ok(())
 }

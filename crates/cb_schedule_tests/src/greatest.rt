@@ -101,20 +101,33 @@ fn are_zeros(bytes: &[u8], count: usize) -> bool {
     bytes.len() == count && bytes.iter().all(|byte| *byte == 0)
 }
 
+/// Whether a world tells of 5,000 events, in which pages were read, and keeps its packets.
+fn tells_all(alloc: Global, world: &World) -> bool {
+    let told = world.transcript();
+    told.entries().len() == 5000
+        && are_read(told, 4096)
+        && world.packet(2499).is_some_and(|bytes| bytes.len() > 4096)
+        && check_serial(alloc, told) == Ok(Verdict::Serial)
+}
+
+fn steps_tell_all(alloc: Global) -> Option<bool> {
+    let world = stepped(alloc, 1218)?;
+    Some(tells_all(alloc, &world))
+}
+
 #[test]
 fn five_thousand_events_one_by_one(rt: HostRuntime) {
-    let world = stepped(rt.alloc(), 1218).expect(&rt, "memory");
-    assert!(rt; world.transcript().entries().len() == 5000);
-    assert!(rt; are_read(world.transcript(), 4096));
-    assert!(rt; world.packet(2499).is_some_and(|bytes| bytes.len() > 4096));
-    assert!(rt; check_serial(rt.alloc(), world.transcript()) == Ok(Verdict::Serial));
+    assert!(rt; steps_tell_all(rt.alloc()) == Some(true));
+}
+
+fn play_tells_all(alloc: Global) -> Option<bool> {
+    let told = played(alloc, 1218)?;
+    Some(told.entries().len() == 5000 && are_read(&told, 4096))
 }
 
 #[test]
 fn five_thousand_events_at_once(rt: HostRuntime) {
-    let transcript = played(rt.alloc(), 1218).expect(&rt, "memory");
-    assert!(rt; transcript.entries().len() == 5000);
-    assert!(rt; are_read(&transcript, 4096));
+    assert!(rt; play_tells_all(rt.alloc()) == Some(true));
 }
 
 /// A world of pages of the greatest size that has played 256 reads.
@@ -129,42 +142,64 @@ fn greatest_pages(alloc: Global) -> Option<Transcript> {
     world.play(events.as_slice()).ok()
 }
 
-#[test]
-fn pages_of_the_greatest_size(rt: HostRuntime) {
-    let transcript = greatest_pages(rt.alloc()).expect(&rt, "memory");
-    assert!(rt; transcript.entries().len() == 128 + 4 * 256);
-    assert!(rt; are_read(&transcript, 65536));
+fn greatest_pages_are_read(alloc: Global) -> Option<bool> {
+    let told = greatest_pages(alloc)?;
+    Some(told.entries().len() == 128 + 4 * 256 && are_read(&told, 65536))
 }
 
-/// Whether a write of a page of the greatest size, an answer that shows one and a packet are
-/// copied.
-fn are_copied(alloc: Global) -> Option<()> {
-    let bytes = vec![in alloc; 7; 65536].ok()?;
-    let write = Call::Write {
+#[test]
+fn pages_of_the_greatest_size(rt: HostRuntime) {
+    assert!(rt; greatest_pages_are_read(rt.alloc()) == Some(true));
+}
+
+/// A page of the greatest size.
+fn greatest_page(alloc: Global) -> Option<Page> {
+    Some(Page::from_vec(vec![in alloc; 7; 65536].ok()?))
+}
+
+/// A write of such a page.
+fn greatest_write(alloc: Global) -> Option<Call> {
+    Some(Call::Write {
         page: PageNo::new(4095),
-        bytes: Page::copy_of(alloc, bytes.as_slice()).ok()?,
-    };
+        bytes: greatest_page(alloc)?,
+    })
+}
+
+/// Whether a write of such a page is copied, as a call and as an event.
+fn is_write_copied(alloc: Global) -> Option<bool> {
+    let write = greatest_write(alloc)?;
     let event = Event::Call {
         client: ClientNo::new(31),
         call: write.copy(alloc).ok()?,
     };
-    event.copy(alloc).ok()?;
+    Some(event.copy(alloc).is_ok())
+}
+
+/// A packet, alone.
+fn one_sent(alloc: Global) -> Option<SentPackets> {
     let sent = SentPacket {
         number: 4999,
         kind: Kind::Granted,
         client: ClientNo::new(31),
     };
+    SentPackets::one(alloc, sent).ok()
+}
+
+/// Whether an answer that shows such a page and sends a packet is copied, and its parts are.
+fn is_answer_copied(alloc: Global) -> Option<bool> {
     let answer = Answer {
-        word: AnswerWord::Bytes(Page::copy_of(alloc, bytes.as_slice()).ok()?),
-        sent: SentPackets::one(alloc, sent).ok()?,
+        word: AnswerWord::Bytes(greatest_page(alloc)?),
+        sent: one_sent(alloc)?,
     };
-    answer.word.copy(alloc).ok()?;
-    answer.sent.copy(alloc).ok()?;
-    answer.copy(alloc).ok()?;
-    Some(())
+    Some(
+        answer.word.copy(alloc).is_ok()
+            && answer.sent.copy(alloc).is_ok()
+            && answer.copy(alloc).is_ok(),
+    )
 }
 
 #[test]
 fn greatest_copies(rt: HostRuntime) {
-    assert!(rt; are_copied(rt.alloc()).is_some());
+    assert!(rt; is_write_copied(rt.alloc()) == Some(true));
+    assert!(rt; is_answer_copied(rt.alloc()) == Some(true));
 }
