@@ -91,16 +91,21 @@ fn is_answered(rt: &HostRuntime, line: &str, end: &[u8]) -> Result<bool, Fail> {
 const STATUSES: &str = "\n\nStatuses:\n  0  done\n  1  the serial check said no\n  \
     2  wrong words, configuration or schedule\n  4  no memory\n  5  cannot write\n";
 
+/// Whether the version is the program's name and its number.
+fn is_version(rt: &HostRuntime) -> Result<bool, Fail> {
+    let printed = run_line(rt, "cb_play --version")?;
+    let text = b"cb_play 0.1.0\n".as_slice();
+    Ok(printed.status == 0 && printed.err.is_empty() && printed.out.as_slice() == text)
+}
+
 /// Help and the version, where asked for, go to the standard output with status 0; the help has the
 /// statuses.
 #[test]
 fn help_and_version(rt: HostRuntime) -> Result<(), Fail> {
     let help = is_answered(&rt, "cb_play --help", STATUSES.as_bytes())?;
     let play_help = is_answered(&rt, "cb_play play --help", STATUSES.as_bytes())?;
-    assert!(rt; help && play_help);
-    let version = run_line(&rt, "cb_play --version")?;
-    assert!(rt; version.status == 0 && version.err.is_empty());
-    assert!(rt; version.out.as_slice() == b"cb_play 0.1.0\n".as_slice());
+    let version = is_version(&rt)?;
+    assert!(rt; help && play_help && version);
     Ok(())
 }
 
@@ -112,16 +117,17 @@ fn no_words(rt: HostRuntime) -> Result<(), Fail> {
     Ok(())
 }
 
-/// A word that isn't text is wrong; words that there is no memory for are want of memory.
-#[test]
-fn words_that_are_not_had(rt: HostRuntime) -> Result<(), Fail> {
+/// Whether words that weren't had, for this reason, end the program with this status and line.
+fn ends_so(rt: &HostRuntime, reason: io::ErrorKind, status: u8, line: &[u8]) -> bool {
     let mut out = Vec::new(rt.alloc());
     let mut err = Vec::new(rt.alloc());
-    let not_text = Err(io::Error::from(io::ErrorKind::InvalidData));
-    let wrong = run(&rt, not_text, &mut out, &mut err);
-    let no_memory = Err(io::Error::from(io::ErrorKind::OutOfMemory));
-    let memory = run(&rt, no_memory, &mut out, &mut err);
-    assert!(rt; wrong == 2 && memory == 4 && out.is_empty());
-    assert!(rt; err.as_slice() == b"words: text\nmemory\n".as_slice());
-    Ok(())
+    let ended = run(rt, Err(io::Error::from(reason)), &mut out, &mut err);
+    ended == status && out.is_empty() && err.as_slice() == line
+}
+
+/// A word that isn't text is wrong; words that there is no memory for are want of memory.
+#[test]
+fn words_that_are_not_had(rt: HostRuntime) {
+    assert!(rt; ends_so(&rt, io::ErrorKind::InvalidData, 2, b"words: text\n"));
+    assert!(rt; ends_so(&rt, io::ErrorKind::OutOfMemory, 4, b"memory\n"));
 }

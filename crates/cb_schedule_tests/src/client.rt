@@ -19,7 +19,7 @@ enum Step {
 
 /// What is answered: the transaction begun or asked for, the first of the bytes, whether a grant is
 /// given back.
-#[derive(Clone, Copy, Debug, PartialEq, Eq)]
+#[derive(Clone, Copy, PartialEq, Eq)]
 enum Seen {
     Nothing,
     Began(u64),
@@ -99,6 +99,16 @@ fn answered(alloc: Global, client: &mut Client, step: Step) -> Seen {
     }
 }
 
+/// Whether a client answers these steps so.
+fn answers(alloc: Global, client: &mut Client, rows: &[(Step, Seen)]) -> bool {
+    for (step, want) in rows {
+        if answered(alloc, client, *step) != *want {
+            return false;
+        }
+    }
+    true
+}
+
 /// Whether a new client of eight pages of sixteen bytes and a pool of this size answers these steps
 /// so.
 fn plays(alloc: Global, slots: u64, kin: u64, kout: u64, rows: &[(Step, Seen)]) -> bool {
@@ -109,12 +119,7 @@ fn plays(alloc: Global, slots: u64, kin: u64, kout: u64, rows: &[(Step, Seen)]) 
         return false;
     };
     client.hello();
-    for (step, want) in rows {
-        if answered(alloc, &mut client, *step) != *want {
-            return false;
-        }
-    }
-    true
+    answers(alloc, &mut client, rows)
 }
 
 static REFUSED_CALLS: [(Step, Seen); 12] = [

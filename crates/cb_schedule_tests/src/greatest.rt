@@ -14,13 +14,12 @@ fn greatest_limits(pages: u64, page_size: u64) -> Option<Limits> {
     Limits::new(32, pages, page_size, 1024, 256, 4096).ok()
 }
 
-fn greatest_world(alloc: Global, pages: u64, page_size: u64) -> Option<World> {
-    let limits = greatest_limits(pages, page_size)?;
-    let store = Store::zeros(alloc, &limits).ok()?;
-    if !store.is_of(&limits) {
+fn world_of(alloc: Global, limits: &Limits) -> Option<World> {
+    let store = Store::zeros(alloc, limits).ok()?;
+    if !store.is_of(limits) {
         return None;
     }
-    World::new(alloc, &limits, store).ok()
+    World::new(alloc, limits, store).ok()
 }
 
 /// Each client greets the server, is welcomed and begins.
@@ -61,27 +60,42 @@ fn long_schedule(alloc: Global, reads: u32) -> Option<String> {
     Some(text)
 }
 
+/// Whether a world plays these events, one by one.
+fn steps(world: &mut World, events: Vec<Event>) -> bool {
+    for event in events {
+        if !event.is_played() || world.step(event).is_err() {
+            return false;
+        }
+    }
+    true
+}
+
 /// A world that has played a long schedule, event by event.
 fn stepped(alloc: Global, reads: u32) -> Option<World> {
-    let mut world = greatest_world(alloc, 4096, 4096)?;
+    let limits = greatest_limits(4096, 4096)?;
     let text = long_schedule(alloc, reads)?;
-    for event in read_schedule(alloc, world.limits(), text.as_bytes()).ok()? {
-        if !event.is_played() {
-            return None;
-        }
-        world.step(event).ok()?;
+    let events = read_schedule(alloc, &limits, text.as_bytes()).ok()?;
+    let mut world = world_of(alloc, &limits)?;
+    if steps(&mut world, events) {
+        Some(world)
+    } else {
+        None
     }
-    Some(world)
+}
+
+/// What a world tells that has played a schedule at once.
+fn told_by(alloc: Global, limits: &Limits, text: &str) -> Option<Transcript> {
+    let Ok(events) = read_schedule(alloc, limits, text.as_bytes()) else {
+        return None;
+    };
+    world_of(alloc, limits)?.play(events.as_slice()).ok()
 }
 
 /// The same at once.
 fn played(alloc: Global, reads: u32) -> Option<Transcript> {
-    let world = greatest_world(alloc, 4096, 4096)?;
+    let limits = greatest_limits(4096, 4096)?;
     let text = long_schedule(alloc, reads)?;
-    let Ok(events) = read_schedule(alloc, world.limits(), text.as_bytes()) else {
-        return None;
-    };
-    world.play(events.as_slice()).ok()
+    told_by(alloc, &limits, text.as_str())
 }
 
 /// Whether each client's second read of a page is answered by that many bytes of 0.
@@ -130,16 +144,13 @@ fn five_thousand_events_at_once(rt: HostRuntime) {
     assert!(rt; play_tells_all(rt.alloc()) == Some(true));
 }
 
-/// A world of pages of the greatest size that has played 256 reads.
+/// What a world of pages of the greatest size tells that has played 256 reads.
 fn greatest_pages(alloc: Global) -> Option<Transcript> {
-    let world = greatest_world(alloc, 256, 65536)?;
+    let limits = greatest_limits(256, 65536)?;
     let mut text = String::new(alloc);
     put_greetings(alloc, &mut text)?;
     put_reads(alloc, &mut text, 255, 256)?;
-    let Ok(events) = read_schedule(alloc, world.limits(), text.as_bytes()) else {
-        return None;
-    };
-    world.play(events.as_slice()).ok()
+    told_by(alloc, &limits, text.as_str())
 }
 
 fn greatest_pages_are_read(alloc: Global) -> Option<bool> {
