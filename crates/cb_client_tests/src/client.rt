@@ -1,6 +1,6 @@
 ghost use Rattle.std.specs.Prelude.{◌<◌, ◌≤◌};
 
-use cb_client::{Client, ClientFault, ClientStatus, Outcome, WantAnswer};
+use cb_client::{Client, ClientFault, ClientStatus, Outcome, ReadAnswer, WantAnswer};
 use cb_frame::{Body, BytesFault, Frame, FrameFault, ShortBody, encode};
 use cb_page::{ClientNo, CommitNo, GrantNo, Incarnation, Limits, Page, PageNo, TxnNo, Version};
 use cb_pool_tests::{Called, Recorder};
@@ -80,7 +80,7 @@ fn granted<Q: Chooser>(
 
 /// Whether a page is asked for.
 fn asks<Q: Chooser>(client: &mut Client<Q>, txn: TxnNo, page: PageNo) -> bool {
-    let asked = matches!(client.read(page), Ok(None));
+    let asked = matches!(client.read(page), Ok(ReadAnswer::Asked));
     let ask = match client.ask() {
         Some(ask) => ask.body == ShortBody::AskRead { txn, page },
         None => false,
@@ -90,7 +90,7 @@ fn asks<Q: Chooser>(client: &mut Client<Q>, txn: TxnNo, page: PageNo) -> bool {
 
 /// Whether a page is read without a message.
 fn reads<Q: Chooser>(client: &mut Client<Q>, page: PageNo) -> bool {
-    matches!(client.read(page), Ok(Some(_)))
+    matches!(client.read(page), Ok(ReadAnswer::Bytes(_)))
 }
 
 /// Whether a read is refused for this.

@@ -2,7 +2,7 @@
 
 use crate::frames::{put_frame, put_frames};
 use crate::words::{bytes, limits, not_a_line, page};
-use cb_client::{Client, ClientFault, Outcome, WantAnswer};
+use cb_client::{Client, ClientFault, Outcome, ReadAnswer, WantAnswer};
 use cb_frame::Frame;
 use cb_page::{ClientNo, Incarnation, Limits, PageNo};
 use cb_twoq::{Chooser, TwoQ};
@@ -179,8 +179,8 @@ impl ClientSide {
     /// The transaction reads a page.
     fn read<O: Write>(&mut self, alloc: Global, page: PageNo, out: &mut O) -> io::Result<()> {
         match self.client.read(page) {
-            Ok(Some(bytes)) => put_bytes(alloc, Some(bytes), out),
-            Ok(None) => self.asked(alloc, out),
+            Ok(ReadAnswer::Bytes(bytes)) => put_bytes(alloc, Some(bytes), out),
+            Ok(ReadAnswer::Asked) => self.asked(alloc, out),
             Err(fault) => writeln!(out, " ! {fault:?}"),
         }
     }
