@@ -80,10 +80,12 @@ fn granted<Q: Chooser>(
 
 /// Whether a page is asked for.
 fn asks<Q: Chooser>(client: &mut Client<Q>, txn: TxnNo, page: PageNo) -> bool {
-    match client.read(page) {
-        Ok(ReadAnswer::Asked(ask)) => ask.body == ShortBody::AskRead { txn, page },
-        _ => false,
-    }
+    let asked = matches!(client.read(page), Ok(ReadAnswer::Asked));
+    let ask = match client.ask() {
+        Some(ask) => ask.body == ShortBody::AskRead { txn, page },
+        None => false,
+    };
+    asked && ask
 }
 
 /// Whether a page is read without a message.

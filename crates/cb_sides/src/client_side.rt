@@ -3,7 +3,7 @@
 use crate::frames::{put_frame, put_frames};
 use crate::words::{bytes, limits, not_a_line, page};
 use cb_client::{Client, ClientFault, Outcome, ReadAnswer, WantAnswer};
-use cb_frame::{Frame, ShortFrame};
+use cb_frame::Frame;
 use cb_page::{ClientNo, Incarnation, Limits, PageNo};
 use cb_twoq::{Chooser, TwoQ};
 use std::alloc::Global;
@@ -97,7 +97,9 @@ impl ClientSide {
     /// What is unanswered is sent again.
     fn again<O: Write>(&mut self, alloc: Global, out: &mut O) -> io::Result<()> {
         writeln!(out, "again")?;
-        let frames = self.client.again(alloc)?;
+        let Ok(frames) = self.client.again(alloc) else {
+            return Err(io::Error::from(io::ErrorKind::OutOfMemory));
+        };
         put_frames(alloc, &self.limits, frames.as_slice(), out)
     }
 
@@ -178,7 +180,7 @@ impl ClientSide {
     fn read<O: Write>(&mut self, alloc: Global, page: PageNo, out: &mut O) -> io::Result<()> {
         match self.client.read(page) {
             Ok(ReadAnswer::Bytes(bytes)) => put_bytes(alloc, Some(bytes), out),
-            Ok(ReadAnswer::Asked(frame)) => self.asked(alloc, frame, out),
+            Ok(ReadAnswer::Asked) => self.asked(alloc, out),
             Err(fault) => writeln!(out, " ! {fault:?}"),
         }
     }
@@ -187,15 +189,18 @@ impl ClientSide {
     fn want<O: Write>(&mut self, alloc: Global, page: PageNo, out: &mut O) -> io::Result<()> {
         match self.client.want(page) {
             Ok(WantAnswer::Permitted) => writeln!(out, " permitted"),
-            Ok(WantAnswer::Asked(frame)) => self.asked(alloc, frame, out),
+            Ok(WantAnswer::Asked(_)) => self.asked(alloc, out),
             Err(fault) => writeln!(out, " ! {fault:?}"),
         }
     }
 
-    /// An ask is out by this frame.
-    fn asked<O: Write>(&self, alloc: Global, ask: ShortFrame, out: &mut O) -> io::Result<()> {
+    /// An ask is out.
+    fn asked<O: Write>(&self, alloc: Global, out: &mut O) -> io::Result<()> {
         writeln!(out, " asked")?;
-        put_frame(alloc, &self.limits, &Frame::from(ask), out)
+        match self.client.ask() {
+            Some(ask) => put_frame(alloc, &self.limits, &Frame::from(ask), out),
+            None => Ok(()),
+        }
     }
 
     /// The transaction writes a page.

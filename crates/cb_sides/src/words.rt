@@ -19,7 +19,10 @@ pub(crate) fn number(words: &mut SplitWhitespace<'_>) -> io::Result<u64> {
 /// The page that the next word names.
 pub(crate) fn page(words: &mut SplitWhitespace<'_>) -> io::Result<PageNo> {
     let page = u32::try_from(number(words)?).map_err(|_| not_a_line())?;
-    PageNo::checked(page).ok_or(not_a_line())
+    if page >= 4096 {
+        return Err(not_a_line());
+    }
+    Ok(PageNo::new(page))
 }
 
 /// The bytes that a word of hexadecimal digits spells.
