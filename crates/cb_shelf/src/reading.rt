@@ -175,14 +175,14 @@ fn read_part<S: Alter>(
     tx: &mut Transaction<'_, S>,
     queries: &Queries,
     page: PageNo,
-    place: usize,
+    place: u32,
     length: usize,
     bytes: &mut Vec<u8>,
 ) -> Result<(), ShelfFault>
     ensures same_reference { tx.new.conn.ghost_name ≡ tx.old.conn.ghost_name }
     ensures inside { Inside S.Store IsAny tx.old.conn.now tx.new.conn.now result }
 {
-    let rows = ask(tx, queries.part, params![page.get(), place as i64])?;
+    let rows = ask(tx, queries.part, params![page.get(), place])?;
     take_part(bytes, &rows, length)
 }
 
@@ -199,7 +199,7 @@ fn read_bytes<S: Alter>(
     ensures inside { Inside S.Store IsAny tx.old.conn.now tx.new.conn.now result }
 {
     let mut left = size;
-    for place in 0..part_count(size) {
+    for place in 0..part_count(size) as u32 {
         let length = if left < PART { left } else { PART };
         read_part(tx, queries, page, place, length, bytes)?;
         left -= length;
