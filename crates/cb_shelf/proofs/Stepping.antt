@@ -1,9 +1,10 @@
 -- Steps in a transaction, and what follows from several in a row.
-use Rattle.std.proofs.Common.{◌≡◌, ◌⊎◌, inl, inr, ℕ, ◌+◌, List, [], ◌∷◌, ◌++◌, Bool, true, false, cond, Option, Some, None, Result, Ok, Err, IsTrue, IsErrAnd, OnOk, refl, sym, ap, subst, ◌∙◌, arith}
+use Rattle.std.proofs.Common.{◌≡◌, ◌⊎◌, inl, inr, ℕ, ◌+◌, List, [], ◌∷◌, ◌++◌, map, Bool, true, false, cond, Option, Some, None, Result, Ok, Err, IsTrue, IsErrAnd, OnOk, refl, sym, ap, subst, ◌∙◌, arith}
 use Rattle.sqlite_schema.specs.declared.command.Returning.{Returning}
 use Rattle.sqlite_resolve.specs.declared.compiled.Compiled.{Compiled}
-use Rattle.std.specs.List.{flat_map}
-use Rattle.std.proofs.lemmas.List.{flat_map_more}
+use Rattle.std.specs.List.{flat_map, range_with_len}
+use Rattle.std.proofs.lemmas.List.FromFn.{map-range_with_len_more}
+use Rattle.std.proofs.lemmas.List.{flat_map_more, map-id}
 use Rattle.sqlite.specs.Store.{Ghosts}
 use Rattle.sqlite.specs.Order.{Row}
 use Rattle.sqlite.specs.Values.{bound_value}
@@ -184,3 +185,6 @@ three_bound is also last = rw (is, also, last)
 
 pub flat_more : {X A : Type 0} (f : X → List A) (all front : List X) (x : X) → all ≡ front ++ x ∷ [] → flat_map f all ≡ flat_map f front ++ f x
 flat_more f all front x is = ap (flat_map f) is ∙ sym (flat_map_more f [] front x)
+
+pub range_more : (count : ℕ) → range_with_len 0 (count + 1) ≡ range_with_len 0 count ++ count ∷ []
+range_more count = sym (map-id (range_with_len 0 (count + 1))) ∙ map-range_with_len_more (λ x. x) 0 count count (omega arith) ∙ ap (λ front. front ++ count ∷ []) (map-id (range_with_len 0 count))

@@ -1,10 +1,12 @@
 -- What an open may do to a database.
-use Rattle.std.specs.Prelude.{◌≡◌, ◌⊎◌, ℕ, pos, Bool, true, false, if◌then◌else◌, List, [], ◌∷◌, ◌++◌, length}
+use Rattle.std.specs.Prelude.{◌≡◌, ◌⊎◌, ℕ, pos, Bool, true, false, if◌then◌else◌, List, [], ◌∷◌, ◌++◌, length, IsTrue}
 use Rattle.std.specs.Prelude.{codes}
 use Rattle.std.specs.List.{range_with_len, flat_map}
 use Rattle.sqlite.specs.declared.types.Value.TheVariants.{Int}
 use Rattle.sqlite.specs.Store.{Ghosts}
 use Rattle.sqlite.specs.Effect.{Database}
+use Rattle.sqlite.specs.Tree.{Trees}
+use Rattle.sqlite.specs.Held.{Held, state}
 use Rattle.cb_page.specs.Bounds.{Bounds}
 use Rattle.cb_commit.specs.Stores.{StoreState, IsOf, zeros, version_at, bytes_at}
 use Rattle.cb_shelf.specs.declared.opening.Found.{Found}
@@ -51,11 +53,14 @@ clear_statements = plain (codes "DELETE FROM page") ∷ plain (codes "DELETE FRO
 
 -- makes the tables and puts a store in; where it was copied, the old tables are emptied
 abbrev pub laid : StoreState → Bool → List Statement
-laid store copied =
-    table_statements
-    ++ first_pages store (length store.pages)
-    ++ (mark_row store ∷ [])
-    ++ (if copied then clear_statements else [])
+laid store copied = table_statements
+    ++ (first_pages store (length store.pages)
+    ++ (mark_row store ∷ (if copied then clear_statements else [])))
+
+-- a database that statements make of the one which an open connection sees
+abbrev pub LaidBy : {S : Type 0} → Ghosts S → List Statement → Held S → Trees → Type 0
+LaidBy g statements old trees = IsTrue (state g old).is_open
+    × (db : Database) × MakesAll g statements (state g old).now db × (trees ≡ db.trees)
 
 -- a store that was found is of these limits
 abbrev pub IsFound : Bounds → Found → Type 0
@@ -70,3 +75,8 @@ LaysOut g limits before after =
     (before ≡ after)
     ⊎ (MakesAll g (laid (zeros limits) false) before after
     ⊎ ((store : StoreState) × IsOf limits store × MakesAll g (laid store true) before after))
+
+-- a database that an open may make of the one which a connection sees
+abbrev pub Opened : {S : Type 0} → Ghosts S → Bounds → Held S → Trees → Type 0
+Opened g limits old trees = (db : Database)
+    × LaysOut g limits (state g old).now db × (trees ≡ db.trees)

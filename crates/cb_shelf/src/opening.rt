@@ -6,7 +6,7 @@ ghost use Rattle.sqlite.specs.Held.{state};
 ghost use Rattle.cb_commit.specs.Stores.{IsOf, zeros};
 ghost use Rattle.cb_shelf.specs.Statements.{MakesAll};
 ghost use Rattle.cb_shelf.specs.Inside.{Inside, IsAny, IsSame};
-ghost use Rattle.cb_shelf.specs.Opening.{LaysOut, IsFound, table_statements, first_pages, mark_row};
+ghost use Rattle.cb_shelf.specs.Opening.{LaysOut, LaidBy, Opened, IsFound, table_statements, first_pages, mark_row};
 ghost use Rattle.cb_shelf.specs.Opening.{clear_statements, laid};
 
 use crate::ShelfFault;
@@ -279,9 +279,7 @@ fn make_tables<S: Alter>(
     ensures neither { HasCleanDisk (state S.Store conn.new)
         → OnErr result (IsSame (state S.Store conn.old) (state S.Store conn.new)) }
     ensures crash { Survives (state S.Store conn.old) (state S.Store conn.new)
-        (λ trees. IsTrue (state S.Store conn.old).is_open × (db : _)
-        × MakesAll S.Store (laid store.now copied) (state S.Store conn.old).now db
-        × (trees ≡ db.trees)) }
+        (LaidBy S.Store (laid store.now copied) conn.old) }
 {
     if !conn.is_autocommit() {
         return Err(ShelfFault::Store);
@@ -306,9 +304,7 @@ fn make_zeros<S: Alter>(
     ensures neither { HasCleanDisk (state S.Store conn.new)
         → OnErr result (IsSame (state S.Store conn.old) (state S.Store conn.new)) }
     ensures crash { Survives (state S.Store conn.old) (state S.Store conn.new)
-        (λ trees. IsTrue (state S.Store conn.old).is_open × (db : _)
-        × MakesAll S.Store (laid (zeros limits.now) false) (state S.Store conn.old).now db
-        × (trees ≡ db.trees)) }
+        (LaidBy S.Store (laid (zeros limits.now) false) conn.old) }
 {
     let store = Store::zeros(alloc, limits)?;
     make_tables(conn, &store, limits, false)
@@ -326,8 +322,7 @@ pub(crate) fn open_tables<S: Alter>(
     ensures neither { HasCleanDisk (state S.Store conn.new)
         → OnErr result (IsSame (state S.Store conn.old) (state S.Store conn.new)) }
     ensures crash { Survives (state S.Store conn.old) (state S.Store conn.new)
-        (λ trees. (db : _) × LaysOut S.Store limits.now (state S.Store conn.old).now db
-        × (trees ≡ db.trees)) }
+        (Opened S.Store limits.now conn.old) }
 {
     let found = look(alloc, conn, limits)?;
     match found {

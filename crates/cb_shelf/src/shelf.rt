@@ -6,7 +6,7 @@ ghost use Rattle.sqlite.specs.Held.{state};
 ghost use Rattle.cb_commit.specs.Stores.{IsOf};
 ghost use Rattle.cb_shelf.specs.Statements.{MakesAll, batch_statements};
 ghost use Rattle.cb_shelf.specs.Inside.{IsSame};
-ghost use Rattle.cb_shelf.specs.Opening.{LaysOut};
+ghost use Rattle.cb_shelf.specs.Opening.{LaysOut, Opened};
 ghost use Rattle.cb_shelf.specs.Shelves.{Fits, Wrote};
 
 use crate::ShelfFault;
@@ -44,12 +44,10 @@ impl<S: Alter> Shelf<S> {
         ensures neither { IfErr result (λ refused. HasCleanDisk (state S.Store refused.1)
             → IsSame (state S.Store conn) (state S.Store refused.1)) }
         ensures crash { IfOk result (λ shelf. Survives (state S.Store conn) (state S.Store shelf.conn)
-            (λ trees. (db : _) × LaysOut S.Store limits.now (state S.Store conn).now db
-            × (trees ≡ db.trees))) }
+            (Opened S.Store limits.now conn)) }
         ensures refused_crash { IfErr result (λ refused.
             Survives (state S.Store conn) (state S.Store refused.1)
-            (λ trees. (db : _) × LaysOut S.Store limits.now (state S.Store conn).now db
-            × (trees ≡ db.trees))) }
+            (Opened S.Store limits.now conn)) }
     {
         match open_tables(alloc, &mut conn, limits) {
             Ok(()) => Ok(Shelf {
