@@ -149,6 +149,8 @@ fn look<S: Alter>(
     ensures of { IfOk result (IsFound limits.now) }
     ensures same { HasCleanDisk (state S.Store conn.new)
         → IsSame (state S.Store conn.old) (state S.Store conn.new) }
+    ensures settled { HasCleanDisk (state S.Store conn.new) → IsTrue (state S.Store conn.new).is_open
+        → OnOk result ((state S.Store conn.new).committed ≡ (state S.Store conn.old).now) }
     ensures crash { Survives (state S.Store conn.old) (state S.Store conn.new) (λ _. ⊥) }
 {
     if !conn.is_autocommit() {

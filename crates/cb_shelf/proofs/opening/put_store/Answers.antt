@@ -1,5 +1,4 @@
-use Rattle.std.proofs.Common.{◌≡◌, ◌+◌, ◌∙◌, refl, [], ◌∷◌, ◌++◌, map, arith, rules}
-use Rattle.cb_commit.specs.Stores.{version_at, bytes_at}
+use Rattle.std.proofs.Common.{◌≡◌, ◌+◌, refl, ◌++◌, rules}
 use Rattle.cb_shelf.specs.Statements.{page_statements}
 use Rattle.cb_shelf.specs.Opening.{first_pages, stored_statements}
 use Rattle.cb_shelf.proofs.Stepping.{stays, makes_next, flat_more, range_more}

@@ -1,4 +1,3 @@
-use Rattle.std.proofs.Common.{map}
 use Rattle.sqlite.specs.Values.{bound}
 use Rattle.sqlite.specs.Held.{state}
 use Rattle.cb_shelf.specs.Inside.{IsAny}

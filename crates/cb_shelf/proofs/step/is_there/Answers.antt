@@ -1,5 +1,4 @@
 use Rattle.std.proofs.Common.{[]}
-use Rattle.sqlite.specs.Held.{state}
 use Rattle.cb_shelf.proofs.Stepping.{asked_text}
 use Rattle.cb_shelf.proofs.step.is_there.Goals as goal
 

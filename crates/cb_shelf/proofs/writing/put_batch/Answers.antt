@@ -1,4 +1,4 @@
-use Rattle.std.proofs.Common.{[], ◌∷◌, rules, ◌≡◌}
+use Rattle.std.proofs.Common.{[], ◌∷◌}
 use Rattle.cb_shelf.specs.Statements.{pages_statements, mark_statement}
 use Rattle.cb_shelf.proofs.Stepping.{makes_then}
 use Rattle.cb_shelf.proofs.writing.put_batch.Goals as goal

@@ -1,8 +1,6 @@
-use Rattle.std.proofs.Common.{◌≡◌, ◌+◌, refl, sym, subst, [], ◌∷◌, ◌++◌, List, Ok, arith, rules}
+use Rattle.std.proofs.Common.{refl, arith, rules}
 use Rattle.std.proofs.lemmas.List.FromFn.{map-range_with_len_more}
-use Rattle.cb_shelf.specs.Statements.{Statement, MakesAll, part_statement, part_statements}
-use Rattle.cb_shelf.specs.Inside.{Inside}
-use Rattle.cb_shelf.specs.declared.fault.ShelfFault.{ShelfFault}
+use Rattle.cb_shelf.specs.Statements.{part_statement}
 use Rattle.cb_shelf.proofs.Stepping.{stays, makes_next, stops_then}
 use Rattle.cb_shelf.proofs.writing.put_parts.Goals as goal
 

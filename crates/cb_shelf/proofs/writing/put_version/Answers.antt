@@ -1,7 +1,5 @@
-use Rattle.std.proofs.Common.{◌≡◌, refl, ap, pos, [], ◌∷◌, rules}
+use Rattle.std.proofs.Common.{◌≡◌, pos, rules}
 use Rattle.sqlite.specs.Value.{owned}
-use Rattle.sqlite.specs.Values.{bound_value}
-use Rattle.sqlite.specs.declared.types.Value.{Value}
 use Rattle.sqlite.specs.declared.types.Value.TheVariants.{Int}
 use Rattle.cb_shelf.proofs.Stepping.{given, two_bound}
 use Rattle.cb_shelf.proofs.writing.put_version.Goals as goal
