@@ -21,6 +21,7 @@ use std::alloc::Global;
 /// A store in the tables of a database.
 ///
 /// Nobody else may write them meanwhile.
+#[derive(Drop)]
 pub struct Shelf<S: Alter> {
     conn: Connection<S>,
     limits: Limits,

@@ -1,0 +1,9 @@
+//! Tests of the shelf, by its public calls.
+#![tactic(auto)]
+
+#[cfg(test)]
+mod bench;
+#[cfg(test)]
+mod shapes;
+#[cfg(test)]
+mod writes;
