@@ -6,4 +6,6 @@ mod bench;
 #[cfg(test)]
 mod shapes;
 #[cfg(test)]
+mod stops;
+#[cfg(test)]
 mod writes;
