@@ -1,5 +1,5 @@
 //! What the tests share: commits of pages that one byte fills, and looks at what a shelf holds.
-ghost use Rattle.std.specs.Prelude.{◌≡◌};
+ghost use Rattle.std.specs.Prelude.{IfOk};
 ghost use Rattle.cb_commit.specs.Stores.{IsOf};
 
 use cb_commit::{Commits, Store};
