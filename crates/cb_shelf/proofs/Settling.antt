@@ -1,0 +1,43 @@
+-- Transactions that are committed, and a look before one.
+use Rattle.std.proofs.Common.{◌≡◌, inr, List, Ok, IsTrue, true, refl, subst, arith}
+use Rattle.sqlite.specs.Store.{Ghosts}
+use Rattle.sqlite.specs.State.{HasCleanDisk, Survives}
+use Rattle.sqlite.specs.Held.{Held, state}
+use Rattle.sqlite.proofs.StateLemmas.{survives_then}
+use Rattle.sqlite.proofs.Callers.{survives_begin}
+use Rattle.cb_shelf.specs.Statements.{Statement, MakesAll}
+use Rattle.cb_shelf.specs.Inside.{Inside, IsSame}
+use Rattle.cb_shelf.specs.Opening.{LaidBy, Opened, laid}
+use Rattle.cb_page.specs.Bounds.{Bounds}
+use Rattle.cb_commit.specs.Stores.{StoreState, IsOf}
+use Rattle.sqlite.specs.Effect.{Database}
+
+module _ {S : Type 0} (g : Ghosts S) where
+  abbrev pub begun : Held S → Held S
+  begun old = record old { in_transaction = true }
+
+  -- what a crash leaves of a transaction that was to be committed
+  pub commit_survives : {E : Type 0} (statements : List Statement) (old mid end : Held S)
+      → Inside {X = Unit {0}} {E = E} g (MakesAll g statements) (begun old) mid (Ok tt)
+      → (HasCleanDisk (state g mid) → IsTrue true → IsTrue (state g old).is_open)
+      → Survives (state g mid) (state g end) (λ db. db ≡ (state g mid).now.trees)
+      → Survives (state g old) (state g end) (LaidBy g statements old)
+  commit_survives statements old mid end inside opened commit =
+      survives_then (state g old) (state g mid) (state g end) (λ _. ⊥) (λ db. db ≡ (state g mid).now.trees) (LaidBy g statements old)
+      (λ _ db none. absurd none)
+      (λ clean db is. let early : HasCleanDisk (state g mid) = omega (arith, commit.clean) in (opened early refl, (state g mid).now, (inside.ran early refl).0, is))
+      (survives_begin g old (state g mid) (λ _. ⊥) inside.survives) commit
+
+  -- what a crash leaves of a copy that follows a look
+  pub copy_survives : (limits : Bounds) (store : StoreState) (old mid new : Held S) → IsOf limits store
+      → (HasCleanDisk (state g mid) → IsSame (state g old) (state g mid))
+      → Survives (state g old) (state g mid) (λ _. ⊥)
+      → Survives (state g mid) (state g new) (LaidBy g (laid store true) mid)
+      → Survives (state g old) (state g new) (Opened g limits old)
+  copy_survives limits store old mid new of same look copy =
+      survives_then (state g old) (state g mid) (state g new) (λ _. ⊥) (LaidBy g (laid store true) mid) (Opened g limits old)
+      (λ _ db none. absurd none)
+      (λ clean db laid_by.
+      let early : HasCleanDisk (state g mid) = omega (arith, copy.clean) in
+      let now = (same early).now laid_by.0 in
+      (laid_by.1, inr (inr (store, of, subst (λ (d : Database). MakesAll g (laid store true) d laid_by.1) now laid_by.2)), laid_by.3)) look copy

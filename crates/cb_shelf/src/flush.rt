@@ -1,0 +1,72 @@
+//! Writing what was committed, and reporting it.
+ghost use Rattle.std.specs.Prelude.{◌≡◌, ◌⊎◌, None, Some, Err, IfOk, IfSome, OnOk, OnErr};
+ghost use Rattle.sqlite.specs.State.{HasCleanDisk, Survives};
+ghost use Rattle.sqlite.specs.Held.{state};
+ghost use Rattle.cb_commit.specs.History.{CanFlush, next_batch};
+ghost use Rattle.cb_shelf.specs.Statements.{MakesAll, batch_statements};
+ghost use Rattle.cb_shelf.specs.Inside.{IsSame};
+ghost use Rattle.cb_shelf.specs.Shelves.{Wrote};
+ghost use Rattle.cb_shelf.specs.Flushing.{to_write, once_written, dones_of};
+
+use crate::{Shelf, ShelfFault};
+use cb_commit::{Batch, Commits};
+use cb_frame::Frame;
+use sqlite::Alter;
+use std::alloc::Global;
+
+/// Holds the next batch, unless one is held that is still to be written.
+fn hold(alloc: Global, commits: &Commits, held: &mut Option<Batch>) -> Result<(), ShelfFault>
+    requires { IfSome held.old (λ batch. CanFlush commits.now batch.number) }
+    ensures ok { OnOk result (held.new ≡ to_write held.old commits.now) }
+    ensures err { OnErr result ((result ≡ Err ShelfFault.Memory) × (held.old ≡ None)
+        × (held.new ≡ None)) }
+    ensures can_flush { IfSome held.new (λ batch. CanFlush commits.now batch.number) }
+{
+    if held.is_some() {
+        return Ok(());
+    }
+    let next = commits.batch(alloc)?;
+    *held = next;
+    Ok(())
+}
+
+/// Writes the batch that is held, or else the next one, and reports it: a Done for each commit in it
+/// that wasn't reported before. Where it is refused the batch stays held, and is written again
+/// before another is taken.
+///
+/// `Memory` besides where the database answers it: where memory was refused for the batch (then
+/// none is held), or for the Dones (then the batch is in the tables).
+pub fn flush_once<S: Alter>(
+    alloc: Global,
+    commits: &mut Commits,
+    shelf: &mut Shelf<S>,
+    held: &mut Option<Batch>,
+) -> Result<Vec<Frame>, ShelfFault>
+    requires { IfSome held.old (λ batch. CanFlush commits.old batch.number) }
+    ensures ok { OnOk result ((commits.new
+        ≡ once_written commits.old (to_write held.old commits.old)) × (held.new ≡ None)) }
+    ensures dones { IfOk result (λ frames.
+        frames.items ≡ dones_of commits.old (to_write held.old commits.old)) }
+    ensures err { OnErr result ((commits.new ≡ commits.old)
+        × ((held.new ≡ to_write held.old commits.old) ⊎ ((result ≡ Err ShelfFault.Memory)
+        × (held.old ≡ None) × (held.new ≡ None) × (shelf.new ≡ shelf.old)))) }
+    ensures can_flush { IfSome held.new (λ batch. CanFlush commits.new batch.number) }
+    ensures nothing { to_write held.old commits.old ≡ None → shelf.new ≡ shelf.old }
+    ensures limits { shelf.new.limits ≡ shelf.old.limits }
+    ensures written { HasCleanDisk (state S.Store shelf.new.conn)
+        → OnOk result (IfSome (to_write held.old commits.old) (λ batch.
+        MakesAll S.Store (batch_statements batch) (state S.Store shelf.old.conn).now
+        (state S.Store shelf.new.conn).committed)) }
+    ensures crash { Survives (state S.Store shelf.old.conn) (state S.Store shelf.new.conn)
+        (λ trees. IfSome (to_write held.old commits.old) (λ batch.
+        Wrote S.Store batch shelf.old.conn trees)) }
+{
+    hold(alloc, commits, held)?;
+    let Some(batch) = &*held else {
+        return Ok(Vec::new(alloc));
+    };
+    shelf.write(batch)?;
+    let frames = commits.flushed(alloc, batch.number())?;
+    *held = None;
+    Ok(frames)
+}

@@ -1,0 +1,19 @@
+//! A store in the tables of an SQLite database.
+//!
+//! A [`Shelf`] stands over a connection and keeps one store: the pages in parts of 4,096 bytes, the
+//! version of each page, and the number of the last commit. [`Shelf::write`] sets the pages and the
+//! number of a batch in one transaction, so that a stop at any call leaves the batch whole or not
+//! there at all. [`flush_once`] writes what a server committed and reports it.
+#![tactic(auto)]
+
+mod fault;
+mod flush;
+mod opening;
+mod reading;
+mod shelf;
+mod step;
+mod writing;
+
+pub use fault::ShelfFault;
+pub use flush::flush_once;
+pub use shelf::Shelf;

@@ -1,0 +1,110 @@
+//! The shelf.
+ghost use Rattle.std.specs.Prelude.{◌≡◌, ◌==◌, if◌then◌else◌, Some, None, Err, IsTrue, IfOk, IfErr};
+ghost use Rattle.std.specs.Prelude.{OnOk, OnErr};
+ghost use Rattle.sqlite.specs.State.{HasCleanDisk, Survives};
+ghost use Rattle.sqlite.specs.Held.{state};
+ghost use Rattle.cb_commit.specs.Stores.{IsOf};
+ghost use Rattle.cb_shelf.specs.Statements.{MakesAll, batch_statements};
+ghost use Rattle.cb_shelf.specs.Inside.{IsSame};
+ghost use Rattle.cb_shelf.specs.Opening.{LaysOut, Opened};
+ghost use Rattle.cb_shelf.specs.Shelves.{Fits, Wrote};
+
+use crate::ShelfFault;
+use crate::opening::open_tables;
+use crate::reading::read_back;
+use crate::writing::{fits, write_batch};
+use cb_commit::{Batch, Store};
+use cb_page::Limits;
+use sqlite::{Alter, Connection};
+use std::alloc::Global;
+
+/// A store in the tables of a database.
+///
+/// Nobody else may write them meanwhile.
+#[derive(Drop)]
+pub struct Shelf<S: Alter> {
+    conn: Connection<S>,
+    limits: Limits,
+}
+
+impl<S: Alter> Shelf<S> {
+    /// Opens the tables of a store of these limits. It makes them, with zeros, where there are none,
+    /// and copies what older ones hold; tables of any other shape are refused.
+    ///
+    /// What is refused comes with the connection.
+    pub fn open(
+        alloc: Global,
+        mut conn: Connection<S>,
+        limits: &Limits,
+    ) -> Result<Shelf<S>, (ShelfFault, Connection<S>)>
+        ensures limits { IfOk result (λ shelf. shelf.limits ≡ limits.now) }
+        ensures laid_out { IfOk result (λ shelf. HasCleanDisk (state S.Store shelf.conn)
+            → IsTrue (state S.Store shelf.conn).is_open
+            → LaysOut S.Store limits.now (state S.Store conn).now
+            (state S.Store shelf.conn).committed) }
+        ensures neither { IfErr result (λ refused. HasCleanDisk (state S.Store refused.1)
+            → IsSame (state S.Store conn) (state S.Store refused.1)) }
+        ensures crash { IfOk result (λ shelf. Survives (state S.Store conn) (state S.Store shelf.conn)
+            (Opened S.Store limits.now conn)) }
+        ensures refused_crash { IfErr result (λ refused.
+            Survives (state S.Store conn) (state S.Store refused.1)
+            (Opened S.Store limits.now conn)) }
+    {
+        match open_tables(alloc, &mut conn, limits) {
+            Ok(()) => Ok(Shelf {
+                conn,
+                limits: *limits,
+            }),
+            Err(fault) => Err((fault, conn)),
+        }
+    }
+
+    /// Gives the connection back.
+    pub fn close(self) -> Connection<S>
+        ensures { result ≡ self.conn }
+    {
+        let Shelf { conn, limits: _ } = self;
+        conn
+    }
+
+    /// Lets each statement take this many steps and no more; 0 takes the limit away.
+    pub fn limit_steps(&mut self, steps: u64)
+        ensures { self.new ≡ record self.old {
+          conn = record self.old.conn { step_limit = if steps == 0 then None else Some steps };
+        } }
+    {
+        self.conn
+            .set_step_limit(if steps == 0 { None } else { Some(steps) });
+    }
+
+    /// The store that the tables hold.
+    pub fn load(&mut self, alloc: Global) -> Result<Store, ShelfFault>
+        ensures of { IfOk result (IsOf self.old.limits) }
+        ensures limits { self.new.limits ≡ self.old.limits }
+        ensures same { HasCleanDisk (state S.Store self.new.conn)
+            → IsSame (state S.Store self.old.conn) (state S.Store self.new.conn) }
+        ensures crash { Survives (state S.Store self.old.conn) (state S.Store self.new.conn) (λ _. ⊥) }
+    {
+        read_back(alloc, &mut self.conn, &self.limits)
+    }
+
+    /// Sets the pages and the number of a batch, in one transaction.
+    pub fn write(&mut self, batch: &Batch) -> Result<(), ShelfFault>
+        ensures limits { self.new.limits ≡ self.old.limits }
+        ensures fits { OnOk result (Fits self.old.limits batch.now) }
+        ensures shape { ¬ Fits self.old.limits batch.now
+            → (result ≡ Err ShelfFault.Shape) × (self.new ≡ self.old) }
+        ensures both { HasCleanDisk (state S.Store self.new.conn)
+            → OnOk result (MakesAll S.Store (batch_statements batch.now)
+            (state S.Store self.old.conn).now (state S.Store self.new.conn).committed) }
+        ensures neither { HasCleanDisk (state S.Store self.new.conn)
+            → OnErr result (IsSame (state S.Store self.old.conn) (state S.Store self.new.conn)) }
+        ensures crash { Survives (state S.Store self.old.conn) (state S.Store self.new.conn)
+            (Wrote S.Store batch.now self.old.conn) }
+    {
+        if !fits(&self.limits, batch) {
+            return Err(ShelfFault::Shape);
+        }
+        write_batch(&mut self.conn, batch)
+    }
+}
