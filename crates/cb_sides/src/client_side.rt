@@ -23,6 +23,17 @@ fn refused<O: Write>(word: &str, fault: ClientFault, out: &mut O) -> io::Result<
     writeln!(out, "{word} ! {fault:?}")
 }
 
+/// Prints how the last transaction ended.
+fn put_outcome<O: Write>(outcome: Outcome, out: &mut O) -> io::Result<()> {
+    match outcome {
+        Outcome::Committed(number) => {
+            writeln!(out, "last = Committed {number}", number = number.get())
+        }
+        Outcome::Dropped => writeln!(out, "last = Dropped"),
+        Outcome::Aborted => writeln!(out, "last = Aborted"),
+    }
+}
+
 /// Prints the bytes of a page, if there are any.
 fn put_bytes<O: Write>(alloc: Global, bytes: Option<&[u8]>, out: &mut O) -> io::Result<()> {
     match bytes {
@@ -141,11 +152,7 @@ impl ClientSide {
             return writeln!(out, "status = {status:?}");
         }
         match self.client.last() {
-            Some(Outcome::Committed(number)) => {
-                writeln!(out, "last = Committed {number}", number = number.get())
-            }
-            Some(Outcome::Dropped) => writeln!(out, "last = Dropped"),
-            Some(Outcome::Aborted) => writeln!(out, "last = Aborted"),
+            Some(outcome) => put_outcome(outcome, out),
             None => writeln!(out, "last = none"),
         }
     }

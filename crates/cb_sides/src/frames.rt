@@ -7,7 +7,12 @@ use std::io;
 use std::io::Write;
 
 /// Prints a frame that was answered.
-pub(crate) fn put_frame<O: Write>(alloc: Global, limits: &Limits, frame: &Frame, out: &mut O) -> io::Result<()> {
+pub(crate) fn put_frame<O: Write>(
+    alloc: Global,
+    limits: &Limits,
+    frame: &Frame,
+    out: &mut O,
+) -> io::Result<()> {
     if !frame.fits(limits) {
         return writeln!(out, "< a frame that doesn't fit");
     }

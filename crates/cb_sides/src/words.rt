@@ -46,8 +46,9 @@ pub(crate) fn limits(line: &str) -> io::Result<Limits> {
     let slots = named(&mut words)?;
     let kin = named(&mut words)?;
     let kout = named(&mut words)?;
-    let limits = Limits::new(clients, pages, page_size, slots, kin, kout)
-        .map_err(|_| not_a_line())?;
+    let limits = Limits::new(clients, pages, page_size, slots, kin, kout).map_err(
+        |_| not_a_line(),
+    )?;
     match named(&mut words)? {
         0 => Ok(limits),
         _ => Ok(limits.keeping()),
