@@ -191,7 +191,7 @@ fn answers_wider_events(alloc: Global) -> Option<bool> {
     let mut world = small_world(alloc, 1)?;
     let client = answers_last(alloc, &mut world, &mut events, "noclient");
     let page = answers_last(alloc, &mut world, &mut events, "none");
-    Some(client == Some(true) && page == Some(true))
+    Some(client? && page?)
 }
 
 /// A text under wider limits names clients and pages that the world hasn't.
