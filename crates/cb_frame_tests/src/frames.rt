@@ -62,31 +62,28 @@ static COMMITS: [(u8, u8, &[u8], Option<FrameFault>); 9] = [
 ];
 
 // Limits with 4 clients and 8 pages of 16 bytes.
-fn small_limits() -> Result<Limits, Fail> {
-    Ok(Limits::new(4, 8, 16, 4, 1, 2)?)
+fn small_limits() -> Option<Limits> {
+    Limits::new(4, 8, 16, 4, 1, 2).ok()
 }
 
-fn fault_of(alloc: Global, bytes: &[u8]) -> Result<Option<FrameFault>, Fail> {
-    let limits = small_limits()?;
-    Ok(decode(alloc, &limits, bytes).err())
+fn fault_of(alloc: Global, bytes: &[u8]) -> Option<FrameFault> {
+    decode(alloc, &small_limits()?, bytes).err()
+}
+
+// Whether a change of one byte gives this fault.
+fn gives_fault(alloc: Global, bytes: &[u8], at: usize, byte: u8, fault: FrameFault) -> bool {
+    let Ok(mut changed) = Vec::from_slice(alloc, bytes) else {
+        return false;
+    };
+    if let Some(place) = changed.get_mut(at) {
+        *place = byte;
+    }
+    fault_of(alloc, changed.as_slice()) == Some(fault)
 }
 
 // Whether each change of one byte gives its fault.
-fn faults_are(
-    alloc: Global,
-    bytes: &[u8],
-    changes: &[(usize, u8, FrameFault)],
-) -> Result<bool, Fail> {
-    for (at, byte, fault) in changes {
-        let mut changed = Vec::from_slice(alloc, bytes)?;
-        if let Some(place) = changed.get_mut(*at) {
-            *place = *byte;
-        }
-        if fault_of(alloc, changed.as_slice())? != Some(*fault) {
-            return Ok(false);
-        }
-    }
-    Ok(true)
+fn faults_are(alloc: Global, bytes: &[u8], changes: &[(usize, u8, FrameFault)]) -> bool {
+    changes.iter().all(|(at, byte, fault)| gives_fault(alloc, bytes, *at, *byte, *fault))
 }
 
 // A commit of client 0, incarnation 1 and transaction 1, whose body has this length and this count.
@@ -111,28 +108,44 @@ fn commit_bytes(
     Ok(bytes)
 }
 
-#[test]
-fn ask_read_bytes(rt: HostRuntime) -> Result<(), Fail> {
-    let limits = small_limits()?;
-    let ask = Frame::from(ShortFrame {
+fn ask_read() -> Frame {
+    Frame::from(ShortFrame {
         client: ClientNo::new(3),
         incarnation: Incarnation::new(1),
         body: ShortBody::AskRead {
             txn: TxnNo::new(7),
             page: PageNo::new(5),
         },
-    });
-    assert!(rt; ask.fits(&limits));
-    let bytes = encode(rt.alloc(), &ask)?;
-    assert!(rt; bytes.as_slice() == ASK_READ.as_slice());
-    let (frame, used) = decode(rt.alloc(), &limits, bytes.as_slice())?;
-    assert!(rt; used == 28 && frame.client.get() == 3 && frame.incarnation.get() == 1);
-    let said = match &frame.body {
+    })
+}
+
+// Whether a frame that fits is spelled so.
+fn is_spelled(alloc: Global, frame: &Frame, wanted: &[u8]) -> Option<bool> {
+    if !frame.fits(&small_limits()?) {
+        return Some(false);
+    }
+    let bytes = encode(alloc, frame).ok()?;
+    Some(bytes.as_slice() == wanted)
+}
+
+// The transaction and the page of an ask to read.
+fn ask_of(frame: &Frame) -> Option<(u64, u32)> {
+    match &frame.body {
         Body::Short(ShortBody::AskRead { txn, page }) => Some((txn.get(), page.get())),
         _ => None,
-    };
-    assert!(rt; said == Some((7, 5)));
-    Ok(())
+    }
+}
+
+fn is_ask_read(alloc: Global) -> Option<bool> {
+    let (frame, used) = decode(alloc, &small_limits()?, ASK_READ.as_slice()).ok()?;
+    let numbers = (frame.client.get(), frame.incarnation.get());
+    Some(used == 28 && numbers == (3, 1) && ask_of(&frame) == Some((7, 5)))
+}
+
+#[test]
+fn ask_read_bytes(rt: HostRuntime) {
+    assert!(rt; is_spelled(rt.alloc(), &ask_read(), ASK_READ.as_slice()) == Some(true));
+    assert!(rt; is_ask_read(rt.alloc()) == Some(true));
 }
 
 // The frame that is spelled in `GRANTED`, whose page bytes are lent.
@@ -148,121 +161,180 @@ fn granted_lent(alloc: Global) -> Result<Vec<u8>, AllocError> {
     )
 }
 
-#[test]
-fn granted_bytes(rt: HostRuntime) -> Result<(), Fail> {
-    let limits = small_limits()?;
-    let granted = Frame {
+// That frame.
+fn granted(alloc: Global) -> Option<Frame> {
+    Some(Frame {
         client: ClientNo::new(0),
         incarnation: Incarnation::new(1),
         body: Body::Granted {
             page: PageNo::new(5),
             grant: GrantNo::new(1),
             version: Version::new(0),
-            bytes: Page::zeros(rt.alloc(), 16)?,
+            bytes: Page::zeros(alloc, 16).ok()?,
         },
-    };
-    assert!(rt; granted.fits(&limits));
-    let bytes = encode(rt.alloc(), &granted)?;
-    assert!(rt; bytes.as_slice() == GRANTED.as_slice());
-    let lent = granted_lent(rt.alloc())?;
-    assert!(rt; lent.as_slice() == GRANTED.as_slice());
-    let (frame, used) = decode(rt.alloc(), &limits, GRANTED.as_slice())?;
-    assert!(rt; used == 56);
-    let said = match &frame.body {
-        Body::Granted { page, bytes, .. } => Some((page.get(), bytes.as_slice())),
-        _ => None,
-    };
-    assert!(rt; said == Some((5, [0; 16].as_slice())));
-    Ok(())
+    })
 }
 
-#[test]
-fn commit_frame_faults(rt: HostRuntime) -> Result<(), Fail> {
-    let alloc = rt.alloc();
-    for (len, count, pages, fault) in COMMITS {
-        let bytes = commit_bytes(alloc, 2, len, count, pages)?;
-        assert!(rt; fault_of(alloc, bytes.as_slice())? == fault);
-        let shorter = len - 2 * pages.len() as u8;
-        let bytes = commit_bytes(alloc, 1, shorter, count, pages)?;
-        assert!(rt; fault_of(alloc, bytes.as_slice())? == fault);
+fn is_granted_spelled(alloc: Global) -> Option<bool> {
+    let frame = granted(alloc)?;
+    is_spelled(alloc, &frame, GRANTED.as_slice())
+}
+
+fn is_lent_spelled(alloc: Global) -> Option<bool> {
+    let lent = granted_lent(alloc).ok()?;
+    Some(lent.as_slice() == GRANTED.as_slice())
+}
+
+// Whether it is a Granted of page 5 and zeros.
+fn is_zeros_of_5(frame: &Frame) -> bool {
+    match &frame.body {
+        Body::Granted { page, bytes, .. } => {
+            page.get() == 5 && bytes.as_slice() == [0; 16].as_slice()
+        }
+        _ => false,
     }
-    Ok(())
+}
+
+fn is_granted_read(alloc: Global) -> Option<bool> {
+    let (frame, used) = decode(alloc, &small_limits()?, GRANTED.as_slice()).ok()?;
+    Some(used == 56 && is_zeros_of_5(&frame))
 }
 
 #[test]
-fn decode_faults(rt: HostRuntime) -> Result<(), Fail> {
-    let alloc = rt.alloc();
-    assert!(rt; fault_of(alloc, [].as_slice())? == Some(FrameFault::Short));
-    assert!(rt; faults_are(alloc, ASK_READ.as_slice(), OF_ASK_READ.as_slice())?);
-    assert!(rt; faults_are(alloc, GRANTED.as_slice(), OF_GRANTED.as_slice())?);
-    Ok(())
+fn granted_bytes(rt: HostRuntime) {
+    assert!(rt; is_granted_spelled(rt.alloc()) == Some(true));
+    assert!(rt; is_lent_spelled(rt.alloc()) == Some(true));
+    assert!(rt; is_granted_read(rt.alloc()) == Some(true));
+}
+
+// Whether such a commit gives this fault, or none.
+fn commit_gives(
+    alloc: Global,
+    version: u8,
+    len: u8,
+    count: u8,
+    pages: &[u8],
+    fault: Option<FrameFault>,
+) -> bool {
+    match commit_bytes(alloc, version, len, count, pages) {
+        Ok(bytes) => fault_of(alloc, bytes.as_slice()) == fault,
+        Err(_) => false,
+    }
+}
+
+// Whether commits give their faults in both versions; an entry of the first is two bytes shorter.
+fn commits_give_faults(alloc: Global) -> bool {
+    for &(len, count, pages, fault) in &COMMITS {
+        let shorter = len.saturating_sub(2 * (pages.len() % 64) as u8);
+        if !commit_gives(alloc, 2, len, count, pages, fault)
+            || !commit_gives(alloc, 1, shorter, count, pages, fault)
+        {
+            return false;
+        }
+    }
+    true
+}
+
+#[test]
+fn commit_frame_faults(rt: HostRuntime) {
+    assert!(rt; commits_give_faults(rt.alloc()));
+}
+
+#[test]
+fn decode_faults(rt: HostRuntime) {
+    assert!(rt; fault_of(rt.alloc(), [].as_slice()) == Some(FrameFault::Short));
+    assert!(rt; faults_are(rt.alloc(), ASK_READ.as_slice(), OF_ASK_READ.as_slice()));
+    assert!(rt; faults_are(rt.alloc(), GRANTED.as_slice(), OF_GRANTED.as_slice()));
+}
+
+// The length that a header claims, and the fault.
+static CLAIMS: [([u8; 4], FrameFault); 3] = [
+    ([0x10, 0x01, 0x00, 0x0a], FrameFault::Short),
+    ([0x10, 0x02, 0x00, 0x1a], FrameFault::Length),
+    ([0xff, 0xff, 0xff, 0xff], FrameFault::Length),
+];
+
+// The header of a commit that claims such a length, and the beginning of its body.
+fn claiming(alloc: Global, claim: &[u8]) -> Option<Vec<u8>> {
+    let mut header = Vec::from_slice(alloc, &[2, 6, 0, 0, 0, 0, 0, 0, 0, 0, 0, 1]).ok()?;
+    header.extend_from_slice(claim).ok()?;
+    header
+        .extend_from_slice(&[0, 0, 0, 0, 0, 0, 0, 1, 0, 0])
+        .ok()?;
+    Some(header)
+}
+
+// Whether each claim gives its fault, under the greatest limits.
+fn claims_give_faults(alloc: Global, limits: &Limits) -> Option<bool> {
+    for (claim, fault) in &CLAIMS {
+        let header = claiming(alloc, claim.as_slice())?;
+        if decode(alloc, limits, header.as_slice()).err() != Some(*fault) {
+            return Some(false);
+        }
+    }
+    Some(true)
 }
 
 /// Headers that claim more than there is: by the greatest limits a body of 268,501,002 bytes can
 /// be.
 #[test]
 fn claims_past_the_bytes(rt: HostRuntime) -> Result<(), Fail> {
-    let alloc = rt.alloc();
     let greatest = Limits::new(32, 4096, 65_536, 2, 1, 1)?;
-    for (claim, fault) in [
-        ([0x10, 0x01, 0x00, 0x0a], FrameFault::Short),
-        ([0x10, 0x02, 0x00, 0x1a], FrameFault::Length),
-        ([0xff, 0xff, 0xff, 0xff], FrameFault::Length),
-    ] {
-        let mut header = Vec::from_slice(alloc, &[2, 6, 0, 0, 0, 0, 0, 0, 0, 0, 0, 1])?;
-        header.extend_from_slice(claim.as_slice())?;
-        header.extend_from_slice(&[0, 0, 0, 0, 0, 0, 0, 1, 0, 0])?;
-        let found = decode(alloc, &greatest, header.as_slice()).err();
-        assert!(rt; found == Some(fault));
-    }
+    assert!(rt; claims_give_faults(rt.alloc(), &greatest) == Some(true));
     Ok(())
 }
 
+static TEXTS: [(FrameFault, &str); 7] = [
+    (FrameFault::Short, "1 Short"),
+    (FrameFault::Version, "2 Version"),
+    (FrameFault::Kind, "3 Kind"),
+    (FrameFault::Length, "4 Length"),
+    (FrameFault::Range, "5 Range"),
+    (FrameFault::Order, "6 Order"),
+    (FrameFault::Memory, "7 Memory"),
+];
+
+fn is_fault_text(alloc: Global, fault: FrameFault, text: &str) -> bool {
+    format!(in alloc; "{fault}").is_ok_and(|printed| printed.as_str() == text)
+}
+
+fn is_bytes_text(alloc: Global, fault: BytesFault<FrameFault>, text: &str) -> bool {
+    format!(in alloc; "{fault}").is_ok_and(|printed| printed.as_str() == text)
+}
+
 #[test]
-fn texts_of_faults(rt: HostRuntime) -> Result<(), Fail> {
-    for (fault, text) in [
-        (FrameFault::Short, "1 Short"),
-        (FrameFault::Version, "2 Version"),
-        (FrameFault::Kind, "3 Kind"),
-        (FrameFault::Length, "4 Length"),
-        (FrameFault::Range, "5 Range"),
-        (FrameFault::Order, "6 Order"),
-        (FrameFault::Memory, "7 Memory"),
-    ] {
-        let printed = format!(in rt.alloc(); "{fault}")?;
-        assert!(rt; printed.as_str() == text);
+fn texts_of_faults(rt: HostRuntime) {
+    for (fault, text) in &TEXTS {
+        assert!(rt; is_fault_text(rt.alloc(), *fault, text));
     }
-    let frame: BytesFault<FrameFault> = BytesFault::Frame(FrameFault::Order);
-    let printed = format!(in rt.alloc(); "{frame}")?;
-    assert!(rt; printed.as_str() == "1 Frame: 6 Order");
+    let frame = BytesFault::Frame(FrameFault::Order);
+    assert!(rt; is_bytes_text(rt.alloc(), frame, "1 Frame: 6 Order"));
     let taker = BytesFault::Taker(FrameFault::Memory);
-    let printed = format!(in rt.alloc(); "{taker}")?;
-    assert!(rt; printed.as_str() == "2 Taker: 7 Memory");
-    Ok(())
+    assert!(rt; is_bytes_text(rt.alloc(), taker, "2 Taker: 7 Memory"));
+}
+
+// Whether so many bytes are read, and come back, as far as there is memory for that.
+fn comes_back(alloc: Global, limits: &Limits, bytes: &[u8]) -> bool {
+    match decode(alloc, limits, bytes) {
+        Ok((frame, used)) => used == bytes.len() && is_spelled(alloc, &frame, bytes) != Some(false),
+        Err(fault) => fault == FrameFault::Memory,
+    }
+}
+
+// The same of the bytes of a commit.
+fn commit_comes_back(alloc: Global, limits: &Limits) -> bool {
+    match commit_bytes(alloc, 2, 74, 2, [5, 6].as_slice()) {
+        Ok(bytes) => comes_back(alloc, limits, bytes.as_slice()),
+        Err(_) => true,
+    }
 }
 
 // Run with each allocation refused in turn: what isn't refused is as ever.
 #[test]
 fn refused_growths(rt: HostRuntime) -> Result<(), Fail> {
-    let limits = small_limits()?;
-    match decode(rt.alloc(), &limits, GRANTED.as_slice()) {
-        Ok((frame, used)) => {
-            assert!(rt; used == 56);
-            assert!(rt; frame.fits(&limits));
-            if let Ok(bytes) = encode(rt.alloc(), &frame) {
-                assert!(rt; bytes.as_slice() == GRANTED.as_slice());
-            }
-        }
-        Err(fault) => assert!(rt; fault == FrameFault::Memory),
-    }
-    if let Ok(bytes) = granted_lent(rt.alloc()) {
-        assert!(rt; bytes.as_slice() == GRANTED.as_slice());
-    }
-    if let Ok(bytes) = commit_bytes(rt.alloc(), 2, 74, 2, [5, 6].as_slice()) {
-        match decode(rt.alloc(), &limits, bytes.as_slice()) {
-            Ok((_, used)) => assert!(rt; used == 90),
-            Err(fault) => assert!(rt; fault == FrameFault::Memory),
-        }
-    }
+    let limits = Limits::new(4, 8, 16, 4, 1, 2)?;
+    assert!(rt; comes_back(rt.alloc(), &limits, GRANTED.as_slice()));
+    assert!(rt; is_lent_spelled(rt.alloc()) != Some(false));
+    assert!(rt; commit_comes_back(rt.alloc(), &limits));
     Ok(())
 }

@@ -1,12 +1,12 @@
 //! Each call that can answer Memory, at the greatest limits that a test's time bears: with memory
 //! left, none does.
-ghost use Rattle.std.specs.Prelude.{◌≤◌};
+ghost use Rattle.std.specs.Prelude.{◌≡◌, ◌≤◌, length};
 
 use cb_frame::{Body, Frame, Write, Writes, decode, encode, encode_granted};
 use cb_page::{
     ClientNo, GrantNo, Incarnation, Limits, MAX_NUMBER, Page, PageNo, PageSet, TxnNo, Version,
 };
-use std::alloc::Global;
+use std::alloc::{AllocError, Global};
 use std::test::Fail;
 
 // A commit that writes the first pages of a store, as many as it says, each of that size.
@@ -41,16 +41,20 @@ fn comes_back(alloc: Global, limits: &Limits, frame: &Frame, len: usize) -> Resu
     Ok(used == len && bytes.len() == len && read.kind() == frame.kind() && read.fits(limits))
 }
 
-#[test]
-fn frames_at_the_greatest_limits(rt: HostRuntime) -> Result<(), Fail> {
-    let alloc = rt.alloc();
-    let many = Limits::new(32, 4096, 16, 1024, 1023, 4096)?;
-    let all_pages = commit(alloc, 4096, 16)?;
-    assert!(rt; comes_back(alloc, &many, &all_pages, 16 + 10 + 4096 * 32)?);
-    let large = Limits::new(32, 4096, 65_536, 1024, 1023, 4096)?;
-    let large_pages = commit(alloc, 64, 65_536)?;
-    assert!(rt; comes_back(alloc, &large, &large_pages, 16 + 10 + 64 * 65_552)?);
-    let granted = Frame {
+// Whether a commit of so many pages of that size comes back.
+fn commit_comes_back(alloc: Global, count: u32, page_size: u64) -> Result<bool, Fail>
+    requires { count ≤ 4096 }
+{
+    let limits = Limits::new(32, 4096, page_size, 1024, 1023, 4096)?;
+    let pages = commit(alloc, count, limits.page_size())?;
+    let entry = limits.page_size().saturating_add(16);
+    let len = entry.saturating_mul(count as usize).saturating_add(26);
+    comes_back(alloc, &limits, &pages, len)
+}
+
+// A grant of a page of the greatest size.
+fn granted(alloc: Global) -> Result<Frame, Fail> {
+    Ok(Frame {
         client: ClientNo::new(31),
         incarnation: Incarnation::new(MAX_NUMBER),
         body: Body::Granted {
@@ -59,29 +63,56 @@ fn frames_at_the_greatest_limits(rt: HostRuntime) -> Result<(), Fail> {
             version: Version::new(MAX_NUMBER),
             bytes: Page::zeros(alloc, 65_536)?,
         },
-    };
-    assert!(rt; comes_back(alloc, &large, &granted, 16 + 24 + 65_536)?);
-    Ok(())
+    })
+}
+
+fn granted_comes_back(alloc: Global) -> Result<bool, Fail> {
+    let limits = Limits::new(32, 4096, 65_536, 1024, 1023, 4096)?;
+    let frame = granted(alloc)?;
+    comes_back(alloc, &limits, &frame, 16 + 24 + 65_536)
 }
 
 #[test]
-fn pages_at_the_greatest_limits(rt: HostRuntime) -> Result<(), Fail> {
-    let alloc = rt.alloc();
-    let page = Page::zeros(alloc, 65_536)?;
-    let copy = Page::copy_of(alloc, page.as_slice())?;
-    assert!(rt; copy.len() == 65_536);
-    let lent = encode_granted(
+fn frames_at_the_greatest_limits(rt: HostRuntime) -> Result<(), Fail> {
+    let many = commit_comes_back(rt.alloc(), 4096, 16)?;
+    let large = commit_comes_back(rt.alloc(), 64, 65_536)?;
+    let granted = granted_comes_back(rt.alloc())?;
+    assert!(rt; many && large && granted);
+    Ok(())
+}
+
+// The bytes of a grant of a page of the greatest size, which are lent.
+fn lent(alloc: Global, bytes: &[u8]) -> Result<Vec<u8>, AllocError>
+    requires { length bytes.now ≡ 65536 }
+{
+    encode_granted(
         alloc,
         ClientNo::new(31),
         Incarnation::new(MAX_NUMBER),
         PageNo::new(4095),
         GrantNo::new(MAX_NUMBER),
         Version::new(MAX_NUMBER),
-        &copy.as_slice()[..65_536],
-    )?;
-    assert!(rt; lent.len() == 16 + 24 + 65_536);
+        bytes,
+    )
+}
+
+// How many bytes such a grant has, of a copy of a page of zeros.
+fn len_of_granted(alloc: Global) -> Result<usize, AllocError> {
+    let page = Page::zeros(alloc, 65_536)?;
+    let copy = Page::copy_of(alloc, page.as_slice())?;
+    Ok(lent(alloc, copy.as_slice())?.len())
+}
+
+// The first page of a set of the last page of all.
+fn first_of_last(alloc: Global) -> Result<Option<usize>, AllocError> {
     let mut set = PageSet::new(alloc, 4096)?;
     set.insert(PageNo::new(4095));
-    assert!(rt; set.next(0).map(PageNo::index) == Some(4095));
+    Ok(set.next(0).map(PageNo::index))
+}
+
+#[test]
+fn pages_at_the_greatest_limits(rt: HostRuntime) -> Result<(), Fail> {
+    assert!(rt; len_of_granted(rt.alloc())? == 16 + 24 + 65_536);
+    assert!(rt; first_of_last(rt.alloc())? == Some(4095));
     Ok(())
 }

@@ -1,0 +1,5 @@
+use Rattle.std.proofs.Common.{rules}
+use Rattle.cb_locks.proofs.callback_due.CallbackDue.give_down.Goals as goal
+
+pub returns : goal.returns
+returns c = search rules
