@@ -1,5 +1,5 @@
 -- A new client, and that a client is still reached after a call or a message.
-use Rattle.std.proofs.Common.{◌≡◌, ◌<◌, ℕ, Bool, false, List, [], length, replicate, None, refl, subst, sym, ◌∙◌, ap}
+use Rattle.std.proofs.Common.{◌≡◌, ◌<◌, ℕ, Bool, false, List, [], length, replicate, slice_index_or, zero, suc, None, unwrap_or, refl, subst, sym, ◌∙◌, ap}
 use Rattle.std.proofs.Math.ListN.{get_or, set, length-set}
 use Rattle.std.proofs.lemmas.List.{length-replicate}
 use Rattle.std.specs.Option.{is_some}
@@ -20,14 +20,20 @@ use Rattle.cb_protocol.specs.Serial.{Operation}
 use Rattle.cb_client.specs.ClientState.{ClientState, IsClient, IsReached, client_of, downgrade_of, new_state}
 use Rattle.cb_client.specs.ByTable.{Calls, Takes, limits_at}
 
+-- a list of one value has it everywhere, also past the end
+default_everywhere : {A : Type 0} (n q : ℕ) (a : A) → slice_index_or (replicate n a) q a ≡ a
+default_everywhere zero q a = refl
+default_everywhere (suc n) zero a = refl
+default_everywhere (suc n) (suc q) a = default_everywhere n q a
+
 -- it has no copies and no locks
 pub starts : (number incarnation : ℕ) (limits : Bounds) → client_of (new_state number incarnation limits) [] ≡ new_client
 starts number incarnation limits = λ i. record new_client {
   cache = record new_client.cache {
-    seen = λ q. (default_everywhere limits.pages q no_copy i).seen;
+    seen = λ q. unwrap_or (default_everywhere limits.pages q no_copy i).seen 0;
     held = λ q. (default_everywhere limits.pages q no_copy i).held;
     version = λ q. (default_everywhere limits.pages q no_copy i).version;
-    tag = λ q. (default_everywhere limits.pages q no_copy i).tag;
+    tag = λ q. unwrap_or (default_everywhere limits.pages q no_copy i).tag 0;
     content = λ q. default_everywhere limits.pages q None i;
     may_write = λ q. default_everywhere limits.pages q false i;
     wrote = λ q. default_everywhere limits.pages q false i;
@@ -39,8 +45,8 @@ starts number incarnation limits = λ i. record new_client {
 }
 
 pub starts_sound : (number incarnation : ℕ) (limits : Bounds) → number < limits.clients → IsNumber incarnation → IsClient (new_state number incarnation limits)
-starts_sound number incarnation limits no is = record {
-  no = no;
+starts_sound number incarnation limits lt is = record {
+  no = lt;
   incarnation = is;
   locked = length-replicate limits.pages false;
   dues = length-replicate limits.pages nothing_due;
@@ -63,7 +69,7 @@ same_limits v w operations e a = record {
 
 -- by a call
 pub calls_reach : (v w : ClientState) (call : Call) {answered : _} {messages : _} {history : _} → Calls v call answered messages history w → IsReached v → IsReached w
-calls_reach v w call {answered} {messages} {history} c r =
+calls_reach v w call {word} {messages} {history} c r =
     same_limits v w (history r.operations) c.makes.limits
     (subst (λ (k : Client). Arises (limits_at v) (InputFits (limits_at v)) k) (c.makes.after r.operations)
     (Continues (client_of v r.operations) (ReceivesCall call) r.arises tt tt))
