@@ -1,2 +1,3 @@
 pub mod Reaching
+pub mod Refusals
 pub mod CallSteps
