@@ -108,16 +108,29 @@ fn bring<Q: Chooser>(
     }
 }
 
+/// The number of a grant, 0 for none.
+fn grant_or_zero(grant: Option<GrantNo>) -> u64 {
+    match grant {
+        Some(grant) => grant.get(),
+        None => 0,
+    }
+}
+
 /// What is known of a page.
 fn known<Q: Chooser>(copies: &Copies<Q>, page: PageNo) -> Seen
     requires { page < copies.now.limits.pages }
 {
     let copy = copies.at(page);
-    let held = match copy.held {
-        Some(grant) => grant.get(),
+    let tag = match copy.tag {
+        Some(txn) => txn.get(),
         None => 0,
     };
-    Known(held, copy.seen, copy.version.get(), copy.tag)
+    Known(
+        grant_or_zero(copy.held),
+        grant_or_zero(copy.seen),
+        copy.version.get(),
+        tag,
+    )
 }
 
 /// A permission comes for a page that is held.

@@ -41,7 +41,7 @@ module _ (pages : List (Option Bytes)) (page : ℕ) (bytes : Bytes) (below : pag
 
 pub keeps_installed : (v : CopiesState) (page grant version : ℕ) (bytes : Bytes) (gone : Option ℕ) → page < v.limits.pages → AreCopies v → MayGo v.pool page gone
     → AreCopies (record v {
-      rows = slice_set v.rows page (record (copy_at v page) { seen = grant; held = Some grant; version = version });
+      rows = slice_set v.rows page (record (copy_at v page) { seen = Some grant; held = Some grant; version = version });
       pool = record v.pool { pages = slice_set (let_go gone v.pool.pages) page (Some bytes) };
     })
 keeps_installed v page grant version bytes gone lt are may = record {
@@ -63,7 +63,7 @@ keeps_installed v page grant version bytes gone lt are may = record {
 }
   where
     new : PageCopy
-    new = record (copy_at v page) { seen = grant; held = Some grant; version = version }
+    new = record (copy_at v page) { seen = Some grant; held = Some grant; version = version }
 
     below : page < length v.rows
     below = let r = are.sizes.rows in omega arith

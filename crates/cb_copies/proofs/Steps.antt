@@ -1,5 +1,5 @@
 -- What the protocol's steps make of copies.
-use Rattle.std.proofs.Common.{◌≡◌, ◌≢◌, ◌<◌, ◌≤◌, ℕ, Bool, true, false, max, if◌then◌else◌, List, [], ◌∷◌, ◌++◌, length, replicate, slice_set, Option, Some, None, IfSome, Result, Ok, Err, IfOk, refl, sym, ◌∙◌, ap, arith}
+use Rattle.std.proofs.Common.{◌≡◌, ◌≢◌, ◌<◌, ◌≤◌, ℕ, Bool, true, false, max, if◌then◌else◌, List, [], ◌∷◌, ◌++◌, length, replicate, slice_set, Option, Some, None, unwrap_or, IfSome, Result, Ok, Err, IfOk, refl, sym, ◌∙◌, ap, arith}
 use Rattle.cb_page.specs.Flags.{has}
 use Rattle.cb_pool.specs.PoolState.{PoolState, copy_of, let_go, MayGo}
 use Rattle.cb_pool.specs.declared.pool.PoolFault.{PoolFault}
@@ -15,17 +15,17 @@ use Rattle.cb_copies.proofs.PoolRoom.{may_let_go, within_pool}
 
 pub refuses : (v : CopiesState) (page grant : ℕ) → page < v.limits.pages → HaveSizes v
     → Does v (ChangeCache (RefuseGrant page grant) ∷ [])
-    (record v { rows = slice_set v.rows page (record (copy_at v page) { seen = max (copy_at v page).seen grant }) })
+    (record v { rows = slice_set v.rows page (record (copy_at v page) { seen = Some (max (unwrap_or (copy_at v page).seen 0) grant) }) })
 refuses v page grant lt sizes =
     let below : page < length v.rows = let r = sizes.rows in omega arith in
-    let new : PageCopy = record (copy_at v page) { seen = max (copy_at v page).seen grant } in
+    let new : PageCopy = record (copy_at v page) { seen = Some (max (unwrap_or (copy_at v page).seen 0) grant) } in
     record {
       becomes = λ client i. record (client_with v client) {
         cache = record (client_with v client).cache {
-          seen = λ q. put_field (λ c. c.seen) v.rows page q new below i;
+          seen = λ q. put_field (λ c. unwrap_or c.seen 0) v.rows page q new below i;
           held = λ q. put_same (λ c. c.held) v.rows page q new below refl i;
           version = λ q. put_same (λ c. c.version) v.rows page q new below refl i;
-          tag = λ q. put_same (λ c. c.tag) v.rows page q new below refl i;
+          tag = λ q. put_same (λ c. unwrap_or c.tag 0) v.rows page q new below refl i;
         };
       };
       limits = refl;
@@ -46,10 +46,10 @@ lets_go v page lt sizes =
     record {
       becomes = λ client i. record (client_with v client) {
         cache = record (client_with v client).cache {
-          seen = λ q. put_same (λ c. c.seen) v.rows page q new below refl i;
+          seen = λ q. put_same (λ c. unwrap_or c.seen 0) v.rows page q new below refl i;
           held = λ q. put_field (λ c. c.held) v.rows page q new below i;
           version = λ q. put_same (λ c. c.version) v.rows page q new below refl i;
-          tag = λ q. put_same (λ c. c.tag) v.rows page q new below refl i;
+          tag = λ q. put_same (λ c. unwrap_or c.tag 0) v.rows page q new below refl i;
           content = λ q. put_entry None v.pool.pages page q None pages i;
           may_write = λ q. put_entry false v.may_write page q false permitted i;
         };
@@ -60,20 +60,20 @@ lets_go v page lt sizes =
 pub takes_permission : (v : CopiesState) (page txn grant : ℕ) → page < v.limits.pages → HaveSizes v
     → DoesInTxn txn v (ChangeCache (TakePermission page grant) ∷ [])
     (record v {
-      rows = slice_set v.rows page (record (copy_at v page) { tag = txn });
+      rows = slice_set v.rows page (record (copy_at v page) { tag = Some txn });
       may_write = slice_set v.may_write page true;
     })
 takes_permission v page txn grant lt sizes =
     let below : page < length v.rows = let r = sizes.rows in omega arith in
     let permitted : page < length v.may_write = let r = sizes.may_write in omega arith in
-    let new : PageCopy = record (copy_at v page) { tag = txn } in
+    let new : PageCopy = record (copy_at v page) { tag = Some txn } in
     let tags : (client : Client) → client.cache.number ≡ txn → (q : ℕ)
-    → update (λ p. (copy_at v p).tag) page client.cache.number q ≡ (row_at (slice_set v.rows page new) q).tag =
-    λ client e q. ap (λ n. update (λ p. (copy_at v p).tag) page n q) e ∙ put_field (λ c. c.tag) v.rows page q new below in
+    → update (λ p. unwrap_or (copy_at v p).tag 0) page client.cache.number q ≡ unwrap_or (row_at (slice_set v.rows page new) q).tag 0 =
+    λ client e q. ap (λ n. update (λ p. unwrap_or (copy_at v p).tag 0) page n q) e ∙ put_field (λ c. unwrap_or c.tag 0) v.rows page q new below in
     record {
       becomes = λ client e i. record (client_with v client) {
         cache = record (client_with v client).cache {
-          seen = λ q. put_same (λ c. c.seen) v.rows page q new below refl i;
+          seen = λ q. put_same (λ c. unwrap_or c.seen 0) v.rows page q new below refl i;
           held = λ q. put_same (λ c. c.held) v.rows page q new below refl i;
           version = λ q. put_same (λ c. c.version) v.rows page q new below refl i;
           tag = λ q. tags client e q i;
@@ -142,14 +142,14 @@ fill_result v w page bytes (Err fault) new lt are pages may e = tt
 pub installs : (v : CopiesState) (page grant version : ℕ) (bytes : Bytes) (gone : Option ℕ) → page < v.limits.pages → AreCopies v → MayGo v.pool page gone
     → BringsIn v page (ChangeCache (Install page grant version bytes)) gone
     (record v {
-      rows = slice_set v.rows page (record (copy_at v page) { seen = grant; held = Some grant; version = version });
+      rows = slice_set v.rows page (record (copy_at v page) { seen = Some grant; held = Some grant; version = version });
       pool = record v.pool { pages = slice_set (let_go gone v.pool.pages) page (Some bytes) };
     })
 installs v page grant version bytes gone lt are may =
     record { does = by gone (goes_within v page gone may); by_law = λ out. may_let_go v are page out gone may }
   where
     new : PageCopy
-    new = record (copy_at v page) { seen = grant; held = Some grant; version = version }
+    new = record (copy_at v page) { seen = Some grant; held = Some grant; version = version }
 
     below : page < length v.rows
     below = let r = are.sizes.rows in omega arith
@@ -163,10 +163,10 @@ installs v page grant version bytes gone lt are may =
     by None within = record {
       becomes = λ client i. record (client_with v client) {
         cache = record (client_with v client).cache {
-          seen = λ q. put_field (λ c. c.seen) v.rows page q new below i;
+          seen = λ q. put_field (λ c. unwrap_or c.seen 0) v.rows page q new below i;
           held = λ q. put_field (λ c. c.held) v.rows page q new below i;
           version = λ q. put_field (λ c. c.version) v.rows page q new below i;
-          tag = λ q. put_same (λ c. c.tag) v.rows page q new below refl i;
+          tag = λ q. put_same (λ c. unwrap_or c.tag 0) v.rows page q new below refl i;
           content = λ q. pool_brings v.pool.pages None page q (Some bytes) pages within i;
         };
       };
@@ -175,10 +175,10 @@ installs v page grant version bytes gone lt are may =
     by (Some n) within = record {
       becomes = λ client i. record (client_with v client) {
         cache = record (client_with v client).cache {
-          seen = λ q. put_field (λ c. c.seen) v.rows page q new below i;
+          seen = λ q. put_field (λ c. unwrap_or c.seen 0) v.rows page q new below i;
           held = λ q. put_field (λ c. c.held) v.rows page q new below i;
           version = λ q. put_field (λ c. c.version) v.rows page q new below i;
-          tag = λ q. put_same (λ c. c.tag) v.rows page q new below refl i;
+          tag = λ q. put_same (λ c. unwrap_or c.tag 0) v.rows page q new below refl i;
           content = λ q. pool_brings v.pool.pages (Some n) page q (Some bytes) pages within i;
         };
       };
@@ -191,10 +191,10 @@ pub abandons : (v : CopiesState) (outcome : LastOutcome) (rows : List PageCopy) 
 abandons v outcome rows pool a b c n dropped emptied = record {
   becomes = λ client i. record (client_after v.limits.keep_write (client_with v client) (EndTransaction outcome ∷ ChangeCache Abandon ∷ [])) {
     cache = record (client_after v.limits.keep_write (client_with v client) (EndTransaction outcome ∷ ChangeCache Abandon ∷ [])).cache {
-      seen = λ q. sym (dropped.seen q) i;
+      seen = λ q. unwrap_or (sym (dropped.seen q) i) 0;
       held = λ q. sym (dropped.held q) i;
       version = λ q. sym (dropped.version q) i;
-      tag = λ q. sym (dropped.tag q) i;
+      tag = λ q. unwrap_or (sym (dropped.tag q) i) 0;
       content = λ q. sym (emptied.content q) i;
       may_write = λ q. none_in a q i;
       wrote = λ q. none_in b q i;

@@ -1,6 +1,6 @@
 -- A client's copies of pages, as its callers see them, and the protocol's client that has them.
 use Rattle.std.specs.Prelude.{◌≡◌, ℕ, Bool, true, false, ◌||◌, if◌then◌else◌, List, length}
-use Rattle.std.specs.Prelude.{replicate, Option, None}
+use Rattle.std.specs.Prelude.{replicate, unwrap_or, Option, None}
 use Rattle.std.specs.Option.{is_some}
 use Rattle.cb_page.specs.Bounds.{Bounds, AreInRange}
 use Rattle.cb_page.specs.Flags as flags
@@ -80,12 +80,12 @@ limits_of limits = record {
 abbrev pub client_with : CopiesState → Client → Client
 client_with copies client = record client {
   cache = record client.cache {
-    seen = λ page. (copy_at copies page).seen;
+    seen = λ page. unwrap_or (copy_at copies page).seen 0;
     held = λ page. (copy_at copies page).held;
     version = λ page. (copy_at copies page).version;
     content = λ page. content_at copies page;
     may_write = λ page. flags.has copies.may_write page;
-    tag = λ page. (copy_at copies page).tag;
+    tag = λ page. unwrap_or (copy_at copies page).tag 0;
     wrote = λ page. flags.has copies.wrote page;
   };
   wanted = λ page. flags.has copies.wanted page;

@@ -5,7 +5,7 @@ use Rattle.cb_copies.specs.declared.table.PageCopy.{PageCopy}
 
 -- a page that no grant ever came for
 abbrev pub no_copy : PageCopy
-no_copy = record { seen = 0; held = None; version = 0; tag = 0 }
+no_copy = record { seen = None; held = None; version = 0; tag = None }
 
 -- what is kept of a page
 abbrev pub row_at : List PageCopy → (page : ℕ) → PageCopy

@@ -14,7 +14,7 @@ ghost use Rattle.cb_copies.specs.CopiesState.{limits_of, no_copies};
 ghost use Rattle.cb_copies.specs.ByTable.{BringsIn, Does, DoesInTxn};
 ghost use Rattle.cb_copies.specs.Lending.{copies_end_as};
 
-use crate::table::{CopyTable, PageCopy};
+use crate::table::{CopyTable, PageCopy, greatest_grant};
 use crate::written::{drop_copies, set_versions};
 use cb_page::{CommitNo, GrantNo, Limits, Page, PageNo, PageSet, TxnNo, Version};
 use cb_pool::{Pool, PoolFault};
@@ -197,7 +197,7 @@ impl<Q: Chooser> Copies<Q> {
         self.table.put(
             page,
             PageCopy {
-                seen: grant.get(),
+                seen: Some(grant),
                 held: Some(grant),
                 version,
                 ..copy
@@ -230,7 +230,7 @@ impl<Q: Chooser> Copies<Q> {
         self.table.put(
             page,
             PageCopy {
-                seen: copy.seen.max(grant.get()),
+                seen: Some(greatest_grant(copy.seen, grant)),
                 ..copy
             },
         );
@@ -260,7 +260,7 @@ impl<Q: Chooser> Copies<Q> {
         self.table.put(
             page,
             PageCopy {
-                tag: txn.get(),
+                tag: Some(txn),
                 ..copy
             },
         );

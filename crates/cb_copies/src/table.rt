@@ -1,22 +1,33 @@
 //! What is kept of each page beside its bytes.
-ghost use Rattle.std.specs.Prelude.{◌≡◌, ◌<◌, length, replicate, slice_set, IfOk};
+ghost use Rattle.std.specs.Prelude.{◌≡◌, ◌<◌, length, max, replicate, slice_set};
+ghost use Rattle.std.specs.Prelude.{unwrap_or, IfOk};
 ghost use Rattle.cb_copies.specs.Rows.{no_copy, row_at};
 
-use cb_page::{GrantNo, PageNo, Version};
+use cb_page::{GrantNo, PageNo, TxnNo, Version};
 use std::alloc::{AllocError, Global};
 use std::marker::Model;
 
 /// What a client knows of a page beside its bytes.
 #[derive(Clone, Copy, Debug)]
 pub struct PageCopy {
-    /// The greatest grant that ever came for the page, 0 before the first.
-    pub seen: u64,
+    /// The greatest grant that ever came for the page.
+    pub seen: Option<GrantNo>,
     /// The grant of the copy that is held.
     pub held: Option<GrantNo>,
     /// The version of the copy held; where none is, that of the last one.
     pub version: Version,
-    /// The transaction that was last permitted to write the page, 0 before the first.
-    pub tag: u64,
+    /// The transaction that was last permitted to write the page.
+    pub tag: Option<TxnNo>,
+}
+
+/// The greater of a grant and the greatest that came before it.
+pub(crate) fn greatest_grant(seen: Option<GrantNo>, grant: GrantNo) -> GrantNo
+    ensures { result ≡ max (unwrap_or seen 0) grant }
+{
+    match seen {
+        Some(before) if grant < before => before,
+        _ => grant,
+    }
 }
 
 /// What is known of each page.
@@ -40,10 +51,10 @@ impl CopyTable {
         ensures { IfOk result (λ table. table ≡ replicate pages no_copy) }
     {
         let nothing = PageCopy {
-            seen: 0,
+            seen: None,
             held: None,
             version: Version::new(0),
-            tag: 0,
+            tag: None,
         };
         Ok(CopyTable {
             rows: vec![in alloc; nothing; pages]?,
