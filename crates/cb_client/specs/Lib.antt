@@ -1,0 +1,4 @@
+pub use Rattle.cb_outbox.specs.Messages
+pub mod ClientState
+pub mod ByTable
+pub mod Lending

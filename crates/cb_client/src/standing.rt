@@ -1,0 +1,51 @@
+//! Where a client stands: with its transaction, its ask, and its last outcome.
+
+use cb_page::{CommitNo, PageNo};
+
+/// Where the transaction is.
+#[derive(Clone, Copy, Debug, PartialEq, Eq)]
+pub enum Stage {
+    /// There is none.
+    Idle,
+    /// It is open.
+    Open,
+    /// Its commit is out.
+    Committing,
+}
+
+/// The ask that is out.
+#[derive(Clone, Copy, Debug, PartialEq, Eq)]
+pub enum Ask {
+    /// None is.
+    Nothing,
+    /// To read this page.
+    Read(PageNo),
+    /// To write this page.
+    Write(PageNo),
+}
+
+/// How a transaction ended.
+#[derive(Clone, Copy, Debug, PartialEq, Eq)]
+pub enum Outcome {
+    /// By a commit of this number.
+    Committed(CommitNo),
+    /// By its client's `drop_txn`.
+    Dropped,
+    /// By the server, as the victim of a deadlock.
+    Aborted,
+}
+
+/// What a client says of itself.
+#[derive(Clone, Copy, Debug, PartialEq, Eq)]
+pub enum ClientStatus {
+    /// The server's Welcome has not come.
+    NotWelcome,
+    /// There is no transaction.
+    Idle,
+    /// A transaction is open, and waits for nothing.
+    Open,
+    /// A transaction is open, and an ask is out.
+    Waiting,
+    /// A commit is out.
+    Committing,
+}
