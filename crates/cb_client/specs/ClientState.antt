@@ -1,12 +1,11 @@
 -- A client as its callers see it, and the protocol's client that it is.
 use Rattle.std.specs.Prelude.{◌≡◌, ℕ, ◌<◌, Bool, false, List, length, Option, Some, None, unwrap_or}
-use Rattle.std.specs.Option.{is_some}
+use Rattle.std.specs.Prelude.{IfSome}
 use Rattle.cb_page.specs.Bounds.{Bounds}
-use Rattle.cb_page.specs.Flags as flags
 use Rattle.cb_page.specs.Numbers.{IsNumber}
-use Rattle.cb_copies.specs.CopiesState.{CopiesState, client_with, limits_of, no_copies}
+use Rattle.cb_copies.specs.CopiesState.{CopiesState, client_with, copy_at, limits_of, no_copies}
+use Rattle.cb_locks.specs.Dues.{called_by}
 use Rattle.cb_locks.specs.Locks.{LocksState, due_at, no_locks}
-use Rattle.cb_locks.specs.declared.dues.DueDowngrade as locks
 use Rattle.cb_protocol.specs.Cache.{Committing, Idle, Open, TransactionState, new_cache}
 use Rattle.cb_protocol.specs.Client as protocol
 use Rattle.cb_protocol.specs.ClientAlone.{Arises}
@@ -20,6 +19,9 @@ use Rattle.cb_client.specs.declared.standing.Outcome.{Outcome}
 use Rattle.cb_client.specs.declared.standing.Outcome.TheVariants as outcomes
 use Rattle.cb_client.specs.declared.standing.Stage.{Stage}
 use Rattle.cb_client.specs.declared.standing.Stage.TheVariants as stages
+
+-- the client with what its locks say, and a downgrade that is due
+pub use Rattle.cb_ending.specs.Owing.{downgrade_of, locks_with}
 
 -- One incarnation of a client: its number and its own, whether the Welcome came, the last
 -- transaction and where it is, the ask that is out, the last transaction dropped or aborted and how
@@ -62,19 +64,6 @@ status_of statuses.Idle = protocol.StatusIdle
 status_of statuses.Open = protocol.StatusOpen
 status_of statuses.Waiting = protocol.StatusWaiting
 status_of statuses.Committing = protocol.StatusCommitting
-
--- a downgrade that is due
-abbrev pub downgrade_of : Option locks.DueDowngrade → Option protocol.DueDowngrade
-downgrade_of None = None
-downgrade_of (Some due) = Some (record { grant = due.grant; tag = due.tag })
-
--- the client with what these locks say in place of its own; all else stays
-abbrev pub locks_with : LocksState → protocol.Client → protocol.Client
-locks_with locks client = record client {
-  cache = record client.cache { locked = λ page. flags.has locks.locked page };
-  due = λ page. is_some (due_at locks page).callback;
-  due_downgrade = λ page. downgrade_of (due_at locks page).downgrade;
-}
 
 -- the protocol's client save its copies and its locks
 abbrev pub base_of : ClientState → List Operation → protocol.Client
@@ -127,4 +116,7 @@ pub record IsClient (client : ClientState) : Type 0 where
   pub same_client : client.locks.client ≡ client.no
   pub same_incarnation : client.locks.incarnation ≡ client.incarnation
   pub same_txn : client.locks.txn ≡ client.txn
+  -- what is due is of the grant held
+  pub due_held : (page : ℕ) → IfSome (called_by (due_at client.locks page))
+      (λ called. (copy_at client.copies page).held ≡ Some called.0)
   pub reached : IsReached client

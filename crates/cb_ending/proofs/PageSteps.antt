@@ -1,6 +1,6 @@
 -- What the table does of one page at the end.
 use Rattle.std.proofs.Common.{◌≡◌, ◌≤◌, ℕ, Bool, true, false, true≢false, not, ◌&&◌, ◌||◌, if◌then◌else◌, List, [], ◌∷◌, length, map, Option, Some, None, IfSome, MatchOption, refl, sym, ◌∙◌, ap, subst, arith}
-use Rattle.std.specs.Option.{is_some, option_map}
+use Rattle.std.specs.Option.{is_some}
 use Rattle.std.proofs.lemmas.Grind.{common_steps}
 use Rattle.cb_page.specs.Flags.{has}
 use Rattle.cb_protocol.specs.Basics.{is_none}
@@ -15,7 +15,7 @@ use Rattle.cb_locks.specs.declared.dues.DueDowngrade as locks
 use Rattle.cb_locks.specs.declared.dues.PageDue.{PageDue}
 use Rattle.cb_locks.specs.Dues.{bit, called_by, copy_first, is_due}
 use Rattle.cb_locks.specs.Locks.{LocksState, callback, callback_by, due_at, owed_at}
-use Rattle.cb_ending.specs.Owing.{holder, permission_due}
+use Rattle.cb_ending.specs.Owing.{downgrade_of, holder}
 use Rattle.cb_ending.specs.Ending.{page_steps}
 
 -- at most one message
@@ -62,10 +62,10 @@ says_at_most v l p d false false e f =
     none : (x : PageDue) → is_due x ≡ false → is_some x.callback ≡ false
     none x i = grind (arith, common_steps)
 
-    down : (x : PageDue) → is_due x ≡ false → option_map permission_due x.downgrade ≡ None
+    down : (x : PageDue) → is_due x ≡ false → downgrade_of x.downgrade ≡ None
     down x i = by x.downgrade refl
       where
-        by : (y : Option locks.DueDowngrade) → x.downgrade ≡ y → option_map permission_due y ≡ None
+        by : (y : Option locks.DueDowngrade) → x.downgrade ≡ y → downgrade_of y ≡ None
         by None t = refl
         by (Some y) t = absurd (true≢false (let a : is_some x.downgrade ≡ true = ap is_some t in grind (arith, common_steps)))
 

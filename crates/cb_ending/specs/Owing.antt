@@ -1,6 +1,6 @@
 -- What a client that has locked pages owes the server, and the protocol's client that has them.
 use Rattle.std.specs.Prelude.{◌≡◌, ℕ, true, length, Option, Some, None, IfSome}
-use Rattle.std.specs.Option.{is_some, option_map}
+use Rattle.std.specs.Option.{is_some}
 use Rattle.cb_page.specs.Flags.{has}
 use Rattle.cb_protocol.specs.Client.{Client, DueDowngrade, new_client}
 use Rattle.cb_locks.specs.Dues.{called_by, is_due}
@@ -8,16 +8,17 @@ use Rattle.cb_locks.specs.Locks.{LocksState, due_at}
 use Rattle.cb_locks.specs.declared.dues.DueDowngrade as locks
 use Rattle.cb_copies.specs.CopiesState.{CopiesState, client_with, content_at, copy_at}
 
--- the protocol's word for a permission that is due
-abbrev pub permission_due : locks.DueDowngrade → DueDowngrade
-permission_due due = record { grant = due.grant; tag = due.tag }
+-- a downgrade that is due
+abbrev pub downgrade_of : Option locks.DueDowngrade → Option DueDowngrade
+downgrade_of None = None
+downgrade_of (Some due) = Some (record { grant = due.grant; tag = due.tag })
 
--- the client with these locks in place of its own; all else stays
+-- the client with what these locks say in place of its own; all else stays
 abbrev pub locks_with : LocksState → Client → Client
 locks_with locks client = record client {
   cache = record client.cache { locked = λ page. has locks.locked page };
   due = λ page. is_some (due_at locks page).callback;
-  due_downgrade = λ page. option_map permission_due (due_at locks page).downgrade;
+  due_downgrade = λ page. downgrade_of (due_at locks page).downgrade;
 }
 
 -- a client that has these copies and locks
