@@ -1,1 +1,2 @@
 pub mod Reaching
+pub mod CallSteps

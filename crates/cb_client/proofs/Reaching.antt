@@ -54,7 +54,7 @@ starts_sound number incarnation limits lt is = record {
   same_client = refl;
   same_incarnation = refl;
   same_txn = refl;
-  due_held = λ page. subst (λ (due : PageDue). IfSome (called_by due) (λ called. (copy_at (no_copies limits) page).held ≡ Some called.0)) (sym (default_everywhere limits.pages page nothing_due)) tt;
+  due_held = λ q. rw (default_everywhere limits.pages q nothing_due) tt;
   reached = record {
     operations = [];
     arises = subst (λ (k : Client). Arises (limits_of limits) (InputFits (limits_of limits)) k) (sym (starts number incarnation limits)) StartsNew;
@@ -70,14 +70,14 @@ same_limits v w operations e a = record {
 }
 
 -- by a call
-pub calls_reach : (v w : ClientState) (call : Call) {answered : _} {messages : _} {history : _} → Calls v call answered messages history w → IsReached v → IsReached w
-calls_reach v w call {word} {messages} {history} c r =
+pub calls_reach : (v w : ClientState) (call : Call) {word : _} {said : _} {history : _} → Calls v call word said history w → IsReached v → IsReached w
+calls_reach v w call {word} {said} {history} c r =
     same_limits v w (history r.operations) c.makes.limits
     (subst (λ (k : Client). Arises (limits_at v) (InputFits (limits_at v)) k) (c.makes.after r.operations)
     (Continues (client_of v r.operations) (ReceivesCall call) r.arises tt tt))
 
 -- by a message that fits
-pub takes_reach : (v w : ClientState) (message : Body) {messages : _} → Takes v message messages w → BodyFits (limits_at v) message → IsReached v → IsReached w
+pub takes_reach : (v w : ClientState) (message : Body) {said : _} → Takes v message said w → BodyFits (limits_at v) message → IsReached v → IsReached w
 takes_reach v w message t fits r =
     same_limits v w (t.history r.operations) t.makes.limits
     (subst (λ (k : Client). Arises (limits_at v) (InputFits (limits_at v)) k) (t.makes.after r.operations)

@@ -1,9 +1,10 @@
 -- A client as its callers see it, and the protocol's client that it is.
-use Rattle.std.specs.Prelude.{◌≡◌, ℕ, ◌<◌, Bool, false, List, length, Option, Some, None, unwrap_or}
-use Rattle.std.specs.Prelude.{IfSome}
+use Rattle.std.specs.Prelude.{◌≡◌, ℕ, ◌<◌, Bool, false, List, length, Option, Some, None}
+use Rattle.std.specs.Prelude.{IfSome, unwrap_or}
 use Rattle.cb_page.specs.Bounds.{Bounds}
 use Rattle.cb_page.specs.Numbers.{IsNumber}
-use Rattle.cb_copies.specs.CopiesState.{CopiesState, client_with, copy_at, limits_of, no_copies}
+use Rattle.cb_copies.specs.CopiesState.{CopiesState, client_with, copy_at, limits_of}
+use Rattle.cb_copies.specs.CopiesState.{no_copies}
 use Rattle.cb_locks.specs.Dues.{called_by}
 use Rattle.cb_locks.specs.Locks.{LocksState, due_at, no_locks}
 use Rattle.cb_protocol.specs.Cache.{Committing, Idle, Open, TransactionState, new_cache}
@@ -116,7 +117,7 @@ pub record IsClient (client : ClientState) : Type 0 where
   pub same_client : client.locks.client ≡ client.no
   pub same_incarnation : client.locks.incarnation ≡ client.incarnation
   pub same_txn : client.locks.txn ≡ client.txn
-  -- what is due is of the grant held
+  -- a callback that is due names the grant held
   pub due_held : (page : ℕ) → IfSome (called_by (due_at client.locks page))
       (λ called. (copy_at client.copies page).held ≡ Some called.0)
   pub reached : IsReached client

@@ -1,4 +1,5 @@
 pub use Rattle.cb_outbox.specs.Messages
 pub mod ClientState
 pub mod ByTable
+pub mod CallAnswers
 pub mod Lending
