@@ -1,2 +1,4 @@
 pub mod Reaching
 pub mod CallSteps
+pub mod Taking
+pub mod RoomLeft

@@ -1,12 +1,15 @@
 -- A client as its callers see it, and the protocol's client that it is.
-use Rattle.std.specs.Prelude.{◌≡◌, ℕ, ◌<◌, Bool, false, List, length, Option, Some, None}
-use Rattle.std.specs.Prelude.{IfSome, unwrap_or}
+use Rattle.std.specs.Prelude.{◌≡◌, ℕ, ◌<◌, ◌≤◌, Bool, true, false, List, length, Option, Some}
+use Rattle.std.specs.Prelude.{None, IfSome, unwrap_or}
+use Rattle.std.specs.Option.{is_some}
 use Rattle.cb_page.specs.Bounds.{Bounds}
+use Rattle.cb_page.specs.Flags.{has}
 use Rattle.cb_page.specs.Numbers.{IsNumber}
 use Rattle.cb_copies.specs.CopiesState.{CopiesState, client_with, copy_at, limits_of}
-use Rattle.cb_copies.specs.CopiesState.{no_copies}
-use Rattle.cb_locks.specs.Dues.{called_by}
+use Rattle.cb_copies.specs.CopiesState.{content_at, no_copies}
+use Rattle.cb_locks.specs.Dues.{called_by, is_due}
 use Rattle.cb_locks.specs.Locks.{LocksState, due_at, no_locks}
+use Rattle.cb_protocol.specs.Basics.{Limits}
 use Rattle.cb_protocol.specs.Cache.{Committing, Idle, Open, TransactionState, new_cache}
 use Rattle.cb_protocol.specs.Client as protocol
 use Rattle.cb_protocol.specs.ClientAlone.{Arises}
@@ -107,6 +110,11 @@ pub record IsReached (client : ClientState) : Type 0 where
   pub arises : Arises (limits_of client.copies.limits) (InputFits (limits_of client.copies.limits))
       (client_of client operations)
 
+-- the pool can take one more page, and holds no more than it has slots for
+pub record HasRoomLeft (limits : Limits) (client : protocol.Client) : Type 0 where
+  pub room : protocol.has_room limits client ≡ true
+  pub within : protocol.pages_in_pool client limits.pages ≤ limits.slots
+
 -- What holds of every client (this project's rules): its parts are of one store, one client, one
 -- incarnation and one transaction, and it was reached by the protocol's steps.
 pub record IsClient (client : ClientState) : Type 0 where
@@ -120,4 +128,12 @@ pub record IsClient (client : ClientState) : Type 0 where
   -- a callback that is due names the grant held
   pub due_held : (page : ℕ) → IfSome (called_by (due_at client.locks page))
       (λ called. (copy_at client.copies page).held ≡ Some called.0)
+  -- a page of which something is due is locked, and so is one that is held without its bytes
+  pub due_locked : (page : ℕ) → is_due (due_at client.locks page) ≡ true
+      → has client.locks.locked page ≡ true
+  pub bare_locked : (page : ℕ) → is_some (copy_at client.copies page).held ≡ true
+      → content_at client.copies page ≡ None → has client.locks.locked page ≡ true
+  -- while an ask to read is out the pool has room
+  pub room : (page : ℕ) → client.ask ≡ asks.Read page → (other : protocol.Client)
+      → HasRoomLeft (limits_of client.copies.limits) (client_with client.copies other)
   pub reached : IsReached client
