@@ -1,15 +1,18 @@
 -- A new client, and that a client is still reached after a call or a message.
-use Rattle.std.proofs.Common.{◌≡◌, ◌<◌, ℕ, Bool, false, List, [], length, replicate, slice_index_or, zero, suc, None, unwrap_or, refl, subst, sym, ◌∙◌, ap}
+use Rattle.std.proofs.Common.{◌≡◌, ◌<◌, ℕ, Bool, false, true, true≢false, List, [], length, replicate, slice_index_or, zero, suc, Some, None, IfSome, unwrap_or, refl, subst, sym, ◌∙◌, ap}
 use Rattle.std.proofs.Math.ListN.{get_or, set, length-set}
 use Rattle.std.proofs.lemmas.List.{length-replicate}
 use Rattle.std.specs.Option.{is_some}
 use Rattle.cb_page.specs.Bounds.{Bounds}
 use Rattle.cb_page.specs.Flags as flags
 use Rattle.cb_page.specs.Numbers.{IsNumber}
-use Rattle.cb_copies.specs.CopiesState.{CopiesState, client_with, limits_of, no_copies}
+use Rattle.cb_copies.specs.CopiesState.{CopiesState, client_with, copy_at, limits_of, no_copies}
 use Rattle.cb_copies.specs.Rows.{no_copy}
+use Rattle.cb_copies.specs.declared.table.PageCopy.{PageCopy}
+use Rattle.cb_locks.specs.Dues.{is_due}
 use Rattle.cb_copies.proofs.Changing.{none_in}
-use Rattle.cb_locks.specs.Dues.{nothing_due}
+use Rattle.cb_locks.specs.Dues.{called_by, nothing_due}
+use Rattle.cb_locks.specs.declared.dues.PageDue.{PageDue}
 use Rattle.cb_locks.specs.Locks.{LocksState}
 use Rattle.cb_protocol.specs.Client.{Client, client_after, new_client}
 use Rattle.cb_protocol.specs.ClientAlone.{Arises, ClientInput, Continues, ReceivesCall, ReceivesMessage, StartsNew, client_steps_at}
@@ -54,6 +57,9 @@ starts_sound number incarnation limits lt is = record {
   same_incarnation = refl;
   same_txn = refl;
   due_held = λ q. rw (default_everywhere limits.pages q nothing_due) tt;
+  due_locked = λ q e. absurd (true≢false (sym e ∙ ap is_due (default_everywhere limits.pages q nothing_due)));
+  bare_locked = λ q e n. absurd (true≢false (sym e ∙ ap (λ (x : PageCopy). is_some x.held) (default_everywhere limits.pages q no_copy)));
+  room = λ q e other. absurd cc;
   reached = record {
     operations = [];
     arises = subst (λ (k : Client). Arises (limits_of limits) (InputFits (limits_of limits)) k) (sym (starts number incarnation limits)) StartsNew;

@@ -1,15 +1,15 @@
 -- A client as its callers see it, and the protocol's client that it is.
-use Rattle.std.specs.Prelude.{◌≡◌, ℕ, ◌<◌, Bool, false, List, length, Option, Some, None}
-use Rattle.std.specs.Prelude.{IfSome, unwrap_or}
+use Rattle.std.specs.Prelude.{◌≡◌, ℕ, ◌<◌, ◌≤◌, Bool, true, false, List, length, Option, Some}
+use Rattle.std.specs.Prelude.{None, IfSome, unwrap_or}
 use Rattle.std.specs.Option.{is_some}
 use Rattle.cb_page.specs.Bounds.{Bounds}
-use Rattle.cb_page.specs.Flags as flags
+use Rattle.cb_page.specs.Flags.{has}
 use Rattle.cb_page.specs.Numbers.{IsNumber}
 use Rattle.cb_copies.specs.CopiesState.{CopiesState, client_with, copy_at, limits_of}
-use Rattle.cb_copies.specs.CopiesState.{no_copies}
-use Rattle.cb_locks.specs.Dues.{called_by}
+use Rattle.cb_copies.specs.CopiesState.{content_at, no_copies}
+use Rattle.cb_locks.specs.Dues.{called_by, is_due}
 use Rattle.cb_locks.specs.Locks.{LocksState, due_at, no_locks}
-use Rattle.cb_locks.specs.declared.dues.DueDowngrade as locks
+use Rattle.cb_protocol.specs.Basics.{Limits}
 use Rattle.cb_protocol.specs.Cache.{Committing, Idle, Open, TransactionState, new_cache}
 use Rattle.cb_protocol.specs.Client as protocol
 use Rattle.cb_protocol.specs.ClientAlone.{Arises}
@@ -23,6 +23,9 @@ use Rattle.cb_client.specs.declared.standing.Outcome.{Outcome}
 use Rattle.cb_client.specs.declared.standing.Outcome.TheVariants as outcomes
 use Rattle.cb_client.specs.declared.standing.Stage.{Stage}
 use Rattle.cb_client.specs.declared.standing.Stage.TheVariants as stages
+
+-- the client with what its locks say, and a downgrade that is due
+pub use Rattle.cb_ending.specs.Owing.{downgrade_of, locks_with}
 
 -- One incarnation of a client: its number and its own, whether the Welcome came, the last
 -- transaction and where it is, the ask that is out, the last transaction dropped or aborted and how
@@ -66,19 +69,6 @@ status_of statuses.Open = protocol.StatusOpen
 status_of statuses.Waiting = protocol.StatusWaiting
 status_of statuses.Committing = protocol.StatusCommitting
 
--- a downgrade that is due
-abbrev pub downgrade_of : Option locks.DueDowngrade → Option protocol.DueDowngrade
-downgrade_of None = None
-downgrade_of (Some due) = Some (record { grant = due.grant; tag = due.tag })
-
--- the client with what these locks say in place of its own; all else stays
-abbrev pub locks_with : LocksState → protocol.Client → protocol.Client
-locks_with locks client = record client {
-  cache = record client.cache { locked = λ page. flags.has locks.locked page };
-  due = λ page. is_some (due_at locks page).callback;
-  due_downgrade = λ page. downgrade_of (due_at locks page).downgrade;
-}
-
 -- the protocol's client save its copies and its locks
 abbrev pub base_of : ClientState → List Operation → protocol.Client
 base_of client operations = record protocol.new_client {
@@ -120,6 +110,11 @@ pub record IsReached (client : ClientState) : Type 0 where
   pub arises : Arises (limits_of client.copies.limits) (InputFits (limits_of client.copies.limits))
       (client_of client operations)
 
+-- the pool can take one more page, and holds no more than it has slots for
+pub record HasRoomLeft (limits : Limits) (client : protocol.Client) : Type 0 where
+  pub room : protocol.has_room limits client ≡ true
+  pub within : protocol.pages_in_pool client limits.pages ≤ limits.slots
+
 -- What holds of every client (this project's rules): its parts are of one store, one client, one
 -- incarnation and one transaction, and it was reached by the protocol's steps.
 pub record IsClient (client : ClientState) : Type 0 where
@@ -133,4 +128,12 @@ pub record IsClient (client : ClientState) : Type 0 where
   -- a callback that is due names the grant held
   pub due_held : (page : ℕ) → IfSome (called_by (due_at client.locks page))
       (λ called. (copy_at client.copies page).held ≡ Some called.0)
+  -- a page of which something is due is locked, and so is one that is held without its bytes
+  pub due_locked : (page : ℕ) → is_due (due_at client.locks page) ≡ true
+      → has client.locks.locked page ≡ true
+  pub bare_locked : (page : ℕ) → is_some (copy_at client.copies page).held ≡ true
+      → content_at client.copies page ≡ None → has client.locks.locked page ≡ true
+  -- while an ask to read is out the pool has room
+  pub room : (page : ℕ) → client.ask ≡ asks.Read page → (other : protocol.Client)
+      → HasRoomLeft (limits_of client.copies.limits) (client_with client.copies other)
   pub reached : IsReached client

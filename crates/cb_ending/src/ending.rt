@@ -1,0 +1,1 @@
+//! The end of a transaction, over all pages.
