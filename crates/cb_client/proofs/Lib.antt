@@ -2,5 +2,6 @@ pub mod Reaching
 pub mod Refusals
 pub mod CallSteps
 pub mod Calling
+pub mod Writing
 pub mod Taking
 pub mod RoomLeft
