@@ -3,5 +3,6 @@ pub mod Refusals
 pub mod CallSteps
 pub mod Calling
 pub mod Writing
+pub mod FramesFit
 pub mod Taking
 pub mod RoomLeft

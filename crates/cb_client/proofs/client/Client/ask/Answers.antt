@@ -1,4 +1,4 @@
-use Rattle.std.proofs.Common.{refl}
+use Rattle.std.proofs.Common.{refl, rules}
 use Rattle.cb_client.proofs.Writing.{asking_open, asking_within}
 use Rattle.cb_client.proofs.client.Client.ask.Goals as goal
 
@@ -10,3 +10,6 @@ present_txn-txn-requires-in-Write g c = rw (← c.self.view_is) (asking_open _ c
 
 pub at-requires : goal.at-requires
 at-requires g c = asking_within _ _ c.self.invariant c.in-Write.is
+
+pub returns-in-Read : goal.returns-in-Read
+returns-in-Read g c = search rules
