@@ -4,7 +4,10 @@ use Rattle.std.specs.Prelude.{true, if◌then◌else◌, slice_set, unwrap_or}
 use Rattle.std.specs.Borrow.{Bor}
 use Rattle.std.specs.Option.{is_some, option_copied}
 use Rattle.cb_copies.specs.CopiesState.{content_at}
+use Rattle.cb_frame_types.specs.Grammar.{Fits}
+use Rattle.cb_frame_types.specs.declared.frame.Body.TheVariants.{Short}
 use Rattle.cb_frame_types.specs.declared.frame.Frame.{Frame}
+use Rattle.cb_page.specs.Bounds.{Bounds}
 use Rattle.cb_frame_types.specs.declared.frame.ShortFrame.{ShortFrame}
 use Rattle.cb_outbox.specs.Messages.{message_of, short_of}
 use Rattle.cb_protocol.specs.Answers as table
@@ -33,6 +36,19 @@ short_message frame = record {
 -- the transaction put these bytes into the page
 abbrev pub puts : (page : ℕ) → Bytes → List Operation → List Operation
 puts page bytes operations = Put page bytes ∷ operations
+
+-- such a frame fits the limits
+abbrev pub ShortFrameFits : Bounds → ShortFrame → Type 0
+ShortFrameFits limits frame = Fits limits (record {
+  client = frame.client;
+  incarnation = frame.incarnation;
+  body = Short frame.body;
+})
+
+-- so does the frame by which a permission is asked for
+abbrev pub WantFits : Bounds → WantAnswer → Type 0
+WantFits limits want.Permitted = ⊤
+WantFits limits (want.Asked frame) = ShortFrameFits limits frame
 
 -- the transaction saw these bytes in the page
 abbrev pub sees : (page : ℕ) → Bytes → List Operation → List Operation
