@@ -24,7 +24,7 @@ ghost use Rattle.cb_client.specs.ClientState.{client_of};
 ghost use Rattle.cb_client.specs.ByTable.{messages_from};
 ghost use Rattle.cb_client.specs.CallAnswers.{short_message};
 
-use crate::answers::WantAnswer;
+use crate::answers::{ReadAnswer, WantAnswer};
 use crate::client::Client;
 use crate::client_fault::ClientFault;
 use crate::standing::{Ask, Stage};
@@ -220,16 +220,18 @@ impl<Q: Chooser> Client<Q> {
         Ok(())
     }
 
-    /// Reads a page in the open transaction, and lends its bytes: that is a reference to it. `None`
-    /// where they are not in the pool: they are asked for, by the frame that [`Client::ask`]
-    /// answers.
-    pub fn read(&mut self, page: PageNo) -> Result<Option<&[u8]>, ClientFault>
+    /// Reads a page in the open transaction, and lends its bytes, which is a reference to it; or
+    /// asks for it where they are not in the pool.
+    pub fn read(&mut self, page: PageNo) -> Result<ReadAnswer<'_>, ClientFault>
         ensures* ends { sem 𝓛 (client_ends_as Q.row Q.Chooser self.entry (after_read self.old page)) }
         ensures by_table { Called self.old (CallRead page) (after_read self.old page) }
         ensures answer { AnswersRead self.old page result }
     {
         self.read_or_ask(page)?;
-        Ok(self.copies.peek(page))
+        match self.copies.peek(page) {
+            Some(bytes) => Ok(ReadAnswer::Bytes(bytes)),
+            None => Ok(ReadAnswer::Asked),
+        }
     }
 
     /// The grant of a page whose bytes are in the pool.
