@@ -1,12 +1,12 @@
 -- What the protocol's table says of each call.
-use Rattle.std.proofs.Common.{◌≡◌, ◌≢◌, ◌+◌, ◌<◌, ℕ, Bool, true, false, List, [], ◌∷◌, ◌++◌, length, Option, Some, None, Result, Ok, Err, unwrap_or, refl, sym, ◌∙◌, ap, arith}
+use Rattle.std.proofs.Common.{◌≡◌, ◌≢◌, ◌+◌, ◌<◌, ℕ, Bool, true, false, if◌then◌else◌, List, [], ◌∷◌, ◌++◌, length, Option, Some, None, Result, Ok, Err, unwrap_or, refl, sym, ◌∙◌, ap, arith}
 use Rattle.std.specs.Option.{is_some, option_map}
 use Rattle.cb_protocol.proofs.Cases.{call_accepted, call_refused, fault_of_begin, fault_of_hello, fault_of_peek}
 use Rattle.cb_protocol.specs.Answers as table
 use Rattle.cb_protocol.specs.Basics.{Bytes, Limits}
 use Rattle.cb_protocol.specs.Cache.{Begin, Idle}
 use Rattle.cb_protocol.specs.Client.{ChangeCache, Client, ClientStep, Say, bodies_said, client_after}
-use Rattle.cb_protocol.specs.ClientCalls.{Call, CallBegin, CallHello, CallPeek, Reply, accept_call, call_fault, client_call, peek_word, reply_with}
+use Rattle.cb_protocol.specs.ClientCalls.{Call, Cause, first_refusal, CallBegin, CallHello, CallPeek, Reply, accept_call, call_fault, client_call, peek_word, reply_with}
 use Rattle.cb_protocol.specs.Messages.{Hello, Message}
 use Rattle.cb_protocol.specs.Ranges.{InputFits}
 use Rattle.cb_protocol.specs.Serial.{Operation}

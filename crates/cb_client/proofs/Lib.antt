@@ -1,4 +1,5 @@
 pub mod Reaching
+pub mod Refusals
 pub mod CallSteps
 pub mod Taking
 pub mod RoomLeft

@@ -1,18 +1,22 @@
 -- What each call of an application answers, by the protocol's table.
-use Rattle.std.specs.Prelude.{◌≡◌, ℕ, List, [], ◌∷◌, Option, Some, Result, Ok, Err, ⊤}
+use Rattle.std.specs.Prelude.{◌≡◌, ℕ, List, [], ◌∷◌, Option, Some, None, Result, Ok, Err, ⊤}
+use Rattle.std.specs.Prelude.{true, if◌then◌else◌, slice_set, unwrap_or}
+use Rattle.std.specs.Option.{is_some}
+use Rattle.cb_copies.specs.CopiesState.{content_at}
 use Rattle.cb_frame_types.specs.declared.frame.Frame.{Frame}
 use Rattle.cb_frame_types.specs.declared.frame.ShortFrame.{ShortFrame}
 use Rattle.cb_outbox.specs.Messages.{message_of, short_of}
 use Rattle.cb_protocol.specs.Answers as table
-use Rattle.cb_protocol.specs.Basics.{Bytes}
+use Rattle.cb_protocol.specs.Basics.{Bytes, is_none}
 use Rattle.cb_protocol.specs.Client.{bodies_said}
 use Rattle.cb_protocol.specs.ClientCalls.{Call, CallBegin, CallFinish, CallRead, CallWant, CallWrite}
-use Rattle.cb_protocol.specs.ClientCalls.{client_call}
+use Rattle.cb_protocol.specs.ClientCalls.{call_fault, client_call}
 use Rattle.cb_protocol.specs.Messages.{Message}
-use Rattle.cb_protocol.specs.Serial.{Operation, Put}
+use Rattle.cb_protocol.specs.Serial.{Operation, Put, Saw}
 use Rattle.cb_client.specs.ClientState.{ClientState, client_of}
 use Rattle.cb_client.specs.ByTable.{Called, Calls, IsRefusal, IsRefused, Refuses, RefusesOrLacks}
 use Rattle.cb_client.specs.ByTable.{as_before, limits_at, messages_from}
+use Rattle.cb_client.specs.declared.standing.Ask.TheVariants as asks
 use Rattle.cb_client.specs.declared.answers.ReadAnswer.{ReadAnswer}
 use Rattle.cb_client.specs.declared.answers.ReadAnswer.TheVariants as read
 use Rattle.cb_client.specs.declared.answers.WantAnswer.{WantAnswer}
@@ -30,6 +34,14 @@ short_message frame = record {
 -- the transaction put these bytes into the page
 abbrev pub puts : (page : ℕ) → Bytes → List Operation → List Operation
 puts page bytes operations = Put page bytes ∷ operations
+
+-- the transaction saw these bytes in the page
+abbrev pub sees : (page : ℕ) → Bytes → List Operation → List Operation
+sees page bytes operations = Saw page bytes ∷ operations
+
+-- the bytes of the page's copy; none where they are not in the pool
+abbrev pub bytes_at : ClientState → (page : ℕ) → Bytes
+bytes_at client page = unwrap_or (content_at client.copies page) []
 
 -- a transaction begins, with the number answered
 abbrev pub Begins : (old : ClientState) → Result ℕ ClientFault → (new : ClientState) → Type 0
@@ -55,12 +67,35 @@ AnswersRead old page (Ok (read.Asked frame)) =
     Answers old (CallRead page) table.Asked (short_message frame ∷ [])
 AnswersRead old page (Err refused) = IsRefused old (CallRead page) refused
 
--- What a client is after a read: what the table makes of it; where the read is refused, what it
--- was.
-pub record AfterRead (old : ClientState) (page : ℕ) (new : ClientState) : Type 0 where
-  pub called : Called old (CallRead page) new
-  pub unchanged : (reason : table.ClientFault) → IsRefusal old (CallRead page) (Some reason)
-      → new ≡ old
+-- The page is read, and its bytes are where they were; or it is asked for by the frame answered; or
+-- the call is refused.
+abbrev pub ReadsOrAsks : (old : ClientState) → (page : ℕ) → Result (Option ShortFrame) ClientFault
+    → (new : ClientState) → Type 0
+ReadsOrAsks old page (Ok None) new =
+    (content_at new.copies page ≡ Some (bytes_at old page))
+    × Calls old (CallRead page) (table.AnsweredBytes (bytes_at old page)) []
+    (sees page (bytes_at old page)) new
+ReadsOrAsks old page (Ok (Some frame)) new =
+    Calls old (CallRead page) table.Asked (short_message frame ∷ []) as_before new
+ReadsOrAsks old page (Err refused) new = Refuses old (CallRead page) refused new
+
+-- the client once it has read the page, and once it has asked for it
+abbrev pub page_read : ClientState → (page : ℕ) → ClientState
+page_read client page = record client {
+  locks = record client.locks { locked = slice_set client.locks.locked page true };
+}
+
+abbrev pub page_asked : ClientState → (page : ℕ) → ClientState
+page_asked client page = record client { ask = asks.Read page }
+
+-- What a client is after a read: read where the bytes are in the pool, else asked; as it was where
+-- the table refuses it.
+abbrev pub after_read : ClientState → (page : ℕ) → ClientState
+after_read client page =
+    if is_none (call_fault (limits_at client) (client_of client []) (CallRead page))
+    then if is_some (content_at client.copies page) then page_read client page
+    else page_asked client page
+    else client
 
 -- the page may be written, or the permission is asked for, or the call is refused
 abbrev pub Wants : (old : ClientState) → (page : ℕ) → Result WantAnswer ClientFault

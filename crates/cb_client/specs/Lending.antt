@@ -7,7 +7,7 @@ use Rattle.cb_client.specs.contracts.client.Client.{the_row}
 use Rattle.cb_twoq.specs.declared.chooser.Chooser as chooser
 
 module _ (Q : RattleType) (choose : chooser.Ghosts Q.Denot) where
-  -- the client ends as one of which this is said
-  abbrev pub client_ends_so : MutBor ClientState → (ClientState → Type 0) → Fml
-  client_ends_so lent said =
-      follows_so (the_row Q choose) (the_row Q choose) lent.ghost_name none (λ _ _. ⊤) said
+  -- the client ends as this value
+  abbrev pub client_ends_as : MutBor ClientState → ClientState → Fml
+  client_ends_as lent last =
+      follows_so (the_row Q choose) (the_row Q choose) lent.ghost_name none (λ _ _. ⊤) (λ now. now ≡ last)

@@ -1,4 +1,7 @@
 //! Where a client stands: with its transaction, its ask, and its last outcome.
+ghost use Rattle.std.specs.Prelude.{◌≡◌};
+ghost use Rattle.cb_client.specs.ClientState.{ask_of};
+ghost use Rattle.cb_protocol.specs.Client.{is_asking};
 
 use cb_page::{CommitNo, PageNo};
 
@@ -22,6 +25,18 @@ pub enum Ask {
     Read(PageNo),
     /// To write this page.
     Write(PageNo),
+}
+
+impl Ask {
+    /// Whether any is.
+    pub(crate) fn is_out(self) -> bool
+        ensures { result ≡ is_asking (ask_of self) }
+    {
+        match self {
+            Ask::Nothing => false,
+            Ask::Read(_) | Ask::Write(_) => true,
+        }
+    }
 }
 
 /// How a transaction ended.

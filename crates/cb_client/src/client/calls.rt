@@ -1,28 +1,27 @@
 //! The calls of an application: what each is refused for, and what it does.
-ghost use Rattle.std.specs.Prelude.{◌≡◌, ◌≢◌, ℕ, ◌+◌, ◌<◌, List, ◌∷◌, [], Ok, Some, None, IfOk};
-ghost use Rattle.std.specs.Prelude.{IsOk, unwrap_or};
+ghost use Rattle.std.specs.Prelude.{◌≡◌, ◌≢◌, ℕ, ◌+◌, ◌<◌, List, ◌∷◌, ◌++◌, [], Ok, Some, None, IfOk};
+ghost use Rattle.std.specs.Prelude.{IsOk, length, true, unwrap_or};
 ghost use Rattle.std.specs.Borrow.{sem};
 ghost use Rattle.std.specs.Option.{is_some, option_copied};
 ghost use Rattle.cb_client.specs.ByTable.{Calls, IsDecided, IsFirst, as_before, limits_at};
-ghost use Rattle.cb_client.specs.CallAnswers.{AfterRead, AnswersRead, Begins, Finishes, Wants};
-ghost use Rattle.cb_client.specs.CallAnswers.{Writes};
-ghost use Rattle.cb_client.specs.Lending.{client_ends_so};
+ghost use Rattle.cb_client.specs.CallAnswers.{after_read, AnswersRead, Begins, ReadsOrAsks};
+ghost use Rattle.cb_client.specs.CallAnswers.{Wants, Writes};
+ghost use Rattle.cb_client.specs.Lending.{client_ends_as};
 ghost use Rattle.cb_client.specs.declared.standing.Ask.TheVariants.{Nothing};
 ghost use Rattle.cb_client.specs.declared.standing.Stage.TheVariants.{Idle, Open};
-ghost use Rattle.cb_copies.specs.CopiesState.{content_at};
+ghost use Rattle.cb_copies.specs.CopiesState.{content_at, copy_at};
 ghost use Rattle.cb_outbox.specs.Messages.{message_of};
 ghost use Rattle.cb_protocol.specs.Answers.{AnsweredOk};
-ghost use Rattle.cb_protocol.specs.Client.{Client as TableClient};
-ghost use Rattle.cb_protocol.specs.ClientCalls.{CallBegin, CallFinish, CallHello, CallPeek};
-ghost use Rattle.cb_protocol.specs.ClientCalls.{CallRead, CallWant, CallWrite, open_causes};
-ghost use Rattle.cb_protocol.specs.ClientCalls.{page_causes, peek_word};
+ghost use Rattle.cb_protocol.specs.ClientCalls.{CallBegin, CallHello, CallPeek};
+ghost use Rattle.cb_protocol.specs.ClientCalls.{CallRead, CallWrite, open_causes};
+ghost use Rattle.cb_protocol.specs.ClientCalls.{page_causes, peek_word, read_causes};
 
 use crate::answers::{ReadAnswer, WantAnswer};
 use crate::client::Client;
 use crate::client_fault::ClientFault;
 use crate::standing::{Ask, Stage};
-use cb_frame::{Body, Frame, ShortBody, ShortFrame};
-use cb_page::{PageNo, TxnNo};
+use cb_frame::{Frame, ShortBody, ShortFrame};
+use cb_page::{GrantNo, PageNo, TxnNo};
 use cb_twoq::Chooser;
 
 impl<Q: Chooser> Client<Q> {
@@ -110,5 +109,142 @@ impl<Q: Chooser> Client<Q> {
             Stage::Committing => Err(ClientFault::Committing),
             Stage::Open => Ok(()),
         }
+    }
+
+    /// That a transaction is open which waits for nothing, and that there is such a page.
+    fn check_page(&self, page: PageNo) -> Result<(), ClientFault>
+        ensures causes { IsFirst self.now
+            (λ client. page_causes (limits_at self.now) client page) result }
+        ensures open { IsOk result → self.now.stage ≡ Open }
+        ensures no_ask { IsOk result → self.now.ask ≡ Nothing }
+        ensures page { IsOk result → page < self.now.copies.limits.pages }
+    {
+        self.check_open()?;
+        if self.ask.is_out() {
+            return Err(ClientFault::Waiting);
+        }
+        if !self.limits().has_page(page.get()) {
+            return Err(ClientFault::PageRange);
+        }
+        Ok(())
+    }
+
+    /// Whether the page's bytes are in the pool.
+    fn is_here(&self, page: PageNo) -> bool
+        ensures { result ≡ is_some (content_at self.now.copies page) }
+    {
+        self.copies.peek(page).is_some()
+    }
+
+    /// That besides the transaction has read the page, and its bytes are in the pool: what `want`
+    /// asks.
+    fn check_read(&self, page: PageNo) -> Result<(), ClientFault>
+        ensures causes { IsFirst self.now
+            (λ client. page_causes (limits_at self.now) client page ++ read_causes client page)
+            result }
+        ensures open { IsOk result → self.now.stage ≡ Open }
+        ensures page { IsOk result → page < self.now.copies.limits.pages }
+        ensures here { IsOk result → is_some (content_at self.now.copies page) ≡ true }
+    {
+        self.check_page(page)?;
+        if !self.locks.is_locked(page) {
+            return Err(ClientFault::NotRead);
+        }
+        if !self.is_here(page) {
+            return Err(ClientFault::NotHere);
+        }
+        Ok(())
+    }
+
+    /// That besides the client may write the page, and these are the bytes of one.
+    fn check_write(&self, page: PageNo, bytes: &[u8]) -> Result<(), ClientFault>
+        ensures decided { IsDecided self.now (CallWrite page bytes.now) result }
+        ensures here { IsOk result → is_some (content_at self.now.copies page) ≡ true }
+        ensures size { IsOk result → length bytes.now ≡ self.now.copies.limits.page_size }
+    {
+        self.check_read(page)?;
+        if !self.copies.may_write(page) {
+            return Err(ClientFault::NotWritable);
+        }
+        if bytes.len() != self.limits().page_size() {
+            return Err(ClientFault::WrongLength);
+        }
+        Ok(())
+    }
+
+    /// That the page may be read: its bytes are in the pool, or there is room for them.
+    fn check_fetch(&self, page: PageNo) -> Result<(), ClientFault>
+        ensures decided { IsDecided self.now (CallRead page) result }
+        ensures open { IsOk result → self.now.stage ≡ Open }
+        ensures page { IsOk result → page < self.now.copies.limits.pages }
+    {
+        self.check_page(page)?;
+        if !self.is_here(page) && !self.copies.has_room() {
+            return Err(ClientFault::PoolFull);
+        }
+        Ok(())
+    }
+
+    /// Reads the page where its bytes are in the pool; else asks for it, by the frame answered.
+    fn read_or_ask(&mut self, page: PageNo) -> Result<Option<ShortFrame>, ClientFault>
+        ensures by_table { ReadsOrAsks self.old page result self.new }
+        ensures after { self.new ≡ after_read self.old page }
+    {
+        self.check_fetch(page)?;
+        if self.copies.read(page).is_some() {
+            self.locks.lock(page);
+            return Ok(None);
+        }
+        let txn = self.present_txn();
+        let ask = self.say(ShortBody::AskRead { txn, page });
+        self.ask = Ask::Read(page);
+        Ok(Some(ask))
+    }
+
+    /// Reads a page in the open transaction: a reference to it, where its bytes are in the pool.
+    pub fn read(&mut self, page: PageNo) -> Result<ReadAnswer<'_>, ClientFault>
+        ensures* ends { sem 𝓛 (client_ends_as Q.row Q.Chooser self.entry (after_read self.old page)) }
+        ensures answer { AnswersRead self.old page result }
+    {
+        if let Some(ask) = self.read_or_ask(page)? { return Ok(ReadAnswer::Asked(ask)); }
+        match self.copies.peek(page) { Some(bytes) => Ok(ReadAnswer::Bytes(bytes)), None => unreachable!() }
+    }
+
+    /// The grant of a page whose bytes are in the pool.
+    fn grant_of(&self, page: PageNo) -> GrantNo
+        requires here { is_some (content_at self.now.copies page) ≡ true }
+        requires page { page < self.now.copies.limits.pages }
+        ensures { (copy_at self.now.copies page).held ≡ Some result }
+    {
+        let Some(grant) = self.copies.at(page).held else {
+            unreachable!()
+        };
+        grant
+    }
+
+    /// Wants to write a page in the open transaction: the pool keeps it until that ends.
+    pub fn want(&mut self, page: PageNo) -> Result<WantAnswer, ClientFault>
+        ensures { Wants self.old page result self.new }
+    {
+        self.check_read(page)?;
+        if self.copies.may_write(page) {
+            self.copies.want(page);
+            return Ok(WantAnswer::Permitted);
+        }
+        let txn = self.present_txn();
+        let grant = self.grant_of(page);
+        let ask = self.say(ShortBody::AskWrite { txn, page, grant });
+        self.copies.want(page);
+        self.ask = Ask::Write(page);
+        Ok(WantAnswer::Asked(ask))
+    }
+
+    /// Writes a page in the open transaction: its bytes in the pool become these.
+    pub fn write(&mut self, page: PageNo, bytes: &[u8]) -> Result<(), ClientFault>
+        ensures { Writes self.old page bytes.now result self.new }
+    {
+        self.check_write(page, bytes)?;
+        self.copies.write(page, bytes);
+        Ok(())
     }
 }
