@@ -1,12 +1,15 @@
 //! The end of a transaction, over all pages that it has locked.
-ghost use Rattle.std.specs.Prelude.{◌≡◌, ℕ, ◌+◌, ◌≤◌, [], ◌∷◌, ◌++◌, false, true, length, IfOk, OnErr};
+ghost use Rattle.std.specs.Prelude.{◌≡◌, ℕ, ◌+◌, ◌<◌, ◌≤◌, [], ◌∷◌, ◌++◌, false, true, length};
+ghost use Rattle.std.specs.Prelude.{IfOk, IfSome, OnErr, Some};
 ghost use Rattle.std.specs.Vec.{vec_capacity, vec_len};
 ghost use Rattle.cb_page.specs.Flags.{has};
 ghost use Rattle.cb_protocol.specs.Cache.{Abandon, TakeDone};
 ghost use Rattle.cb_protocol.specs.Client.{ChangeCache, EndTransaction, LastOutcome, Say, bodies_said};
 ghost use Rattle.cb_outbox.specs.Messages.{messages_of, short_of};
 ghost use Rattle.cb_copies.specs.ByTable.{Does};
-ghost use Rattle.cb_locks.specs.Locks.{ended};
+ghost use Rattle.cb_copies.specs.CopiesState.{copy_at};
+ghost use Rattle.cb_locks.specs.Dues.{called_by};
+ghost use Rattle.cb_locks.specs.Locks.{due_at, ended, unlocked};
 ghost use Rattle.cb_ending.specs.Ending.{Ends, all_sent_by, page_steps, pages_steps};
 ghost use Rattle.cb_ending.specs.Owing.{OwesLocked};
 
@@ -29,10 +32,18 @@ fn most_frames<Q: Chooser>(copies: &Copies<Q>, locks: &ReadLocks, dropped: bool)
     let mut count = 0;
     let mut from = 0;
     while let Some(page) = locks.locked().next(from) {
-        count += may_say(copies, locks, page, dropped) as usize;
+        count += most_of(copies, locks, page, dropped);
         from = page.index() + 1;
     }
     count
+}
+
+/// How many it may say of a page.
+fn most_of<Q: Chooser>(copies: &Copies<Q>, locks: &ReadLocks, page: PageNo, dropped: bool) -> usize
+    ensures said { length (bodies_said (page_steps copies.now locks.now dropped page)) ≤ result }
+    ensures most { result ≤ 1 }
+{
+    may_say(copies, locks, page, dropped) as usize
 }
 
 /// A page's end, and the frame that is said of it.
@@ -43,6 +54,19 @@ fn end_one<Q: Chooser>(
     dropped: bool,
     frames: &mut Vec<Frame>,
 )
+    requires page { page < copies.old.limits.pages }
+    requires locked { page < length locks.old.locked }
+    requires held { IfSome (called_by (due_at locks.old page))
+        (λ called. (copy_at copies.old page).held ≡ Some called.0) }
+    requires unwritten { dropped ≡ false → has copies.old.wrote page ≡ false }
+    requires room { vec_len frames.old
+        + length (bodies_said (page_steps copies.old locks.old dropped page))
+        ≤ vec_capacity frames.old }
+    ensures does { Does copies.old (page_steps copies.old locks.old dropped page) copies.new }
+    ensures says { messages_of frames.new.items ≡ messages_of frames.old.items
+        ++ all_sent_by locks.old (bodies_said (page_steps copies.old locks.old dropped page)) }
+    ensures capacity { vec_capacity frames.new ≡ vec_capacity frames.old }
+    ensures locks { locks.new ≡ unlocked locks.old page }
 {
     if let Some(frame) = end_page(copies, locks, page, dropped) {
         frames.push_reserved(frame);
@@ -56,6 +80,17 @@ fn end_pages<Q: Chooser>(
     dropped: bool,
     frames: &mut Vec<Frame>,
 )
+    requires owes { OwesLocked copies.old locks.old }
+    requires unwritten { dropped ≡ false → (page : ℕ) → has copies.old.wrote page ≡ false }
+    requires room { vec_len frames.old + length (bodies_said
+        (pages_steps copies.old locks.old dropped copies.old.limits.pages))
+        ≤ vec_capacity frames.old }
+    ensures does { Does copies.old
+        (pages_steps copies.old locks.old dropped copies.old.limits.pages) copies.new }
+    ensures says { messages_of frames.new.items ≡ messages_of frames.old.items
+        ++ all_sent_by locks.old (bodies_said
+        (pages_steps copies.old locks.old dropped copies.old.limits.pages)) }
+    ensures locks { locks.new ≡ ended locks.old }
 {
     let mut from = 0;
     while let Some(page) = locks.locked().next(from) {
@@ -75,6 +110,11 @@ pub fn commit_ends<Q: Chooser>(
     locks: &mut ReadLocks,
     number: CommitNo,
 ) -> Result<Vec<Frame>, AllocError>
+    requires { OwesLocked copies.old locks.old }
+    ensures ok { IfOk result (λ frames. (outcome : LastOutcome) → Ends copies.old locks.old
+        (EndTransaction outcome ∷ ChangeCache (TakeDone number) ∷ []) false
+        frames.items copies.new locks.new) }
+    ensures err { OnErr result ((copies.new ≡ copies.old) × (locks.new ≡ locks.old)) }
 {
     let most = most_frames(copies, locks, false);
     let mut frames = Vec::with_capacity(alloc, most)?;
@@ -94,6 +134,13 @@ pub fn drop_ends<Q: Chooser>(
     locks: &mut ReadLocks,
     said: ShortFrame,
 ) -> Result<Vec<Frame>, AllocError>
+    requires owes { OwesLocked copies.old locks.old }
+    requires client { said.client ≡ locks.old.client }
+    requires incarnation { said.incarnation ≡ locks.old.incarnation }
+    ensures ok { IfOk result (λ frames. (outcome : LastOutcome) → Ends copies.old locks.old
+        (EndTransaction outcome ∷ ChangeCache Abandon ∷ Say (short_of said.body) ∷ []) true
+        frames.items copies.new locks.new) }
+    ensures err { OnErr result ((copies.new ≡ copies.old) × (locks.new ≡ locks.old)) }
 {
     let most = most_frames(copies, locks, true);
     let mut frames = Vec::with_capacity(alloc, most + 1)?;

@@ -6,5 +6,3 @@ mod ending;
 mod page_end;
 
 pub use ending::{commit_ends, drop_ends};
-
-
