@@ -26,7 +26,7 @@ use cb_twoq::Chooser;
 
 impl<Q: Chooser> Client<Q> {
     /// The frame of this client with that body.
-    fn say(&self, body: ShortBody) -> ShortFrame
+    pub(super) fn say(&self, body: ShortBody) -> ShortFrame
         ensures { result ≡ record {
           client = self.now.no;
           incarnation = self.now.incarnation;
@@ -41,7 +41,7 @@ impl<Q: Chooser> Client<Q> {
     }
 
     /// The transaction that has begun and not ended.
-    fn present_txn(&self) -> TxnNo
+    pub(super) fn present_txn(&self) -> TxnNo
         requires { self.now.stage ≢ Idle }
         ensures { self.now.txn ≡ Some result }
     {
@@ -97,7 +97,7 @@ impl<Q: Chooser> Client<Q> {
     }
 
     /// That a transaction is open.
-    fn check_open(&self) -> Result<(), ClientFault>
+    pub(super) fn check_open(&self) -> Result<(), ClientFault>
         ensures causes { IsFirst self.now (λ client. open_causes client) result }
         ensures open { IsOk result → self.now.stage ≡ Open }
     {

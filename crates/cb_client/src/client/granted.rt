@@ -103,9 +103,9 @@ impl<Q: Chooser> Client<Q> {
 }
 
 /// The page that went for one that came in, where there was room.
-fn come_in(result: Result<Option<PageNo>, PoolFault>) -> Result<Option<PageNo>, AllocError>
+fn come_in(came: Result<Option<PageNo>, PoolFault>) -> Result<Option<PageNo>, AllocError>
 {
-    match result {
+    match came {
         Ok(gone) => Ok(gone),
         Err(PoolFault::Memory) => Err(AllocError),
         Err(PoolFault::Full) => unreachable!(),
