@@ -1,5 +1,6 @@
 pub mod Reaching
 pub mod Refusals
 pub mod CallSteps
+pub mod Calling
 pub mod Taking
 pub mod RoomLeft

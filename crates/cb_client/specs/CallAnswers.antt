@@ -1,7 +1,8 @@
 -- What each call of an application answers, by the protocol's table.
 use Rattle.std.specs.Prelude.{◌≡◌, ℕ, List, [], ◌∷◌, Option, Some, None, Result, Ok, Err, ⊤}
 use Rattle.std.specs.Prelude.{true, if◌then◌else◌, slice_set, unwrap_or}
-use Rattle.std.specs.Option.{is_some}
+use Rattle.std.specs.Borrow.{Bor}
+use Rattle.std.specs.Option.{is_some, option_copied}
 use Rattle.cb_copies.specs.CopiesState.{content_at}
 use Rattle.cb_frame_types.specs.declared.frame.Frame.{Frame}
 use Rattle.cb_frame_types.specs.declared.frame.ShortFrame.{ShortFrame}
@@ -11,14 +12,12 @@ use Rattle.cb_protocol.specs.Basics.{Bytes, is_none}
 use Rattle.cb_protocol.specs.Client.{bodies_said}
 use Rattle.cb_protocol.specs.ClientCalls.{Call, CallBegin, CallFinish, CallRead, CallWant, CallWrite}
 use Rattle.cb_protocol.specs.ClientCalls.{call_fault, client_call}
-use Rattle.cb_protocol.specs.Messages.{Message}
+use Rattle.cb_protocol.specs.Messages.{AskRead, Message}
 use Rattle.cb_protocol.specs.Serial.{Operation, Put, Saw}
 use Rattle.cb_client.specs.ClientState.{ClientState, client_of}
 use Rattle.cb_client.specs.ByTable.{Called, Calls, IsRefusal, IsRefused, Refuses, RefusesOrLacks}
 use Rattle.cb_client.specs.ByTable.{as_before, limits_at, messages_from}
 use Rattle.cb_client.specs.declared.standing.Ask.TheVariants as asks
-use Rattle.cb_client.specs.declared.answers.ReadAnswer.{ReadAnswer}
-use Rattle.cb_client.specs.declared.answers.ReadAnswer.TheVariants as read
 use Rattle.cb_client.specs.declared.answers.WantAnswer.{WantAnswer}
 use Rattle.cb_client.specs.declared.answers.WantAnswer.TheVariants as want
 use Rattle.cb_client.specs.declared.client_fault.ClientFault.{ClientFault}
@@ -59,25 +58,24 @@ pub record Answers (old : ClientState) (call : Call) (answered : table.AnswerWor
       (bodies_said (client_call (limits_at old) (client_of old operations) call).steps)
       ≡ messages
 
--- a read is answered with the page's bytes, or they are asked for, or it is refused
-abbrev pub AnswersRead : ClientState → (page : ℕ) → Result ReadAnswer ClientFault → Type 0
-AnswersRead old page (Ok (read.Bytes bytes)) =
-    Answers old (CallRead page) (table.AnsweredBytes bytes.now) []
-AnswersRead old page (Ok (read.Asked frame)) =
-    Answers old (CallRead page) table.Asked (short_message frame ∷ [])
-AnswersRead old page (Err refused) = IsRefused old (CallRead page) refused
+-- the message by which a page is asked for
+abbrev pub read_ask : ClientState → (page : ℕ) → Message
+read_ask client page = record {
+  client = client.no;
+  incarnation = client.incarnation;
+  body = AskRead (unwrap_or client.txn 0) page;
+}
 
--- The page is read, and its bytes are where they were; or it is asked for by the frame answered; or
--- the call is refused.
-abbrev pub ReadsOrAsks : (old : ClientState) → (page : ℕ) → Result (Option ShortFrame) ClientFault
-    → (new : ClientState) → Type 0
-ReadsOrAsks old page (Ok None) new =
-    (content_at new.copies page ≡ Some (bytes_at old page))
-    × Calls old (CallRead page) (table.AnsweredBytes (bytes_at old page)) []
-    (sees page (bytes_at old page)) new
-ReadsOrAsks old page (Ok (Some frame)) new =
-    Calls old (CallRead page) table.Asked (short_message frame ∷ []) as_before new
-ReadsOrAsks old page (Err refused) new = Refuses old (CallRead page) refused new
+-- a read is answered with these bytes, or they are asked for
+abbrev pub AnswersBytes : ClientState → (page : ℕ) → Option Bytes → Type 0
+AnswersBytes old page (Some bytes) = Answers old (CallRead page) (table.AnsweredBytes bytes) []
+AnswersBytes old page None = Answers old (CallRead page) table.Asked (read_ask old page ∷ [])
+
+-- a read is answered with the page's bytes, or they are asked for, or it is refused
+abbrev pub AnswersRead : ClientState → (page : ℕ) → Result (Option (Bor Bytes)) ClientFault
+    → Type 0
+AnswersRead old page (Ok lent) = AnswersBytes old page (option_copied lent)
+AnswersRead old page (Err refused) = IsRefused old (CallRead page) refused
 
 -- the client once it has read the page, and once it has asked for it
 abbrev pub page_read : ClientState → (page : ℕ) → ClientState

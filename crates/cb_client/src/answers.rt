@@ -1,15 +1,6 @@
-//! What the calls that may need the server are answered.
+//! What a call that may need the server's permission is answered.
 
 use cb_frame::ShortFrame;
-
-/// What a read is answered.
-#[derive(Clone, Copy, Debug, PartialEq, Eq)]
-pub enum ReadAnswer<'a> {
-    /// The page's bytes, which the client has.
-    Bytes(&'a [u8]),
-    /// The page is asked for by this frame.
-    Asked(ShortFrame),
-}
 
 /// What a transaction that wants to write a page is answered.
 #[derive(Clone, Copy, Debug, PartialEq, Eq)]

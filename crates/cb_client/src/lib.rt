@@ -11,7 +11,7 @@ mod client;
 mod client_fault;
 mod standing;
 
-pub use answers::{ReadAnswer, WantAnswer};
+pub use answers::WantAnswer;
 pub use client::Client;
 pub use client_fault::ClientFault;
 pub use standing::{Ask, ClientStatus, Outcome, Stage};

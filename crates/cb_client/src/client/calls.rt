@@ -1,22 +1,29 @@
 //! The calls of an application: what each is refused for, and what it does.
 ghost use Rattle.std.specs.Prelude.{◌≡◌, ◌≢◌, ℕ, ◌+◌, ◌<◌, List, ◌∷◌, ◌++◌, [], Ok, Some, None, IfOk};
-ghost use Rattle.std.specs.Prelude.{IsOk, length, true, unwrap_or};
+ghost use Rattle.std.specs.Prelude.{IsOk, option_to_list, length, false, true, unwrap_or};
 ghost use Rattle.std.specs.Borrow.{sem};
-ghost use Rattle.std.specs.Option.{is_some, option_copied};
-ghost use Rattle.cb_client.specs.ByTable.{Calls, IsDecided, IsFirst, as_before, limits_at};
-ghost use Rattle.cb_client.specs.CallAnswers.{after_read, AnswersRead, Begins, ReadsOrAsks};
+ghost use Rattle.std.specs.Option.{is_some, option_copied, option_map};
+ghost use Rattle.cb_client.specs.ByTable.{Called, Calls, IsDecided, IsFirst, as_before, limits_at};
+ghost use Rattle.cb_client.specs.CallAnswers.{AnswersRead, Begins, after_read};
 ghost use Rattle.cb_client.specs.CallAnswers.{Wants, Writes};
 ghost use Rattle.cb_client.specs.Lending.{client_ends_as};
 ghost use Rattle.cb_client.specs.declared.standing.Ask.TheVariants.{Nothing};
 ghost use Rattle.cb_client.specs.declared.standing.Stage.TheVariants.{Idle, Open};
-ghost use Rattle.cb_copies.specs.CopiesState.{content_at, copy_at};
+ghost use Rattle.cb_copies.specs.CopiesState.{client_with, content_at, copy_at};
+ghost use Rattle.cb_client.specs.ClientState.{HasRoomLeft};
+ghost use Rattle.cb_protocol.specs.Client.{Client as TableClient};
 ghost use Rattle.cb_outbox.specs.Messages.{message_of};
 ghost use Rattle.cb_protocol.specs.Answers.{AnsweredOk};
 ghost use Rattle.cb_protocol.specs.ClientCalls.{CallBegin, CallHello, CallPeek};
 ghost use Rattle.cb_protocol.specs.ClientCalls.{CallRead, CallWrite, open_causes};
-ghost use Rattle.cb_protocol.specs.ClientCalls.{page_causes, peek_word, read_causes};
+ghost use Rattle.cb_protocol.specs.ClientCalls.{page_causes, peek_word, read_causes, say_ask};
+ghost use Rattle.cb_protocol.specs.Client.{bodies_said};
+ghost use Rattle.cb_protocol.specs.Serial.{Operation};
+ghost use Rattle.cb_client.specs.ClientState.{client_of};
+ghost use Rattle.cb_client.specs.ByTable.{messages_from};
+ghost use Rattle.cb_client.specs.CallAnswers.{short_message};
 
-use crate::answers::{ReadAnswer, WantAnswer};
+use crate::answers::WantAnswer;
 use crate::client::Client;
 use crate::client_fault::ClientFault;
 use crate::standing::{Ask, Stage};
@@ -143,6 +150,7 @@ impl<Q: Chooser> Client<Q> {
             (λ client. page_causes (limits_at self.now) client page ++ read_causes client page)
             result }
         ensures open { IsOk result → self.now.stage ≡ Open }
+        ensures no_ask { IsOk result → self.now.ask ≡ Nothing }
         ensures page { IsOk result → page < self.now.copies.limits.pages }
         ensures here { IsOk result → is_some (content_at self.now.copies page) ≡ true }
     {
@@ -159,6 +167,7 @@ impl<Q: Chooser> Client<Q> {
     /// That besides the client may write the page, and these are the bytes of one.
     fn check_write(&self, page: PageNo, bytes: &[u8]) -> Result<(), ClientFault>
         ensures decided { IsDecided self.now (CallWrite page bytes.now) result }
+        ensures no_ask { IsOk result → self.now.ask ≡ Nothing }
         ensures here { IsOk result → is_some (content_at self.now.copies page) ≡ true }
         ensures size { IsOk result → length bytes.now ≡ self.now.copies.limits.page_size }
     {
@@ -175,39 +184,47 @@ impl<Q: Chooser> Client<Q> {
     /// That the page may be read: its bytes are in the pool, or there is room for them.
     fn check_fetch(&self, page: PageNo) -> Result<(), ClientFault>
         ensures decided { IsDecided self.now (CallRead page) result }
-        ensures open { IsOk result → self.now.stage ≡ Open }
         ensures page { IsOk result → page < self.now.copies.limits.pages }
+        ensures room { IsOk result → is_some (content_at self.now.copies page) ≡ false
+            → (other : TableClient) → HasRoomLeft (limits_at self.now)
+            (client_with self.now.copies other) }
     {
         self.check_page(page)?;
-        if !self.is_here(page) && !self.copies.has_room() {
+        if self.is_here(page) {
+            return Ok(());
+        }
+        if !self.copies.has_room() {
             return Err(ClientFault::PoolFull);
         }
         Ok(())
     }
 
-    /// Reads the page where its bytes are in the pool; else asks for it, by the frame answered.
-    fn read_or_ask(&mut self, page: PageNo) -> Result<Option<ShortFrame>, ClientFault>
-        ensures by_table { ReadsOrAsks self.old page result self.new }
+    /// Reads the page where its bytes are in the pool; else an ask for it is out.
+    fn read_or_ask(&mut self, page: PageNo) -> Result<(), ClientFault>
+        ensures decided { IsDecided self.old (CallRead page) result }
         ensures after { self.new ≡ after_read self.old page }
+        ensures called { Called self.old (CallRead page) self.new }
+        ensures page { IsOk result → page < length self.old.locks.locked }
     {
         self.check_fetch(page)?;
         if self.copies.read(page).is_some() {
             self.locks.lock(page);
-            return Ok(None);
+        } else {
+            self.ask = Ask::Read(page);
         }
-        let txn = self.present_txn();
-        let ask = self.say(ShortBody::AskRead { txn, page });
-        self.ask = Ask::Read(page);
-        Ok(Some(ask))
+        Ok(())
     }
 
-    /// Reads a page in the open transaction: a reference to it, where its bytes are in the pool.
-    pub fn read(&mut self, page: PageNo) -> Result<ReadAnswer<'_>, ClientFault>
+    /// Reads a page in the open transaction, and lends its bytes: that is a reference to it. `None`
+    /// where they are not in the pool: they are asked for, by the frame that [`Client::ask`]
+    /// answers.
+    pub fn read(&mut self, page: PageNo) -> Result<Option<&[u8]>, ClientFault>
         ensures* ends { sem 𝓛 (client_ends_as Q.row Q.Chooser self.entry (after_read self.old page)) }
+        ensures by_table { Called self.old (CallRead page) (after_read self.old page) }
         ensures answer { AnswersRead self.old page result }
     {
-        if let Some(ask) = self.read_or_ask(page)? { return Ok(ReadAnswer::Asked(ask)); }
-        match self.copies.peek(page) { Some(bytes) => Ok(ReadAnswer::Bytes(bytes)), None => unreachable!() }
+        self.read_or_ask(page)?;
+        Ok(self.copies.peek(page))
     }
 
     /// The grant of a page whose bytes are in the pool.
@@ -246,5 +263,26 @@ impl<Q: Chooser> Client<Q> {
         self.check_write(page, bytes)?;
         self.copies.write(page, bytes);
         Ok(())
+    }
+
+    /// The frame of the ask that is out, if any is.
+    pub fn ask(&self) -> Option<ShortFrame>
+        ensures { (operations : List Operation)
+            → messages_from self.now (bodies_said (say_ask (client_of self.now operations)
+            (client_of self.now operations).ask))
+            ≡ option_to_list (option_map short_message result) }
+    {
+        match self.ask {
+            Ask::Nothing => None,
+            Ask::Read(page) => {
+                let txn = self.present_txn();
+                Some(self.say(ShortBody::AskRead { txn, page }))
+            }
+            Ask::Write(page) => {
+                let txn = self.present_txn();
+                let grant = self.copies.at(page).held?;
+                Some(self.say(ShortBody::AskWrite { txn, page, grant }))
+            }
+        }
     }
 }
