@@ -4,3 +4,4 @@ pub mod CallSteps
 pub mod Calling
 pub mod Taking
 pub mod RoomLeft
+pub mod Ending

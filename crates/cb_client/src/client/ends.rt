@@ -1,4 +1,15 @@
 //! How a transaction ends.
+ghost use Rattle.std.specs.Prelude.{◌≡◌, [], true, IfErr, IfOk, IsOk, OnErr};
+ghost use Rattle.cb_page.specs.Numbers.{IsNumber};
+ghost use Rattle.cb_client.specs.ByTable.{Calls, IsDecided, RefusesOrLacks, Takes, limits_at, over};
+ghost use Rattle.cb_client.specs.declared.standing.Stage.TheVariants.{Open};
+ghost use Rattle.cb_protocol.specs.Answers.{AnsweredOk};
+ghost use Rattle.cb_protocol.specs.ClientCalls.{CallDrop};
+ghost use Rattle.cb_client.specs.ClientState.{client_of};
+ghost use Rattle.cb_outbox.specs.Messages.{messages_of};
+ghost use Rattle.cb_protocol.specs.ClientMessages.{of_committing_txn};
+ghost use Rattle.cb_protocol.specs.Messages.{AbortNow, Done};
+ghost use Rattle.cb_protocol.specs.Ranges.{BodyFits};
 
 use crate::client::Client;
 use crate::client_fault::ClientFault;
@@ -12,6 +23,8 @@ use std::alloc::{AllocError, Global};
 impl<Q: Chooser> Client<Q> {
     /// Whether the committing transaction is that one.
     fn is_committing_txn(&self, txn: TxnNo) -> bool
+        requires { IsNumber txn }
+        ensures { result ≡ of_committing_txn (client_of self.now []) txn }
     {
         let same = match self.txn {
             Some(last) => last == txn,
@@ -27,6 +40,11 @@ impl<Q: Chooser> Client<Q> {
         txn: TxnNo,
         number: CommitNo,
     ) -> Result<Vec<Frame>, AllocError>
+        requires welcomed { self.old.welcomed ≡ true }
+        requires fits { BodyFits (limits_at self.old) (Done txn number) }
+        ensures ok { IfOk result (λ frames. Takes self.old (Done txn number)
+            (messages_of frames.items) self.new) }
+        ensures err { OnErr result (self.new ≡ self.old) }
     {
         if !self.is_committing_txn(txn) {
             return Ok(Vec::new(alloc));
@@ -44,6 +62,11 @@ impl<Q: Chooser> Client<Q> {
         alloc: Global,
         txn: TxnNo,
     ) -> Result<Vec<Frame>, AllocError>
+        requires welcomed { self.old.welcomed ≡ true }
+        requires fits { BodyFits (limits_at self.old) (AbortNow txn) }
+        ensures ok { IfOk result (λ frames. Takes self.old (AbortNow txn)
+            (messages_of frames.items) self.new) }
+        ensures err { OnErr result (self.new ≡ self.old) }
     {
         if !self.is_open_txn(txn) {
             return Ok(Vec::new(alloc));
@@ -57,11 +80,24 @@ impl<Q: Chooser> Client<Q> {
         Ok(frames)
     }
 
+    /// That a transaction is open, which is all that a drop needs.
+    fn check_drop(&self) -> Result<(), ClientFault>
+        ensures decided { IsDecided self.now CallDrop result }
+        ensures open { IsOk result → self.now.stage ≡ Open }
+    {
+        self.check_open()
+    }
+
     /// Ends the transaction without a commit. Answers what its end says: that it is dropped, and
     /// what is given back, by rising page.
+    ///
+    /// `Memory` only where it was refused for these frames.
     pub fn drop_txn(&mut self, alloc: Global) -> Result<Vec<Frame>, ClientFault>
+        ensures ok { IfOk result (λ frames. Calls self.old CallDrop AnsweredOk
+            (messages_of frames.items) over self.new) }
+        ensures err { IfErr result (λ refused. RefusesOrLacks self.old CallDrop refused self.new) }
     {
-        self.check_open()?;
+        self.check_drop()?;
         let txn = self.present_txn();
         let said = self.say(ShortBody::Drop { txn });
         let frames = drop_ends(alloc, &mut self.copies, &mut self.locks, said)?;

@@ -1,6 +1,7 @@
 //! Frames that come.
 
 use crate::client::Client;
+use crate::client::finish::written_so_far;
 use crate::client_fault::ClientFault;
 use crate::standing::{Ask, Outcome, Stage};
 use cb_frame::{Body, BytesFault, Frame, ShortBody, decode};
@@ -119,7 +120,13 @@ impl<Q: Chooser> Client<Q> {
             frames.push_reserved(Frame::from(self.say(body)));
         }
         if self.stage == Stage::Committing {
-            frames.push_reserved(self.commit_frame(alloc)?);
+            let writes = written_so_far(alloc, &self.copies)?;
+            let txn = self.present_txn();
+            frames.push_reserved(Frame {
+                client: self.no,
+                incarnation: self.incarnation,
+                body: Body::Commit { txn, writes },
+            });
         }
         Ok(frames)
     }
