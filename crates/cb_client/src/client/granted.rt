@@ -1,4 +1,20 @@
 //! A copy that comes, and the page that goes for it.
+ghost use Rattle.std.specs.Prelude.{◌≡◌, ◌<◌, ◌≢◌, ◌==◌, ◌&&◌, not, nat_lt, true, false, unwrap_or};
+ghost use Rattle.std.specs.Prelude.{option_to_list, Ok, Err, IfOk, IfSome, IsErr, OnErr};
+ghost use Rattle.std.specs.Option.{is_some};
+ghost use Rattle.cb_page.specs.Flags.{has};
+ghost use Rattle.cb_page.specs.Numbers.{IsNumber};
+ghost use Rattle.cb_client.specs.ByTable.{Takes, limits_at};
+ghost use Rattle.cb_client.specs.ClientState.{ask_of};
+ghost use Rattle.cb_client.specs.GrantCases.{after_gone, case_at, said_of_gone};
+ghost use Rattle.cb_copies.specs.ByTable.{Does};
+ghost use Rattle.cb_copies.specs.CopiesState.{content_at, copy_at};
+ghost use Rattle.cb_ending.specs.Ending.{all_sent_by};
+ghost use Rattle.cb_outbox.specs.Messages.{messages_of};
+ghost use Rattle.cb_pool.specs.declared.pool.PoolFault.TheVariants.{Full};
+ghost use Rattle.cb_protocol.specs.Client.{asks_to_read};
+ghost use Rattle.cb_protocol.specs.Messages.{Granted};
+ghost use Rattle.cb_protocol.specs.Ranges.{BodyFits};
 
 use crate::client::Client;
 use crate::standing::Ask;
@@ -26,6 +42,7 @@ enum GrantCase {
 impl<Q: Chooser> Client<Q> {
     /// Whether an ask to read the page is out.
     fn asks_to_read(&self, page: PageNo) -> bool
+        ensures { result ≡ asks_to_read (ask_of self.now.ask) page }
     {
         match self.ask {
             Ask::Read(asked) => asked == page,
@@ -35,6 +52,9 @@ impl<Q: Chooser> Client<Q> {
 
     /// Whether the grant is greater than all that came for the page.
     fn is_new(&self, page: PageNo, grant: GrantNo) -> bool
+        requires page { page < self.now.copies.limits.pages }
+        requires grant { IsNumber grant }
+        ensures { result ≡ nat_lt (unwrap_or (copy_at self.now.copies page).seen 0) grant }
     {
         match self.copies.at(page).seen {
             Some(seen) => seen < grant,
@@ -42,30 +62,30 @@ impl<Q: Chooser> Client<Q> {
         }
     }
 
+    /// Whether bytes of that version are wanted for the grant held: it is bare and was asked for.
+    fn wants_bytes(&self, page: PageNo, version: Version) -> bool
+        requires { page < self.now.copies.limits.pages }
+        ensures { result ≡ (not (is_some (content_at self.now.copies page))
+            && (((copy_at self.now.copies page).version == version)
+            && asks_to_read (ask_of self.now.ask) page)) }
+    {
+        let bare = self.copies.peek(page).is_none();
+        let same = self.copies.at(page).version == version;
+        bare && same && self.asks_to_read(page)
+    }
+
     /// What becomes of a grant.
     fn case_of(&self, page: PageNo, grant: GrantNo, version: Version) -> GrantCase
+        requires page { page < self.now.copies.limits.pages }
+        requires grant { IsNumber grant }
+        ensures { result ≡ case_at self.now page grant version }
     {
-        let copy = self.copies.at(page);
-        match copy.held {
-            Some(held) => {
-                if held != grant {
-                    GrantCase::Refused
-                } else if self.copies.peek(page).is_none()
-                    && copy.version == version
-                    && self.asks_to_read(page)
-                {
-                    GrantCase::Filled
-                } else {
-                    GrantCase::Ignored
-                }
-            }
-            None => {
-                if self.is_new(page, grant) && self.asks_to_read(page) {
-                    GrantCase::Installed
-                } else {
-                    GrantCase::Refused
-                }
-            }
+        match self.copies.at(page).held {
+            Some(held) if held != grant => GrantCase::Refused,
+            Some(_) if self.wants_bytes(page, version) => GrantCase::Filled,
+            Some(_) => GrantCase::Ignored,
+            None if self.is_new(page, grant) && self.asks_to_read(page) => GrantCase::Installed,
+            None => GrantCase::Refused,
         }
     }
 
@@ -78,6 +98,11 @@ impl<Q: Chooser> Client<Q> {
         version: Version,
         bytes: Page,
     ) -> Result<Option<Frame>, AllocError>
+        requires welcomed { self.old.welcomed ≡ true }
+        requires fits { BodyFits (limits_at self.old) (Granted page grant version bytes) }
+        ensures ok { IfOk result (λ frame. Takes self.old (Granted page grant version bytes)
+            (messages_of (option_to_list frame)) self.new) }
+        ensures err { OnErr result (self.new ≡ self.old) }
     {
         match self.case_of(page, grant, version) {
             GrantCase::Ignored => Ok(None),
@@ -104,6 +129,9 @@ impl<Q: Chooser> Client<Q> {
 
 /// The page that went for one that came in, where there was room.
 fn come_in(came: Result<Option<PageNo>, PoolFault>) -> Result<Option<PageNo>, AllocError>
+    requires { came ≢ Err Full }
+    ensures ok { IfOk result (λ gone. came ≡ Ok gone) }
+    ensures err { IsErr result → IsErr came }
 {
     match came {
         Ok(gone) => Ok(gone),
@@ -119,6 +147,11 @@ fn give_gone<Q: Chooser>(
     locks: &ReadLocks,
     gone: Option<PageNo>,
 ) -> Option<Frame>
+    requires page { IfSome gone (λ page. page < copies.old.limits.pages) }
+    requires unwritten { IfSome gone (λ page. has copies.old.wrote page ≡ false) }
+    ensures does { Does copies.old (after_gone copies.old locks.now gone) copies.new }
+    ensures says { messages_of (option_to_list result)
+        ≡ all_sent_by locks.now (said_of_gone copies.old locks.now gone) }
 {
     let gone = gone?;
     if locks.is_locked(gone) {
