@@ -1,12 +1,12 @@
 -- What the protocol's table says of each call.
-use Rattle.std.proofs.Common.{◌≡◌, ◌≢◌, ◌+◌, ◌<◌, ℕ, Bool, true, false, if◌then◌else◌, List, [], ◌∷◌, ◌++◌, length, Option, Some, None, Result, Ok, Err, unwrap_or, refl, sym, ◌∙◌, ap, arith}
+use Rattle.std.proofs.Common.{◌≡◌, ◌≢◌, ◌+◌, ◌<◌, ℕ, true, List, [], ◌∷◌, length, Option, Some, None, unwrap_or, refl, sym, ◌∙◌, ap, arith}
 use Rattle.std.specs.Option.{is_some, option_map}
-use Rattle.cb_protocol.proofs.Cases.{call_accepted, call_refused, fault_of_begin, fault_of_hello, fault_of_peek}
+use Rattle.cb_protocol.proofs.Cases.{call_accepted, fault_of_hello, fault_of_peek}
 use Rattle.cb_protocol.specs.Answers as table
-use Rattle.cb_protocol.specs.Basics.{Bytes, Limits}
+use Rattle.cb_protocol.specs.Basics.{Bytes}
 use Rattle.cb_protocol.specs.Cache.{Begin, Idle}
 use Rattle.cb_protocol.specs.Client.{ChangeCache, Client, ClientStep, Say, bodies_said, client_after}
-use Rattle.cb_protocol.specs.ClientCalls.{Call, Cause, first_refusal, CallBegin, CallHello, CallPeek, Reply, accept_call, call_fault, client_call, peek_word, reply_with}
+use Rattle.cb_protocol.specs.ClientCalls.{Call, CallBegin, CallHello, CallPeek, Reply, accept_call, call_fault, client_call, peek_word, reply_with}
 use Rattle.cb_protocol.specs.Messages.{Hello, Message}
 use Rattle.cb_protocol.specs.Ranges.{InputFits}
 use Rattle.cb_protocol.specs.Serial.{Operation}
@@ -21,7 +21,7 @@ use Rattle.cb_client.specs.declared.standing.Stage.{Stage}
 use Rattle.cb_client.specs.declared.standing.Stage.TheVariants as stages
 use Rattle.cb_client.proofs.Reaching.{calls_reach}
 use Rattle.cb_protocol.proofs.ClientInvariant.{tidy}
-use Rattle.cb_client.specs.ByTable.{Calls, IsDecided, IsRefusal, IsRefused, Makes, as_before, found, limits_at, messages_from, refusal}
+use Rattle.cb_client.specs.ByTable.{Calls, IsRefusal, IsRefused, as_before, limits_at, messages_from, refusal}
 use Rattle.cb_client.specs.declared.client_fault.ClientFault.{ClientFault}
 
 -- What an accepted call makes, where its reply is known.
@@ -142,14 +142,14 @@ pub begins : (v : ClientState) (txn : ℕ) → FindsNone v CallBegin → txn ≡
     → Calls v CallBegin table.AnsweredOk [] as_before (record v { txn = Some txn; stage = stages.Open; locks = record v.locks { txn = Some txn } })
 begins v txn h e = rw e (accepted v (record v { txn = Some (unwrap_or v.txn 0 + 1); stage = stages.Open; locks = record v.locks { txn = Some (unwrap_or v.txn 0 + 1) } })
     CallBegin table.AnsweredOk (λ ops. ChangeCache Begin ∷ []) [] as_before (record {
-  accepts = accepts v CallBegin h;
-  reply = λ ops. refl;
-  said = λ ops. refl;
-  after = λ ops. refl;
-  limits = refl;
-  same_no = refl;
-  same_incarnation = refl;
-}))
+      accepts = accepts v CallBegin h;
+      reply = λ ops. refl;
+      said = λ ops. refl;
+      after = λ ops. refl;
+      limits = refl;
+      same_no = refl;
+      same_incarnation = refl;
+    }))
 
 pub begin_keeps : (v : ClientState) (txn : ℕ) → FindsNone v CallBegin → txn ≡ unwrap_or v.txn 0 + 1 → IsClient v
     → IsClient (record v { txn = Some txn; stage = stages.Open; locks = record v.locks { txn = Some txn } })

@@ -1,17 +1,17 @@
 -- What the table says of reading, wanting and writing a page.
-use Rattle.std.proofs.Common.{◌≡◌, ◌≢◌, ◌<◌, ◌==◌, ℕ, Bool, true, false, if◌then◌else◌, List, [], ◌∷◌, length, slice_set, Option, Some, None, Result, Ok, Err, unwrap_or, refl, sym, ◌∙◌, ap, arith}
+use Rattle.std.proofs.Common.{◌≡◌, ◌<◌, ◌==◌, ℕ, Bool, true, false, if◌then◌else◌, List, [], ◌∷◌, length, slice_set, Option, Some, None, unwrap_or, refl, sym, ◌∙◌, ap}
 use Rattle.std.proofs.Math.ListN.{length-set}
 use Rattle.std.specs.Borrow.{Bor}
-use Rattle.std.specs.Option.{is_some, option_copied, option_map}
+use Rattle.std.specs.Option.{is_some, option_copied}
 use Rattle.cb_page.specs.Flags.{has}
 use Rattle.cb_protocol.proofs.Cases.{call_refused}
 use Rattle.cb_protocol.specs.Answers as table
-use Rattle.cb_protocol.specs.Basics.{Bytes, Limits, is_none, update}
+use Rattle.cb_protocol.specs.Basics.{Bytes, is_none}
 use Rattle.cb_protocol.specs.Cache.{Read, WriteBytes}
-use Rattle.cb_protocol.specs.Client.{ChangeCache, Client, ClientStep, MarkWanted, ReadAsk, Say, SetAsk, WriteAsk, bodies_said, client_after, new_client}
-use Rattle.cb_protocol.specs.ClientCalls.{Call, CallRead, CallWant, CallWrite, Reply, accept_call, call_fault, client_call, read_page, reply_with}
-use Rattle.cb_protocol.specs.Messages.{AskRead, AskWrite, Message}
-use Rattle.cb_protocol.specs.Serial.{Operation, Put, Saw}
+use Rattle.cb_protocol.specs.Client.{ChangeCache, Client, MarkWanted, ReadAsk, Say, SetAsk, WriteAsk, bodies_said, client_after, new_client}
+use Rattle.cb_protocol.specs.ClientCalls.{Call, CallRead, CallWant, CallWrite, Reply, call_fault, client_call, read_page, reply_with}
+use Rattle.cb_protocol.specs.Messages.{AskRead, AskWrite}
+use Rattle.cb_protocol.specs.Serial.{Operation, Saw}
 use Rattle.cb_copies.specs.CopiesState.{CopiesState, client_with, content_at, copy_at}
 use Rattle.cb_copies.specs.ByTable.{Does}
 use Rattle.cb_copies.proofs.Changing.{put_entry}
@@ -20,7 +20,7 @@ use Rattle.cb_client.specs.ByTable.{Called, Calls, IsRefusal, IsRefused, as_befo
 use Rattle.cb_client.specs.CallAnswers.{AnswersBytes, after_read, bytes_at, page_asked, page_read, puts, read_ask, sees}
 use Rattle.cb_client.specs.declared.standing.Ask.TheVariants as asks
 use Rattle.cb_client.specs.declared.client_fault.ClientFault.{ClientFault}
-use Rattle.cb_client.proofs.CallSteps.{Accepted, FindsNone, accepted, accepts, keeps}
+use Rattle.cb_client.proofs.CallSteps.{FindsNone, accepted, accepts, keeps}
 use Rattle.cb_client.proofs.Reaching.{calls_reach}
 
 -- a refused call answers so, and changes nothing
@@ -165,14 +165,14 @@ module _ (v : ClientState) (page : ℕ) (copies : CopiesState) (does : Does v.co
       → Calls v (CallWant page) table.Asked (record { client = v.no; incarnation = v.incarnation; body = AskWrite txn page grant } ∷ []) as_before (record v { copies = copies; ask = asks.Write page })
   asks_want grant txn h may held begun = accepted v (record v { copies = copies; ask = asks.Write page }) (CallWant page) table.Asked
       (λ ops. MarkWanted page ∷ SetAsk (WriteAsk page) ∷ Say (AskWrite (unwrap_or v.txn 0) page grant) ∷ []) _ as_before (record {
-    accepts = accepts v (CallWant page) h;
-    reply = λ ops. rw (may, held) refl;
-    said = λ ops. rw begun refl;
-    after = λ ops. ap (λ (k : Client). record k { ask = WriteAsk page }) (does.becomes (locks_with v.locks (base_of v ops)));
-    limits = does.limits;
-    same_no = refl;
-    same_incarnation = refl;
-  })
+        accepts = accepts v (CallWant page) h;
+        reply = λ ops. rw (may, held) refl;
+        said = λ ops. rw begun refl;
+        after = λ ops. ap (λ (k : Client). record k { ask = WriteAsk page }) (does.becomes (locks_with v.locks (base_of v ops)));
+        limits = does.limits;
+        same_no = refl;
+        same_incarnation = refl;
+      })
 
   held_same : (q : ℕ) → (copy_at copies q).held ≡ (copy_at v.copies q).held
   held_same q = sym (ap (λ (k : Client). k.cache.held q) (does.becomes new_client))

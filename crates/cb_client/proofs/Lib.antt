@@ -2,6 +2,8 @@ pub mod Reaching
 pub mod Refusals
 pub mod CallSteps
 pub mod Calling
+pub mod Writing
+pub mod FramesFit
 pub mod Taking
 pub mod RoomLeft
 pub mod Ending

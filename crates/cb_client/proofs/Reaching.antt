@@ -1,22 +1,18 @@
 -- A new client, and that a client is still reached after a call or a message.
-use Rattle.std.proofs.Common.{◌≡◌, ◌<◌, ℕ, Bool, false, true, true≢false, List, [], length, replicate, slice_index_or, zero, suc, Some, None, IfSome, unwrap_or, refl, subst, sym, ◌∙◌, ap}
-use Rattle.std.proofs.Math.ListN.{get_or, set, length-set}
+use Rattle.std.proofs.Common.{◌≡◌, ◌<◌, ℕ, false, true≢false, List, [], replicate, slice_index_or, zero, suc, None, unwrap_or, refl, subst, sym, ◌∙◌, ap}
+use Rattle.std.proofs.Math.ListN.{get_or}
 use Rattle.std.proofs.lemmas.List.{length-replicate}
 use Rattle.std.specs.Option.{is_some}
 use Rattle.cb_page.specs.Bounds.{Bounds}
-use Rattle.cb_page.specs.Flags as flags
 use Rattle.cb_page.specs.Numbers.{IsNumber}
-use Rattle.cb_copies.specs.CopiesState.{CopiesState, client_with, copy_at, limits_of, no_copies}
+use Rattle.cb_copies.specs.CopiesState.{limits_of}
 use Rattle.cb_copies.specs.Rows.{no_copy}
 use Rattle.cb_copies.specs.declared.table.PageCopy.{PageCopy}
 use Rattle.cb_locks.specs.Dues.{is_due}
-use Rattle.cb_copies.proofs.Changing.{none_in}
-use Rattle.cb_locks.specs.Dues.{called_by, nothing_due}
-use Rattle.cb_locks.specs.declared.dues.PageDue.{PageDue}
-use Rattle.cb_locks.specs.Locks.{LocksState}
-use Rattle.cb_protocol.specs.Client.{Client, client_after, new_client}
-use Rattle.cb_protocol.specs.ClientAlone.{Arises, ClientInput, Continues, ReceivesCall, ReceivesMessage, StartsNew, client_steps_at}
-use Rattle.cb_protocol.specs.ClientCalls.{Call, client_call}
+use Rattle.cb_locks.specs.Dues.{nothing_due}
+use Rattle.cb_protocol.specs.Client.{Client, new_client}
+use Rattle.cb_protocol.specs.ClientAlone.{Arises, Continues, ReceivesCall, ReceivesMessage, StartsNew}
+use Rattle.cb_protocol.specs.ClientCalls.{Call}
 use Rattle.cb_protocol.specs.Messages.{Body}
 use Rattle.cb_protocol.specs.Ranges.{BodyFits, InputFits}
 use Rattle.cb_protocol.specs.Serial.{Operation}

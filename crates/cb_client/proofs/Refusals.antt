@@ -1,16 +1,16 @@
 -- The first fault of a call's causes, test by test.
-use Rattle.std.proofs.Common.{◌≡◌, ◌<◌, ℕ, nat_le, Bool, true, false, not, ◌&&◌, ◌==◌, length, if◌then◌else◌, List, [], ◌∷◌, ◌++◌, Option, Some, None, refl, sym, ◌∙◌, ap, arith}
+use Rattle.std.proofs.Common.{◌≡◌, ℕ, nat_le, Bool, true, false, not, ◌&&◌, ◌==◌, length, if◌then◌else◌, List, [], ◌∷◌, ◌++◌, Option, Some, None, refl, sym, ◌∙◌, ap}
 use Rattle.std.specs.Option.{is_some, option_map}
-use Rattle.cb_protocol.proofs.Cases.{fault_of_read, fault_of_want, fault_of_write}
+use Rattle.cb_protocol.proofs.Cases.{fault_of_finish, fault_of_read, fault_of_want, fault_of_write}
 use Rattle.cb_protocol.specs.Answers as table
-use Rattle.cb_protocol.specs.Basics.{Bytes, Limits, is_none}
+use Rattle.cb_protocol.specs.Basics.{Bytes, is_none}
 use Rattle.cb_protocol.specs.Client.{Client, has_room, is_asking}
 use Rattle.cb_protocol.specs.Serial.{Operation}
 use Rattle.cb_page.specs.Flags.{has}
 use Rattle.cb_copies.specs.CopiesState.{client_with, content_at}
 use Rattle.cb_client.specs.ClientState.{ClientState, ask_of, base_of, client_of, locks_with}
 use Rattle.cb_client.specs.ByTable.{limits_at}
-use Rattle.cb_protocol.specs.ClientCalls.{CallRead, CallWant, CallWrite, Cause, call_fault, cause_of, first_refusal, open_causes, page_causes, read_causes}
+use Rattle.cb_protocol.specs.ClientCalls.{CallFinish, CallRead, CallWant, CallWrite, Cause, call_fault, cause_of, first_refusal, open_causes, page_causes, read_causes}
 
 -- the first fault of two lists of causes: of the first, else of the second
 pub of_first : (xs ys : List Cause) (f : Option table.ClientFault) → Some f ≡ option_map Some (first_refusal xs) → Some f ≡ option_map Some (first_refusal (xs ++ ys))
@@ -147,3 +147,22 @@ fetch_room v p n room ops = of_second (of_page v p (client_of v ops)) (fetch_res
     by : (b : Bool) → None ≡ option_map Some (if (b && false) then Some table.PoolFull else None)
     by true = refl
     by false = refl
+
+-- of the end of a transaction by its commit
+abbrev finish_rest : ClientState → List Cause
+finish_rest v = cause_of (is_asking (ask_of v.ask)) table.Waiting ∷ []
+
+abbrev pub of_finish : ClientState → Client → List Cause
+of_finish v k = open_causes k ++ finish_rest v
+
+pub finish_is : (v : ClientState) (r : Option (Option table.ClientFault)) → FirstIs v (of_finish v) r → (ops : List Operation) → r ≡ option_map Some (call_fault (limits_at v) (client_of v ops) CallFinish)
+finish_is v r e ops = e ops ∙ ap (λ (o : Option table.ClientFault). option_map Some o) (sym (fault_of_finish (limits_at v) (client_of v ops)))
+
+pub finish_shut : (v : ClientState) (f : Option table.ClientFault) → FirstIs v open_causes (Some f) → FirstIs v (of_finish v) (Some f)
+finish_shut v f e ops = of_first (open_causes (client_of v ops)) (finish_rest v) f (e ops)
+
+pub finish_waits : (v : ClientState) → FirstIs v open_causes None → is_asking (ask_of v.ask) ≡ true → FirstIs v (of_finish v) (Some (Some table.Waiting))
+finish_waits v n e ops = of_second (open_causes (client_of v ops)) (finish_rest v) _ (n ops) (rw e refl)
+
+pub finish_free : (v : ClientState) → FirstIs v open_causes None → is_asking (ask_of v.ask) ≡ false → FirstIs v (of_finish v) None
+finish_free v n e ops = of_second (open_causes (client_of v ops)) (finish_rest v) _ (n ops) (rw e refl)

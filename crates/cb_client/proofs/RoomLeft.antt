@@ -1,7 +1,7 @@
 -- The pool has room as before once a copy goes.
-use Rattle.std.proofs.Common.{◌≡◌, ◌≢◌, ◌<◌, ◌≤◌, ◌+◌, ◌==◌, ◌⊎◌, inl, inr, nat_lt, ℕ, zero, suc, Bool, true, false, true≢false, not, ◌&&◌, ◌||◌, if◌then◌else◌, None, refl, sym, ◌∙◌, ap, arith}
+use Rattle.std.proofs.Common.{◌≡◌, ◌≢◌, ◌<◌, ◌≤◌, ◌+◌, ◌==◌, ◌⊎◌, inl, inr, nat_lt, ℕ, zero, suc, Bool, true, false, true≢false, not, ◌&&◌, ◌||◌, if◌then◌else◌, refl, sym, ◌∙◌, ap, arith}
 use Rattle.std.proofs.lemmas.Bool.Decides.{nat_tests}
-use Rattle.cb_protocol.specs.Basics.{Limits, is_none, update}
+use Rattle.cb_protocol.specs.Basics.{Limits, is_none}
 use Rattle.cb_protocol.specs.Cache.{LetGo}
 use Rattle.cb_protocol.specs.Client.{ChangeCache, Client, after_client_step, has_room, is_fixed, pages_in_pool, some_unfixed}
 use Rattle.cb_client.specs.ClientState.{HasRoomLeft}

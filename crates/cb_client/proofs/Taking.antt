@@ -1,5 +1,5 @@
 -- What the protocol's table says of each message.
-use Rattle.std.proofs.Common.{◌≡◌, ◌≢◌, ◌<◌, ◌+◌, ◌==◌, nat_lt, zero, suc, if◌then◌else◌, ℕ, Bool, true, false, true≢false, not, ◌&&◌, ◌||◌, List, [], ◌∷◌, ◌++◌, length, Option, Some, None, IfSome, IsSome, unwrap_or, slice_set, slice_index_or, refl, sym, ◌∙◌, ap, arith, subst}
+use Rattle.std.proofs.Common.{◌≡◌, ◌≢◌, ◌<◌, ◌==◌, ℕ, Bool, true, false, true≢false, ◌&&◌, ◌||◌, List, [], ◌∷◌, length, Option, Some, None, IfSome, IsSome, unwrap_or, slice_set, slice_index_or, refl, sym, ◌∙◌, ap, arith, subst}
 use Rattle.std.specs.Option.{is_some}
 use Rattle.std.proofs.Math.ListN.{length-set}
 use Rattle.std.proofs.lemmas.Bool.Decides.{nat_tests}
@@ -8,9 +8,9 @@ use Rattle.cb_page.specs.Flags.{has}
 use Rattle.cb_protocol.proofs.Cases.{takes_welcome, takes_welcomed}
 use Rattle.cb_protocol.proofs.ClientInvariant.{ClientKeeps, tidy}
 use Rattle.cb_protocol.proofs.PagesStay.{fixed_pages_stay}
-use Rattle.cb_protocol.specs.Basics.{Limits, is_exactly, is_none, update}
+use Rattle.cb_protocol.specs.Basics.{is_exactly, update}
 use Rattle.cb_protocol.specs.Cache.{LetGo, RefuseGrant, TakePermission, YieldPermission}
-use Rattle.cb_protocol.specs.Client.{ChangeCache, Client, ClientStep, DueDowngrade, MarkDue, MarkDueDowngrade, NoAsk, Say, SetAsk, asks_to_write, bodies_said, client_after, is_fixed, new_client}
+use Rattle.cb_protocol.specs.Client.{ChangeCache, Client, ClientStep, MarkDue, MarkDueDowngrade, NoAsk, Say, SetAsk, asks_to_write, bodies_said, client_after, new_client}
 use Rattle.cb_protocol.specs.ClientLaws.{IsHere}
 use Rattle.cb_protocol.specs.ClientMessages.{ChoiceAllowed, client_take, of_open_txn, take_welcomed}
 use Rattle.cb_protocol.specs.Messages.{Body, Callback, Downgrade, Downgraded, GiveBack, InUse, MayWrite, Message, Welcome}
@@ -24,7 +24,7 @@ use Rattle.cb_frame_types.specs.declared.frame.Frame.{Frame}
 use Rattle.cb_frame_types.specs.declared.frame.ShortBody.TheVariants as short
 use Rattle.cb_outbox.specs.Messages.{message_of}
 use Rattle.cb_locks.specs.Frames.{saying}
-use Rattle.cb_locks.specs.Locks.{LocksState, callback, due_at, with_noted}
+use Rattle.cb_locks.specs.Locks.{callback, due_at, with_noted}
 use Rattle.cb_locks.specs.declared.dues.DueDowngrade as locks
 use Rattle.cb_locks.specs.declared.dues.PageDue.{PageDue}
 use Rattle.cb_client.specs.ClientState.{ClientState, HasRoomLeft, IsClient, IsReached, ask_of, base_of, client_of, downgrade_of, locks_with}
@@ -140,7 +140,7 @@ pub room_stays : (v : ClientState) (copies : CopiesState) (steps : List ClientSt
 room_stays v copies steps is d left p ask other = rw d.limits (
     room_same (limits_at v) (client_with copies (client_after v.copies.limits.keep_write other steps)) (client_with copies other) (λ q. refl) (λ q. refl)
     (subst (λ (k : Client). HasRoomLeft (limits_at v) k) (d.becomes other) (left other (is.room p ask other)))
-)
+    )
 
 pub callback_refused_keeps : (v : ClientState) (p g : ℕ) (copies : CopiesState) → IsClient v → v.welcomed ≡ true → BodyFits (limits_at v) (Callback p g) → is_exactly (copy_at v.copies p).held g ≡ false
     → Does v.copies (ChangeCache (RefuseGrant p g) ∷ []) copies → IsClient (record v { copies = copies })
@@ -364,16 +364,16 @@ pub downgrade_in_use : (v : ClientState) (p g t txn : ℕ) → IsClient v → v.
     → Takes v (Downgrade p g t) (by_locks v (InUse txn p g) ∷ []) (record v { locks = with_noted v.locks p g (Some t) })
 downgrade_in_use v p g t txn is welcomed lt kept_ones held may fixed begun = takes v (record v { locks = with_noted v.locks p g (Some t) }) (Downgrade p g t)
     (MarkDueDowngrade p (record { grant = g; tag = t }) ∷ Say (InUse (unwrap_or v.txn 0) p g) ∷ []) _ welcomed (λ e. cc) (λ ops. tt) (record {
-  table = λ ops. rw (kept_ones, held, may, fixed) refl;
-  said = from_locks v is (InUse (unwrap_or v.txn 0) p g) ∙ ap (λ (n : ℕ). by_locks v (InUse n p g) ∷ []) (ap (λ (x : Option ℕ). unwrap_or x 0) (sym is.same_txn ∙ begun));
-  after = λ ops i. record (client_of v ops) {
-    due = λ q. due_same (λ d. is_some d.callback) v.locks.dues p q (noted (due_at v.locks p) g (Some t)) (among_dues v is p lt) refl i;
-    due_downgrade = λ q. put_due (λ d. downgrade_of d.downgrade) v.locks.dues p q (noted (due_at v.locks p) g (Some t)) (among_dues v is p lt) i;
-  };
-  limits = refl;
-  same_no = refl;
-  same_incarnation = refl;
-})
+      table = λ ops. rw (kept_ones, held, may, fixed) refl;
+      said = from_locks v is (InUse (unwrap_or v.txn 0) p g) ∙ ap (λ (n : ℕ). by_locks v (InUse n p g) ∷ []) (ap (λ (x : Option ℕ). unwrap_or x 0) (sym is.same_txn ∙ begun));
+      after = λ ops i. record (client_of v ops) {
+        due = λ q. due_same (λ d. is_some d.callback) v.locks.dues p q (noted (due_at v.locks p) g (Some t)) (among_dues v is p lt) refl i;
+        due_downgrade = λ q. put_due (λ d. downgrade_of d.downgrade) v.locks.dues p q (noted (due_at v.locks p) g (Some t)) (among_dues v is p lt) i;
+      };
+      limits = refl;
+      same_no = refl;
+      same_incarnation = refl;
+    })
 
 pub downgrade_in_use_keeps : (v : ClientState) (p g t : ℕ) → IsClient v → v.welcomed ≡ true → BodyFits (limits_at v) (Downgrade p g t) → v.copies.limits.keep_write ≡ true → is_exactly (copy_at v.copies p).held g ≡ true
     → permitted v p t ≡ true → (has v.copies.wanted p || has v.copies.wrote p) ≡ true → IsClient (record v { locks = with_noted v.locks p g (Some t) })

@@ -1,5 +1,5 @@
 -- What a client answers and does, by the protocol's tables.
-use Rattle.std.specs.Prelude.{◌≡◌, ℕ, List, [], ◌∷◌, map, Option, Some, None, Result, Ok, Err}
+use Rattle.std.specs.Prelude.{◌≡◌, ℕ, List, [], map, Option, Some, None, Result, Ok, Err}
 use Rattle.std.specs.Option.{option_map}
 use Rattle.cb_copies.specs.CopiesState.{limits_of}
 use Rattle.cb_protocol.specs.Answers as table

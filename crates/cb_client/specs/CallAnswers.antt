@@ -15,7 +15,7 @@ use Rattle.cb_protocol.specs.ClientCalls.{call_fault, client_call}
 use Rattle.cb_protocol.specs.Messages.{AskRead, Message}
 use Rattle.cb_protocol.specs.Serial.{Operation, Put, Saw}
 use Rattle.cb_client.specs.ClientState.{ClientState, client_of}
-use Rattle.cb_client.specs.ByTable.{Called, Calls, IsRefusal, IsRefused, Refuses, RefusesOrLacks}
+use Rattle.cb_client.specs.ByTable.{Calls, IsRefused, Refuses, RefusesOrLacks}
 use Rattle.cb_client.specs.ByTable.{as_before, limits_at, messages_from}
 use Rattle.cb_client.specs.declared.standing.Ask.TheVariants as asks
 use Rattle.cb_client.specs.declared.answers.WantAnswer.{WantAnswer}

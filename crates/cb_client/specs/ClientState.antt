@@ -23,7 +23,6 @@ use Rattle.cb_client.specs.declared.standing.Outcome.{Outcome}
 use Rattle.cb_client.specs.declared.standing.Outcome.TheVariants as outcomes
 use Rattle.cb_client.specs.declared.standing.Stage.{Stage}
 use Rattle.cb_client.specs.declared.standing.Stage.TheVariants as stages
-
 -- the client with what its locks say, and a downgrade that is due
 pub use Rattle.cb_ending.specs.Owing.{downgrade_of, locks_with}
 

@@ -1,8 +1,11 @@
 //! The type, its opening, and what it shows.
-ghost use Rattle.std.specs.Prelude.{◌≡◌, ℕ, ◌<◌, List, [], IfOk};
-ghost use Rattle.std.specs.Option.{option_copied};
+ghost use Rattle.std.specs.Prelude.{◌≡◌, ℕ, ◌<◌, ◌&&◌, List, [], IfOk};
+ghost use Rattle.std.specs.Option.{is_some};
 ghost use Rattle.cb_page.specs.Flags.{has};
+ghost use Rattle.cb_protocol.specs.Cache.{is_open};
 ghost use Rattle.cb_protocol.specs.Client.{client_status, new_client};
+ghost use Rattle.cb_copies.specs.CopiesState.{content_at};
+ghost use Rattle.cb_twoq.specs.Pages.{has as on};
 ghost use Rattle.cb_protocol.specs.Serial.{Operation};
 ghost use Rattle.cb_client.specs.ClientState.{client_of, new_state, outcome_of, status_of};
 
@@ -113,12 +116,21 @@ impl<Q: Chooser> Client<Q> {
         self.copies.limits()
     }
 
-    /// Whether the client may write the page.
+    /// Lends the pool's chooser, whose members are the pages of which `peek` has the bytes.
+    pub fn chooser(&self) -> &Q
+        ensures { (page : ℕ) → on (Q.members result.now) page
+            ≡ is_some (content_at self.now.copies page) }
+    {
+        self.copies.chooser()
+    }
+
+    /// Whether the client may write the page in the transaction that is open.
     pub fn may_write(&self, page: PageNo) -> bool
         ensures { (operations : List Operation)
-            → result ≡ (client_of self.now operations).cache.may_write page }
+            → result ≡ (is_open (client_of self.now operations).cache.status
+            && (client_of self.now operations).cache.may_write page) }
     {
-        self.copies.may_write(page)
+        self.stage.is_open() && self.copies.may_write(page)
     }
 
     /// What the client says of itself.

@@ -1,6 +1,7 @@
 //! Where a client stands: with its transaction, its ask, and its last outcome.
 ghost use Rattle.std.specs.Prelude.{◌≡◌};
-ghost use Rattle.cb_client.specs.ClientState.{ask_of};
+ghost use Rattle.cb_client.specs.ClientState.{ask_of, stage_of};
+ghost use Rattle.cb_protocol.specs.Cache.{is_open};
 ghost use Rattle.cb_protocol.specs.Client.{is_asking};
 
 use cb_page::{CommitNo, PageNo};
@@ -14,6 +15,18 @@ pub enum Stage {
     Open,
     /// Its commit is out.
     Committing,
+}
+
+impl Stage {
+    /// Whether the transaction is open.
+    pub(crate) fn is_open(self) -> bool
+        ensures { result ≡ is_open (stage_of self) }
+    {
+        match self {
+            Stage::Open => true,
+            Stage::Idle | Stage::Committing => false,
+        }
+    }
 }
 
 /// The ask that is out.

@@ -1,13 +1,16 @@
 //! How a transaction commits.
-ghost use Rattle.std.specs.Prelude.{◌≡◌, ◌+◌, true, [], ◌∷◌, IfOk, IsOk};
+ghost use Rattle.std.specs.Prelude.{◌≡◌, ◌≢◌, true, List, [], ◌∷◌, IfOk, IsOk};
 ghost use Rattle.cb_page.specs.Flags.{has};
-ghost use Rattle.cb_client.specs.ByTable.{IsDecided};
+ghost use Rattle.cb_client.specs.ByTable.{IsDecided, limits_at, messages_from};
+ghost use Rattle.cb_client.specs.ClientState.{client_of};
 ghost use Rattle.cb_client.specs.CallAnswers.{Finishes};
-ghost use Rattle.cb_client.specs.declared.standing.Stage.TheVariants.{Open};
+ghost use Rattle.cb_client.specs.declared.standing.Stage.TheVariants.{Idle, Open};
 ghost use Rattle.cb_copies.specs.CopiesState.{AreCopies, client_with};
-ghost use Rattle.cb_outbox.specs.Messages.{page_write, page_writes};
-ghost use Rattle.cb_protocol.specs.Client.{Client as TableClient};
-ghost use Rattle.cb_protocol.specs.ClientCalls.{CallFinish, written_page, written_pages};
+ghost use Rattle.cb_outbox.specs.Messages.{message_of, page_write, page_writes};
+ghost use Rattle.cb_protocol.specs.Client.{Client as TableClient, bodies_said};
+ghost use Rattle.cb_protocol.specs.Serial.{Operation};
+ghost use Rattle.cb_protocol.specs.ClientCalls.{CallFinish, say_commit, written_page};
+ghost use Rattle.cb_protocol.specs.ClientCalls.{written_pages};
 
 use crate::client::Client;
 use crate::client_fault::ClientFault;
@@ -38,9 +41,21 @@ impl<Q: Chooser> Client<Q> {
         ensures { Finishes self.old result self.new }
     {
         self.check_finish()?;
-        let writes = written_so_far(alloc, &self.copies)?;
-        let txn = self.present_txn();
+        let commit = self.commit_frame(alloc)?;
         self.stage = Stage::Committing;
+        Ok(commit)
+    }
+
+    /// The frame of the transaction's commit, with the pages that it wrote. `AllocError` only where
+    /// memory for these was refused.
+    pub(super) fn commit_frame(&self, alloc: Global) -> Result<Frame, AllocError>
+        requires { self.now.stage ≢ Idle }
+        ensures { IfOk result (λ frame. (operations : List Operation) → messages_from self.now
+            (bodies_said (say_commit (limits_at self.now) (client_of self.now operations)))
+            ≡ message_of frame ∷ []) }
+    {
+        let txn = self.present_txn();
+        let writes = written_so_far(alloc, &self.copies)?;
         Ok(Frame {
             client: self.no,
             incarnation: self.incarnation,
@@ -50,10 +65,7 @@ impl<Q: Chooser> Client<Q> {
 }
 
 /// What a commit says of the pages that the transaction wrote, rising.
-pub(super) fn written_so_far<Q: Chooser>(
-    alloc: Global,
-    copies: &Copies<Q>,
-) -> Result<Writes, AllocError>
+fn written_so_far<Q: Chooser>(alloc: Global, copies: &Copies<Q>) -> Result<Writes, AllocError>
     ensures { IfOk result (λ writes. (client : TableClient) → page_writes writes
         ≡ written_pages (client_with copies.now client) copies.now.limits.pages) }
 {
@@ -67,7 +79,11 @@ pub(super) fn written_so_far<Q: Chooser>(
 }
 
 /// What it says of one of them.
-fn write_of<Q: Chooser>(alloc: Global, copies: &Copies<Q>, page: PageNo) -> Result<Write, AllocError>
+fn write_of<Q: Chooser>(
+    alloc: Global,
+    copies: &Copies<Q>,
+    page: PageNo,
+) -> Result<Write, AllocError>
     requires { has copies.now.wrote page ≡ true }
     ensures written { IfOk result (λ write. (client : TableClient)
         → written_page (client_with copies.now client) page

@@ -1,4 +1,4 @@
-use Rattle.std.proofs.Common.{◌≡◌, true, false, Err, sym, rules, arith}
+use Rattle.std.proofs.Common.{◌≡◌, Err, sym, rules}
 use Rattle.cb_client.proofs.Refusals.{fetch_full, fetch_here, fetch_is, fetch_room, fetch_shut}
 use Rattle.cb_client.proofs.client.Client.check_fetch.Goals as goal
 

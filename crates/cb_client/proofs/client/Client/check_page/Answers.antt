@@ -1,4 +1,4 @@
-use Rattle.std.proofs.Common.{◌≡◌, ◌<◌, nat_le, true, false, Err, sym, rules, arith}
+use Rattle.std.proofs.Common.{◌≡◌, nat_le, true, false, Err, sym, rules, arith}
 use Rattle.std.proofs.lemmas.Bool.Decides.{nat_tests}
 use Rattle.cb_protocol.specs.Client.{is_asking}
 use Rattle.cb_client.specs.ClientState.{ask_of}

@@ -1,6 +1,5 @@
-use Rattle.std.proofs.Common.{◌≡◌, true, false, Err, sym, rules, arith}
+use Rattle.std.proofs.Common.{◌≡◌, true, false, Err, sym, rules}
 use Rattle.cb_page.specs.Flags.{has}
-use Rattle.cb_copies.specs.CopiesState.{content_at}
 use Rattle.cb_client.proofs.Refusals.{read_bare, read_free, read_shut, read_unlocked}
 use Rattle.cb_client.proofs.client.Client.check_read.Goals as goal
 

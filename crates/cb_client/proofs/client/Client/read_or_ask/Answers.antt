@@ -1,6 +1,4 @@
-use Rattle.std.proofs.Common.{◌≡◌, true, false, Err, refl, sym, ◌∙◌, rules}
-use Rattle.std.specs.Option.{is_some}
-use Rattle.cb_copies.specs.CopiesState.{content_at}
+use Rattle.std.proofs.Common.{refl, sym, ◌∙◌}
 use Rattle.cb_client.proofs.CallSteps.{refused}
 use Rattle.cb_client.proofs.Calling.{ask_keeps, called_ask, called_here, called_refused, lent_there, read_keeps}
 use Rattle.cb_client.proofs.client.Client.read_or_ask.Goals as goal

@@ -1,7 +1,4 @@
-use Rattle.std.proofs.Common.{◌≡◌, ◌<◌, ◌∙◌, sym, not, true, false, Bool, Some, rules, refl}
-use Rattle.cb_page.specs.Flags.{has}
-use Rattle.cb_protocol.specs.Basics.{is_exactly}
-use Rattle.cb_copies.specs.CopiesState.{copy_at}
+use Rattle.std.proofs.Common.{rules}
 use Rattle.cb_client.proofs.Taking.{callback_gives, callback_gives_keeps, callback_in_use_keeps, callback_in_use_takes, callback_refused, callback_refused_keeps, locked_begun, unlocked_unwritten}
 use Rattle.cb_client.proofs.client.Client.take_callback.Goals as goal
 

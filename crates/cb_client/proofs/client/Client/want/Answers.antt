@@ -1,4 +1,4 @@
-use Rattle.std.proofs.Common.{◌≡◌, true, false, Err, refl, sym, rules}
+use Rattle.std.proofs.Common.{◌≡◌, Err, refl, sym, rules}
 use Rattle.cb_client.proofs.CallSteps.{refused}
 use Rattle.cb_client.proofs.Refusals.{want_is}
 use Rattle.cb_client.proofs.Calling.{ask_want_keeps, asks_want, want_keeps, wants}

@@ -1,4 +1,4 @@
-use Rattle.std.proofs.Common.{◌≡◌, Err, refl, sym, rules}
+use Rattle.std.proofs.Common.{◌≡◌, Err, refl, rules}
 use Rattle.cb_client.proofs.CallSteps.{refused}
 use Rattle.cb_client.proofs.Calling.{write_keeps, writes}
 use Rattle.cb_client.proofs.client.Client.write.Goals as goal

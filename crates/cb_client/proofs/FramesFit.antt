@@ -1,0 +1,76 @@
+-- Every message that a client says fits the limits, and so does its frame.
+use Rattle.std.proofs.Common.{◌≡◌, ◌<◌, ◌≤◌, ◌+◌, ℕ, zero, suc, List, [], ◌∷◌, length, map, Some, refl, subst, arith}
+use Rattle.std.specs.Prelude.{⊤}
+use Rattle.std.specs.List.{AllByRecursion}
+use Rattle.cb_page.specs.Bounds.{Bounds}
+use Rattle.cb_page.specs.Rising.{RisesFrom}
+use Rattle.cb_copies.specs.CopiesState.{limits_of}
+use Rattle.cb_frame_types.specs.Grammar as grammar
+use Rattle.cb_frame_types.specs.declared.frame.Body.{Body}
+use Rattle.cb_frame_types.specs.declared.frame.Body.TheVariants as body
+use Rattle.cb_frame_types.specs.declared.frame.Frame.{Frame}
+use Rattle.cb_frame_types.specs.declared.frame.ShortBody.{ShortBody}
+use Rattle.cb_frame_types.specs.declared.frame.ShortBody.TheVariants as short
+use Rattle.cb_frame_types.specs.declared.writes.Write.{Write}
+use Rattle.cb_outbox.specs.Messages.{body_of, message_of, page_writes, short_of}
+use Rattle.cb_protocol.proofs.ClientRanges.{client_messages_in_range}
+use Rattle.cb_protocol.specs.Client.{Client, bodies_said}
+use Rattle.cb_protocol.specs.ClientAlone.{ReceivesCall}
+use Rattle.cb_protocol.specs.ClientCalls.{Call, client_call}
+use Rattle.cb_protocol.specs.Messages as protocol
+use Rattle.cb_protocol.specs.Ranges.{Above, AllBodiesFit, AllMessagesFit, BodyFits, MessageFits, WritesFit}
+use Rattle.cb_client.specs.ClientState.{ClientState, IsClient, client_of}
+use Rattle.cb_client.specs.ByTable.{Calls, limits_at, messages_from}
+
+-- a body without page bytes
+short_fits : (b : Bounds) (s : ShortBody) → BodyFits (limits_of b) (short_of s) → grammar.ShortFits b s
+short_fits b short.Hello h = h
+short_fits b (short.AskRead txn page) h = h
+short_fits b (short.AskWrite txn page grant) h = h
+short_fits b (short.GiveBack page grant) h = h
+short_fits b (short.InUse txn page grant) h = h
+short_fits b (short.Drop txn) h = h
+short_fits b short.Welcome h = h
+short_fits b (short.MayWrite txn page grant) h = h
+short_fits b (short.Callback page grant) h = h
+short_fits b (short.Done txn number) h = h
+short_fits b (short.AbortNow txn) h = h
+short_fits b (short.Downgraded page grant txn) h = h
+short_fits b (short.Downgrade page grant txn) h = h
+
+-- the pages of a commit
+writes_fit : (b : Bounds) (ws : List Write) → WritesFit (limits_of b) (page_writes ws) → AllByRecursion (grammar.WriteFits b) ws
+writes_fit b [] h = tt
+writes_fit b (w ∷ ws) h = (record { page = h.0.0; grant = h.0.1; bytes = h.0.2 }, writes_fit b ws h.2)
+
+rises : (b : Bounds) (page : ℕ) (ws : List Write) → Above page (page_writes ws) → WritesFit (limits_of b) (page_writes ws) → RisesFrom (page + 1) (map grammar.page_of ws)
+rises b page [] a h = tt
+rises b page (w ∷ ws) a h = (let lt = a.0 in omega (arith, lt), rises b w.page ws h.1 h.2)
+
+from_zero : (b : Bounds) (ws : List Write) → WritesFit (limits_of b) (page_writes ws) → RisesFrom 0 (map grammar.page_of ws)
+from_zero b [] h = tt
+from_zero b (w ∷ ws) h = (omega arith, rises b w.page ws h.1 h.2)
+
+body_fits : (b : Bounds) (x : Body) → BodyFits (limits_of b) (body_of x) → grammar.BodyFits b x
+body_fits b (body.Short s) h = short_fits b s h
+body_fits b (body.Commit txn ws) h = (h.0, writes_fit b ws h.1, from_zero b ws h.1)
+body_fits b (body.Granted page grant version bytes) h = h
+
+pub frame_fits : (b : Bounds) (frame : Frame) → MessageFits (limits_of b) (message_of frame) → grammar.Fits b frame
+frame_fits b frame h = record { client = h.0; incarnation = h.1; body = body_fits b frame.body h.2 }
+
+-- what a client says in answer to a call
+from_client : (v : ClientState) → IsClient v → (bodies : List protocol.Body) → AllBodiesFit (limits_at v) bodies → AllMessagesFit (limits_at v) (messages_from v bodies)
+from_client v is [] h = tt
+from_client v is (x ∷ bodies) h = ((is.no, is.incarnation, h.0), from_client v is bodies h.1)
+
+pub calls_fit : (v w : ClientState) (call : Call) {word : _} {said : List protocol.Message} {history : _} → IsClient v → Calls v call word said history w → AllMessagesFit (limits_at v) said
+calls_fit v w call {word} {said} {history} is c =
+    let ops = is.reached.operations in
+    subst (λ (messages : List protocol.Message). AllMessagesFit (limits_at v) messages) (c.makes.said ops)
+    (from_client v is (bodies_said (client_call (limits_at v) (client_of v ops) call).steps)
+    (client_messages_in_range (limits_at v) (client_of v ops) (ReceivesCall call) is.reached.arises tt tt))
+
+-- one frame said
+pub call_frame_fits : (v w : ClientState) (call : Call) {word : _} {history : _} (frame : Frame) → IsClient v → Calls v call word (message_of frame ∷ []) history w → grammar.Fits v.copies.limits frame
+call_frame_fits v w call {word} {history} frame is c = frame_fits v.copies.limits frame (calls_fit v w call is c).0
