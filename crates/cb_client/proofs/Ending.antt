@@ -239,8 +239,6 @@ abort_ignored v txn welcomed other = record {
 abbrev pub drop_steps : LastOutcome → ℕ → List ClientStep
 drop_steps outcome txn = EndTransaction outcome ∷ ChangeCache Abandon ∷ Say (Drop txn) ∷ []
 
-
-
 abbrev pub after_drop : ClientState → ℕ → Outcome → CopiesState → LocksState → ClientState
 after_drop v txn outcome copies locks = record v { copies = copies; locks = locks; stage = stages.Idle; ask = asks.Nothing; dropped = Some txn; last = Some outcome }
 

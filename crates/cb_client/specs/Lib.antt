@@ -3,4 +3,3 @@ pub mod ClientState
 pub mod ByTable
 pub mod CallAnswers
 pub mod Lending
-pub mod GrantCases

@@ -10,11 +10,9 @@ ghost use Rattle.cb_protocol.specs.Serial.{Operation};
 ghost use Rattle.cb_client.specs.ClientState.{client_of, new_state, outcome_of, status_of};
 
 mod calls;
-mod finish;
 mod ends;
-mod granted;
+mod finish;
 mod messages;
-mod taking;
 
 use crate::standing::{Ask, ClientStatus, Outcome, Stage};
 use cb_copies::Copies;

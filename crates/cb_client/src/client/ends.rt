@@ -57,11 +57,7 @@ impl<Q: Chooser> Client<Q> {
     }
 
     /// The transaction is to be aborted, where it is open. Answers what its end says.
-    pub(super) fn take_abort(
-        &mut self,
-        alloc: Global,
-        txn: TxnNo,
-    ) -> Result<Vec<Frame>, AllocError>
+    pub(super) fn take_abort(&mut self, alloc: Global, txn: TxnNo) -> Result<Vec<Frame>, AllocError>
         requires welcomed { self.old.welcomed ≡ true }
         requires fits { BodyFits (limits_at self.old) (AbortNow txn) }
         ensures ok { IfOk result (λ frames. Takes self.old (AbortNow txn)

@@ -71,7 +71,12 @@ impl<Q: Chooser> Client<Q> {
 
     /// A permission to write a page is called back alone, which is so only where permissions are
     /// kept: in use where the transaction wrote the page or wants to, else given up.
-    pub(super) fn take_downgrade(&mut self, page: PageNo, grant: GrantNo, tag: TxnNo) -> Option<Frame>
+    pub(super) fn take_downgrade(
+        &mut self,
+        page: PageNo,
+        grant: GrantNo,
+        tag: TxnNo,
+    ) -> Option<Frame>
         requires welcomed { self.old.welcomed ≡ true }
         requires fits { BodyFits (limits_at self.old) (Downgrade page grant tag) }
         ensures { Takes self.old (Downgrade page grant tag) (messages_of (option_to_list result))
