@@ -10,6 +10,7 @@ ghost use Rattle.cb_protocol.specs.Serial.{Operation};
 ghost use Rattle.cb_client.specs.ClientState.{client_of, new_state, outcome_of, status_of};
 
 mod calls;
+mod ends;
 mod finish;
 mod messages;
 

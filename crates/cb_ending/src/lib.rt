@@ -5,4 +5,4 @@
 mod ending;
 mod page_end;
 
-
+pub use ending::{commit_ends, drop_ends};

@@ -34,7 +34,7 @@ use cb_twoq::Chooser;
 
 impl<Q: Chooser> Client<Q> {
     /// The frame of this client with that body.
-    fn say(&self, body: ShortBody) -> ShortFrame
+    pub(super) fn say(&self, body: ShortBody) -> ShortFrame
         ensures { result ≡ record {
           client = self.now.no;
           incarnation = self.now.incarnation;

@@ -20,14 +20,14 @@ use cb_twoq::Chooser;
 
 impl<Q: Chooser> Client<Q> {
     /// The server knows the client.
-    fn take_welcome(&mut self)
+    pub(super) fn take_welcome(&mut self)
         ensures { Takes self.old Welcome [] self.new }
     {
         self.welcomed = true;
     }
 
     /// Whether that grant of the page is held.
-    fn holds(&self, page: PageNo, grant: GrantNo) -> bool
+    pub(super) fn holds(&self, page: PageNo, grant: GrantNo) -> bool
         requires { page < self.now.copies.limits.pages }
         ensures { result ≡ is_exactly (copy_at self.now.copies page).held grant }
     {
@@ -38,7 +38,7 @@ impl<Q: Chooser> Client<Q> {
     }
 
     /// A copy is called back: in use where the transaction has read it, else given back.
-    fn take_callback(&mut self, page: PageNo, grant: GrantNo) -> Frame
+    pub(super) fn take_callback(&mut self, page: PageNo, grant: GrantNo) -> Frame
         requires welcomed { self.old.welcomed ≡ true }
         requires fits { BodyFits (limits_at self.old) (Callback page grant) }
         ensures { Takes self.old (Callback page grant) (message_of result ∷ []) self.new }
@@ -71,7 +71,12 @@ impl<Q: Chooser> Client<Q> {
 
     /// A permission to write a page is called back alone, which is so only where permissions are
     /// kept: in use where the transaction wrote the page or wants to, else given up.
-    fn take_downgrade(&mut self, page: PageNo, grant: GrantNo, tag: TxnNo) -> Option<Frame>
+    pub(super) fn take_downgrade(
+        &mut self,
+        page: PageNo,
+        grant: GrantNo,
+        tag: TxnNo,
+    ) -> Option<Frame>
         requires welcomed { self.old.welcomed ≡ true }
         requires fits { BodyFits (limits_at self.old) (Downgrade page grant tag) }
         ensures { Takes self.old (Downgrade page grant tag) (messages_of (option_to_list result))
@@ -97,7 +102,7 @@ impl<Q: Chooser> Client<Q> {
     }
 
     /// Whether the open transaction is that one.
-    fn is_open_txn(&self, txn: TxnNo) -> bool
+    pub(super) fn is_open_txn(&self, txn: TxnNo) -> bool
         requires { IsNumber txn }
         ensures { result ≡ of_open_txn (client_of self.now []) txn }
     {
@@ -130,7 +135,7 @@ impl<Q: Chooser> Client<Q> {
     }
 
     /// The transaction may write a page: where it asked to, and the grant is held.
-    fn take_may_write(&mut self, txn: TxnNo, page: PageNo, grant: GrantNo)
+    pub(super) fn take_may_write(&mut self, txn: TxnNo, page: PageNo, grant: GrantNo)
         requires welcomed { self.old.welcomed ≡ true }
         requires fits { BodyFits (limits_at self.old) (MayWrite txn page grant) }
         ensures { Takes self.old (MayWrite txn page grant) [] self.new }
