@@ -1,5 +1,5 @@
 -- What the protocol's table says of a transaction's end.
-use Rattle.std.proofs.Common.{◌≡◌, ◌≢◌, ◌<◌, ◌≤◌, ◌+◌, ◌==◌, ℕ, zero, suc, nat_lt, Bool, true, false, true≢false, not, ◌&&◌, ◌||◌, if◌then◌else◌, List, [], ◌∷◌, ◌++◌, length, map, replicate, slice_index_or, Option, Some, None, IfSome, unwrap_or, refl, sym, ◌∙◌, ap, subst, arith}
+use Rattle.std.proofs.Common.{◌≡◌, ◌≢◌, ◌<◌, ◌==◌, ℕ, zero, suc, Bool, true, false, true≢false, ◌&&◌, ◌||◌, if◌then◌else◌, List, [], ◌∷◌, ◌++◌, length, map, replicate, slice_index_or, Option, Some, None, IfSome, unwrap_or, refl, sym, ◌∙◌, ap, subst, arith}
 use Rattle.std.specs.Option.{is_some, option_map}
 use Rattle.std.proofs.lemmas.Bool.Decides.{nat_tests}
 use Rattle.std.proofs.lemmas.List.{length-replicate}
@@ -7,26 +7,26 @@ use Rattle.cb_page.specs.Bounds.{Bounds}
 use Rattle.cb_page.specs.Flags.{has}
 use Rattle.cb_frame_types.specs.declared.frame.Frame.{Frame}
 use Rattle.cb_outbox.specs.Messages.{messages_of}
-use Rattle.cb_protocol.proofs.Cases.{call_accepted, client_after_append, takes_welcomed}
-use Rattle.cb_protocol.specs.Basics.{Limits, is_none, update}
-use Rattle.cb_protocol.specs.Cache.{Abandon, LetGo, TakeDone, YieldPermission}
+use Rattle.cb_protocol.proofs.Cases.{client_after_append, takes_welcomed}
+use Rattle.cb_protocol.specs.Basics.{is_none, update}
+use Rattle.cb_protocol.specs.Cache.{Abandon, LetGo, TakeDone}
 use Rattle.cb_protocol.specs.Client.{ChangeCache, Client, ClientStep, DueDowngrade, EndTransaction, LastOutcome, Say, bodies_said, client_after}
 use Rattle.cb_protocol.specs.Client as protocol
 use Rattle.cb_protocol.specs.ClientEnd.{end_page, end_pages, give_down}
-use Rattle.cb_protocol.specs.ClientMessages.{ChoiceAllowed, client_take, of_committing_txn, of_open_txn, take_welcomed}
-use Rattle.cb_protocol.specs.Messages.{AbortNow, Body, Done, Downgraded, Drop, GiveBack, Message, Welcome}
+use Rattle.cb_protocol.specs.ClientMessages.{client_take, of_committing_txn, of_open_txn}
+use Rattle.cb_protocol.specs.Messages.{AbortNow, Body, Done, Drop, GiveBack}
 use Rattle.cb_protocol.proofs.PagesStay.{fixed_pages_stay}
 use Rattle.cb_protocol.specs.ClientLaws.{IsHere}
 use Rattle.cb_protocol.specs.Ranges.{BodyFits, InputFits}
 use Rattle.cb_protocol.specs.Serial.{Operation}
-use Rattle.cb_copies.specs.CopiesState.{CopiesState, client_with, content_at, copy_at}
+use Rattle.cb_copies.specs.CopiesState.{CopiesState, content_at, copy_at}
 use Rattle.cb_locks.specs.Dues.{called_by, is_due, nothing_due}
 use Rattle.cb_locks.specs.Locks.{LocksState, due_at, ended}
 use Rattle.cb_locks.specs.declared.dues.PageDue.{PageDue}
 use Rattle.cb_ending.specs.Ending.{Ends, all_sent_by, pages_steps}
 use Rattle.cb_ending.specs.Owing.{OwesLocked, holder}
 use Rattle.cb_ending.proofs.Walk.{pages_by_sight}
-use Rattle.cb_client.specs.ClientState.{ClientState, IsClient, IsReached, base_of, client_of, locks_with}
+use Rattle.cb_client.specs.ClientState.{ClientState, IsClient, IsReached, base_of, client_of}
 use Rattle.cb_client.specs.declared.standing.Ask.TheVariants as asks
 use Rattle.cb_client.specs.declared.standing.Outcome.{Outcome}
 use Rattle.cb_client.specs.declared.standing.Outcome.TheVariants as outcomes

@@ -5,6 +5,7 @@ pub mod Calling
 pub mod Writing
 pub mod FramesFit
 pub mod Answering
+pub mod SayingAgain
 pub mod Taking
 pub mod RoomLeft
 pub mod Ending

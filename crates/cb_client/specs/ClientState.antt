@@ -60,6 +60,13 @@ outcome_of (Some (outcomes.Committed number)) = protocol.Committed number
 outcome_of (Some outcomes.Dropped) = protocol.Dropped
 outcome_of (Some outcomes.Aborted) = protocol.Aborted
 
+-- it was dropped or aborted
+abbrev pub is_gone : Option Outcome → Bool
+is_gone None = false
+is_gone (Some (outcomes.Committed number)) = false
+is_gone (Some outcomes.Dropped) = true
+is_gone (Some outcomes.Aborted) = true
+
 -- what a client says of itself
 abbrev pub status_of : ClientStatus → protocol.ClientStatus
 status_of statuses.NotWelcome = protocol.StatusNotWelcome

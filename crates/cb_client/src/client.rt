@@ -9,6 +9,7 @@ ghost use Rattle.cb_twoq.specs.Pages.{has as on};
 ghost use Rattle.cb_protocol.specs.Serial.{Operation};
 ghost use Rattle.cb_client.specs.ClientState.{client_of, new_state, outcome_of, status_of};
 
+mod again;
 mod calls;
 mod ends;
 mod finish;

@@ -1,8 +1,7 @@
-use Rattle.std.proofs.Common.{◌≡◌, Err, refl, rules}
-use Rattle.cb_client.proofs.CallSteps.{accepts, refused}
+use Rattle.std.proofs.Common.{◌≡◌, Err, rules}
+use Rattle.cb_client.proofs.CallSteps.{refused}
 use Rattle.cb_client.proofs.Ending.{drop_keeps, drops, owes, refuses_or_lacks}
 use Rattle.cb_protocol.specs.Client as protocol
-use Rattle.cb_protocol.specs.ClientCalls.{CallDrop}
 use Rattle.cb_client.proofs.client.Client.drop_txn.Goals as goal
 
 pub returns-in_err-check_drop-clause-err : goal.returns-in_err-check_drop-clause-err
