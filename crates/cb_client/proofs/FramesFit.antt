@@ -12,7 +12,7 @@ use Rattle.cb_frame_types.specs.declared.frame.Frame.{Frame}
 use Rattle.cb_frame_types.specs.declared.frame.ShortBody.{ShortBody}
 use Rattle.cb_frame_types.specs.declared.frame.ShortBody.TheVariants as short
 use Rattle.cb_frame_types.specs.declared.writes.Write.{Write}
-use Rattle.cb_outbox.specs.Messages.{body_of, message_of, page_writes, short_of}
+use Rattle.cb_outbox.specs.Messages.{body_of, message_of, messages_of, page_writes, short_of}
 use Rattle.cb_protocol.proofs.ClientInvariant.{ClientKeeps, tidy}
 use Rattle.cb_protocol.proofs.ClientRanges.{client_messages_in_range, sized}
 use Rattle.cb_protocol.specs.Answers as table
@@ -84,6 +84,14 @@ calls_fit v w call {word} {said} {history} is c =
 -- one frame said
 pub call_frame_fits : (v w : ClientState) (call : Call) {word : _} {history : _} (frame : Frame) → IsClient v → Calls v call word (message_of frame ∷ []) history w → grammar.Fits v.copies.limits frame
 call_frame_fits v w call {word} {history} frame is c = frame_fits v.copies.limits frame (calls_fit v w call is c).0
+
+-- and many
+all_fit : (b : Bounds) (frames : List Frame) → AllMessagesFit (limits_of b) (messages_of frames) → AllByRecursion (grammar.Fits b) frames
+all_fit b [] h = tt
+all_fit b (frame ∷ frames) h = (frame_fits b frame h.0, all_fit b frames h.1)
+
+pub call_frames_fit : (v w : ClientState) (call : Call) {word : _} {history : _} (frames : List Frame) → IsClient v → Calls v call word (messages_of frames) history w → AllByRecursion (grammar.Fits v.copies.limits) frames
+call_frames_fit v w call {word} {history} frames is c = all_fit v.copies.limits frames (calls_fit v w call is c)
 
 -- the transaction that waits has a number
 number : (v : ClientState) → IsClient v → is_asking (ask_of v.ask) ≡ true → IsNumber (unwrap_or v.txn 0)

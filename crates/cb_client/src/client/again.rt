@@ -2,6 +2,7 @@
 ghost use Rattle.std.specs.Prelude.{◌≡◌, ◌+◌, ◌<◌, ◌≤◌, ◌++◌, List, option_to_list, IfErr, IfOk};
 ghost use Rattle.std.specs.Prelude.{true, unwrap_or};
 ghost use Rattle.std.specs.List.{All};
+ghost use Rattle.std.specs.List.{AllByRecursion};
 ghost use Rattle.std.specs.Option.{option_map};
 ghost use Rattle.std.specs.Vec.{vec_capacity, vec_len};
 ghost use Rattle.cb_client.specs.ByTable.{Calls, as_before, limits_at, messages_from};
@@ -32,6 +33,8 @@ impl<Q: Chooser> Client<Q> {
         ensures by_table { IfOk result (λ frames. Calls self.now CallAgain AnsweredOk
             (messages_of frames.items) as_before self.now) }
         ensures memory { IfErr result (λ fault. fault ≡ Memory) }
+        ensures fits { IfOk result (λ frames.
+            AllByRecursion (Fits self.now.copies.limits) frames.items) }
     {
         let mut frames = Vec::with_capacity(alloc, 3)?;
         if !self.welcomed {

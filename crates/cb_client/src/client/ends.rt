@@ -1,5 +1,7 @@
 //! How a transaction ends.
 ghost use Rattle.std.specs.Prelude.{◌≡◌, [], true, IfErr, IfOk, IsOk, OnErr};
+ghost use Rattle.std.specs.List.{AllByRecursion};
+ghost use Rattle.cb_frame_types.specs.Grammar.{Fits};
 ghost use Rattle.cb_page.specs.Numbers.{IsNumber};
 ghost use Rattle.cb_client.specs.ByTable.{Calls, IsDecided, RefusesOrLacks, Takes, limits_at, over};
 ghost use Rattle.cb_client.specs.declared.standing.Stage.TheVariants.{Open};
@@ -92,6 +94,8 @@ impl<Q: Chooser> Client<Q> {
         ensures ok { IfOk result (λ frames. Calls self.old CallDrop AnsweredOk
             (messages_of frames.items) over self.new) }
         ensures err { IfErr result (λ refused. RefusesOrLacks self.old CallDrop refused self.new) }
+        ensures fits { IfOk result (λ frames.
+            AllByRecursion (Fits self.old.copies.limits) frames.items) }
     {
         self.check_drop()?;
         let txn = self.present_txn();
