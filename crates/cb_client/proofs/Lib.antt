@@ -7,3 +7,4 @@ pub mod FramesFit
 pub mod Taking
 pub mod RoomLeft
 pub mod Ending
+pub mod Granting

@@ -3,3 +3,4 @@ pub mod ClientState
 pub mod ByTable
 pub mod CallAnswers
 pub mod Lending
+pub mod GrantCases

@@ -12,6 +12,7 @@ ghost use Rattle.cb_client.specs.ClientState.{client_of, new_state, outcome_of, 
 mod calls;
 mod ends;
 mod finish;
+mod granted;
 mod messages;
 
 use crate::standing::{Ask, ClientStatus, Outcome, Stage};
