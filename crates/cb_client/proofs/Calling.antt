@@ -17,7 +17,7 @@ use Rattle.cb_copies.specs.ByTable.{Does}
 use Rattle.cb_copies.proofs.Changing.{put_entry}
 use Rattle.cb_client.specs.ClientState.{ClientState, HasRoomLeft, IsClient, base_of, client_of, locks_with}
 use Rattle.cb_client.specs.ByTable.{Called, Calls, IsRefusal, IsRefused, as_before, limits_at, messages_from}
-use Rattle.cb_client.specs.CallAnswers.{AnswersBytes, after_read, bytes_at, page_asked, page_read, puts, read_ask, sees}
+use Rattle.cb_client.specs.CallAnswers.{Answers, after_read, bytes_at, page_asked, page_read, puts, read_ask, sees}
 use Rattle.cb_client.specs.declared.standing.Ask.TheVariants as asks
 use Rattle.cb_client.specs.declared.client_fault.ClientFault.{ClientFault}
 use Rattle.cb_client.proofs.CallSteps.{FindsNone, accepted, accepts, keeps}
@@ -126,25 +126,25 @@ ask_keeps v page h out room is =
     (λ q e. e) (λ q e. e) (λ p e. room) (calls_reach v (page_asked v page) (CallRead page) (asks_read v page h out) is.reached)
 
 -- the answer of a read, from what the pool lends afterwards
-pub answers_read : (v : ClientState) (page : ℕ) (lent : Option Bytes) → FindsNone v (CallRead page) → lent ≡ content_at (after_read v page).copies page → page < length v.locks.locked → AnswersBytes v page lent
-answers_read v page lent h e lt = by (content_at v.copies page) refl lent (e ∙ same)
+kept_there : (v : ClientState) (page : ℕ) → FindsNone v (CallRead page) → content_at (after_read v page).copies page ≡ content_at v.copies page
+kept_there v page h = rw (none_refused v page h) (pick (is_some (content_at v.copies page)))
   where
-    same : content_at (after_read v page).copies page ≡ content_at v.copies page
-    same = rw (none_refused v page h) (pick (is_some (content_at v.copies page)))
-      where
-        pick : (b : Bool) → content_at (if b then page_read v page else page_asked v page).copies page ≡ content_at v.copies page
-        pick true = refl
-        pick false = refl
+    pick : (b : Bool) → content_at (if b then page_read v page else page_asked v page).copies page ≡ content_at v.copies page
+    pick true = refl
+    pick false = refl
 
-    by : (o : Option Bytes) → content_at v.copies page ≡ o → (l : Option Bytes) → l ≡ content_at v.copies page → AnswersBytes v page l
-    by None f l g = rw (g ∙ f) (record { word = asks.word; said = asks.makes.said })
-      where
-        asks : Calls v (CallRead page) table.Asked (read_ask v page ∷ []) as_before (page_asked v page)
-        asks = asks_read v page h (rw f refl)
-    by (Some bytes) f l g = rw (g ∙ f) (record { word = λ ops. here.word ops ∙ ap (λ (o : Option Bytes). table.AnsweredBytes (unwrap_or o [])) f; said = here.makes.said })
-      where
-        here : Calls v (CallRead page) (table.AnsweredBytes (bytes_at v page)) [] (sees page (bytes_at v page)) (page_read v page)
-        here = reads v page h lt (rw f refl)
+pub answers_bytes : (v : ClientState) (page : ℕ) (bytes : Bytes) → FindsNone v (CallRead page) → Some bytes ≡ content_at (after_read v page).copies page → page < length v.locks.locked
+    → Answers v (CallRead page) (table.AnsweredBytes bytes) []
+answers_bytes v page bytes h e lt =
+    let there : content_at v.copies page ≡ Some bytes = sym (kept_there v page h) ∙ sym e in
+    let here = reads v page h lt (rw there refl) in
+    record { word = λ ops. here.word ops ∙ ap (λ (o : Option Bytes). table.AnsweredBytes (unwrap_or o [])) there; said = here.makes.said }
+
+pub answers_ask : (v : ClientState) (page : ℕ) → FindsNone v (CallRead page) → None ≡ content_at (after_read v page).copies page → Answers v (CallRead page) table.Asked (read_ask v page ∷ [])
+answers_ask v page h e =
+    let out : content_at v.copies page ≡ None = sym (kept_there v page h) ∙ sym e in
+    let asked = asks_read v page h (rw out refl) in
+    record { word = asked.word; said = asked.makes.said }
 
 -- the copies with a page that is wanted
 module _ (v : ClientState) (page : ℕ) (copies : CopiesState) (does : Does v.copies (MarkWanted page ∷ []) copies) where

@@ -1,10 +1,10 @@
 -- Every message that a client says fits the limits, and so does its frame.
-use Rattle.std.proofs.Common.{◌≡◌, ◌<◌, ◌≤◌, ◌+◌, ℕ, zero, suc, List, [], ◌∷◌, length, map, Some, refl, subst, arith}
-use Rattle.std.specs.Prelude.{⊤}
+use Rattle.std.proofs.lemmas.Bool.Decides.{nat_tests}
+use Rattle.std.proofs.Common.{◌==◌, true, Option, None, IfSome, option_to_list, unwrap_or, sym, ◌∙◌, ◌≡◌, ◌+◌, ℕ, List, [], ◌∷◌, map, Some, refl, subst, arith}
 use Rattle.std.specs.List.{AllByRecursion}
 use Rattle.cb_page.specs.Bounds.{Bounds}
 use Rattle.cb_page.specs.Rising.{RisesFrom}
-use Rattle.cb_copies.specs.CopiesState.{limits_of}
+use Rattle.cb_copies.specs.CopiesState.{copy_at, limits_of}
 use Rattle.cb_frame_types.specs.Grammar as grammar
 use Rattle.cb_frame_types.specs.declared.frame.Body.{Body}
 use Rattle.cb_frame_types.specs.declared.frame.Body.TheVariants as body
@@ -13,14 +13,24 @@ use Rattle.cb_frame_types.specs.declared.frame.ShortBody.{ShortBody}
 use Rattle.cb_frame_types.specs.declared.frame.ShortBody.TheVariants as short
 use Rattle.cb_frame_types.specs.declared.writes.Write.{Write}
 use Rattle.cb_outbox.specs.Messages.{body_of, message_of, page_writes, short_of}
-use Rattle.cb_protocol.proofs.ClientRanges.{client_messages_in_range}
-use Rattle.cb_protocol.specs.Client.{Client, bodies_said}
+use Rattle.cb_protocol.proofs.ClientInvariant.{ClientKeeps, tidy}
+use Rattle.cb_protocol.proofs.ClientRanges.{client_messages_in_range, sized}
+use Rattle.cb_protocol.specs.Answers as table
+use Rattle.cb_protocol.specs.Cache as protocol_cache
+use Rattle.cb_protocol.specs.Serial.{Operation}
+use Rattle.std.specs.Option.{option_map}
+use Rattle.cb_page.specs.Numbers.{IsNumber}
+use Rattle.cb_frame_types.specs.declared.frame.ShortFrame.{ShortFrame}
+use Rattle.cb_client.specs.CallAnswers.{ShortFrameFits, short_message}
+use Rattle.cb_client.specs.declared.standing.Ask.{Ask}
+use Rattle.cb_client.specs.declared.standing.Ask.TheVariants as asks
+use Rattle.cb_protocol.specs.Client.{bodies_said, is_asking}
 use Rattle.cb_protocol.specs.ClientAlone.{ReceivesCall}
-use Rattle.cb_protocol.specs.ClientCalls.{Call, client_call}
+use Rattle.cb_protocol.specs.ClientCalls.{Call, CallWant, client_call, say_ask, say_ask_write}
 use Rattle.cb_protocol.specs.Messages as protocol
-use Rattle.cb_protocol.specs.Ranges.{Above, AllBodiesFit, AllMessagesFit, BodyFits, MessageFits, WritesFit}
-use Rattle.cb_client.specs.ClientState.{ClientState, IsClient, client_of}
-use Rattle.cb_client.specs.ByTable.{Calls, limits_at, messages_from}
+use Rattle.cb_protocol.specs.Ranges.{Above, AllBodiesFit, AllMessagesFit, BodyFits, InputFits, MessageFits, WritesFit}
+use Rattle.cb_client.specs.ClientState.{ClientState, IsClient, ask_of, client_of}
+use Rattle.cb_client.specs.ByTable.{Calls, as_before, limits_at, messages_from}
 
 -- a body without page bytes
 short_fits : (b : Bounds) (s : ShortBody) → BodyFits (limits_of b) (short_of s) → grammar.ShortFits b s
@@ -74,3 +84,41 @@ calls_fit v w call {word} {said} {history} is c =
 -- one frame said
 pub call_frame_fits : (v w : ClientState) (call : Call) {word : _} {history : _} (frame : Frame) → IsClient v → Calls v call word (message_of frame ∷ []) history w → grammar.Fits v.copies.limits frame
 call_frame_fits v w call {word} {history} frame is c = frame_fits v.copies.limits frame (calls_fit v w call is c).0
+
+-- the transaction that waits has a number
+number : (v : ClientState) → IsClient v → is_asking (ask_of v.ask) ≡ true → IsNumber (unwrap_or v.txn 0)
+number v is e =
+    let keeps = tidy (limits_at v) (InputFits (limits_at v)) (client_of v is.reached.operations) is.reached.arises in
+    let begun = keeps.begun (λ z. absurd (let y : protocol_cache.Open ≡ protocol_cache.Idle = sym (keeps.asking e) ∙ z in cc)) in
+    let most = (sized (limits_at v) (client_of v is.reached.operations) is.reached.arises).number in
+    (omega (arith, begun), most)
+
+same : (q : ℕ) → (q == q) ≡ true
+same q = grind (arith, nat_tests)
+
+-- the ask that is out
+asks_fit : (v : ClientState) (ops : List Operation) → IsClient v → (a : Ask) → v.ask ≡ a → AllBodiesFit (limits_at v) (bodies_said (say_ask (client_of v ops) (ask_of a)))
+asks_fit v ops is asks.Nothing e = tt
+asks_fit v ops is (asks.Read page) e = ((number v is (rw e refl), tidied.read_within page (rw e (same page))), tt)
+  where
+    tidied : ClientKeeps (limits_at v) (client_of v is.reached.operations)
+    tidied = tidy (limits_at v) (InputFits (limits_at v)) (client_of v is.reached.operations) is.reached.arises
+asks_fit v ops is (asks.Write page) e = by (copy_at v.copies page).held refl
+  where
+    tidied : ClientKeeps (limits_at v) (client_of v is.reached.operations)
+    tidied = tidy (limits_at v) (InputFits (limits_at v)) (client_of v is.reached.operations) is.reached.arises
+
+    by : (held : Option ℕ) → (copy_at v.copies page).held ≡ held → AllBodiesFit (limits_at v) (bodies_said (say_ask_write (client_of v ops) page held))
+    by None h = tt
+    by (Some grant) h = ((number v is (rw e refl), tidied.write_within page (rw e (same page)), (sized (limits_at v) (client_of v is.reached.operations) is.reached.arises).held page grant h), tt)
+
+pub ask_frame_fits : (v : ClientState) (said : Option ShortFrame) → IsClient v
+    → ((ops : List Operation) → messages_from v (bodies_said (say_ask (client_of v ops) (client_of v ops).ask)) ≡ option_to_list (option_map short_message said))
+    → IfSome said (ShortFrameFits v.copies.limits)
+ask_frame_fits v None is e = tt
+ask_frame_fits v (Some frame) is e = frame_fits v.copies.limits (record { client = frame.client; incarnation = frame.incarnation; body = body.Short frame.body })
+    (subst (λ (messages : List protocol.Message). AllMessagesFit (limits_at v) messages) (e []) (from_client v is (bodies_said (say_ask (client_of v []) (client_of v []).ask)) (asks_fit v [] is v.ask refl))).0
+
+-- the frame by which a permission is asked for
+pub want_fits : (v w : ClientState) (page : ℕ) (frame : ShortFrame) → IsClient v → Calls v (CallWant page) table.Asked (short_message frame ∷ []) as_before w → ShortFrameFits v.copies.limits frame
+want_fits v w page frame is c = frame_fits v.copies.limits (record { client = frame.client; incarnation = frame.incarnation; body = body.Short frame.body }) (calls_fit v w (CallWant page) is c).0

@@ -4,6 +4,7 @@ pub mod CallSteps
 pub mod Calling
 pub mod Writing
 pub mod FramesFit
+pub mod Answering
 pub mod Taking
 pub mod RoomLeft
 pub mod Ending

@@ -1,10 +1,12 @@
 -- What each call of an application answers, by the protocol's table.
-use Rattle.std.specs.Prelude.{◌≡◌, ℕ, List, [], ◌∷◌, Option, Some, None, Result, Ok, Err, ⊤}
+use Rattle.std.specs.Prelude.{◌≡◌, ℕ, List, [], ◌∷◌, Some, Result, Ok, Err, ⊤}
 use Rattle.std.specs.Prelude.{true, if◌then◌else◌, slice_set, unwrap_or}
-use Rattle.std.specs.Borrow.{Bor}
-use Rattle.std.specs.Option.{is_some, option_copied}
+use Rattle.std.specs.Option.{is_some}
 use Rattle.cb_copies.specs.CopiesState.{content_at}
+use Rattle.cb_frame_types.specs.Grammar.{Fits}
+use Rattle.cb_frame_types.specs.declared.frame.Body.TheVariants.{Short}
 use Rattle.cb_frame_types.specs.declared.frame.Frame.{Frame}
+use Rattle.cb_page.specs.Bounds.{Bounds}
 use Rattle.cb_frame_types.specs.declared.frame.ShortFrame.{ShortFrame}
 use Rattle.cb_outbox.specs.Messages.{message_of, short_of}
 use Rattle.cb_protocol.specs.Answers as table
@@ -18,6 +20,8 @@ use Rattle.cb_client.specs.ClientState.{ClientState, client_of}
 use Rattle.cb_client.specs.ByTable.{Calls, IsRefused, Refuses, RefusesOrLacks}
 use Rattle.cb_client.specs.ByTable.{as_before, limits_at, messages_from}
 use Rattle.cb_client.specs.declared.standing.Ask.TheVariants as asks
+use Rattle.cb_client.specs.declared.answers.ReadAnswer.{ReadAnswer}
+use Rattle.cb_client.specs.declared.answers.ReadAnswer.TheVariants as read
 use Rattle.cb_client.specs.declared.answers.WantAnswer.{WantAnswer}
 use Rattle.cb_client.specs.declared.answers.WantAnswer.TheVariants as want
 use Rattle.cb_client.specs.declared.client_fault.ClientFault.{ClientFault}
@@ -33,6 +37,19 @@ short_message frame = record {
 -- the transaction put these bytes into the page
 abbrev pub puts : (page : ℕ) → Bytes → List Operation → List Operation
 puts page bytes operations = Put page bytes ∷ operations
+
+-- such a frame fits the limits
+abbrev pub ShortFrameFits : Bounds → ShortFrame → Type 0
+ShortFrameFits limits frame = Fits limits (record {
+  client = frame.client;
+  incarnation = frame.incarnation;
+  body = Short frame.body;
+})
+
+-- so does the frame by which a permission is asked for
+abbrev pub WantFits : Bounds → WantAnswer → Type 0
+WantFits limits want.Permitted = ⊤
+WantFits limits (want.Asked frame) = ShortFrameFits limits frame
 
 -- the transaction saw these bytes in the page
 abbrev pub sees : (page : ℕ) → Bytes → List Operation → List Operation
@@ -66,15 +83,12 @@ read_ask client page = record {
   body = AskRead (unwrap_or client.txn 0) page;
 }
 
--- a read is answered with these bytes, or they are asked for
-abbrev pub AnswersBytes : ClientState → (page : ℕ) → Option Bytes → Type 0
-AnswersBytes old page (Some bytes) = Answers old (CallRead page) (table.AnsweredBytes bytes) []
-AnswersBytes old page None = Answers old (CallRead page) table.Asked (read_ask old page ∷ [])
-
 -- a read is answered with the page's bytes, or they are asked for, or it is refused
-abbrev pub AnswersRead : ClientState → (page : ℕ) → Result (Option (Bor Bytes)) ClientFault
-    → Type 0
-AnswersRead old page (Ok lent) = AnswersBytes old page (option_copied lent)
+abbrev pub AnswersRead : ClientState → (page : ℕ) → Result ReadAnswer ClientFault → Type 0
+AnswersRead old page (Ok (read.Bytes bytes)) =
+    Answers old (CallRead page) (table.AnsweredBytes bytes.now) []
+AnswersRead old page (Ok read.Asked) =
+    Answers old (CallRead page) table.Asked (read_ask old page ∷ [])
 AnswersRead old page (Err refused) = IsRefused old (CallRead page) refused
 
 -- the client once it has read the page, and once it has asked for it

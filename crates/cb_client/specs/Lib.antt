@@ -4,3 +4,4 @@ pub mod ByTable
 pub mod CallAnswers
 pub mod Lending
 pub mod GrantCases
+pub mod Laws

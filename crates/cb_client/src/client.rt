@@ -1,10 +1,10 @@
 //! The type, its opening, and what it shows.
-ghost use Rattle.std.specs.Prelude.{◌≡◌, ℕ, ◌<◌, ◌&&◌, List, [], IfOk};
+ghost use Rattle.std.specs.Prelude.{◌≡◌, ℕ, ◌<◌, ◌&&◌, List, [], IfOk, IsTrue};
 ghost use Rattle.std.specs.Option.{is_some};
 ghost use Rattle.cb_page.specs.Flags.{has};
 ghost use Rattle.cb_protocol.specs.Cache.{is_open};
 ghost use Rattle.cb_protocol.specs.Client.{client_status, new_client};
-ghost use Rattle.cb_copies.specs.CopiesState.{content_at};
+ghost use Rattle.cb_copies.specs.CopiesState.{content_at, copy_at};
 ghost use Rattle.cb_twoq.specs.Pages.{has as on};
 ghost use Rattle.cb_protocol.specs.Serial.{Operation};
 ghost use Rattle.cb_client.specs.ClientState.{client_of, new_state, outcome_of, status_of};
@@ -125,10 +125,13 @@ impl<Q: Chooser> Client<Q> {
 
     /// Whether the client may write the page in the transaction that is open.
     pub fn may_write(&self, page: PageNo) -> bool
-        ensures { (operations : List Operation)
+        ensures value { (operations : List Operation)
             → result ≡ (is_open (client_of self.now operations).cache.status
             && (client_of self.now operations).cache.may_write page) }
+        ensures held { IsTrue result → IsTrue (is_some (copy_at self.now.copies page).held) }
     {
+        // What holds of all copies, `limits` says: a permission is of a copy that is held.
+        let _limits = self.copies.limits();
         self.stage.is_open() && self.copies.may_write(page)
     }
 

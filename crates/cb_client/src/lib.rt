@@ -9,9 +9,11 @@
 mod answers;
 mod client;
 mod client_fault;
+mod laws;
 mod standing;
 
-pub use answers::WantAnswer;
+pub use answers::{ReadAnswer, WantAnswer};
 pub use client::Client;
 pub use client_fault::ClientFault;
+pub use laws::{callbacks_are_answered, downgrades_are_answered, in_use_is_given_back};
 pub use standing::{Ask, ClientStatus, Outcome, Stage};

@@ -1,11 +1,12 @@
 //! The calls of an application: what each is refused for, and what it does.
-ghost use Rattle.std.specs.Prelude.{◌≡◌, ◌≢◌, ℕ, ◌+◌, ◌<◌, List, ◌∷◌, ◌++◌, [], Ok, Some, None, IfOk};
+ghost use Rattle.std.specs.Prelude.{◌≡◌, ◌≢◌, ℕ, ◌+◌, ◌<◌, List, ◌∷◌, ◌++◌, [], Ok, Some, None, IfOk, IfSome};
 ghost use Rattle.std.specs.Prelude.{IsOk, option_to_list, length, false, true, unwrap_or};
 ghost use Rattle.std.specs.Borrow.{sem};
 ghost use Rattle.std.specs.Option.{is_some, option_copied, option_map};
 ghost use Rattle.cb_client.specs.ByTable.{Called, Calls, IsDecided, IsFirst, as_before, limits_at};
 ghost use Rattle.cb_client.specs.CallAnswers.{AnswersRead, Begins, after_read};
-ghost use Rattle.cb_client.specs.CallAnswers.{Wants, Writes};
+ghost use Rattle.cb_client.specs.CallAnswers.{ShortFrameFits, WantFits, Wants, Writes};
+ghost use Rattle.cb_frame_types.specs.Grammar.{Fits};
 ghost use Rattle.cb_client.specs.Lending.{client_ends_as};
 ghost use Rattle.cb_client.specs.declared.standing.Ask.TheVariants.{Nothing};
 ghost use Rattle.cb_client.specs.declared.standing.Stage.TheVariants.{Idle, Open};
@@ -23,7 +24,7 @@ ghost use Rattle.cb_client.specs.ClientState.{client_of};
 ghost use Rattle.cb_client.specs.ByTable.{messages_from};
 ghost use Rattle.cb_client.specs.CallAnswers.{short_message};
 
-use crate::answers::WantAnswer;
+use crate::answers::{ReadAnswer, WantAnswer};
 use crate::client::Client;
 use crate::client_fault::ClientFault;
 use crate::standing::{Ask, Stage};
@@ -59,8 +60,12 @@ impl<Q: Chooser> Client<Q> {
     /// Greets the server. It is never refused.
     #[tactic(auto, using(crate::proofs::CallSteps::greets))]
     pub fn hello(&self) -> Frame
-        ensures { Calls self.now CallHello AnsweredOk (message_of result ∷ []) as_before self.now }
+        ensures by_table { Calls self.now CallHello AnsweredOk (message_of result ∷ []) as_before
+            self.now }
+        ensures fits { Fits self.now.copies.limits result }
     {
+        // A look at a field tells the prover what holds of every client.
+        let _no = &self.no;
         Frame::from(self.say(ShortBody::Hello))
     }
 
@@ -215,16 +220,18 @@ impl<Q: Chooser> Client<Q> {
         Ok(())
     }
 
-    /// Reads a page in the open transaction, and lends its bytes: that is a reference to it. `None`
-    /// where they are not in the pool: they are asked for, by the frame that [`Client::ask`]
-    /// answers.
-    pub fn read(&mut self, page: PageNo) -> Result<Option<&[u8]>, ClientFault>
+    /// Reads a page in the open transaction, and lends its bytes, which is a reference to it; or
+    /// asks for it where they are not in the pool.
+    pub fn read(&mut self, page: PageNo) -> Result<ReadAnswer<'_>, ClientFault>
         ensures* ends { sem 𝓛 (client_ends_as Q.row Q.Chooser self.entry (after_read self.old page)) }
         ensures by_table { Called self.old (CallRead page) (after_read self.old page) }
         ensures answer { AnswersRead self.old page result }
     {
         self.read_or_ask(page)?;
-        Ok(self.copies.peek(page))
+        match self.copies.peek(page) {
+            Some(bytes) => Ok(ReadAnswer::Bytes(bytes)),
+            None => Ok(ReadAnswer::Asked),
+        }
     }
 
     /// The grant of a page whose bytes are in the pool.
@@ -241,7 +248,8 @@ impl<Q: Chooser> Client<Q> {
 
     /// Wants to write a page in the open transaction: the pool keeps it until that ends.
     pub fn want(&mut self, page: PageNo) -> Result<WantAnswer, ClientFault>
-        ensures { Wants self.old page result self.new }
+        ensures by_table { Wants self.old page result self.new }
+        ensures fits { IfOk result (WantFits self.old.copies.limits) }
     {
         self.check_read(page)?;
         if self.copies.may_write(page) {
@@ -267,10 +275,11 @@ impl<Q: Chooser> Client<Q> {
 
     /// The frame of the ask that is out, if any is.
     pub fn ask(&self) -> Option<ShortFrame>
-        ensures { (operations : List Operation)
+        ensures by_table { (operations : List Operation)
             → messages_from self.now (bodies_said (say_ask (client_of self.now operations)
             (client_of self.now operations).ask))
             ≡ option_to_list (option_map short_message result) }
+        ensures fits { IfSome result (ShortFrameFits self.now.copies.limits) }
     {
         match self.ask {
             Ask::Nothing => None,

@@ -6,6 +6,7 @@ ghost use Rattle.cb_client.specs.ClientState.{client_of};
 ghost use Rattle.cb_client.specs.CallAnswers.{Finishes};
 ghost use Rattle.cb_client.specs.declared.standing.Stage.TheVariants.{Idle, Open};
 ghost use Rattle.cb_copies.specs.CopiesState.{AreCopies, client_with};
+ghost use Rattle.cb_frame_types.specs.Grammar.{Fits};
 ghost use Rattle.cb_outbox.specs.Messages.{message_of, page_write, page_writes};
 ghost use Rattle.cb_protocol.specs.Client.{Client as TableClient, bodies_said};
 ghost use Rattle.cb_protocol.specs.Serial.{Operation};
@@ -38,7 +39,8 @@ impl<Q: Chooser> Client<Q> {
     ///
     /// It takes memory for these pages. `Memory` only where it was refused.
     pub fn finish(&mut self, alloc: Global) -> Result<Frame, ClientFault>
-        ensures { Finishes self.old result self.new }
+        ensures by_table { Finishes self.old result self.new }
+        ensures fits { IfOk result (Fits self.old.copies.limits) }
     {
         self.check_finish()?;
         let commit = self.commit_frame(alloc)?;
