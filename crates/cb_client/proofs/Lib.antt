@@ -9,3 +9,4 @@ pub mod Taking
 pub mod RoomLeft
 pub mod Ending
 pub mod Granting
+pub mod Frames

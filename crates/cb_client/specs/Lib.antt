@@ -5,3 +5,4 @@ pub mod CallAnswers
 pub mod Lending
 pub mod GrantCases
 pub mod Laws
+pub mod FramesTaken

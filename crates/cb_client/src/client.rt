@@ -14,6 +14,7 @@ mod ends;
 mod finish;
 mod granted;
 mod messages;
+mod taking;
 
 use crate::standing::{Ask, ClientStatus, Outcome, Stage};
 use cb_copies::Copies;
