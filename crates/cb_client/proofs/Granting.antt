@@ -461,7 +461,6 @@ installs v p g x b gone c1 c2 frame is welcomed fits f br next says =
     (ap (messages_from v) (t.says (ChangeCache (Lock p) ∷ []) ∙ append-nil (said_of_gone c1 v.locks gone)) ∙ same_sender v is (said_of_gone c1 v.locks gone) ∙ sym says)
     (λ ops. t.after (locks_with v.locks (base_of v ops)) (ChangeCache (Lock p) ∷ []) ∙ locks_page v c2 p (let l = is.locked in let w = fits.0 in omega arith) ops) t.limits refl refl
 
-
 pub installs_keeps : (v : ClientState) (p g x : ℕ) (b : Bytes) (gone : Option ℕ) (c1 c2 : CopiesState) (frame : Option Frame) → IsClient v → v.welcomed ≡ true → BodyFits (limits_at v) (Granted p g x b) → IsInstalled v p g → BringsIn v.copies p (ChangeCache (Install p g x b)) gone c1
     → Does c1 (after_gone c1 v.locks gone) c2 → messages_of (option_to_list frame) ≡ all_sent_by v.locks (said_of_gone c1 v.locks gone)
     → IsClient (record v { copies = c2; ask = asks.Nothing; locks = record v.locks { locked = slice_set v.locks.locked p true } })

@@ -84,7 +84,9 @@ impl<Q: Chooser> Client<Q> {
                 frames.push_reserved(self.take_callback(page, grant));
                 Ok(frames)
             }
-            ShortBody::Downgrade { page, grant, txn } => self.say_downgrade(alloc, page, grant, txn),
+            ShortBody::Downgrade { page, grant, txn } => self.say_downgrade(
+                alloc, page, grant, txn,
+            ),
             ShortBody::MayWrite { txn, page, grant } => {
                 self.take_may_write(txn, page, grant);
                 Ok(Vec::new(alloc))
