@@ -157,7 +157,7 @@ ended_keeps v w is limits number own txn ask locks whole r = record {
 same_pages : (v : ClientState) (d : Bool) (ops : List Operation) → end_pages (client_of v ops) d v.copies.limits.pages ≡ pages_steps v.copies v.locks d v.copies.limits.pages
 same_pages v d ops = pages_by_sight (client_of v ops) (holder v.copies v.locks) d v.copies.limits.pages (λ p. refl) (λ p. refl) (λ p. refl) (λ p. refl) (λ p. refl)
 
-same_sender : (v : ClientState) (is : IsClient v) (bodies : List Body) → messages_from v bodies ≡ all_sent_by v.locks bodies
+pub same_sender : (v : ClientState) (is : IsClient v) (bodies : List Body) → messages_from v bodies ≡ all_sent_by v.locks bodies
 same_sender v is bodies = λ i. map (λ (body : Body). record { client = sym is.same_client i; incarnation = sym is.same_incarnation i; body = body }) bodies
 
 -- Done, of another transaction

@@ -9,3 +9,5 @@ pub mod SayingAgain
 pub mod Taking
 pub mod RoomLeft
 pub mod Ending
+pub mod Granting
+pub mod Frames

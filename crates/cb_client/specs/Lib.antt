@@ -3,4 +3,6 @@ pub mod ClientState
 pub mod ByTable
 pub mod CallAnswers
 pub mod Lending
+pub mod GrantCases
 pub mod Laws
+pub mod FramesTaken

@@ -13,7 +13,9 @@ mod again;
 mod calls;
 mod ends;
 mod finish;
+mod granted;
 mod messages;
+mod taking;
 
 use crate::standing::{Ask, ClientStatus, Outcome, Stage};
 use cb_copies::Copies;
