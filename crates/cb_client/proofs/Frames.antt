@@ -2,7 +2,7 @@
 use Rattle.cb_frame_types.specs.declared.frame.ShortBody.{ShortBody}
 use Rattle.cb_frame_types.specs.declared.frame.ShortBody.TheVariants as short
 use Rattle.cb_outbox.specs.Messages.{short_of}
-use Rattle.std.proofs.Common.{ℕ, ◌≡◌, ◌≢◌, Bool, true, false, List, [], Option, None, refl, sym, ap, ◌∙◌}
+use Rattle.std.proofs.Common.{ℕ, ◌≡◌, ◌≢◌, Bool, true, false, List, [], None, refl, sym, ap, ◌∙◌}
 use Rattle.cb_protocol.proofs.Cases.{takes_nothing_unwelcomed, takes_welcomed}
 use Rattle.cb_protocol.specs.Client.{ClientStep, bodies_said, client_after}
 use Rattle.cb_protocol.specs.ClientMessages.{ChoiceAllowed, brings_page, client_take, take_welcomed}

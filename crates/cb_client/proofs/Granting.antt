@@ -1,5 +1,5 @@
 -- What the protocol's table says of a grant that comes.
-use Rattle.std.proofs.Common.{◌≡◌, ◌≢◌, ◌<◌, ◌≤◌, ◌==◌, ◌⊎◌, inl, inr, ℕ, nat_lt, Bool, true, false, true≢false, not, ◌&&◌, ◌||◌, if◌then◌else◌, List, [], ◌∷◌, ◌++◌, length, Option, Some, None, IfSome, option_to_list, unwrap_or, slice_set, slice_index_or, refl, sym, ◌∙◌, ap, subst, arith}
+use Rattle.std.proofs.Common.{◌≡◌, ◌≢◌, ◌<◌, ◌==◌, ℕ, nat_lt, Bool, true, false, true≢false, not, ◌&&◌, ◌||◌, if◌then◌else◌, List, [], ◌∷◌, ◌++◌, length, Option, Some, None, IfSome, option_to_list, unwrap_or, slice_set, refl, sym, ◌∙◌, ap, subst, arith}
 use Rattle.std.specs.Option.{is_some}
 use Rattle.std.proofs.Math.ListN.{length-set}
 use Rattle.std.proofs.lemmas.Bool.Decides.{nat_tests}
@@ -9,25 +9,24 @@ use Rattle.cb_page.specs.Flags.{has}
 use Rattle.cb_frame_types.specs.declared.frame.Frame.{Frame}
 use Rattle.cb_outbox.specs.Messages.{messages_of}
 use Rattle.cb_protocol.proofs.Cases.{takes_welcomed}
-use Rattle.cb_protocol.proofs.ClientInvariant.{ClientKeeps}
-use Rattle.cb_protocol.specs.Basics.{Bytes, Limits, is_none, update}
-use Rattle.cb_protocol.specs.Cache.{CacheChange, Fill, Install, LetGo, Lock, MakeBare, RefuseGrant}
-use Rattle.cb_protocol.specs.Client.{ChangeCache, Client, ClientStep, NoAsk, Say, SetAsk, asks_to_read, bodies_said, client_after, has_room, is_fixed, new_client}
+use Rattle.cb_protocol.specs.Basics.{Bytes, is_none, update}
+use Rattle.cb_protocol.specs.Cache.{Fill, Install, LetGo, Lock, MakeBare, RefuseGrant}
+use Rattle.cb_protocol.specs.Client.{ChangeCache, Client, ClientStep, NoAsk, Say, SetAsk, asks_to_read, bodies_said, client_after, is_fixed, new_client}
 use Rattle.cb_protocol.specs.ClientEnd.{refuse_grant}
-use Rattle.cb_protocol.specs.ClientMessages.{ChoiceAllowed, MayLetGo, brings_page, client_take, let_page_go, take_granted}
+use Rattle.cb_protocol.specs.ClientMessages.{MayLetGo, brings_page, client_take, let_page_go, take_granted}
 use Rattle.cb_protocol.specs.Messages.{Body, Granted, GiveBack, Message}
 use Rattle.cb_protocol.specs.Ranges.{BodyFits}
 use Rattle.cb_protocol.specs.Serial.{Operation}
 use Rattle.cb_copies.specs.ByTable.{Brings, BringsIn, Does, Filled, Installed, lose_bytes}
-use Rattle.cb_copies.specs.CopiesState.{CopiesState, IsFull, client_with, content_at, copy_at, limits_of}
+use Rattle.cb_copies.specs.CopiesState.{CopiesState, IsFull, client_with, content_at, copy_at}
 use Rattle.cb_copies.proofs.Changing.{put_entry}
 use Rattle.cb_copies.proofs.Steps.{goes_before}
-use Rattle.cb_locks.specs.Dues.{called_by, is_due}
-use Rattle.cb_locks.specs.Locks.{LocksState, due_at}
+use Rattle.cb_locks.specs.Dues.{called_by}
+use Rattle.cb_locks.specs.Locks.{due_at}
 use Rattle.cb_ending.specs.Ending.{all_sent_by}
 use Rattle.cb_ending.proofs.Walk.{does_then}
-use Rattle.cb_client.specs.ClientState.{ClientState, IsClient, IsReached, ask_of, base_of, client_of, locks_with}
-use Rattle.cb_client.specs.GrantCases.{after_gone, case_at, case_held, gone_bodies, gone_steps, said_of_gone}
+use Rattle.cb_client.specs.ClientState.{ClientState, IsClient, ask_of, base_of, client_of, locks_with}
+use Rattle.cb_client.specs.GrantCases.{after_gone, case_at, case_held, gone_steps, said_of_gone}
 use Rattle.cb_client.specs.declared.client.granted.GrantCase.TheVariants as cases
 use Rattle.cb_client.specs.declared.standing.Ask.TheVariants as asks
 use Rattle.cb_client.specs.ByTable.{Takes, as_before, limits_at, messages_from}
@@ -35,7 +34,7 @@ use Rattle.cb_client.proofs.CallSteps.{keeps}
 use Rattle.cb_client.proofs.Ending.{same_sender}
 use Rattle.cb_client.proofs.Reaching.{takes_reach}
 use Rattle.cb_client.proofs.RoomLeft.{room_same}
-use Rattle.cb_client.proofs.Taking.{by_locks, bytes_seen, from_locks, kept, none_due, room_stays, seen_alone, unlocked_unwritten}
+use Rattle.cb_client.proofs.Taking.{by_locks, bytes_seen, from_locks, kept, none_due, room_stays, seen_alone}
 
 -- What a grant makes, where the table's steps are known.
 takes_granted : (v w : ClientState) (p g x : ℕ) (b : Bytes) (gone : Option ℕ) (steps : List ClientStep) (messages : List Message) → v.welcomed ≡ true

@@ -1,4 +1,3 @@
-use Rattle.std.proofs.Common.{rules}
 use Rattle.cb_client.proofs.Frames.{unwelcomed}
 use Rattle.cb_client.proofs.client.Client.say_granted.Goals as goal
 

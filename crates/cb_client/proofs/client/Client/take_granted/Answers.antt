@@ -1,4 +1,4 @@
-use Rattle.std.proofs.Common.{◌≡◌, ℕ, Ok, sym, ◌∙◌, refl, rules}
+use Rattle.std.proofs.Common.{sym, ◌∙◌, rules}
 use Rattle.cb_client.proofs.Granting.{filled_of, fills, fills_keeps, gone_page, gone_unwritten, ignores, installed_of, installs, installs_keeps, none_here, not_full, refuses, refuses_keeps}
 use Rattle.cb_copies.specs.ByTable.{Filled, Installed}
 use Rattle.cb_client.proofs.client.Client.take_granted.Goals as goal
