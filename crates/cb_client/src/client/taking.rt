@@ -4,13 +4,13 @@ ghost use Rattle.cb_frame_types.specs.Grammar.{BodyFits, Fits, ShortFits};
 ghost use Rattle.cb_client.specs.ByTable.{Takes, limits_at};
 ghost use Rattle.cb_protocol.specs.Messages.{Downgrade, Granted};
 ghost use Rattle.cb_protocol.specs.Ranges.{BodyFits as MessageFits};
-ghost use Rattle.cb_client.specs.FramesTaken.{TakesFrame};
+ghost use Rattle.cb_client.specs.FramesTaken.{IsBytesFault, TakesBytes, TakesFrame};
 ghost use Rattle.cb_client.specs.declared.client_fault.ClientFault.TheVariants.{Memory};
 ghost use Rattle.cb_outbox.specs.Messages.{body_of, messages_of, short_of};
 
 use crate::client::Client;
 use crate::client_fault::ClientFault;
-use cb_frame::{Body, Frame, ShortBody};
+use cb_frame::{Body, BytesFault, Frame, ShortBody, decode};
 use cb_page::{ClientNo, GrantNo, Incarnation, Page, PageNo, TxnNo, Version};
 use cb_twoq::Chooser;
 use std::alloc::{AllocError, Global};
@@ -36,6 +36,27 @@ impl<Q: Chooser> Client<Q> {
             return Ok(Vec::new(alloc));
         }
         Ok(self.take_body(alloc, body)?)
+    }
+
+    /// Takes the frame that the bytes begin with, whatever follows it, and answers what the client
+    /// says to it and how many bytes the frame has.
+    pub fn take_bytes(
+        &mut self,
+        alloc: Global,
+        bytes: &[u8],
+    ) -> Result<(Vec<Frame>, usize), BytesFault<ClientFault>>
+        ensures ok { IfOk result (λ answered. TakesBytes self.old bytes.now answered.1
+            (messages_of answered.0.items) self.new) }
+        ensures err { IfErr result (IsBytesFault self.old.copies.limits bytes.now) }
+        ensures unchanged { OnErr result (self.new ≡ self.old) }
+    {
+        match decode(alloc, self.copies.limits(), bytes) {
+            Err(fault) => Err(BytesFault::Frame(fault)),
+            Ok((frame, used)) => match self.take(alloc, frame) {
+                Ok(said) => Ok((said, used)),
+                Err(fault) => Err(BytesFault::Taker(fault)),
+            },
+        }
     }
 
     /// Whether a frame for that incarnation of that client is for this one.
