@@ -8,7 +8,7 @@ ghost use Rattle.cb_twoq.specs.Pages.{has as on};
 ghost use Rattle.cb_protocol.specs.Cache.{Abandon, Fill, Install, LetGo, RefuseGrant, TakeDone};
 ghost use Rattle.cb_protocol.specs.Cache.{TakePermission, WriteBytes, YieldPermission};
 ghost use Rattle.cb_protocol.specs.Client.{ChangeCache, Client, EndTransaction, LastOutcome};
-ghost use Rattle.cb_protocol.specs.Client.{MarkWanted, has_room};
+ghost use Rattle.cb_protocol.specs.Client.{MarkWanted, has_room, pages_in_pool};
 ghost use Rattle.cb_copies.specs.CopiesState.{AreCopies, IsFull, client_with, content_at, copy_at};
 ghost use Rattle.cb_copies.specs.CopiesState.{limits_of, no_copies};
 ghost use Rattle.cb_copies.specs.ByTable.{BringsIn, Does, DoesInTxn};
@@ -165,8 +165,11 @@ impl<Q: Chooser> Copies<Q> {
 
     /// Whether the pool can take in one more page.
     pub fn has_room(&self) -> bool
-        ensures { (client : Client)
+        ensures room { (client : Client)
             → result ≡ has_room (limits_of self.now.limits) (client_with self.now client) }
+        ensures within { (client : Client)
+            → pages_in_pool (client_with self.now client) self.now.limits.pages
+            ≤ self.now.limits.slots }
     {
         self.pool.room()
     }

@@ -1,0 +1,13 @@
+pub mod Reaching
+pub mod Refusals
+pub mod CallSteps
+pub mod Calling
+pub mod Writing
+pub mod FramesFit
+pub mod Answering
+pub mod SayingAgain
+pub mod Taking
+pub mod RoomLeft
+pub mod Ending
+pub mod Granting
+pub mod Frames

@@ -1,0 +1,43 @@
+use Rattle.std.proofs.Common.{◌≡◌, ◌++◌, [], List, false, true, option_to_list, refl, ◌∙◌, ap}
+use Rattle.std.specs.Option.{option_map}
+use Rattle.cb_outbox.specs.Messages.{message_of, messages_of}
+use Rattle.cb_protocol.specs.Messages.{Message}
+use Rattle.cb_client.specs.CallAnswers.{short_message}
+use Rattle.cb_protocol.specs.ClientCalls.{CallAgain}
+use Rattle.cb_client.specs.ClientState.{IsClient}
+use Rattle.cb_client.proofs.FramesFit.{call_frames_fit}
+use Rattle.cb_client.proofs.SayingAgain.{all_again, greets_again}
+use Rattle.cb_client.proofs.client.Client.again.Goals as goal
+
+pub returns-then-not-self-clause-by_table : goal.returns-then-not-self-clause-by_table
+returns-then-not-self-clause-by_table g c =
+    let unwelcomed : c.args.self.now.welcomed ≡ false = rw (← c.self.view_is) c.if-not-self.true in
+    rw (c.push_reserved.ensures.items, c.in_ok-frames.ensures.items) (greets_again c.args.self.now _ unwelcomed c.hello.ensures.by_table)
+
+pub returns-then-not-self-clause-fits : goal.returns-then-not-self-clause-fits
+returns-then-not-self-clause-fits g c = rw (c.push_reserved.ensures.items, c.in_ok-frames.ensures.items) (c.hello.ensures.fits, tt)
+
+pub returns-clause-by_table : goal.returns-clause-by_table
+returns-clause-by_table g c =
+    let welcomed : c.args.self.now.welcomed ≡ true = rw (← c.self.view_is) c.if-not-self.false in
+    let drop : List Message = option_to_list (option_map short_message c.drop_again.result) in
+    let ask : List Message = option_to_list (option_map short_message c.ask.result) in
+    let commit : List Message = option_to_list (option_map message_of c.in_ok-commit.commit) in
+    let none : messages_of c.in_ok-frames.frames.items ≡ [] = rw c.in_ok-frames.ensures.items refl in
+    let first : messages_of c.push_short.new.frames.items ≡ drop = c.push_short.ensures.messages ∙ ap (λ (said : List Message). said ++ drop) none in
+    let second : messages_of c.push_short-2.new.frames.items ≡ drop ++ ask = c.push_short-2.ensures.messages ∙ ap (λ (said : List Message). said ++ ask) first in
+    all_again c.args.self.now drop ask commit (messages_of c.push.new.frames.items) welcomed c.drop_again.ensures c.ask.ensures.by_table c.in_ok-commit.ensures
+    (c.push.ensures ∙ ap (λ (said : List Message). said ++ commit) second)
+
+pub returns-clause-fits : goal.returns-clause-fits
+returns-clause-fits g c =
+    let welcomed : c.args.self.now.welcomed ≡ true = rw (← c.self.view_is) c.if-not-self.false in
+    let drop : List Message = option_to_list (option_map short_message c.drop_again.result) in
+    let ask : List Message = option_to_list (option_map short_message c.ask.result) in
+    let commit : List Message = option_to_list (option_map message_of c.in_ok-commit.commit) in
+    let none : messages_of c.in_ok-frames.frames.items ≡ [] = rw c.in_ok-frames.ensures.items refl in
+    let first : messages_of c.push_short.new.frames.items ≡ drop = c.push_short.ensures.messages ∙ ap (λ (said : List Message). said ++ drop) none in
+    let second : messages_of c.push_short-2.new.frames.items ≡ drop ++ ask = c.push_short-2.ensures.messages ∙ ap (λ (said : List Message). said ++ ask) first in
+    let sound : IsClient c.args.self.now = rw (← c.self.view_is) c.self.invariant in
+    call_frames_fit c.args.self.now c.args.self.now CallAgain c.push.new.frames.items sound (all_again c.args.self.now drop ask commit (messages_of c.push.new.frames.items) welcomed c.drop_again.ensures c.ask.ensures.by_table c.in_ok-commit.ensures
+    (c.push.ensures ∙ ap (λ (said : List Message). said ++ commit) second))

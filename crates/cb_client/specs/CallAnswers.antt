@@ -1,0 +1,132 @@
+-- What each call of an application answers, by the protocol's table.
+use Rattle.std.specs.Prelude.{◌≡◌, ℕ, List, [], ◌∷◌, Some, Result, Ok, Err, ⊤}
+use Rattle.std.specs.Prelude.{true, if◌then◌else◌, slice_set, unwrap_or}
+use Rattle.std.specs.Option.{is_some}
+use Rattle.cb_copies.specs.CopiesState.{content_at}
+use Rattle.cb_frame_types.specs.Grammar.{Fits}
+use Rattle.cb_frame_types.specs.declared.frame.Body.TheVariants.{Short}
+use Rattle.cb_frame_types.specs.declared.frame.Frame.{Frame}
+use Rattle.cb_page.specs.Bounds.{Bounds}
+use Rattle.cb_frame_types.specs.declared.frame.ShortFrame.{ShortFrame}
+use Rattle.cb_outbox.specs.Messages.{message_of, short_of}
+use Rattle.cb_protocol.specs.Answers as table
+use Rattle.cb_protocol.specs.Basics.{Bytes, is_none}
+use Rattle.cb_protocol.specs.Client.{bodies_said}
+use Rattle.cb_protocol.specs.ClientCalls.{Call, CallBegin, CallFinish, CallRead, CallWant, CallWrite}
+use Rattle.cb_protocol.specs.ClientCalls.{call_fault, client_call}
+use Rattle.cb_protocol.specs.Messages.{AskRead, Message}
+use Rattle.cb_protocol.specs.Serial.{Operation, Put, Saw}
+use Rattle.cb_client.specs.ClientState.{ClientState, client_of}
+use Rattle.cb_client.specs.ByTable.{Calls, IsRefused, Refuses, RefusesOrLacks}
+use Rattle.cb_client.specs.ByTable.{as_before, limits_at, messages_from}
+use Rattle.cb_client.specs.declared.standing.Ask.TheVariants as asks
+use Rattle.cb_client.specs.declared.answers.ReadAnswer.{ReadAnswer}
+use Rattle.cb_client.specs.declared.answers.ReadAnswer.TheVariants as read
+use Rattle.cb_client.specs.declared.answers.WantAnswer.{WantAnswer}
+use Rattle.cb_client.specs.declared.answers.WantAnswer.TheVariants as want
+use Rattle.cb_client.specs.declared.client_fault.ClientFault.{ClientFault}
+
+-- the message that a frame without page bytes carries
+abbrev pub short_message : ShortFrame → Message
+short_message frame = record {
+  client = frame.client;
+  incarnation = frame.incarnation;
+  body = short_of frame.body;
+}
+
+-- the transaction put these bytes into the page
+abbrev pub puts : (page : ℕ) → Bytes → List Operation → List Operation
+puts page bytes operations = Put page bytes ∷ operations
+
+-- such a frame fits the limits
+abbrev pub ShortFrameFits : Bounds → ShortFrame → Type 0
+ShortFrameFits limits frame = Fits limits (record {
+  client = frame.client;
+  incarnation = frame.incarnation;
+  body = Short frame.body;
+})
+
+-- so does the frame by which a permission is asked for
+abbrev pub WantFits : Bounds → WantAnswer → Type 0
+WantFits limits want.Permitted = ⊤
+WantFits limits (want.Asked frame) = ShortFrameFits limits frame
+
+-- the transaction saw these bytes in the page
+abbrev pub sees : (page : ℕ) → Bytes → List Operation → List Operation
+sees page bytes operations = Saw page bytes ∷ operations
+
+-- the bytes of the page's copy; none where they are not in the pool
+abbrev pub bytes_at : ClientState → (page : ℕ) → Bytes
+bytes_at client page = unwrap_or (content_at client.copies page) []
+
+-- a transaction begins, with the number answered
+abbrev pub Begins : (old : ClientState) → Result ℕ ClientFault → (new : ClientState) → Type 0
+Begins old (Ok txn) new =
+    (new.txn ≡ Some txn) × Calls old CallBegin table.AnsweredOk [] as_before new
+Begins old (Err refused) new = Refuses old CallBegin refused new
+
+-- the table's answer to the call, and what it says
+pub record Answers (old : ClientState) (call : Call) (answered : table.AnswerWord)
+    (messages : List Message) : Type 0 where
+  pub word : (operations : List Operation)
+      → (client_call (limits_at old) (client_of old operations) call).word ≡ answered
+  pub said : (operations : List Operation)
+      → messages_from old
+      (bodies_said (client_call (limits_at old) (client_of old operations) call).steps)
+      ≡ messages
+
+-- the message by which a page is asked for
+abbrev pub read_ask : ClientState → (page : ℕ) → Message
+read_ask client page = record {
+  client = client.no;
+  incarnation = client.incarnation;
+  body = AskRead (unwrap_or client.txn 0) page;
+}
+
+-- a read is answered with the page's bytes, or they are asked for, or it is refused
+abbrev pub AnswersRead : ClientState → (page : ℕ) → Result ReadAnswer ClientFault → Type 0
+AnswersRead old page (Ok (read.Bytes bytes)) =
+    Answers old (CallRead page) (table.AnsweredBytes bytes.now) []
+AnswersRead old page (Ok read.Asked) =
+    Answers old (CallRead page) table.Asked (read_ask old page ∷ [])
+AnswersRead old page (Err refused) = IsRefused old (CallRead page) refused
+
+-- the client once it has read the page, and once it has asked for it
+abbrev pub page_read : ClientState → (page : ℕ) → ClientState
+page_read client page = record client {
+  locks = record client.locks { locked = slice_set client.locks.locked page true };
+}
+
+abbrev pub page_asked : ClientState → (page : ℕ) → ClientState
+page_asked client page = record client { ask = asks.Read page }
+
+-- What a client is after a read: read where the bytes are in the pool, else asked; as it was where
+-- the table refuses it.
+abbrev pub after_read : ClientState → (page : ℕ) → ClientState
+after_read client page =
+    if is_none (call_fault (limits_at client) (client_of client []) (CallRead page))
+    then if is_some (content_at client.copies page) then page_read client page
+    else page_asked client page
+    else client
+
+-- the page may be written, or the permission is asked for, or the call is refused
+abbrev pub Wants : (old : ClientState) → (page : ℕ) → Result WantAnswer ClientFault
+    → (new : ClientState) → Type 0
+Wants old page (Ok want.Permitted) new =
+    Calls old (CallWant page) table.Permitted [] as_before new
+Wants old page (Ok (want.Asked frame)) new =
+    Calls old (CallWant page) table.Asked (short_message frame ∷ []) as_before new
+Wants old page (Err refused) new = Refuses old (CallWant page) refused new
+
+-- the page has these bytes now, or the call is refused
+abbrev pub Writes : (old : ClientState) → (page : ℕ) → Bytes → Result ⊤ ClientFault
+    → (new : ClientState) → Type 0
+Writes old page bytes (Ok done) new =
+    Calls old (CallWrite page bytes) table.AnsweredOk [] (puts page bytes) new
+Writes old page bytes (Err refused) new = Refuses old (CallWrite page bytes) refused new
+
+-- the transaction commits, by the frame answered, or the call is refused
+abbrev pub Finishes : (old : ClientState) → Result Frame ClientFault → (new : ClientState) → Type 0
+Finishes old (Ok frame) new =
+    Calls old CallFinish table.AnsweredOk (message_of frame ∷ []) as_before new
+Finishes old (Err refused) new = RefusesOrLacks old CallFinish refused new

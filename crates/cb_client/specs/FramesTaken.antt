@@ -1,0 +1,39 @@
+-- What a client does at a frame.
+use Rattle.std.specs.Prelude.{◌≡◌, ◌==◌, ℕ, Bool, true, false, ◌&&◌, List, [], take}
+use Rattle.cb_page.specs.Bounds.{Bounds}
+use Rattle.cb_page.specs.Faults.{first_fault}
+use Rattle.cb_frame.specs.Checks.{causes, fault_in_bytes}
+use Rattle.cb_frame.specs.declared.fault.BytesFault.{BytesFault}
+use Rattle.cb_frame.specs.declared.fault.BytesFault.TheVariants as reading
+use Rattle.cb_frame_types.specs.Grammar.{IsFrameInSome}
+use Rattle.cb_frame_types.specs.declared.frame.Frame.{Frame}
+use Rattle.cb_outbox.specs.Messages.{body_of}
+use Rattle.cb_protocol.specs.Messages.{Message}
+use Rattle.cb_client.specs.ByTable.{Takes}
+use Rattle.cb_client.specs.ClientState.{ClientState}
+use Rattle.cb_client.specs.declared.client_fault.ClientFault.{ClientFault}
+use Rattle.cb_client.specs.declared.client_fault.ClientFault.TheVariants as faults
+
+-- the frame is for this incarnation of this client
+abbrev pub is_for : ClientState → Frame → Bool
+is_for client frame = (frame.client == client.no) && (frame.incarnation == client.incarnation)
+
+-- One that is for it is taken as the protocol's table says; another is ignored.
+pub record TakesFrame (old : ClientState) (frame : Frame) (messages : List Message)
+    (new : ClientState) : Type 0 where
+  pub own : is_for old frame ≡ true → Takes old (body_of frame.body) messages new
+  pub ignored : is_for old frame ≡ false → messages ≡ []
+  pub unchanged : is_for old frame ≡ false → new ≡ old
+
+-- The bytes begin with a frame, of that many bytes, which is taken.
+pub record TakesBytes (old : ClientState) (bytes : List ℕ) (used : ℕ) (messages : List Message)
+    (new : ClientState) : Type 0 where
+  pub frame : Frame
+  pub read : IsFrameInSome old.copies.limits frame (take used bytes)
+  pub takes : TakesFrame old frame messages new
+
+-- the bytes begin with no frame, for that cause; or a growth was refused
+abbrev pub IsBytesFault : Bounds → List ℕ → BytesFault ClientFault → Type 0
+IsBytesFault limits bytes (reading.Frame found) =
+    first_fault (causes limits bytes) ≡ fault_in_bytes found
+IsBytesFault limits bytes (reading.Taker found) = found ≡ faults.Memory

@@ -1,0 +1,171 @@
+//! The type, its opening, and what it shows.
+ghost use Rattle.std.specs.Prelude.{◌≡◌, ℕ, ◌<◌, ◌&&◌, List, [], IfOk, IsTrue};
+ghost use Rattle.std.specs.Option.{is_some};
+ghost use Rattle.cb_page.specs.Flags.{has};
+ghost use Rattle.cb_protocol.specs.Cache.{is_open};
+ghost use Rattle.cb_protocol.specs.Client.{client_status, new_client};
+ghost use Rattle.cb_copies.specs.CopiesState.{content_at, copy_at};
+ghost use Rattle.cb_twoq.specs.Pages.{has as on};
+ghost use Rattle.cb_protocol.specs.Serial.{Operation};
+ghost use Rattle.cb_client.specs.ClientState.{client_of, new_state, outcome_of, status_of};
+
+mod again;
+mod calls;
+mod ends;
+mod finish;
+mod granted;
+mod messages;
+mod taking;
+
+use crate::standing::{Ask, ClientStatus, Outcome, Stage};
+use cb_copies::Copies;
+use cb_locks::ReadLocks;
+use cb_page::{ClientNo, Incarnation, Limits, PageNo, PageSet, TxnNo};
+use cb_twoq::Chooser;
+use std::alloc::{AllocError, Global};
+use std::marker::Model;
+
+/// One incarnation of a client over any pool.
+///
+/// `new`, `finish`, `drop_txn`, `take`, `take_bytes` and `again` take memory; no other call does.
+#[derive(Drop)]
+pub struct Client<Q: Chooser> {
+    no: ClientNo,
+    incarnation: Incarnation,
+    /// Whether the server's Welcome came.
+    welcomed: bool,
+    /// The transaction that began last.
+    txn: Option<TxnNo>,
+    stage: Stage,
+    ask: Ask,
+    /// The last transaction that was dropped or aborted.
+    dropped: Option<TxnNo>,
+    /// How the last transaction ended.
+    last: Option<Outcome>,
+    copies: Copies<Q>,
+    locks: ReadLocks,
+}
+
+impl<Q: Chooser> Model for Client<Q> {
+    ghost use Rattle.cb_client.specs.ClientState.{ClientState, IsClient};
+
+    ghost Value = { ClientState };
+
+    ghost view = { λ client. record {
+      no = client.no;
+      incarnation = client.incarnation;
+      welcomed = client.welcomed;
+      txn = client.txn;
+      stage = client.stage;
+      ask = client.ask;
+      dropped = client.dropped;
+      last = client.last;
+      copies = client.copies;
+      locks = client.locks;
+    } };
+
+    ghost invariant = { λ client. IsClient (record {
+      no = client.no;
+      incarnation = client.incarnation;
+      welcomed = client.welcomed;
+      txn = client.txn;
+      stage = client.stage;
+      ask = client.ask;
+      dropped = client.dropped;
+      last = client.last;
+      copies = client.copies;
+      locks = client.locks;
+    }) };
+}
+
+impl<Q: Chooser> Client<Q> {
+    /// A client at the start of an incarnation, over an empty chooser of as many slots as the
+    /// limits say. `AllocError` only where memory was refused.
+    pub fn new(
+        alloc: Global,
+        no: ClientNo,
+        incarnation: Incarnation,
+        limits: &Limits,
+        chooser: Q,
+    ) -> Result<Client<Q>, AllocError>
+        requires client { no < limits.now.clients }
+        requires members { Q.members chooser ≡ [] }
+        requires slots { Q.slots chooser ≡ limits.now.slots }
+        ensures state { IfOk result (λ client. client ≡ new_state no incarnation limits.now) }
+        ensures by_table { IfOk result (λ client. client_of client [] ≡ new_client) }
+    {
+        // In range by its type: `get` says so.
+        let _in_range = incarnation.get();
+        Ok(Client {
+            no,
+            incarnation,
+            welcomed: false,
+            txn: None,
+            stage: Stage::Idle,
+            ask: Ask::Nothing,
+            dropped: None,
+            last: None,
+            copies: Copies::new(alloc, chooser, limits)?,
+            locks: ReadLocks::new(alloc, no, incarnation, limits)?,
+        })
+    }
+
+    /// The limits of its store and its pool.
+    pub fn limits(&self) -> &Limits
+        ensures { result.now ≡ self.now.copies.limits }
+    {
+        self.copies.limits()
+    }
+
+    /// Lends the pool's chooser, whose members are the pages of which `peek` has the bytes.
+    pub fn chooser(&self) -> &Q
+        ensures { (page : ℕ) → on (Q.members result.now) page
+            ≡ is_some (content_at self.now.copies page) }
+    {
+        self.copies.chooser()
+    }
+
+    /// Whether the client may write the page in the transaction that is open.
+    pub fn may_write(&self, page: PageNo) -> bool
+        ensures value { (operations : List Operation)
+            → result ≡ (is_open (client_of self.now operations).cache.status
+            && (client_of self.now operations).cache.may_write page) }
+        ensures held { IsTrue result → IsTrue (is_some (copy_at self.now.copies page).held) }
+    {
+        // What holds of all copies, `limits` says: a permission is of a copy that is held.
+        let _limits = self.copies.limits();
+        self.stage.is_open() && self.copies.may_write(page)
+    }
+
+    /// What the client says of itself.
+    pub fn status(&self) -> ClientStatus
+        ensures { (operations : List Operation)
+            → status_of result ≡ client_status (client_of self.now operations) }
+    {
+        if !self.welcomed {
+            return ClientStatus::NotWelcome;
+        }
+        match (self.stage, self.ask) {
+            (Stage::Idle, _) => ClientStatus::Idle,
+            (Stage::Committing, _) => ClientStatus::Committing,
+            (Stage::Open, Ask::Nothing) => ClientStatus::Open,
+            (Stage::Open, _) => ClientStatus::Waiting,
+        }
+    }
+
+    /// How the last transaction ended; `None` before the first one did.
+    pub fn last(&self) -> Option<Outcome>
+        ensures { (operations : List Operation)
+            → outcome_of result ≡ (client_of self.now operations).last_outcome }
+    {
+        self.last
+    }
+
+    /// The pages that the open or committing transaction has read.
+    pub fn locked(&self) -> &PageSet
+        ensures { (operations : List Operation) (page : ℕ)
+            → has result.now page ≡ (client_of self.now operations).cache.locked page }
+    {
+        self.locks.locked()
+    }
+}

@@ -1,0 +1,119 @@
+//! What may be lost is said again.
+ghost use Rattle.std.specs.Prelude.{◌≡◌, ◌+◌, ◌<◌, ◌≤◌, ◌++◌, List, option_to_list, IfErr, IfOk};
+ghost use Rattle.std.specs.Prelude.{true, unwrap_or};
+ghost use Rattle.std.specs.List.{All};
+ghost use Rattle.std.specs.List.{AllByRecursion};
+ghost use Rattle.std.specs.Option.{option_map};
+ghost use Rattle.std.specs.Vec.{vec_capacity, vec_len};
+ghost use Rattle.cb_client.specs.ByTable.{Calls, as_before, limits_at, messages_from};
+ghost use Rattle.cb_client.specs.CallAnswers.{short_message};
+ghost use Rattle.cb_client.specs.ClientState.{client_of, is_gone};
+ghost use Rattle.cb_protocol.specs.Messages.{Drop as DropBody};
+ghost use Rattle.cb_client.specs.declared.client_fault.ClientFault.TheVariants.{Memory};
+ghost use Rattle.cb_frame_types.specs.Grammar.{Fits};
+ghost use Rattle.cb_outbox.specs.Messages.{message_of, messages_of};
+ghost use Rattle.cb_protocol.specs.Answers.{AnsweredOk};
+ghost use Rattle.cb_protocol.specs.Client.{bodies_said};
+ghost use Rattle.cb_protocol.specs.ClientCalls.{CallAgain, commit_again, say_drop};
+ghost use Rattle.cb_protocol.specs.Serial.{Operation};
+
+use crate::client::Client;
+use crate::client_fault::ClientFault;
+use crate::standing::{Outcome, Stage};
+use cb_frame::{Frame, ShortBody, ShortFrame};
+use cb_twoq::Chooser;
+use std::alloc::{AllocError, Global};
+
+impl<Q: Chooser> Client<Q> {
+    /// Says again what may be lost: Hello until the Welcome came; then the Drop of the last
+    /// transaction, the ask and the Commit, as far as each is still open.
+    ///
+    /// `Memory` only where memory for these was refused.
+    pub fn again(&self, alloc: Global) -> Result<Vec<Frame>, ClientFault>
+        ensures by_table { IfOk result (λ frames. Calls self.now CallAgain AnsweredOk
+            (messages_of frames.items) as_before self.now) }
+        ensures memory { IfErr result (λ fault. fault ≡ Memory) }
+        ensures fits { IfOk result (λ frames.
+            AllByRecursion (Fits self.now.copies.limits) frames.items) }
+    {
+        let mut frames = Vec::with_capacity(alloc, 3)?;
+        if !self.welcomed {
+            frames.push_reserved(self.hello());
+            return Ok(frames);
+        }
+        let commit = self.commit_again(alloc)?;
+        push_short(&mut frames, self.drop_again());
+        push_short(&mut frames, self.ask());
+        push(&mut frames, commit);
+        Ok(frames)
+    }
+
+    /// The Drop of the last transaction, if that one was dropped or aborted.
+    fn drop_again(&self) -> Option<ShortFrame>
+        ensures { (operations : List Operation)
+            → messages_from self.now (bodies_said (say_drop (client_of self.now operations)
+            (client_of self.now operations).last_outcome))
+            ≡ option_to_list (option_map short_message result) }
+    {
+        match self.last {
+            None => None,
+            Some(last) => match last {
+                Outcome::Committed(_) => None,
+                Outcome::Dropped => Some(self.last_drop()),
+                Outcome::Aborted => Some(self.last_drop()),
+            },
+        }
+    }
+
+    /// The Drop of the last transaction that was dropped or aborted.
+    fn last_drop(&self) -> ShortFrame
+        requires { is_gone self.now.last ≡ true }
+        ensures { short_message result ≡ record {
+          client = self.now.no;
+          incarnation = self.now.incarnation;
+          body = DropBody (unwrap_or self.now.dropped 0);
+        } }
+    {
+        let Some(txn) = self.dropped else {
+            unreachable!()
+        };
+        self.say(ShortBody::Drop { txn })
+    }
+
+    /// The Commit of the transaction that is committing, if one is.
+    fn commit_again(&self, alloc: Global) -> Result<Option<Frame>, AllocError>
+        ensures { IfOk result (λ commit. (operations : List Operation)
+            → messages_from self.now
+            (bodies_said (commit_again (limits_at self.now) (client_of self.now operations)))
+            ≡ option_to_list (option_map message_of commit)) }
+    {
+        match self.stage {
+            Stage::Idle | Stage::Open => Ok(None),
+            Stage::Committing => Ok(Some(self.commit_frame(alloc)?)),
+        }
+    }
+}
+
+/// Puts a frame behind the others, if there is one.
+fn push(frames: &mut Vec<Frame>, frame: Option<Frame>)
+    requires { vec_len frames.old < vec_capacity frames.old }
+    ensures { messages_of frames.new.items
+        ≡ messages_of frames.old.items ++ option_to_list (option_map message_of frame) }
+{
+    if let Some(frame) = frame {
+        frames.push_reserved(frame);
+    }
+}
+
+/// The same of a frame without page bytes.
+fn push_short(frames: &mut Vec<Frame>, frame: Option<ShortFrame>)
+    requires { vec_len frames.old < vec_capacity frames.old }
+    ensures messages { messages_of frames.new.items
+        ≡ messages_of frames.old.items ++ option_to_list (option_map short_message frame) }
+    ensures len { vec_len frames.new ≤ vec_len frames.old + 1 }
+    ensures capacity { vec_capacity frames.new ≡ vec_capacity frames.old }
+{
+    if let Some(frame) = frame {
+        frames.push_reserved(Frame::from(frame));
+    }
+}

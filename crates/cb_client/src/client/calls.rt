@@ -1,0 +1,297 @@
+//! The calls of an application: what each is refused for, and what it does.
+ghost use Rattle.std.specs.Prelude.{◌≡◌, ◌≢◌, ℕ, ◌+◌, ◌<◌, List, ◌∷◌, ◌++◌, [], Ok, Some, None, IfOk, IfSome};
+ghost use Rattle.std.specs.Prelude.{IsOk, option_to_list, length, false, true, unwrap_or};
+ghost use Rattle.std.specs.Borrow.{sem};
+ghost use Rattle.std.specs.Option.{is_some, option_copied, option_map};
+ghost use Rattle.cb_client.specs.ByTable.{Called, Calls, IsDecided, IsFirst, as_before, limits_at};
+ghost use Rattle.cb_client.specs.CallAnswers.{AnswersRead, Begins, after_read};
+ghost use Rattle.cb_client.specs.CallAnswers.{ShortFrameFits, WantFits, Wants, Writes};
+ghost use Rattle.cb_frame_types.specs.Grammar.{Fits};
+ghost use Rattle.cb_client.specs.Lending.{client_ends_as};
+ghost use Rattle.cb_client.specs.declared.standing.Ask.TheVariants.{Nothing};
+ghost use Rattle.cb_client.specs.declared.standing.Stage.TheVariants.{Idle, Open};
+ghost use Rattle.cb_copies.specs.CopiesState.{client_with, content_at, copy_at};
+ghost use Rattle.cb_client.specs.ClientState.{HasRoomLeft};
+ghost use Rattle.cb_protocol.specs.Client.{Client as TableClient};
+ghost use Rattle.cb_outbox.specs.Messages.{message_of};
+ghost use Rattle.cb_protocol.specs.Answers.{AnsweredOk};
+ghost use Rattle.cb_protocol.specs.ClientCalls.{CallBegin, CallHello, CallPeek};
+ghost use Rattle.cb_protocol.specs.ClientCalls.{CallRead, CallWrite, open_causes};
+ghost use Rattle.cb_protocol.specs.ClientCalls.{page_causes, peek_word, read_causes, say_ask};
+ghost use Rattle.cb_protocol.specs.Client.{bodies_said};
+ghost use Rattle.cb_protocol.specs.Serial.{Operation};
+ghost use Rattle.cb_client.specs.ClientState.{client_of};
+ghost use Rattle.cb_client.specs.ByTable.{messages_from};
+ghost use Rattle.cb_client.specs.CallAnswers.{short_message};
+
+use crate::answers::{ReadAnswer, WantAnswer};
+use crate::client::Client;
+use crate::client_fault::ClientFault;
+use crate::standing::{Ask, Stage};
+use cb_frame::{Frame, ShortBody, ShortFrame};
+use cb_page::{GrantNo, PageNo, TxnNo};
+use cb_twoq::Chooser;
+
+impl<Q: Chooser> Client<Q> {
+    /// The frame of this client with that body.
+    pub(super) fn say(&self, body: ShortBody) -> ShortFrame
+        ensures { result ≡ record {
+          client = self.now.no;
+          incarnation = self.now.incarnation;
+          body = body;
+        } }
+    {
+        ShortFrame {
+            client: self.no,
+            incarnation: self.incarnation,
+            body,
+        }
+    }
+
+    /// The transaction that has begun and not ended.
+    pub(super) fn present_txn(&self) -> TxnNo
+        requires { self.now.stage ≢ Idle }
+        ensures { self.now.txn ≡ Some result }
+    {
+        let Some(txn) = self.txn else { unreachable!() };
+        txn
+    }
+
+    /// Greets the server. It is never refused.
+    #[tactic(auto, using(crate::proofs::CallSteps::greets))]
+    pub fn hello(&self) -> Frame
+        ensures by_table { Calls self.now CallHello AnsweredOk (message_of result ∷ []) as_before
+            self.now }
+        ensures fits { Fits self.now.copies.limits result }
+    {
+        // A look at a field tells the prover what holds of every client.
+        let _no = &self.no;
+        Frame::from(self.say(ShortBody::Hello))
+    }
+
+    /// The bytes of the client's copy of a page, also while there is no transaction. `None` where
+    /// it has none, or there is no such page. It is no reference to the page.
+    pub fn peek(&self, page: PageNo) -> Option<&[u8]>
+        ensures { Calls self.now (CallPeek page) (peek_word (option_copied result)) [] as_before
+            self.now }
+    {
+        self.copies.peek(page)
+    }
+
+    /// The number of the next transaction, where none is under way and one is left.
+    #[tactic(auto, using(cb_protocol::proofs::Cases::fault_of_begin))]
+    fn next_txn(&self) -> Result<TxnNo, ClientFault>
+        ensures decided { IsDecided self.now CallBegin result }
+        ensures next { IfOk result (λ next. next ≡ unwrap_or self.now.txn 0 + 1) }
+    {
+        if !self.welcomed {
+            return Err(ClientFault::NotWelcome);
+        }
+        if self.stage != Stage::Idle {
+            return Err(ClientFault::TransactionOpen);
+        }
+        let next = match self.txn {
+            None => Some(TxnNo::new(1)),
+            Some(txn) => txn.next(),
+        };
+        next.ok_or(ClientFault::Exhausted)
+    }
+
+    /// Begins a transaction, and answers its number.
+    pub fn begin(&mut self) -> Result<TxnNo, ClientFault>
+        ensures { Begins self.old result self.new }
+    {
+        let txn = self.next_txn()?;
+        self.txn = Some(txn);
+        self.stage = Stage::Open;
+        self.locks.begin(txn);
+        Ok(txn)
+    }
+
+    /// That a transaction is open.
+    pub(super) fn check_open(&self) -> Result<(), ClientFault>
+        ensures causes { IsFirst self.now (λ client. open_causes client) result }
+        ensures open { IsOk result → self.now.stage ≡ Open }
+    {
+        if !self.welcomed {
+            return Err(ClientFault::NotWelcome);
+        }
+        match self.stage {
+            Stage::Idle => Err(ClientFault::NoTransaction),
+            Stage::Committing => Err(ClientFault::Committing),
+            Stage::Open => Ok(()),
+        }
+    }
+
+    /// That a transaction is open which waits for nothing, and that there is such a page.
+    fn check_page(&self, page: PageNo) -> Result<(), ClientFault>
+        ensures causes { IsFirst self.now
+            (λ client. page_causes (limits_at self.now) client page) result }
+        ensures open { IsOk result → self.now.stage ≡ Open }
+        ensures no_ask { IsOk result → self.now.ask ≡ Nothing }
+        ensures page { IsOk result → page < self.now.copies.limits.pages }
+    {
+        self.check_open()?;
+        if self.ask.is_out() {
+            return Err(ClientFault::Waiting);
+        }
+        if !self.limits().has_page(page.get()) {
+            return Err(ClientFault::PageRange);
+        }
+        Ok(())
+    }
+
+    /// Whether the page's bytes are in the pool.
+    fn is_here(&self, page: PageNo) -> bool
+        ensures { result ≡ is_some (content_at self.now.copies page) }
+    {
+        self.copies.peek(page).is_some()
+    }
+
+    /// That besides the transaction has read the page, and its bytes are in the pool: what `want`
+    /// asks.
+    fn check_read(&self, page: PageNo) -> Result<(), ClientFault>
+        ensures causes { IsFirst self.now
+            (λ client. page_causes (limits_at self.now) client page ++ read_causes client page)
+            result }
+        ensures open { IsOk result → self.now.stage ≡ Open }
+        ensures no_ask { IsOk result → self.now.ask ≡ Nothing }
+        ensures page { IsOk result → page < self.now.copies.limits.pages }
+        ensures here { IsOk result → is_some (content_at self.now.copies page) ≡ true }
+    {
+        self.check_page(page)?;
+        if !self.locks.is_locked(page) {
+            return Err(ClientFault::NotRead);
+        }
+        if !self.is_here(page) {
+            return Err(ClientFault::NotHere);
+        }
+        Ok(())
+    }
+
+    /// That besides the client may write the page, and these are the bytes of one.
+    fn check_write(&self, page: PageNo, bytes: &[u8]) -> Result<(), ClientFault>
+        ensures decided { IsDecided self.now (CallWrite page bytes.now) result }
+        ensures no_ask { IsOk result → self.now.ask ≡ Nothing }
+        ensures here { IsOk result → is_some (content_at self.now.copies page) ≡ true }
+        ensures size { IsOk result → length bytes.now ≡ self.now.copies.limits.page_size }
+    {
+        self.check_read(page)?;
+        if !self.copies.may_write(page) {
+            return Err(ClientFault::NotWritable);
+        }
+        if bytes.len() != self.limits().page_size() {
+            return Err(ClientFault::WrongLength);
+        }
+        Ok(())
+    }
+
+    /// That the page may be read: its bytes are in the pool, or there is room for them.
+    fn check_fetch(&self, page: PageNo) -> Result<(), ClientFault>
+        ensures decided { IsDecided self.now (CallRead page) result }
+        ensures page { IsOk result → page < self.now.copies.limits.pages }
+        ensures room { IsOk result → is_some (content_at self.now.copies page) ≡ false
+            → (other : TableClient) → HasRoomLeft (limits_at self.now)
+            (client_with self.now.copies other) }
+    {
+        self.check_page(page)?;
+        if self.is_here(page) {
+            return Ok(());
+        }
+        if !self.copies.has_room() {
+            return Err(ClientFault::PoolFull);
+        }
+        Ok(())
+    }
+
+    /// Reads the page where its bytes are in the pool; else an ask for it is out.
+    fn read_or_ask(&mut self, page: PageNo) -> Result<(), ClientFault>
+        ensures decided { IsDecided self.old (CallRead page) result }
+        ensures after { self.new ≡ after_read self.old page }
+        ensures called { Called self.old (CallRead page) self.new }
+        ensures page { IsOk result → page < length self.old.locks.locked }
+    {
+        self.check_fetch(page)?;
+        if self.copies.read(page).is_some() {
+            self.locks.lock(page);
+        } else {
+            self.ask = Ask::Read(page);
+        }
+        Ok(())
+    }
+
+    /// Reads a page in the open transaction, and lends its bytes, which is a reference to it; or
+    /// asks for it where they are not in the pool.
+    pub fn read(&mut self, page: PageNo) -> Result<ReadAnswer<'_>, ClientFault>
+        ensures* ends { sem 𝓛 (client_ends_as Q.row Q.Chooser self.entry (after_read self.old page)) }
+        ensures by_table { Called self.old (CallRead page) (after_read self.old page) }
+        ensures answer { AnswersRead self.old page result }
+    {
+        self.read_or_ask(page)?;
+        match self.copies.peek(page) {
+            Some(bytes) => Ok(ReadAnswer::Bytes(bytes)),
+            None => Ok(ReadAnswer::Asked),
+        }
+    }
+
+    /// The grant of a page whose bytes are in the pool.
+    fn grant_of(&self, page: PageNo) -> GrantNo
+        requires here { is_some (content_at self.now.copies page) ≡ true }
+        requires page { page < self.now.copies.limits.pages }
+        ensures { (copy_at self.now.copies page).held ≡ Some result }
+    {
+        let Some(grant) = self.copies.at(page).held else {
+            unreachable!()
+        };
+        grant
+    }
+
+    /// Wants to write a page in the open transaction: the pool keeps it until that ends.
+    pub fn want(&mut self, page: PageNo) -> Result<WantAnswer, ClientFault>
+        ensures by_table { Wants self.old page result self.new }
+        ensures fits { IfOk result (WantFits self.old.copies.limits) }
+    {
+        self.check_read(page)?;
+        if self.copies.may_write(page) {
+            self.copies.want(page);
+            return Ok(WantAnswer::Permitted);
+        }
+        let txn = self.present_txn();
+        let grant = self.grant_of(page);
+        let ask = self.say(ShortBody::AskWrite { txn, page, grant });
+        self.copies.want(page);
+        self.ask = Ask::Write(page);
+        Ok(WantAnswer::Asked(ask))
+    }
+
+    /// Writes a page in the open transaction: its bytes in the pool become these.
+    pub fn write(&mut self, page: PageNo, bytes: &[u8]) -> Result<(), ClientFault>
+        ensures { Writes self.old page bytes.now result self.new }
+    {
+        self.check_write(page, bytes)?;
+        self.copies.write(page, bytes);
+        Ok(())
+    }
+
+    /// The frame of the ask that is out, if any is.
+    pub fn ask(&self) -> Option<ShortFrame>
+        ensures by_table { (operations : List Operation)
+            → messages_from self.now (bodies_said (say_ask (client_of self.now operations)
+            (client_of self.now operations).ask))
+            ≡ option_to_list (option_map short_message result) }
+        ensures fits { IfSome result (ShortFrameFits self.now.copies.limits) }
+    {
+        match self.ask {
+            Ask::Nothing => None,
+            Ask::Read(page) => {
+                let txn = self.present_txn();
+                Some(self.say(ShortBody::AskRead { txn, page }))
+            }
+            Ask::Write(page) => {
+                let txn = self.present_txn();
+                let grant = self.copies.at(page).held?;
+                Some(self.say(ShortBody::AskWrite { txn, page, grant }))
+            }
+        }
+    }
+}

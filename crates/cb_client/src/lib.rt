@@ -1,0 +1,19 @@
+//! One incarnation of a client: it opens transactions, reads pages without a message where it has
+//! them, asks to write, commits, and gives copies back when they are called.
+//!
+//! In contracts a [`Client`] is the protocol's client for every list of operations that its
+//! transaction may have done: each call answers and does what the protocol's table of calls says,
+//! and each message is taken as its table of messages says.
+#![tactic(auto)]
+
+mod answers;
+mod client;
+mod client_fault;
+mod laws;
+mod standing;
+
+pub use answers::{ReadAnswer, WantAnswer};
+pub use client::Client;
+pub use client_fault::ClientFault;
+pub use laws::{callbacks_are_answered, downgrades_are_answered, in_use_is_given_back};
+pub use standing::{Ask, ClientStatus, Outcome, Stage};

@@ -1,0 +1,3 @@
+pub mod PageSteps
+pub mod Walk
+pub mod Ends
