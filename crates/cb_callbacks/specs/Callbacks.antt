@@ -1,0 +1,22 @@
+-- The tables and the view of who waits for whom.
+use Rattle.std.specs.Prelude.{◌≡◌, ℕ}
+use Rattle.cb_callbacks.specs.declared.tables.Tables.{Tables}
+use Rattle.cb_callbacks.specs.Tables.{AreTables, server_of}
+use Rattle.cb_callbacks.specs.Waits.{Waits}
+use Rattle.cb_outbox.specs.Saying.{OutboxState}
+use Rattle.cb_waits.specs.Follows.{Follows}
+use Rattle.cb_waits.specs.Graph.{Edges}
+
+pub record CallbacksState : Type 0 where
+  pub tables : Tables
+  pub view : Edges
+
+-- the tables agree, and the view has exactly the edges of the protocol's server
+pub record AreCallbacks (callbacks : CallbacksState) : Type 0 where
+  pub tables : AreTables callbacks.tables
+  pub waits : Waits (server_of callbacks.tables)
+  pub follows : Follows callbacks.view (server_of callbacks.tables)
+
+-- copies that are sent are as large as the store's pages
+abbrev pub IsAsLarge : OutboxState → Tables → Type 0
+IsAsLarge outbox tables = outbox.page_size ≡ tables.holdings.commits.store.page_size
