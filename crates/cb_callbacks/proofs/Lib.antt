@@ -1,0 +1,4 @@
+pub mod Changes
+pub mod Queues
+pub mod Left
+pub mod Kept
