@@ -5,7 +5,7 @@ use Rattle.cb_callbacks.specs.Callbacks.{CallbacksState}
 use Rattle.cb_callbacks.specs.Deciding.{StartsWith}
 use Rattle.cb_callbacks.specs.Tables.{server_of}
 use Rattle.cb_callbacks.specs.Waits.{HasBegun}
-use Rattle.cb_callbacks.proofs.Kept.{begun, greeted, kept_left, known}
+use Rattle.cb_callbacks.proofs.Kept.{begun, kept_left, known}
 use Rattle.cb_callbacks.proofs.Left.{permits_left}
 use Rattle.cb_callbacks.proofs.Queues.{first_has}
 use Rattle.cb_callbacks.proofs.callbacks.Callbacks.permit_first.Goals as goal
