@@ -9,11 +9,15 @@ use Rattle.cb_callbacks.specs.declared.tables.Tables.{Tables}
 use Rattle.cb_callbacks.proofs.Changes.{queued}
 use Rattle.cb_callbacks.proofs.Queues.{by_place}
 use Rattle.cb_holdings.specs.Holdings as holdings
-use Rattle.cb_outbox.specs.Saying.{OutboxState, Says}
+use Rattle.cb_outbox.specs.Saying.{HasRoomFor, OutboxState, Says}
+use Rattle.cb_outbox.proofs.Saying.{room_first, says_as, says_then}
+use Rattle.cb_callbacks.proofs.Rooms.{room_by}
+use Rattle.std.proofs.lemmas.List.{append-nil}
 use Rattle.cb_protocol.proofs.SettlingClears.{SoundAsks, fewer_put, sound_fewer}
 use Rattle.cb_protocol.specs.Basics.{update}
 use Rattle.cb_protocol.specs.Deadlock.{ask_count}
-use Rattle.cb_protocol.specs.Server.{Server, WaitingAsk, has_ask, set_called_back, set_downgrade_sent}
+use Rattle.cb_protocol.specs.Server.{MarkCalledBack, Server, WaitingAsk, has_ask, set_called_back, set_downgrade_sent}
+use Rattle.cb_protocol.specs.Settling.{call_back_once, nobody, send_callbacks}
 use Rattle.cb_protocol.specs.WaitsFor.{first_waits_for, is_behind, waits_for, waits_for_below}
 use Rattle.cb_waits.specs.Follows.{Follows}
 use Rattle.cb_waits.specs.Graph.{Edges}
@@ -119,3 +123,29 @@ pub noted_has : (before : Tables) (asks : AsksState) (page client : ℕ) (noted 
     → has_ask client (queue_at before.asks page) ≡ true → has_ask client (queue_at asks page) ≡ true
 noted_has before asks page client noted only has here =
     ap (has_ask client) (has.queues page) ∙ has_same noted only (server_of before) page client page ∙ here
+
+-- a note alone sends nothing
+pub notes_called_back : (before : Tables) (asks : AsksState) (page : ℕ) (a : OutboxState)
+    → Has before.asks asks (update (queue_at before.asks) page (set_called_back (queue_at before.asks page)))
+    → Says (server_of before) (λ server. MarkCalledBack page ∷ []) (server_of (record before { asks = asks })) a a
+notes_called_back before asks page a has = record {
+  becomes = queued (holdings.server_of before.holdings) (queue_at asks) _ (is_in_use before.marks) has.queues;
+  sends = sym (append-nil a.sent);
+  room = refl;
+  spare = omega arith;
+  page_size = refl;
+}
+
+-- Callbacks, and the note of them
+pub called_back : (before : Tables) (asks : AsksState) (page : ℕ) (ask : WaitingAsk) (a b : OutboxState) → ask.called_back ≡ false
+    → Says (server_of before) (λ server. send_callbacks server nobody page ask.client server.clients) (server_of before) a b
+    → Has before.asks asks (update (queue_at before.asks) page (set_called_back (queue_at before.asks page)))
+    → Says (server_of before) (λ server. call_back_once server page ask) (server_of (record before { asks = asks })) a b
+called_back before asks page ask a b e says has =
+    says_as (server_of before) _ (λ server. call_back_once server page ask) _ a b (rw e refl)
+    (says_then (server_of before) (server_of before) (server_of (record before { asks = asks }))
+    (λ server. send_callbacks server nobody page ask.client server.clients) (λ server. MarkCalledBack page ∷ []) a b b says (notes_called_back before asks page b has))
+
+pub room_called : (s : Server) (page : ℕ) (ask : WaitingAsk) (a : OutboxState) → ask.called_back ≡ false
+    → HasRoomFor (call_back_once s page ask) a → HasRoomFor (send_callbacks s nobody page ask.client s.clients) a
+room_called s page ask a e r = room_first (send_callbacks s nobody page ask.client s.clients) (MarkCalledBack page ∷ []) a (room_by _ _ a (rw e refl) r)
