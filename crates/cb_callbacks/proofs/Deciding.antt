@@ -45,7 +45,7 @@ room_tested cycle s m client steps a b r says =
     (room_by _ _ a (wait_split (cycle (server_after s (steps s)) client) (steps s) (doom_client (server_after s (steps s)) client)) r) says)
 
 -- an ask to read
-abbrev may_read : Server → (page : ℕ) → WaitingAsk → Bool
+abbrev pub may_read : Server → (page : ℕ) → WaitingAsk → Bool
 may_read s page ask = no_other_holder (s.store.holder page) ask.client && is_none ((s.session ask.client).row page)
 
 read_met : (cycle : DeadlockTest) (s : Server) (page : ℕ) (ask : WaitingAsk) → no_other_holder (s.store.holder page) ask.client ≡ true
@@ -78,7 +78,7 @@ pub room_read_waits : (cycle : DeadlockTest) (s : Server) (page : ℕ) (ask : Wa
 room_read_waits cycle s page ask a e r = room_by _ _ a (ap decision_steps (read_waits cycle s page ask e)) r
 
 -- an ask to write
-abbrev may_write : Server → (page : ℕ) → WaitingAsk → (grant : ℕ) → Bool
+abbrev pub may_write : Server → (page : ℕ) → WaitingAsk → (grant : ℕ) → Bool
 may_write s page ask grant = no_other_holder (s.store.holder page) ask.client && has_row s ask.client page grant && sole_row s page ask.client s.clients
 
 write_met : (cycle : DeadlockTest) (s : Server) (page : ℕ) (ask : WaitingAsk) (grant : ℕ) → no_other_holder (s.store.holder page) ask.client ≡ true

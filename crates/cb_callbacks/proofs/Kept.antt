@@ -7,8 +7,10 @@ use Rattle.cb_callbacks.specs.Tables.{AreTables, HasClient, server_of}
 use Rattle.cb_callbacks.specs.Waits.{HasBegun, Waits}
 use Rattle.cb_callbacks.specs.declared.tables.Tables.{Tables}
 use Rattle.cb_callbacks.proofs.Left.{Left, follows_left, waits_left}
-use Rattle.cb_callbacks.proofs.Queues.{finds}
-use Rattle.cb_protocol.specs.Server.{Server, ServerStep, has_ask, server_after}
+use Rattle.cb_callbacks.proofs.Queues.{finds, listed_first}
+use Rattle.cb_asks.specs.Asks.{queue_at}
+use Rattle.cb_callbacks.specs.Deciding.{IsFirst}
+use Rattle.cb_protocol.specs.Server.{Server, ServerStep, WaitingAsk, has_ask, server_after}
 use Rattle.cb_waits.specs.Graph.{Edges}
 
 -- an ask of a client left the page
@@ -33,3 +35,7 @@ known tables client page waits here = (waits.in_range page client (finds client 
 
 pub begun : (tables : Tables) (client page : ℕ) → Waits (server_of tables) → has_ask client ((server_of tables).queue page) ≡ true → HasBegun (server_of tables) client
 begun tables client page waits here = let live = waits.live client page here in grind (arith, nat_tests, live)
+
+-- so is the client of a first ask
+pub first_known : (tables : Tables) (page : ℕ) (ask : WaitingAsk) → Waits (server_of tables) → IsFirst tables page ask → HasClient tables ask.client
+first_known tables page ask waits first = known tables ask.client page waits (listed_first (queue_at tables.asks page) ask _ first)

@@ -4,5 +4,7 @@ pub mod Deciding
 pub mod Kept
 pub mod Left
 pub mod Noted
+pub mod Opening
 pub mod Queues
 pub mod Rooms
+pub mod Settling

@@ -1,7 +1,10 @@
 -- Asks in queues as they change.
-use Rattle.std.proofs.Common.{◌≡◌, ◌≢◌, ◌⊎◌, ℕ, ◌+◌, ◌<◌, ◌≤◌, Bool, true, false, ◌||◌, ◌&&◌, ◌==◌, if◌then◌else◌, List, [], ◌∷◌, ◌++◌, zero, suc, refl, sym, ap, ◌∙◌, subst, arith, inl, inr}
+use Rattle.std.proofs.Common.{◌≡◌, ◌≢◌, ◌⊎◌, ℕ, ◌+◌, ◌<◌, ◌≤◌, Bool, true, false, ◌||◌, ◌&&◌, ◌==◌, if◌then◌else◌, List, [], ◌∷◌, ◌++◌, Option, Some, None, zero, suc, refl, sym, ap, ◌∙◌, subst, arith, inl, inr}
 use Rattle.std.proofs.lemmas.Bool.Decides.{nat_tests}
-use Rattle.cb_protocol.specs.Basics.{update}
+use Rattle.cb_protocol.proofs.ReadAsksWaiting.{reads_least}
+use Rattle.cb_protocol.specs.Basics.{is_none, max_number, update}
+use Rattle.cb_protocol.specs.Numbers.{first_free_grant}
+use Rattle.cb_protocol.specs.ServerMessages.{read_asks_in}
 use Rattle.cb_protocol.specs.Deadlock.{OneAsk, ask_count}
 use Rattle.cb_protocol.specs.Server.{Server, WaitingAsk, after_first, has_ask, set_called_back, set_downgrade_sent, without_client}
 use Rattle.cb_protocol.specs.WaitsFor.{HasAsk}
@@ -144,3 +147,21 @@ placed client (ask ∷ queue) e = go (placed client queue) (has_ask client queue
       own = own;
       last = subst (λ (c : ℕ). has_ask c queue ≡ false) (sym own) none;
     }
+
+pub listed_first : (queue : List WaitingAsk) (ask : WaitingAsk) (rest : List WaitingAsk) → queue ≡ ask ∷ rest → has_ask ask.client queue ≡ true
+listed_first queue ask rest is = ap (has_ask ask.client) is ∙ same (ask.client == ask.client) refl
+  where
+    same : (b : Bool) → (ask.client == ask.client) ≡ b → (b || has_ask ask.client rest) ≡ true
+    same true e = refl
+    same false e = grind (arith, nat_tests)
+
+pub starts_with : (queue : List WaitingAsk) (ask : WaitingAsk) (rest : List WaitingAsk) → queue ≡ ask ∷ rest → StartsWith ask.client queue
+starts_with queue ask rest is = subst (StartsWith ask.client) (sym is) refl
+
+-- a grant number is left for a first read ask
+pub left_for : (s : Server) (page : ℕ) (ask : WaitingAsk) (rest : List WaitingAsk) → page < s.pages → s.queue page ≡ ask ∷ rest → ask.write_grant ≡ None
+    → first_free_grant s ≤ max_number + 1 → s.next_grant ≤ max_number
+left_for s page ask rest lt is reads left =
+    let one : read_asks_in (s.queue page) ≡ read_asks_in rest + 1 = ap read_asks_in is ∙ ap (λ (g : Option ℕ). if is_none g then read_asks_in rest + 1 else read_asks_in rest) reads in
+    let least = reads_least s page s.pages lt in
+    omega (arith, one, least, left)
