@@ -6,7 +6,7 @@ use Rattle.cb_callbacks.proofs.Rooms.{room_by, room_next}
 use Rattle.cb_callbacks.specs.Waits.{Waits}
 use Rattle.cb_holdings.specs.Holdings.{HoldingsState, Stays}
 use Rattle.cb_outbox.specs.Saying.{Decides, HasRoomFor, OutboxState, Says, goes_on}
-use Rattle.cb_outbox.proofs.Saying.{room_after, room_first, says_as, says_then}
+use Rattle.cb_outbox.proofs.Saying.{room_after, room_first, says_as, says_nothing, says_then, settle_more}
 use Rattle.cb_protocol.proofs.CycleTest.{test_is_exact}
 use Rattle.cb_protocol.proofs.GrantNumbers.{settling_takes_kept_grants}
 use Rattle.cb_protocol.proofs.SettlingAgain.{empty_page, settling_ends}
@@ -28,7 +28,7 @@ stays_then before middle after a b = record {
 }
 
 -- the decisions after the first
-others : DeadlockTest → (most : ℕ) → Server → (page : ℕ) → Decision → List ServerStep
+abbrev others : DeadlockTest → (most : ℕ) → Server → (page : ℕ) → Decision → List ServerStep
 others cycle most s page decision =
     if goes_on decision then settle_page cycle most (server_after s (decision_steps decision)) page else []
 
@@ -43,26 +43,23 @@ settle_split cycle most s page = by_decision (decide cycle s page (s.queue page)
     by_decision (Settled steps) = sym (append-nil steps)
     by_decision (Decided steps) = refl
 
-split_at : (cycle : DeadlockTest) (most : ℕ) (s : Server) (page : ℕ) → most ≢ 0
-    → settle_page cycle most s page
-    ≡ decision_steps (decide cycle s page (s.queue page)) ++ others cycle (most - 1) s page (decide cycle s page (s.queue page))
-split_at cycle zero s page some = absurd (some refl)
-split_at cycle (suc most) s page some = settle_split cycle most s page
-    ∙ ap (λ (n : ℕ). decision_steps (decide cycle s page (s.queue page)) ++ others cycle n s page (decide cycle s page (s.queue page)))
-    (let e : most ≡ suc most - 1 = omega arith in e)
+split_at : (cycle : DeadlockTest) (most : ℕ) (s : Server) (page : ℕ)
+    → settle_page cycle (most + 1) s page
+    ≡ decision_steps (decide cycle s page (s.queue page)) ++ others cycle most s page (decide cycle s page (s.queue page))
+split_at cycle most s page = ap (λ (n : ℕ). settle_page cycle n s page) (add-one most) ∙ settle_split cycle most s page
 
 -- the room for the first decision, and for the others
-pub room_decided : (cycle : DeadlockTest) (most : ℕ) (s : Server) (page : ℕ) (a : OutboxState) → most ≢ 0
-    → HasRoomFor (settle_page cycle most s page) a → HasRoomFor (decision_steps (decide cycle s page (s.queue page))) a
-room_decided cycle most s page a some r = room_first _ _ a (room_by _ _ a (split_at cycle most s page some) r)
+pub room_decided : (cycle : DeadlockTest) (most : ℕ) (s : Server) (page : ℕ) (a : OutboxState)
+    → HasRoomFor (settle_page cycle (most + 1) s page) a → HasRoomFor (decision_steps (decide cycle s page (s.queue page))) a
+room_decided cycle most s page a r = room_first _ _ a (room_by _ _ a (split_at cycle most s page) r)
 
-pub room_others : (cycle : DeadlockTest) (most : ℕ) (s t : Server) (page : ℕ) (a b : OutboxState) → most ≢ 0
-    → HasRoomFor (settle_page cycle most s page) a → Decides s (λ server. decide cycle server page (server.queue page)) t true a b
-    → HasRoomFor (settle_page cycle (most - 1) t page) b
-room_others cycle most s t page a b some r d =
-    subst (λ (x : Server). HasRoomFor (settle_page cycle (most - 1) x page) b) (sym d.says.becomes)
-    (room_by _ _ b (ap (λ (g : Bool). if g then settle_page cycle (most - 1) (server_after s (decision_steps (decide cycle s page (s.queue page)))) page else []) d.goes)
-    (room_after s t (λ server. decision_steps (decide cycle server page (server.queue page))) _ a b (room_by _ _ a (split_at cycle most s page some) r) d.says))
+pub room_others : (cycle : DeadlockTest) (most : ℕ) (s t : Server) (page : ℕ) (a b : OutboxState)
+    → HasRoomFor (settle_page cycle (most + 1) s page) a → Decides s (λ server. decide cycle server page (server.queue page)) t true a b
+    → HasRoomFor (settle_page cycle most t page) b
+room_others cycle most s t page a b r d =
+    subst (λ (x : Server). HasRoomFor (settle_page cycle most x page) b) (sym d.says.becomes)
+    (room_by _ _ b (ap (λ (g : Bool). if g then settle_page cycle most (server_after s (decision_steps (decide cycle s page (s.queue page)))) page else []) d.goes)
+    (room_after s t (λ server. decision_steps (decide cycle server page (server.queue page))) _ a b (room_by _ _ a (split_at cycle most s page) r) d.says))
 
 -- the grant numbers that are kept
 pub left_decided : (cycle : DeadlockTest) (s t : Server) (page : ℕ) (more : Bool) (a b : OutboxState) → page < s.pages
@@ -157,3 +154,10 @@ pub pages_all : (s t : Server) (from : ℕ) (a b : OutboxState) → from ≤ s.p
 pages_all s t from a b le none x =
     says_as s t (λ server. settle_pages on_cycle server server.pages) (λ server. settle_pages on_cycle server from) a b
     (pages_none on_cycle s from s.pages le (λ page above lt. ap (λ (y : Server). y.queue page) (sym x.becomes) ∙ none page above)) x
+
+-- the last decision that there may be
+pub settles_last : (cycle : DeadlockTest) (s t : Server) (page most : ℕ) (a b : OutboxState) → most ≡ 0
+    → Decides s (λ server. decide cycle server page (server.queue page)) t true a b → Says s (λ server. settle_page cycle (most + 1) server page) t a b
+settles_last cycle s t page most a b none d =
+    subst (λ (n : ℕ). Says s (λ server. settle_page cycle (n + 1) server page) t a b) (sym none)
+    (settle_more cycle s t t 0 page a b b d (says_nothing t b))

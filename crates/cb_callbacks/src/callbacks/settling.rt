@@ -32,31 +32,31 @@ impl Callbacks {
             (server_of self.new.tables) outbox.old outbox.new }
         ensures stays { Stays self.old.tables.holdings self.new.tables.holdings }
     {
+        // The invariant of all as it is before the first page, which the proof cites.
+        let _ = &self.tables;
         let mut from = 0;
         while let Some(page) = self.tables.asks.next_page(from) {
             let asks = self.tables.asks.queue(page).len();
-            self.settle_page(page, asks + 1, outbox);
+            self.settle_page(page, asks, outbox);
             from = page.index() + 1;
         }
     }
 
-    /// The page is settled, in that many decisions at most.
-    fn settle_page(&mut self, page: PageNo, most: usize, outbox: &mut Outbox)
+    /// The page is settled, in so many decisions at most and one.
+    fn settle_page(&mut self, page: PageNo, asks: usize, outbox: &mut Outbox)
         requires page { HasPage self.old.tables page }
         requires left { first_free_grant (server_of self.old.tables) ≤ max_number + 1 }
         requires size { IsAsLarge outbox.old self.old.tables }
         requires room { HasRoomFor
-            (settle_page on_cycle most (server_of self.old.tables) page) outbox.old }
+            (settle_page on_cycle (asks + 1) (server_of self.old.tables) page) outbox.old }
         ensures says { Says (server_of self.old.tables)
-            (λ server. settle_page on_cycle most server page)
+            (λ server. settle_page on_cycle (asks + 1) server page)
             (server_of self.new.tables) outbox.old outbox.new }
         ensures stays { Stays self.old.tables.holdings self.new.tables.holdings }
     {
-        if most == 0 {
-            return;
-        }
-        if self.decide(page, outbox) {
-            self.settle_page(page, most - 1, outbox);
+        let goes_on = self.decide(page, outbox);
+        if goes_on && asks > 0 {
+            self.settle_page(page, asks - 1, outbox);
         }
     }
 
