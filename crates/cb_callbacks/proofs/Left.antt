@@ -59,24 +59,47 @@ waits_left client page s t w known greeted l = record {
     clients : (other : ℕ) → other < s.clients → other < t.clients
     clients other lt = subst (λ (n : ℕ). other < n) (sym l.same.clients) lt
 
+-- Nothing that who waits for whom depends on changed but at a page.
+pub record Elsewhere (page : ℕ) (s t : Server) : Type 0 where
+  pub queues : (at : ℕ) → at ≢ page → t.queue at ≡ s.queue at
+  pub writers : (at : ℕ) → at ≢ page → t.store.holder at ≡ s.store.holder at
+  pub tags : (at : ℕ) → at ≢ page → t.store.tag at ≡ s.store.tag at
+  pub marks : (other at : ℕ) → at ≢ page → t.in_use other at ≡ s.in_use other at
+  pub txns : (other : ℕ) → (t.session other).txn ≡ (s.session other).txn
+  pub ends : (other : ℕ) → (t.session other).ended ≡ (s.session other).ended
+  pub clients : t.clients ≡ s.clients
+  pub pages : t.pages ≡ s.pages
+
+pub elsewhere : (page : ℕ) (s t : Server) → SameElsewhere page s t → Elsewhere page s t
+elsewhere page s t o = record {
+  queues = o.queues;
+  writers = o.writers;
+  tags = o.tags;
+  marks = λ other at ne. o.marks other at;
+  txns = o.txns;
+  ends = o.ends;
+  clients = o.clients;
+  pages = o.pages;
+}
+
 -- at other pages an ask is held up as before
-held_same : (page : ℕ) (s t : Server) → SameElsewhere page s t → (at : ℕ) → at ≢ page → (ask : WaitingAsk) (other : ℕ) → holds_up t at ask other ≡ holds_up s at ask other
+held_same : (page : ℕ) (s t : Server) → Elsewhere page s t → (at : ℕ) → at ≢ page → (ask : WaitingAsk) (other : ℕ) → holds_up t at ask other ≡ holds_up s at ask other
 held_same page s t o at ne ask other =
     let a = o.writers at ne in
     let b = o.tags at ne in
     let c = o.txns other in
     let d = o.ends other in
-    let e = o.marks other at in
+    let e = o.marks other at ne in
     let live : is_live_permission t other at ≡ is_live_permission s other at = cc in
     rw (a, live, e) refl
 
-first_same : (page : ℕ) (s t : Server) → SameElsewhere page s t → (at : ℕ) → at ≢ page → (queue : List WaitingAsk) (client other : ℕ)
+first_same : (page : ℕ) (s t : Server) → Elsewhere page s t → (at : ℕ) → at ≢ page → (queue : List WaitingAsk) (client other : ℕ)
     → first_waits_for t at queue client other ≡ first_waits_for s at queue client other
 first_same page s t o at ne [] client other = refl
 first_same page s t o at ne (ask ∷ queue) client other = ap (λ b. (ask.client == client) && b) (held_same page s t o at ne ask other)
 
 -- a client with no ask at the page waits as before
-below_same : (page : ℕ) (s t : Server) → SameElsewhere page s t → (client other : ℕ)
+below_same : (page : ℕ) (s t : Server) → Elsewhere page s t → (client other : ℕ)
     → has_ask client (s.queue page) ≡ false → has_ask client (t.queue page) ≡ false
     → (end : ℕ) → waits_for_below t client other end ≡ waits_for_below s client other end
 below_same page s t o client other before after zero = refl
@@ -96,7 +119,7 @@ below_same page s t o client other before after (suc at) =
       | inr ne ↦ rw (o.queues at ne, first_same page s t o at ne (s.queue at) client other, rest) refl
     ]
 
-edges_same : (page : ℕ) (s t : Server) → SameElsewhere page s t → (client other : ℕ)
+pub edges_same : (page : ℕ) (s t : Server) → Elsewhere page s t → (client other : ℕ)
     → has_ask client (s.queue page) ≡ false → has_ask client (t.queue page) ≡ false → waits_for t client other ≡ waits_for s client other
 edges_same page s t o client other before after =
     ap (λ b. not (client == other) && b) (ap (waits_for_below t client other) o.pages ∙ below_same page s t o client other before after s.pages)
@@ -113,14 +136,14 @@ follows_left client page s t v w known lt l old f waiting other = go (has_ask wa
     by_client none (inl same) = subst (λ (n : ℕ). waits w n other ≡ waits_for t n other) (sym same)
         (f.left (l.gone page) other ∙ sym (no_ask_no_edge t client other l.gone))
     by_client none (inr ne) = f.rest waiting other ne none ∙ old waiting other
-        ∙ sym (edges_same page s t l.same waiting other (l.kept waiting ne none) none)
+        ∙ sym (edges_same page s t (elsewhere page s t l.same) waiting other (l.kept waiting ne none) none)
 
     go : (b : Bool) → has_ask waiting (t.queue page) ≡ b → waits w waiting other ≡ waits_for t waiting other
     go true is = here (placed waiting (t.queue page) is)
     go false is = by_client is (cases_eq waiting client)
 
 -- a field of a session that a change leaves
-field_same : {A : Type 0} (field : Session → A) (session : ℕ → Session) (client : ℕ) (changed : Session) → field changed ≡ field (session client)
+pub field_same : {A : Type 0} (field : Session → A) (session : ℕ → Session) (client : ℕ) (changed : Session) → field changed ≡ field (session client)
     → (other : ℕ) → field (update session client changed other) ≡ field (session other)
 field_same field session client changed e other = by_place (λ n. field) session client changed e other
 

@@ -5,6 +5,7 @@ pub mod Kept
 pub mod Left
 pub mod Noted
 pub mod Opening
+pub mod Page
 pub mod Queues
 pub mod Rooms
 pub mod Settling

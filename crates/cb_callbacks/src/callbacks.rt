@@ -7,6 +7,7 @@ ghost use Rattle.cb_holdings.specs.Holdings.{AreOf, limits_of, opening_of};
 ghost use Rattle.cb_protocol.specs.Server.{new_server};
 ghost use Rattle.cb_protocol.specs.World.{opening_store};
 
+mod changes;
 mod deciding;
 mod settling;
 
