@@ -1,5 +1,6 @@
 -- What the changes of the tables are to the protocol's server.
 use Rattle.std.proofs.Common.{◌≡◌, ℕ, Bool, ◌<◌, ◌+◌, ◌-◌, List, [], ◌∷◌, ◌++◌, refl, sym, ap, ◌∙◌, arith}
+use Rattle.std.proofs.lemmas.List.{append-nil}
 use Rattle.cb_asks.specs.Asks.{AsksState, Leaves, queue_at}
 use Rattle.cb_asks.specs.Marks.{is_in_use}
 use Rattle.cb_callbacks.specs.Tables.{server_of, with_waits}
@@ -10,7 +11,7 @@ use Rattle.cb_outbox.specs.Saying.{OutboxState, Says}
 use Rattle.cb_protocol.specs.Messages.{Granted, MayWrite, Message}
 use Rattle.cb_protocol.specs.Server.{ChangeSession, LeaveQueue, Server, WaitingAsk, after_server_step}
 use Rattle.cb_protocol.specs.Session.{GrantRow, PermitWrite, SessionChange}
-use Rattle.cb_protocol.specs.Settling.{grant_row, permit_write}
+use Rattle.cb_protocol.specs.Settling.{give_permission, grant_row}
 
 -- a change of a client's, with queues and marks as they are
 pub changed : (before after : HoldingsState) (client : ℕ) (change : SessionChange) (queue : ℕ → List WaitingAsk) (in_use : ℕ → ℕ → Bool)
@@ -33,19 +34,30 @@ changes_and_leaves before after asks client page change does leaves =
     queued (holdings.server_of after) (queue_at asks) _ (is_in_use before.marks) leaves.has.queues
     ∙ ap (λ (s : Server). after_server_step s (LeaveQueue page)) (changed before.holdings after client change (queue_at before.asks) (is_in_use before.marks) does)
 
--- a first ask permitted
-pub permits : (before : Tables) (after : HoldingsState) (asks : AsksState) (client page grant : ℕ) (said : Message) (old new : OutboxState)
-    → Does before.holdings (ChangeSession client (PermitWrite page grant) ∷ []) after → Leaves before.asks page asks
+-- a permission given
+pub gives : (before : Tables) (after : HoldingsState) (client page grant : ℕ) (said : Message) (old new : OutboxState)
+    → Does before.holdings (ChangeSession client (PermitWrite page grant) ∷ []) after
     → said ≡ record { client = client; incarnation = ((server_of before).session client).current; body = MayWrite ((server_of before).session client).txn page grant }
     → new ≡ record old { sent = old.sent ++ said ∷ [] }
-    → Says (server_of before) (λ server. permit_write server page client grant) (server_of (record before { holdings = after; asks = asks })) old new
-permits before after asks client page grant said old new does leaves is put = rw (put, is) (record {
-  becomes = changes_and_leaves before after asks client page (PermitWrite page grant) does leaves;
+    → Says (server_of before) (λ server. give_permission server client page grant) (server_of (record before { holdings = after })) old new
+gives before after client page grant said old new does is put = rw (put, is) (record {
+  becomes = changed before.holdings after client (PermitWrite page grant) (queue_at before.asks) (is_in_use before.marks) does;
   sends = refl;
   room = refl;
   spare = omega arith;
   page_size = refl;
 })
+
+-- the first ask of a page leaves
+pub leaves_first : (before : Tables) (asks : AsksState) (page : ℕ) (a : OutboxState) → Leaves before.asks page asks
+    → Says (server_of before) (λ server. LeaveQueue page ∷ []) (server_of (record before { asks = asks })) a a
+leaves_first before asks page a leaves = record {
+  becomes = queued (holdings.server_of before.holdings) (queue_at asks) _ (is_in_use before.marks) leaves.has.queues;
+  sends = sym (append-nil a.sent);
+  room = refl;
+  spare = omega arith;
+  page_size = refl;
+}
 
 -- a first ask granted
 pub grants : (before : Tables) (after : HoldingsState) (asks : AsksState) (client page : ℕ) (said : Message) (old new : OutboxState)

@@ -180,58 +180,58 @@ pub permits_left : (client page grant : ℕ) (s : Server) → Waits s → Starts
     → Left client page s (server_after s (permit_write s page client grant))
 permits_left client page grant s w first begun = let q = left_first client page s w first in
     let whole = field_same (λ (x : Session). x) s.session client (s.session client) refl in record {
-  same = record {
-    queues = q.others;
-    writers = λ at ne. put_other s.store.holder page at (Some client) ne;
-    tags = λ at ne. put_other s.store.tag page at (s.session client).txn ne;
-    rows = λ other at ne. ap (λ (x : Session). x.row at) (whole other);
-    marks = λ other at. refl;
-    txns = λ other. ap (λ (x : Session). x.txn) (whole other);
-    ends = λ other. ap (λ (x : Session). x.ended) (whole other);
-    keep_write = refl;
-    clients = refl;
-    pages = refl;
-  };
-  counts = q.counts;
-  gone = q.gone;
-  fewer = q.fewer;
-  kept = q.kept;
-  current = λ other. ap (λ (x : Session). x.current) (whole other);
-  rows = λ other at some. inl (sym (ap (λ (x : Session). is_none (x.row at)) (whole other)) ∙ some);
-  tagged = λ at some. elim (cases_eq at page) [
-    | inl here ↦ inr (subst (λ (n : ℕ). 1 ≤ update s.store.tag page (s.session client).txn n) (sym here)
-        (subst (λ (n : ℕ). 1 ≤ n) (sym (put_there s.store.tag page (s.session client).txn)) begun))
-    | inr ne ↦ inl (sym (ap is_none (put_other s.store.holder page at (Some client) ne)) ∙ some, put_other s.store.tag page at (s.session client).txn ne)
-  ];
-}
+      same = record {
+        queues = q.others;
+        writers = λ at ne. put_other s.store.holder page at (Some client) ne;
+        tags = λ at ne. put_other s.store.tag page at (s.session client).txn ne;
+        rows = λ other at ne. ap (λ (x : Session). x.row at) (whole other);
+        marks = λ other at. refl;
+        txns = λ other. ap (λ (x : Session). x.txn) (whole other);
+        ends = λ other. ap (λ (x : Session). x.ended) (whole other);
+        keep_write = refl;
+        clients = refl;
+        pages = refl;
+      };
+      counts = q.counts;
+      gone = q.gone;
+      fewer = q.fewer;
+      kept = q.kept;
+      current = λ other. ap (λ (x : Session). x.current) (whole other);
+      rows = λ other at some. inl (sym (ap (λ (x : Session). is_none (x.row at)) (whole other)) ∙ some);
+      tagged = λ at some. elim (cases_eq at page) [
+        | inl here ↦ inr (subst (λ (n : ℕ). 1 ≤ update s.store.tag page (s.session client).txn n) (sym here)
+            (subst (λ (n : ℕ). 1 ≤ n) (sym (put_there s.store.tag page (s.session client).txn)) begun))
+        | inr ne ↦ inl (sym (ap is_none (put_other s.store.holder page at (Some client) ne)) ∙ some, put_other s.store.tag page at (s.session client).txn ne)
+      ];
+    }
 
 pub grants_left : (client page : ℕ) (s : Server) → Waits s → StartsWith client (s.queue page)
     → Left client page s (server_after s (grant_row s page client))
 grants_left client page s w first = let q = left_first client page s w first in
     let granted : Session = record (s.session client) { row = update (s.session client).row page (Some s.next_grant) } in record {
-  same = record {
-    queues = q.others;
-    writers = λ at ne. refl;
-    tags = λ at ne. refl;
-    rows = λ other at ne. field_same (λ (x : Session). x.row at) s.session client granted (put_other (s.session client).row page at (Some s.next_grant) ne) other;
-    marks = λ other at. refl;
-    txns = λ other. field_same (λ (x : Session). x.txn) s.session client granted refl other;
-    ends = λ other. field_same (λ (x : Session). x.ended) s.session client granted refl other;
-    keep_write = refl;
-    clients = refl;
-    pages = refl;
-  };
-  counts = q.counts;
-  gone = q.gone;
-  fewer = q.fewer;
-  kept = q.kept;
-  current = λ other. field_same (λ (x : Session). x.current) s.session client granted refl other;
-  rows = λ other at some. elim (cases_eq other client) [
-    | inl same ↦ inr same
-    | inr ne ↦ inl (sym (ap (λ (x : Session). is_none (x.row at)) (put_other s.session client other granted ne)) ∙ some)
-  ];
-  tagged = λ at some. inl (some, refl);
-}
+      same = record {
+        queues = q.others;
+        writers = λ at ne. refl;
+        tags = λ at ne. refl;
+        rows = λ other at ne. field_same (λ (x : Session). x.row at) s.session client granted (put_other (s.session client).row page at (Some s.next_grant) ne) other;
+        marks = λ other at. refl;
+        txns = λ other. field_same (λ (x : Session). x.txn) s.session client granted refl other;
+        ends = λ other. field_same (λ (x : Session). x.ended) s.session client granted refl other;
+        keep_write = refl;
+        clients = refl;
+        pages = refl;
+      };
+      counts = q.counts;
+      gone = q.gone;
+      fewer = q.fewer;
+      kept = q.kept;
+      current = λ other. field_same (λ (x : Session). x.current) s.session client granted refl other;
+      rows = λ other at some. elim (cases_eq other client) [
+        | inl same ↦ inr same
+        | inr ne ↦ inl (sym (ap (λ (x : Session). is_none (x.row at)) (put_other s.session client other granted ne)) ∙ some)
+      ];
+      tagged = λ at some. inl (some, refl);
+    }
 
 pub dooms_left : (client page : ℕ) (s : Server) → Waits s → has_ask client (s.queue page) ≡ true
     → Left client page s (server_after s (doom_client s client))

@@ -1,6 +1,7 @@
 pub mod Calling
 pub mod Changes
 pub mod Deciding
+pub mod Entering
 pub mod Kept
 pub mod Left
 pub mod Noted

@@ -2,14 +2,14 @@
 use Rattle.std.proofs.Common.{◌≡◌, ◌≢◌, ◌⊎◌, ℕ, ◌<◌, ◌≤◌, Bool, true, false, not, ◌&&◌, ◌==◌, if◌then◌else◌, List, [], ◌∷◌, ◌++◌, length, Option, Some, None, refl, sym, ap, ◌∙◌, subst, arith, inl, inr}
 use Rattle.std.proofs.lemmas.Bool.{cases_eq}
 use Rattle.std.proofs.lemmas.Bool.Decides.{nat_tests}
-use Rattle.cb_asks.specs.Asks.{AsksState, queue_at}
+use Rattle.cb_asks.specs.Asks.{AsksState, Has, queue_at}
 use Rattle.cb_asks.specs.Marks.{HasMarks, MarksState, is_in_use}
 use Rattle.cb_callbacks.specs.Callbacks.{AreCallbacks}
 use Rattle.cb_callbacks.specs.Following.{FollowsPage}
 use Rattle.cb_callbacks.specs.Tables.{AreTables, server_of, with_waits}
-use Rattle.cb_callbacks.specs.Waits.{IsGreeted, Waits}
+use Rattle.cb_callbacks.specs.Waits.{HasBegun, IsGreeted, Waits}
 use Rattle.cb_callbacks.specs.declared.tables.Tables.{Tables}
-use Rattle.cb_callbacks.proofs.Changes.{changed}
+use Rattle.cb_callbacks.proofs.Changes.{changed, queued}
 use Rattle.cb_callbacks.proofs.Left.{Elsewhere, edges_same, field_same}
 use Rattle.cb_callbacks.proofs.Queues.{Placed, each_place, placed}
 use Rattle.cb_holdings.specs.Holdings as holdings
@@ -18,6 +18,7 @@ use Rattle.cb_protocol.proofs.SettlingClears.{put_other, put_there}
 use Rattle.cb_protocol.specs.Basics.{is_none, update}
 use Rattle.cb_protocol.specs.Server.{ChangeSession, MarkInUse, Server, ServerStep, UnmarkInUse, WaitingAsk, has_ask, server_after, set_in_use}
 use Rattle.cb_protocol.specs.Session.{EndPermission, RemoveRow, Session, has_live_txn, without_holder, without_holder_at}
+use Rattle.cb_protocol.specs.Settling.{give_permission}
 use Rattle.cb_protocol.specs.WaitsFor.{waits_for}
 use Rattle.cb_waits.proofs.Rows.{edges_of_ask}
 use Rattle.cb_waits.specs.Follows.{Follows}
@@ -179,3 +180,44 @@ pub removes_becomes : (t : Tables) (h : HoldingsState) (m : MarksState) (client 
 removes_becomes t h m client page grant marks does =
     marked (holdings.server_of h) (queue_at t.asks) (is_in_use m) _ marks.marks
     ∙ changed t.holdings h client (RemoveRow page grant) (queue_at t.asks) (set_in_use (is_in_use t.marks) client page false) does
+
+-- a permission given
+pub permits_at : (client page grant : ℕ) (s : Server) → Waits s → HasBegun s client → AtPage page s (server_after s (give_permission s client page grant))
+permits_at client page grant s w begun = let whole = field_same (λ (x : Session). x) s.session client (s.session client) refl in record {
+  same = record {
+    queues = λ at ne. refl;
+    writers = λ at ne. put_other s.store.holder page at (Some client) ne;
+    tags = λ at ne. put_other s.store.tag page at (s.session client).txn ne;
+    marks = λ other at ne. refl;
+    txns = λ other. ap (λ (x : Session). x.txn) (whole other);
+    ends = λ other. ap (λ (x : Session). x.ended) (whole other);
+    clients = refl;
+    pages = refl;
+  };
+  waits = record {
+    one_ask = w.one_ask;
+    in_range = w.in_range;
+    live = λ other at is. rw (whole other) (w.live other at is);
+    greeted = λ other at is. rw (whole other) (w.greeted other at is);
+    rows = λ other at some. rw (whole other) (w.rows other at (rw (← whole other) some));
+    tagged = λ at some. elim (cases_eq at page) [
+      | inl here ↦ subst (λ (n : ℕ). 1 ≤ update s.store.tag page (s.session client).txn n) (sym here)
+          (subst (λ (n : ℕ). 1 ≤ n) (sym (put_there s.store.tag page (s.session client).txn)) begun)
+      | inr ne ↦ subst (λ (n : ℕ). 1 ≤ n) (sym (put_other s.store.tag page at (s.session client).txn ne))
+          (w.tagged at (sym (ap is_none (put_other s.store.holder page at (Some client) ne)) ∙ some))
+    ];
+  };
+  kept = λ other e. e;
+}
+
+-- more room for asks
+pub kept_reserved : (before : Tables) (view : Edges) (asks : AsksState) → AreCallbacks (record { tables = before; view = view })
+    → Has before.asks asks (queue_at before.asks) → AreCallbacks (record { tables = record before { asks = asks }; view = view })
+kept_reserved before view asks kept has = record {
+  tables = record { queues = has.pages ∙ kept.tables.queues; marked_clients = kept.tables.marked_clients; marked_pages = kept.tables.marked_pages };
+  waits = subst Waits (sym same) kept.waits;
+  follows = subst (Follows view) (sym same) kept.follows;
+}
+  where
+    same : server_of (record before { asks = asks }) ≡ server_of before
+    same = queued (holdings.server_of before.holdings) (queue_at asks) (queue_at before.asks) (is_in_use before.marks) has.queues

@@ -1,10 +1,10 @@
 //! The tables with the view of who waits for whom.
 ghost use Rattle.std.specs.Prelude.{◌≡◌, IfOk};
-ghost use Rattle.cb_callbacks.specs.Callbacks.{IsAsLarge};
 ghost use Rattle.cb_callbacks.specs.Tables.{server_of};
 ghost use Rattle.cb_commit.specs.Stores.{IsOf};
 ghost use Rattle.cb_holdings.specs.Holdings.{AreOf, limits_of, opening_of};
 ghost use Rattle.cb_protocol.specs.Server.{new_server};
+ghost use Rattle.cb_protocol.specs.WaitsFor.{on_cycle};
 ghost use Rattle.cb_protocol.specs.World.{opening_store};
 
 mod changes;
@@ -15,8 +15,8 @@ use crate::tables::Tables;
 use cb_asks::{Asks, Marks};
 use cb_commit::Store;
 use cb_holdings::Holdings;
-use cb_page::Limits;
-use cb_waits::View;
+use cb_page::{ClientNo, Limits};
+use cb_waits::{View, waits_by_place};
 use std::alloc::{AllocError, Global};
 use std::marker::Model;
 
@@ -63,5 +63,14 @@ impl Callbacks {
         ensures { result.now ≡ self.now.tables.holdings }
     {
         &self.tables.holdings
+    }
+
+    /// Whether the client waits, in one or more steps, for itself.
+    pub fn closes_cycle(&self, client: ClientNo) -> bool
+        ensures { result ≡ on_cycle (server_of self.now.tables) client }
+    {
+        // The law that the view's cycles are the protocol's.
+        waits_by_place();
+        self.view.closes_cycle(client)
     }
 }

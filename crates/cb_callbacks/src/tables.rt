@@ -11,10 +11,8 @@ ghost use Rattle.cb_outbox.specs.Saying.{HasRoomFor, Says};
 ghost use Rattle.cb_protocol.specs.Basics.{is_exactly, is_none, max_number};
 ghost use Rattle.cb_protocol.specs.Server.{WaitingAsk, is_live_permission};
 ghost use Rattle.cb_protocol.specs.Session.{has_live_txn};
-ghost use Rattle.cb_protocol.specs.Settling.{doom_client, grant_row, keeps_permission};
-ghost use Rattle.cb_protocol.specs.Settling.{no_other_holder, permit_write, send_callback};
-ghost use Rattle.cb_protocol.specs.Settling.{send_callbacks, send_downgrade, sole_row};
-ghost use Rattle.cb_protocol.specs.WaitsFor.{holds_up};
+ghost use Rattle.cb_protocol.specs.Settling.{doom_client, give_permission, grant_row};
+ghost use Rattle.cb_protocol.specs.Settling.{no_other_holder, permit_write, sole_row};
 
 mod asking;
 mod holding_up;
@@ -37,7 +35,42 @@ pub(crate) struct Tables {
 }
 
 impl Tables {
-    /// The first ask of the page is permitted: its client becomes write holder and hears so.
+    /// The client becomes the page's write holder, for its last transaction, and hears so.
+    pub(crate) fn give_permission(
+        &mut self,
+        client: ClientNo,
+        page: PageNo,
+        grant: GrantNo,
+        outbox: &mut Outbox,
+    )
+        requires are { AreTables self.old }
+        requires client { HasClient self.old client }
+        requires page { HasPage self.old page }
+        requires greeted { IsGreeted (server_of self.old) client }
+        requires begun { HasBegun (server_of self.old) client }
+        requires alone { no_other_holder ((server_of self.old).store.holder page) client ≡ true }
+        requires sole { sole_row (server_of self.old) page client (server_of self.old).clients
+            ≡ true }
+        requires room { HasRoomFor (give_permission (server_of self.old) client page grant)
+            outbox.old }
+        ensures are { AreTables self.new }
+        ensures says { Says (server_of self.old)
+            (λ server. give_permission server client page grant) (server_of self.new)
+            outbox.old outbox.new }
+        ensures stays { Stays self.old.holdings self.new.holdings }
+        ensures asks { self.new.asks ≡ self.old.asks }
+    {
+        let incarnation = known::incarnation(&self.holdings, client);
+        let txn = known::txn(&self.holdings, client);
+        self.holdings.permit_write(client, page, txn);
+        outbox.say(
+            client,
+            incarnation,
+            ShortBody::MayWrite { txn, page, grant },
+        );
+    }
+
+    /// The first ask of the page is permitted, and leaves.
     pub(crate) fn permit_first(
         &mut self,
         client: ClientNo,
@@ -61,14 +94,7 @@ impl Tables {
             (server_of self.new) outbox.old outbox.new }
         ensures stays { Stays self.old.holdings self.new.holdings }
     {
-        let incarnation = known::incarnation(&self.holdings, client);
-        let txn = known::txn(&self.holdings, client);
-        self.holdings.permit_write(client, page, txn);
-        outbox.say(
-            client,
-            incarnation,
-            ShortBody::MayWrite { txn, page, grant },
-        );
+        self.give_permission(client, page, grant, outbox);
         self.asks.leave(page).granted();
     }
 

@@ -1,6 +1,6 @@
 //! Changes at one page.
-ghost use Rattle.std.specs.Prelude.{◌≡◌, ◌∷◌, ◌<◌, [], ℕ, true, false, not, ◌&&◌, OnOk};
-ghost use Rattle.cb_asks.specs.Asks.{Reserves, room_at};
+ghost use Rattle.std.specs.Prelude.{◌≡◌, ◌∷◌, ◌<◌, [], ℕ, true, false, OnOk};
+ghost use Rattle.cb_asks.specs.Asks.{room_at};
 ghost use Rattle.cb_callbacks.specs.Callbacks.{Changes};
 ghost use Rattle.cb_callbacks.specs.Following.{FollowsPage};
 ghost use Rattle.cb_callbacks.specs.Tables.{AreTables, HasClient, HasPage, server_of};
@@ -8,18 +8,18 @@ ghost use Rattle.cb_callbacks.specs.Waits.{HasBegun, IsGreeted};
 ghost use Rattle.cb_holdings.specs.Holdings.{Stays};
 ghost use Rattle.cb_outbox.specs.Saying.{HasRoomFor, Says};
 ghost use Rattle.cb_protocol.specs.Server.{ChangeSession, EnterQueue, MarkInUse, UnmarkInUse};
-ghost use Rattle.cb_protocol.specs.Server.{is_write_holder};
+ghost use Rattle.cb_protocol.specs.Server.{after_server_step};
 ghost use Rattle.cb_protocol.specs.ServerMessages.{enter_queue, has_waiting_ask, new_ask};
 ghost use Rattle.cb_protocol.specs.Session.{EndPermission, RemoveRow, has_live_txn};
-ghost use Rattle.cb_protocol.specs.Settling.{give_permission};
+ghost use Rattle.cb_protocol.specs.Settling.{give_permission, no_other_holder, sole_row};
 ghost use Rattle.cb_protocol.specs.WaitsFor.{on_cycle};
 
-use crate::{Callbacks, known};
+use crate::Callbacks;
 use crate::tables::Tables;
-use cb_frame::ShortBody;
 use cb_outbox::Outbox;
 use cb_page::{ClientNo, GrantNo, PageNo};
 use cb_waits::View;
+use std::alloc::AllocError;
 
 impl Callbacks {
     /// The client said that its transaction uses the page.
@@ -53,6 +53,89 @@ impl Callbacks {
             (ChangeSession client (EndPermission page grant tag) ∷ []) self.new.tables }
     {
         self.tables.holdings.end_permission(client, page);
+        follow_page(&mut self.view, &self.tables, page);
+    }
+
+    /// The page's write holder is permitted again, for its last transaction, and hears so.
+    pub fn permit_again(
+        &mut self,
+        client: ClientNo,
+        page: PageNo,
+        grant: GrantNo,
+        outbox: &mut Outbox,
+    )
+        requires client { HasClient self.old.tables client }
+        requires page { HasPage self.old.tables page }
+        requires greeted { IsGreeted (server_of self.old.tables) client }
+        requires begun { HasBegun (server_of self.old.tables) client }
+        requires alone { no_other_holder ((server_of self.old.tables).store.holder page) client
+            ≡ true }
+        requires sole { sole_row (server_of self.old.tables) page client
+            (server_of self.old.tables).clients ≡ true }
+        requires room { HasRoomFor (give_permission (server_of self.old.tables) client page grant)
+            outbox.old }
+        ensures says { Says (server_of self.old.tables)
+            (λ server. give_permission server client page grant)
+            (server_of self.new.tables) outbox.old outbox.new }
+        ensures stays { Stays self.old.tables.holdings self.new.tables.holdings }
+    {
+        self.tables.give_permission(client, page, grant, outbox);
+        follow_page(&mut self.view, &self.tables, page);
+    }
+
+    /// Makes room for one more ask at the page. Whether it is refused or not, nothing else changes.
+    pub fn reserve_ask(&mut self, page: PageNo) -> Result<(), AllocError>
+        requires { HasPage self.old.tables page }
+        ensures changes { Changes self.old.tables [] self.new.tables }
+        ensures ok { OnOk result (0 < room_at self.new.tables.asks page) }
+    {
+        self.tables.asks.reserve(page)
+    }
+
+    /// An ask of the client goes to the end of the page's queue: by the grant of its copy to write,
+    /// else to read. Where it isn't first and closes a cycle of waits, its client is doomed at once.
+    pub fn enter(
+        &mut self,
+        client: ClientNo,
+        page: PageNo,
+        write_grant: Option<GrantNo>,
+        outbox: &mut Outbox,
+    )
+        requires client { HasClient self.old.tables client }
+        requires page { HasPage self.old.tables page }
+        requires greeted { IsGreeted (server_of self.old.tables) client }
+        requires live { has_live_txn ((server_of self.old.tables).session client) ≡ true }
+        requires new { has_waiting_ask (server_of self.old.tables) client
+            (server_of self.old.tables).pages ≡ false }
+        requires place { 0 < room_at self.old.tables.asks page }
+        requires room { HasRoomFor (enter_queue on_cycle (server_of self.old.tables) page
+            (new_ask client write_grant)) outbox.old }
+        ensures says { Says (server_of self.old.tables)
+            (λ server. enter_queue on_cycle server page (new_ask client write_grant))
+            (server_of self.new.tables) outbox.old outbox.new }
+        ensures stays { Stays self.old.tables.holdings self.new.tables.holdings }
+    {
+        let is_first = self.tables.asks.queue(page).is_empty();
+        self.enter_last(client, page, write_grant);
+        if !is_first && self.closes_cycle(client) {
+            self.doom(client, page, outbox);
+        }
+    }
+
+    /// An ask goes to the end of the queue, and the view follows.
+    fn enter_last(&mut self, client: ClientNo, page: PageNo, write_grant: Option<GrantNo>)
+        requires client { HasClient self.old.tables client }
+        requires page { HasPage self.old.tables page }
+        requires greeted { IsGreeted (server_of self.old.tables) client }
+        requires live { has_live_txn ((server_of self.old.tables).session client) ≡ true }
+        requires new { has_waiting_ask (server_of self.old.tables) client
+            (server_of self.old.tables).pages ≡ false }
+        requires place { 0 < room_at self.old.tables.asks page }
+        ensures becomes { server_of self.new.tables ≡ after_server_step
+            (server_of self.old.tables) (EnterQueue page (new_ask client write_grant)) }
+        ensures stays { self.new.tables.holdings ≡ self.old.tables.holdings }
+    {
+        self.tables.asks.enter(page, client, write_grant);
         follow_page(&mut self.view, &self.tables, page);
     }
 }

@@ -21,7 +21,6 @@ use cb_asks::Waiting;
 use cb_clients::ClientSet;
 use cb_outbox::Outbox;
 use cb_page::{ClientNo, GrantNo, PageNo};
-use cb_waits::waits_by_place;
 
 impl Callbacks {
     /// What is done about the first ask of the page. The next ask is to be looked at where it
@@ -120,9 +119,7 @@ impl Callbacks {
             (server_of self.new.tables) result outbox.old outbox.new }
         ensures stays { Stays self.old.tables.holdings self.new.tables.holdings }
     {
-        // The law that the view's cycles are the protocol's.
-        waits_by_place();
-        if self.view.closes_cycle(client) {
+        if self.closes_cycle(client) {
             self.doom(client, page, outbox);
             true
         } else {

@@ -16,8 +16,7 @@ settle_page-requires t c =
     let some = c.if-asks-gt0.true in
     let measure = c.decreases in
     let stays = c.decide-goes_on.ensures.stays in
-    let less : c.args.asks ≡ (c.args.asks - 1) + 1 = omega (arith, some) in
-    (
+    let less : c.args.asks ≡ (c.args.asks - 1) + 1 = omega (arith, some) in (
       omega (arith, measure, some),
       (
         subst (λ (n : ℕ). c.args.page < n) (sym stays.pages) c.requires.page,
@@ -26,7 +25,7 @@ settle_page-requires t c =
           (
             c.decide-goes_on.ensures.decides.says.page_size ∙ c.requires.size ∙ sym stays.page_size,
             subst (λ (n : ℕ). HasRoomFor (settle_page on_cycle n (server_of c.decide-goes_on.new.self.tables) c.args.page) c.decide-goes_on.new.outbox) less
-            (room_others on_cycle c.args.asks (server_of c.args.self.now.tables) _ c.args.page c.args.outbox.now c.decide-goes_on.new.outbox c.requires.room c.if-goes_on.ensures.decides),
+                (room_others on_cycle c.args.asks (server_of c.args.self.now.tables) _ c.args.page c.args.outbox.now c.decide-goes_on.new.outbox c.requires.room c.if-goes_on.ensures.decides),
           ),
         ),
       ),

@@ -26,9 +26,9 @@ returns-else-is_free-clause-decides c =
     let free = c.no_other_holder-is_free.ensures in
     let none : c.is_none-has_none.result ≡ is_none (((server_of c.self.inside.tables).session c.args.first.client).row c.args.page) = search rules in
     let both : may_read (server_of c.args.self.now.tables) c.args.page (waiting_ask c.args.first) ≡ false =
-        subst (λ (v : CallbacksState). may_read (server_of v.tables) c.args.page (waiting_ask c.args.first) ≡ false) c.self.view_is
-        (sym (ap (λ (b : Bool). b && c.is_none-has_none.result) free
-        ∙ ap (λ (b : Bool). no_other_holder ((server_of c.self.inside.tables).store.holder c.args.page) c.args.first.client && b) none) ∙ not_both) in
+    subst (λ (v : CallbacksState). may_read (server_of v.tables) c.args.page (waiting_ask c.args.first) ≡ false) c.self.view_is
+    (sym (ap (λ (b : Bool). b && c.is_none-has_none.result) free
+    ∙ ap (λ (b : Bool). no_other_holder ((server_of c.self.inside.tables).store.holder c.args.page) c.args.first.client && b) none) ∙ not_both) in
     reads_wait on_cycle (server_of c.args.self.now.tables) (server_of c.downgrade_once.new.self.tables) (server_of c.wait_or_doom.new.self.tables) c.args.page
     (waiting_ask c.args.first) c.wait_or_doom.result c.args.outbox.now c.downgrade_once.new.outbox c.wait_or_doom.new.outbox both
     c.downgrade_once.ensures.says c.wait_or_doom.ensures.decides

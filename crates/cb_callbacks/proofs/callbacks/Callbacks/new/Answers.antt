@@ -10,8 +10,8 @@ use Rattle.cb_callbacks.proofs.callbacks.Callbacks.new.Goals as goal
 pub invariant_of-result : goal.invariant_of-result
 invariant_of-result c =
     let same = nobody_waits c.in_ok-new.field-0 c.in_ok-new-2.field-0 c.in_ok-new-3.field-0
-        (new_server c.args.limits.now.clients c.args.limits.now.pages (opening_store (limits_of c.args.limits.now) (opening_of c.args.store)))
-        c.in_ok-new.ensures.server c.in_ok-new-2.ensures.empty c.in_ok-new-3.ensures.none in
+    (new_server c.args.limits.now.clients c.args.limits.now.pages (opening_store (limits_of c.args.limits.now) (opening_of c.args.store)))
+    c.in_ok-new.ensures.server c.in_ok-new-2.ensures.empty c.in_ok-new-3.ensures.none in
     record {
       tables = record {
         queues = c.in_ok-new-2.ensures.pages ∙ sym c.in_ok-new.ensures.of.store.count;
