@@ -1,6 +1,7 @@
 pub mod Calling
 pub mod Changes
 pub mod Deciding
+pub mod Ending
 pub mod Entering
 pub mod Kept
 pub mod Left

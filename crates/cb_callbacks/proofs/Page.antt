@@ -75,7 +75,7 @@ marks_at client page s w = record {
 }
 
 -- a client that is no write holder any more
-none_left : (holder : ℕ → Option ℕ) (client page : ℕ) → is_none (without_holder holder client page) ≡ false → is_none (holder page) ≡ false
+pub none_left : (holder : ℕ → Option ℕ) (client page : ℕ) → is_none (without_holder holder client page) ≡ false → is_none (holder page) ≡ false
 none_left holder client page e = go (holder page) e
   where
     go : (h : Option ℕ) → is_none (elim h as (λ _. Option ℕ) [ None ↦ None | Some other ↦ if other == client then None else Some other ]) ≡ false → is_none h ≡ false

@@ -1,5 +1,5 @@
 -- The view once a page has changed, and once all have.
-use Rattle.std.specs.Prelude.{◌≡◌, ℕ, ◌<◌, true, false, not, ◌&&◌, ◌==◌, List, ◌∷◌, ◌++◌}
+use Rattle.std.specs.Prelude.{◌≡◌, ◌≢◌, ℕ, ◌<◌, true, false, not, ◌&&◌, ◌==◌, List, ◌∷◌, ◌++◌}
 use Rattle.cb_protocol.specs.Server.{Server, WaitingAsk, has_ask}
 use Rattle.cb_protocol.specs.WaitsFor.{holds_up, waits_for}
 use Rattle.cb_waits.specs.Follows.{waited_for}
@@ -20,4 +20,14 @@ pub record FollowsPages (before : Edges) (server : Server) (end : ℕ) (after : 
       → (other : ℕ) → waits after waiting other ≡ waits_for server waiting other
   pub rest : (waiting other : ℕ)
       → ((page : ℕ) → page < end → has_ask waiting (server.queue page) ≡ false)
+      → waits after waiting other ≡ waits before waiting other
+
+-- Who waits, waits as the server says; the client, if it doesn't, for nobody; all others as before.
+pub record FollowsAll (before : Edges) (server : Server) (client : ℕ) (after : Edges) : Type 0 where
+  pub asks : (waiting page : ℕ) → page < server.pages → has_ask waiting (server.queue page) ≡ true
+      → (other : ℕ) → waits after waiting other ≡ waits_for server waiting other
+  pub left : ((page : ℕ) → has_ask client (server.queue page) ≡ false)
+      → (other : ℕ) → waits after client other ≡ false
+  pub rest : (waiting other : ℕ) → waiting ≢ client
+      → ((page : ℕ) → has_ask waiting (server.queue page) ≡ false)
       → waits after waiting other ≡ waits before waiting other

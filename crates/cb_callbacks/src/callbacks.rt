@@ -9,6 +9,7 @@ ghost use Rattle.cb_protocol.specs.World.{opening_store};
 
 mod changes;
 mod deciding;
+mod ends;
 mod settling;
 
 use crate::tables::Tables;

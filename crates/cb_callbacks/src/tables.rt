@@ -1,7 +1,8 @@
 //! The tables together. Each change here is one of the protocol's, without the view.
 ghost use Rattle.std.specs.Prelude.{◌≡◌, ◌≢◌, ◌<◌, ◌≤◌, ◌&&◌, ◌||◌, ◌∷◌, [], ℕ, List, true, false};
 ghost use Rattle.std.specs.Prelude.{not, MatchOption, Some};
-ghost use Rattle.cb_asks.specs.Asks.{queue_at};
+ghost use Rattle.cb_asks.specs.Asks.{Removes, queue_at};
+ghost use Rattle.cb_asks.specs.Marks.{HasMarks, is_in_use};
 ghost use Rattle.cb_callbacks.specs.Callbacks.{IsAsLarge};
 ghost use Rattle.cb_callbacks.specs.Tables.{AreTables, HasClient, HasPage, server_of};
 ghost use Rattle.cb_callbacks.specs.Waits.{HasBegun, IsGreeted, Waits};
@@ -10,6 +11,7 @@ ghost use Rattle.cb_holdings.specs.Holdings.{Stays};
 ghost use Rattle.cb_outbox.specs.Saying.{HasRoomFor, Says};
 ghost use Rattle.cb_protocol.specs.Basics.{is_exactly, is_none, max_number};
 ghost use Rattle.cb_protocol.specs.Server.{WaitingAsk, is_live_permission};
+ghost use Rattle.cb_protocol.specs.Server.{without_marks};
 ghost use Rattle.cb_protocol.specs.Session.{has_live_txn};
 ghost use Rattle.cb_protocol.specs.Settling.{doom_client, give_permission, grant_row};
 ghost use Rattle.cb_protocol.specs.Settling.{no_other_holder, permit_write, sole_row};
@@ -143,5 +145,21 @@ impl Tables {
         }
         self.holdings.doom(client);
         outbox.say(client, incarnation, ShortBody::AbortNow { txn });
+    }
+
+    /// The client's ask and marks go.
+    pub(crate) fn forget(&mut self, client: ClientNo)
+        requires are { AreTables self.old }
+        requires client { HasClient self.old client }
+        ensures are { AreTables self.new }
+        ensures holdings { self.new.holdings ≡ self.old.holdings }
+        ensures asks { Removes self.old.asks client self.new.asks }
+        ensures marks { HasMarks self.old.marks self.new.marks
+            (without_marks (is_in_use self.old.marks) client) }
+    {
+        if let Some(ask) = self.asks.remove(client) {
+            ask.gone();
+        }
+        self.marks.clear(client);
     }
 }

@@ -141,7 +141,7 @@ impl Callbacks {
 }
 
 /// The view follows a page that has changed.
-fn follow_page(view: &mut View, tables: &Tables, page: PageNo)
+pub(crate) fn follow_page(view: &mut View, tables: &Tables, page: PageNo)
     requires are { AreTables tables.now }
     requires page { HasPage tables.now page }
     ensures { FollowsPage view.old (server_of tables.now) page view.new }
