@@ -3,6 +3,7 @@ pub mod Changes
 pub mod Deciding
 pub mod Ending
 pub mod Entering
+pub mod Flushing
 pub mod Kept
 pub mod Left
 pub mod Noted

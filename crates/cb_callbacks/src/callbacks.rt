@@ -4,6 +4,7 @@ ghost use Rattle.cb_callbacks.specs.Tables.{server_of};
 ghost use Rattle.cb_commit.specs.Stores.{IsOf};
 ghost use Rattle.cb_holdings.specs.Holdings.{AreOf, limits_of, opening_of};
 ghost use Rattle.cb_protocol.specs.Server.{new_server};
+ghost use Rattle.cb_protocol.specs.ServerMessages.{has_waiting_ask, read_asks_below};
 ghost use Rattle.cb_protocol.specs.WaitsFor.{on_cycle};
 ghost use Rattle.cb_protocol.specs.World.{opening_store};
 
@@ -73,5 +74,21 @@ impl Callbacks {
         // The law that the view's cycles are the protocol's.
         waits_by_place();
         self.view.closes_cycle(client)
+    }
+
+    /// Whether an ask of the client waits, at any page.
+    pub fn waits(&self, client: ClientNo) -> bool
+        ensures { result ≡ has_waiting_ask (server_of self.now.tables) client
+            (server_of self.now.tables).pages }
+    {
+        self.tables.asks.waits_at(client).is_some()
+    }
+
+    /// How many asks to read wait.
+    pub fn read_asks(&self) -> usize
+        ensures { result ≡ read_asks_below (server_of self.now.tables)
+            (server_of self.now.tables).pages }
+    {
+        self.tables.asks.read_asks()
     }
 }

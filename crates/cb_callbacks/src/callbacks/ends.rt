@@ -5,20 +5,22 @@ ghost use Rattle.cb_callbacks.specs.Following.{FollowsAll, FollowsPages};
 ghost use Rattle.cb_callbacks.specs.Tables.{AreTables, HasClient, server_of};
 ghost use Rattle.cb_callbacks.specs.Waits.{Waits};
 ghost use Rattle.cb_commit.specs.History.{FitsInto};
-ghost use Rattle.cb_outbox.specs.Messages.{page_writes};
+ghost use Rattle.cb_outbox.specs.Messages.{messages_of, page_writes};
 ghost use Rattle.cb_protocol.specs.Basics.{max_number};
+ghost use Rattle.cb_protocol.specs.Flush.{can_flush, server_flush};
 ghost use Rattle.cb_protocol.specs.Server.{ChangeSession, ForgetTransaction};
 ghost use Rattle.cb_protocol.specs.Session.{Admit, ApplyCommit, BeginTransaction};
 ghost use Rattle.cb_protocol.specs.Session.{DropTransaction, has_live_txn};
+ghost use Rattle.cb_protocol.specs.World.{messages_sent};
 
 use crate::Callbacks;
 use crate::callbacks::changes::follow_page;
 use crate::tables::Tables;
 use cb_clients::ClientSet;
-use cb_frame::Writes;
+use cb_frame::{Frame, Writes};
 use cb_page::{ClientNo, CommitNo, Incarnation, TxnNo};
 use cb_waits::View;
-use std::alloc::AllocError;
+use std::alloc::{AllocError, Global};
 
 impl Callbacks {
     /// A greater incarnation of the client becomes current: all of the old one goes.
@@ -94,6 +96,21 @@ impl Callbacks {
         self.tables.forget(client);
         follow_all(&mut self.view, &self.tables, client);
         Ok(number)
+    }
+
+    /// The commits up to this number are on disk now: a Done for each that wasn't before, in order.
+    ///
+    /// `AllocError` only where memory was refused.
+    pub fn flushed(&mut self, alloc: Global, number: CommitNo) -> Result<Vec<Frame>, AllocError>
+        requires { can_flush (server_of self.old.tables) number ≡ true }
+        ensures dones { IfOk result (λ frames. messages_of frames.items
+            ≡ messages_sent (server_flush (server_of self.old.tables) number)) }
+        ensures ok { OnOk result (Changes self.old.tables
+            (server_flush (server_of self.old.tables) number) self.new.tables) }
+        ensures err { OnErr result (self.new ≡ self.old) }
+    {
+        let dones = self.tables.holdings.flushed(alloc, number)?;
+        Ok(dones)
     }
 }
 
