@@ -170,6 +170,7 @@ kept_ended before view after follows client change kept are becomes only followe
   follows = subst (Follows follows) (sym becomes)
       (follows_ended client (server_of before) change view follows kept.waits only kept.follows
       (subst (λ (s : Server). FollowsAll view s client follows) becomes followed));
+  few = subst (λ (s : Server). s.clients ≤ 32) (sym becomes) kept.few;
 }
 
 -- what was forgotten, by the tables as they are then

@@ -43,4 +43,5 @@ kept_flushed before view h number kept does = let same = flushes_becomes before 
   tables = are_stays before h before.marks kept.tables does.stays refl refl;
   waits = subst Waits (sym same) (waits_flushed (server_of before) number kept.waits);
   follows = subst (Follows view) (sym same) (λ client other. kept.follows client other);
+  few = subst (λ (s : Server). s.clients ≤ 32) (sym same) kept.few;
 }

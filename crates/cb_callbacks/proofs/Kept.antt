@@ -1,5 +1,5 @@
 -- The invariant is kept.
-use Rattle.std.proofs.Common.{◌≡◌, ℕ, ◌<◌, true, List, sym, subst, arith}
+use Rattle.std.proofs.Common.{◌≡◌, ℕ, ◌<◌, ◌≤◌, true, List, sym, subst, arith}
 use Rattle.std.proofs.lemmas.Bool.Decides.{nat_tests}
 use Rattle.cb_callbacks.specs.Callbacks.{AreCallbacks, CallbacksState}
 use Rattle.cb_callbacks.specs.Leaving.{FollowsLeft}
@@ -27,6 +27,7 @@ kept_left before view after follows client page steps kept here are becomes left
       tables = are;
       waits = waits;
       follows = follows_left client page (server_of before) (server_of after) view follows waits (subst (λ (n : ℕ). page < n) (sym left.same.pages) range.1) left kept.follows followed;
+      few = subst (λ (n : ℕ). n ≤ 32) (sym left.same.clients) kept.few;
     }
 
 -- who waits is a client, with a transaction

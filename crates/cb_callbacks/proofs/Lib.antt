@@ -1,3 +1,4 @@
+pub mod Bounds
 pub mod Calling
 pub mod Changes
 pub mod Deciding

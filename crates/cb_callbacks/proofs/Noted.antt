@@ -112,6 +112,7 @@ kept_noted before view asks page noted only kept has = record {
   follows = subst (Follows view) (sym same)
       (λ client other. kept.follows client other
       ∙ sym (ap (λ b. not (client == other) && b) (below_same noted only (server_of before) page client other (server_of before).pages)));
+  few = kept.few;
 }
   where
     same : server_of (record before { asks = asks }) ≡ with_note noted (server_of before) page

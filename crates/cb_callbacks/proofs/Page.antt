@@ -52,6 +52,7 @@ kept_page before view after follows page steps kept lt are becomes changes follo
       tables = are;
       waits = at.waits;
       follows = follows_page page (server_of before) (server_of after) view follows (subst (λ (n : ℕ). page < n) (sym at.same.pages) lt) at kept.follows followed;
+      few = subst (λ (n : ℕ). n ≤ 32) (sym at.same.clients) kept.few;
     }
 
 -- a mark is set or taken off
@@ -217,6 +218,7 @@ kept_reserved before view asks kept has = record {
   tables = record { queues = has.pages ∙ kept.tables.queues; marked_clients = kept.tables.marked_clients; marked_pages = kept.tables.marked_pages };
   waits = subst Waits (sym same) kept.waits;
   follows = subst (Follows view) (sym same) kept.follows;
+  few = kept.few;
 }
   where
     same : server_of (record before { asks = asks }) ≡ server_of before

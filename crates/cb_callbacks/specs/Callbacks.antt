@@ -14,11 +14,13 @@ pub record CallbacksState : Type 0 where
   pub tables : Tables
   pub view : Edges
 
--- the tables agree, and the view has exactly the edges of the protocol's server
+-- the tables agree, of at most 32 clients, and the view has exactly the edges of the protocol's
+-- server
 pub record AreCallbacks (callbacks : CallbacksState) : Type 0 where
   pub tables : AreTables callbacks.tables
   pub waits : Waits (server_of callbacks.tables)
   pub follows : Follows callbacks.view (server_of callbacks.tables)
+  pub few : (server_of callbacks.tables).clients ≤ 32
 
 -- copies that are sent are as large as the store's pages
 abbrev pub IsAsLarge : OutboxState → Tables → Type 0

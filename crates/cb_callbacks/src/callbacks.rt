@@ -50,6 +50,8 @@ impl Callbacks {
             (opening_store (limits_of limits.now) (opening_of store))) }
         ensures of { IfOk result (λ callbacks. AreOf limits.now callbacks.tables.holdings) }
     {
+        // At most 32 clients, by its type.
+        let _few = limits.clients();
         Ok(Callbacks {
             tables: Tables {
                 holdings: Holdings::new(alloc, limits, store)?,

@@ -10,6 +10,8 @@
 
 mod callbacks;
 mod known;
+mod laws;
 mod tables;
 
 pub use callbacks::Callbacks;
+pub use laws::an_ask_sends_at_most_one;

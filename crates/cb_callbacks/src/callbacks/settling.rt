@@ -5,10 +5,11 @@ ghost use Rattle.cb_callbacks.specs.Deciding.{StartsWith};
 ghost use Rattle.cb_callbacks.specs.Leaving.{FollowsLeft};
 ghost use Rattle.cb_callbacks.specs.Tables.{AreTables, HasClient, HasPage, server_of};
 ghost use Rattle.cb_holdings.specs.Holdings.{Stays};
-ghost use Rattle.cb_outbox.specs.Saying.{HasRoomFor, Says};
+ghost use Rattle.cb_outbox.specs.Saying.{HasRoomFor, OutboxState, Says};
 ghost use Rattle.cb_protocol.specs.Basics.{is_none, max_number};
 ghost use Rattle.cb_protocol.specs.Numbers.{first_free_grant};
 ghost use Rattle.cb_protocol.specs.Server.{has_ask};
+ghost use Rattle.cb_protocol.specs.ServerMessages.{read_asks_below};
 ghost use Rattle.cb_protocol.specs.Settling.{doom_client, grant_row, no_other_holder};
 ghost use Rattle.cb_protocol.specs.Settling.{permit_write, settle_page, settle_pages, sole_row};
 ghost use Rattle.cb_protocol.specs.WaitsFor.{on_cycle};
@@ -40,6 +41,20 @@ impl Callbacks {
             self.settle_page(page, asks, outbox);
             from = page.index() + 1;
         }
+    }
+
+    /// Settling sends at most 33 messages for each of 32 clients, and a copy for each ask to read.
+    ///
+    /// It does nothing: who is to settle cites it for the room that is needed.
+    pub fn settling_is_bounded(&self)
+        ensures { (outbox : OutboxState) → length outbox.sent + 1056 ≤ outbox.room
+            → read_asks_below (server_of self.now.tables) (server_of self.now.tables).pages
+            ≤ outbox.spare
+            → HasRoomFor (settle_pages on_cycle (server_of self.now.tables)
+            (server_of self.now.tables).pages) outbox }
+    {
+        // To look at a field shows the invariant.
+        let _ = &self.tables;
     }
 
     /// The page is settled, in so many decisions at most and one.
