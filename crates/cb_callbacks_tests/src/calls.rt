@@ -3,11 +3,11 @@ ghost use Rattle.std.specs.Prelude.{◌<◌};
 ghost use Rattle.cb_holdings.specs.Holdings.{AreOf};
 
 use cb_callbacks::{Callbacks, an_ask_sends_at_most_one};
-use cb_frame::Frame;
+use cb_frame::{Body, Frame, Write, Writes};
 use cb_links::{Admission, Standing};
 use cb_outbox::Outbox;
-use cb_page::{ClientNo, GrantNo, Incarnation, Limits, PageNo, TxnNo};
-use std::alloc::Global;
+use cb_page::{ClientNo, CommitNo, GrantNo, Incarnation, Limits, Page, PageNo, TxnNo};
+use std::alloc::{AllocError, Global};
 
 /// The client greets, and begins its first transaction.
 pub(crate) fn greet(limits: &Limits, callbacks: &mut Callbacks, client: ClientNo)
@@ -75,6 +75,98 @@ pub(crate) fn mark_in_use(
     ensures { AreOf limits.now callbacks.new.tables.holdings }
 {
     callbacks.mark_in_use(client, page);
+}
+
+/// The client's write permission ends; its copy stays.
+pub(crate) fn end_permission(
+    limits: &Limits,
+    callbacks: &mut Callbacks,
+    client: ClientNo,
+    page: PageNo,
+)
+    requires client { client < limits.now.clients }
+    requires page { page < limits.now.pages }
+    requires of { AreOf limits.now callbacks.old.tables.holdings }
+    ensures { AreOf limits.now callbacks.new.tables.holdings }
+{
+    callbacks.end_permission(client, page);
+}
+
+/// A commit of these pages, each by its grant.
+pub(crate) fn commit_of(
+    alloc: Global,
+    limits: &Limits,
+    client: ClientNo,
+    txn: TxnNo,
+    pages: &[(PageNo, GrantNo)],
+) -> Result<Frame, AllocError> {
+    let mut writes = Vec::new(alloc);
+    for &(page, grant) in pages {
+        writes.push(Write {
+            page,
+            grant,
+            bytes: Page::from_vec(vec![in alloc; 7; limits.page_size()]?),
+        })?;
+    }
+    Ok(Frame {
+        client,
+        incarnation: Incarnation::new(1),
+        body: Body::Commit {
+            txn,
+            writes: Writes::from_vec(writes),
+        },
+    })
+}
+
+/// The commit is applied; `None` where the frame is none that fits, of another incarnation, of a
+/// transaction that doesn't live or is doomed, or of pages that the client may not write.
+pub(crate) fn commit(
+    limits: &Limits,
+    callbacks: &mut Callbacks,
+    frame: Frame,
+) -> Result<Option<CommitNo>, AllocError>
+    requires of { AreOf limits.now callbacks.old.tables.holdings }
+    ensures { AreOf limits.now callbacks.new.tables.holdings }
+{
+    if !frame.fits(limits) || callbacks.holdings().next_commit().is_none() {
+        return Ok(None);
+    }
+    let Frame {
+        client,
+        incarnation,
+        body,
+    } = frame;
+    match body {
+        Body::Commit { txn, writes } => {
+            if callbacks.holdings().admission(client, incarnation) != Admission::Current
+                || callbacks.holdings().standing(client, txn) != Standing::Live
+                || !callbacks
+                    .holdings()
+                    .commit_allowed(client, writes.as_slice())
+            {
+                return Ok(None);
+            }
+            Ok(Some(callbacks.apply_commit(client, incarnation, txn, writes)?))
+        }
+        Body::Short(_) | Body::Granted { .. } => Ok(None),
+    }
+}
+
+/// The commits up to this number are on disk, if it was made and isn't yet; the Dones.
+pub(crate) fn flush(
+    alloc: Global,
+    limits: &Limits,
+    callbacks: &mut Callbacks,
+    number: CommitNo,
+) -> Result<Vec<Frame>, AllocError>
+    requires of { AreOf limits.now callbacks.old.tables.holdings }
+    ensures { AreOf limits.now callbacks.new.tables.holdings }
+{
+    if callbacks.holdings().can_flush(number) {
+        callbacks.flushed(alloc, number)
+    } else {
+        Ok(Vec::new(alloc))
+    }
 }
 
 /// The client, whose transaction has to live, asks for the page: nothing where an ask of it waits.

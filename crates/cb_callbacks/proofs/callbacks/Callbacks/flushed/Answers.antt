@@ -1,4 +1,4 @@
-use Rattle.std.proofs.Common.{◌≡◌, sym, subst}
+use Rattle.std.proofs.Common.{◌≡◌, sym, subst, rules}
 use Rattle.cb_callbacks.specs.Callbacks.{CallbacksState, Changes}
 use Rattle.cb_callbacks.specs.Tables.{server_of}
 use Rattle.cb_callbacks.proofs.Flushing.{flushes_changes, kept_flushed}
@@ -12,3 +12,6 @@ pub returns-clause-ok : goal.returns-clause-ok
 returns-clause-ok c =
     subst (λ (v : CallbacksState). Changes v.tables (server_flush (server_of v.tables) c.args.number) (record c.self.inside.tables { holdings = c.flushed.new.self })) c.self.view_is
     (flushes_changes c.self.inside.tables c.flushed.new.self c.args.number c.in_ok-dones.ensures.ok)
+
+pub returns-clause-dones : goal.returns-clause-dones
+returns-clause-dones c = search rules
