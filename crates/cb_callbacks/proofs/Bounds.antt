@@ -1,14 +1,13 @@
 -- What a step sends at most.
-use Rattle.std.proofs.Common.{◌≡◌, ℕ, ◌+◌, ◌*◌, ◌≤◌, Bool, true, false, not, ◌&&◌, if◌then◌else◌, List, [], ◌∷◌, length, refl, ap, subst, arith}
+use Rattle.std.proofs.Common.{ℕ, ◌+◌, ◌*◌, ◌≤◌, Bool, true, false, not, ◌&&◌, if◌then◌else◌, [], ◌∷◌, length, arith}
 use Rattle.std.proofs.Common.{mul-le-mul_right}
 use Rattle.cb_callbacks.specs.Waits.{Waits}
 use Rattle.cb_outbox.specs.Saying.{HasRoomFor, OutboxState}
 use Rattle.cb_protocol.proofs.MessagesSent.{settling_by_clients, settling_sends_at_most}
-use Rattle.cb_protocol.specs.Server.{EnterQueue, Server, ServerStep, WaitingAsk, after_server_step}
+use Rattle.cb_protocol.specs.Server.{EnterQueue, Server, WaitingAsk, after_server_step}
 use Rattle.cb_protocol.specs.ServerMessages.{enter_queue, is_empty, read_asks_below}
 use Rattle.cb_protocol.specs.Settling.{doom_client, settle_pages}
 use Rattle.cb_protocol.specs.WaitsFor.{on_cycle}
-use Rattle.cb_protocol.specs.World.{messages_sent}
 
 pub entering_bounded : (server : Server) (page : ℕ) (ask : WaitingAsk) (outbox : OutboxState) → length outbox.sent + 1 ≤ outbox.room
     → HasRoomFor (enter_queue on_cycle server page ask) outbox

@@ -1,24 +1,23 @@
 -- A transaction or an incarnation ends.
-use Rattle.std.proofs.Common.{◌≡◌, ◌≢◌, ◌⊎◌, ℕ, ◌+◌, ◌<◌, ◌≤◌, Bool, true, false, not, ◌&&◌, ◌||◌, ◌==◌, if◌then◌else◌, nat_lt, List, [], ◌∷◌, ◌++◌, Option, Some, None, zero, suc, refl, sym, ap, ◌∙◌, subst, arith, inl, inr}
+use Rattle.std.proofs.Common.{◌≡◌, ◌≢◌, ◌⊎◌, ℕ, ◌+◌, ◌<◌, ◌≤◌, Bool, true, false, ◌||◌, if◌then◌else◌, nat_lt, List, [], ◌∷◌, zero, suc, refl, sym, ap, ◌∙◌, subst, arith, inl, inr}
 use Rattle.std.proofs.lemmas.Bool.{cases_eq, cases_lt}
 use Rattle.cb_asks.specs.Asks.{AsksState, Removes, queue_at}
 use Rattle.cb_asks.specs.Marks.{HasMarks, MarksState, is_in_use}
 use Rattle.cb_callbacks.specs.Callbacks.{AreCallbacks, Changes}
 use Rattle.cb_callbacks.specs.Following.{FollowsAll, FollowsPage, FollowsPages}
 use Rattle.cb_callbacks.specs.Tables.{AreTables, server_of, with_waits}
-use Rattle.cb_callbacks.specs.Waits.{IsGreeted, Waits}
+use Rattle.cb_callbacks.specs.Waits.{Waits}
 use Rattle.cb_callbacks.specs.declared.tables.Tables.{Tables}
 use Rattle.cb_callbacks.proofs.Changes.{queued}
-use Rattle.cb_callbacks.proofs.Left.{field_same}
 use Rattle.cb_callbacks.proofs.Page.{marked, none_left}
 use Rattle.cb_callbacks.proofs.Queues.{Placed, each_place, none_counted, placed, some_counted, without_gone, without_has, without_other}
 use Rattle.cb_holdings.specs.Holdings as holdings
 use Rattle.cb_holdings.specs.Holdings.{Does, HoldingsState, Stays}
 use Rattle.cb_protocol.proofs.NoCycles.{none_waits}
 use Rattle.cb_protocol.proofs.SettlingClears.{SoundAsks, count_without, put_other, sound_fewer}
-use Rattle.cb_protocol.specs.Basics.{is_none, update}
+use Rattle.cb_protocol.specs.Basics.{is_none}
 use Rattle.cb_protocol.specs.Messages.{PageWrite}
-use Rattle.cb_protocol.specs.Server.{ChangeSession, ForgetTransaction, Server, ServerStep, WaitingAsk, has_ask, server_after, without_client, without_marks}
+use Rattle.cb_protocol.specs.Server.{ChangeSession, ForgetTransaction, Server, ServerStep, has_ask, server_after, without_client, without_marks}
 use Rattle.cb_protocol.specs.ServerMessages.{has_waiting_ask}
 use Rattle.cb_protocol.specs.Session.{Admit, ApplyCommit, BeginTransaction, DropTransaction, Session, SessionChange, has_live_txn, session_after, store_after, without_holder}
 use Rattle.cb_protocol.specs.WaitsFor.{waits_for}

@@ -1,27 +1,21 @@
 -- An ask enters at the end of a queue.
-use Rattle.std.proofs.Common.{◌≡◌, ◌≢◌, ◌⊎◌, ℕ, ◌<◌, ◌≤◌, Bool, true, false, not, ◌&&◌, ◌||◌, ◌==◌, if◌then◌else◌, List, [], ◌∷◌, ◌++◌, Option, refl, sym, ap, ◌∙◌, subst, arith, inl, inr}
+use Rattle.std.proofs.Common.{◌≡◌, ◌⊎◌, ℕ, ◌<◌, Bool, true, false, ◌||◌, ◌==◌, List, [], ◌∷◌, ◌++◌, Option, refl, sym, ap, ◌∙◌, subst, arith, inl, inr}
 use Rattle.std.proofs.lemmas.Bool.Decides.{nat_tests}
-use Rattle.std.proofs.lemmas.List.{append-nil}
 use Rattle.cb_asks.specs.Asks.{AsksState, Enters, queue_at}
 use Rattle.cb_asks.specs.Marks.{is_in_use}
-use Rattle.cb_callbacks.specs.Tables.{AreTables, server_of}
+use Rattle.cb_callbacks.specs.Tables.{server_of}
 use Rattle.cb_callbacks.specs.Waits.{IsGreeted, Waits}
 use Rattle.cb_callbacks.specs.declared.tables.Tables.{Tables}
 use Rattle.cb_callbacks.proofs.Changes.{queued}
 use Rattle.cb_callbacks.proofs.Page.{AtPage}
 use Rattle.cb_callbacks.proofs.Queues.{each_place}
-use Rattle.cb_callbacks.proofs.Rooms.{room_by}
 use Rattle.cb_holdings.specs.Holdings as holdings
-use Rattle.cb_outbox.specs.Saying.{HasRoomFor, OutboxState, Says}
-use Rattle.cb_outbox.proofs.Saying.{room_after, says_as, says_then}
 use Rattle.cb_protocol.proofs.NoCycles.{none_waits, sound_enter}
 use Rattle.cb_protocol.proofs.SettlingClears.{SoundAsks, put_other, put_there}
-use Rattle.cb_protocol.specs.Basics.{update}
 use Rattle.cb_protocol.specs.Deadlock.{ask_count}
-use Rattle.cb_protocol.specs.Server.{DeadlockTest, EnterQueue, Server, ServerStep, WaitingAsk, after_server_step, has_ask, server_after}
-use Rattle.cb_protocol.specs.ServerMessages.{enter_queue, has_waiting_ask, is_empty, new_ask}
+use Rattle.cb_protocol.specs.Server.{EnterQueue, Server, WaitingAsk, after_server_step, has_ask, server_after}
+use Rattle.cb_protocol.specs.ServerMessages.{has_waiting_ask, new_ask}
 use Rattle.cb_protocol.specs.Session.{has_live_txn}
-use Rattle.cb_protocol.specs.Settling.{doom_client}
 
 -- who is in a queue with one more
 pub pushed_has : (other : ℕ) (queue : List WaitingAsk) (ask : WaitingAsk) → has_ask other (queue ++ ask ∷ []) ≡ (has_ask other queue || (ask.client == other))

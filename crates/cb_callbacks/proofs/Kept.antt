@@ -1,7 +1,7 @@
 -- The invariant is kept.
 use Rattle.std.proofs.Common.{◌≡◌, ℕ, ◌<◌, ◌≤◌, true, List, sym, subst, arith}
 use Rattle.std.proofs.lemmas.Bool.Decides.{nat_tests}
-use Rattle.cb_callbacks.specs.Callbacks.{AreCallbacks, CallbacksState}
+use Rattle.cb_callbacks.specs.Callbacks.{AreCallbacks}
 use Rattle.cb_callbacks.specs.Leaving.{FollowsLeft}
 use Rattle.cb_callbacks.specs.Tables.{AreTables, HasClient, server_of}
 use Rattle.cb_callbacks.specs.Waits.{HasBegun, Waits}

@@ -1,17 +1,17 @@
 -- An ask leaves its page's queue: who waits stays known, and the view follows.
-use Rattle.std.proofs.Common.{◌≡◌, ◌≢◌, ◌⊎◌, ℕ, ◌+◌, ◌<◌, ◌≤◌, Bool, true, false, not, ◌||◌, ◌&&◌, ◌==◌, if◌then◌else◌, nat_lt, List, [], ◌∷◌, ◌++◌, Option, Some, None, zero, suc, refl, sym, ap, ◌∙◌, subst, arith, inl, inr}
+use Rattle.std.proofs.Common.{◌≡◌, ◌≢◌, ◌⊎◌, ℕ, ◌<◌, ◌≤◌, Bool, true, false, not, ◌&&◌, ◌==◌, if◌then◌else◌, List, [], ◌∷◌, ◌++◌, Some, zero, suc, refl, sym, ap, ◌∙◌, subst, arith, inl, inr}
 use Rattle.std.proofs.lemmas.Bool.{cases_eq}
 use Rattle.cb_callbacks.specs.Deciding.{StartsWith}
 use Rattle.cb_callbacks.specs.Leaving.{FollowsLeft}
 use Rattle.cb_callbacks.specs.Waits.{HasBegun, IsGreeted, Waits}
-use Rattle.cb_callbacks.proofs.Queues.{Placed, by_place, each_place, finds, first_gone, first_has, found, none_counted, placed, rest_has, rest_none, some_counted, without_gone, without_has, without_other}
+use Rattle.cb_callbacks.proofs.Queues.{Placed, by_place, each_place, first_gone, first_has, none_counted, placed, rest_has, rest_none, some_counted, without_gone, without_has, without_other}
 use Rattle.cb_protocol.proofs.SettlingClears.{Fewer, SameElsewhere, SoundAsks, count_rest, count_without, fewer_put, put_other, put_there, sound_fewer}
-use Rattle.cb_protocol.specs.Basics.{is_none, is_exactly, update}
-use Rattle.cb_protocol.specs.Deadlock.{OneAsk, ask_count}
+use Rattle.cb_protocol.specs.Basics.{is_none, update}
+use Rattle.cb_protocol.specs.Deadlock.{ask_count}
 use Rattle.cb_protocol.specs.Server.{Server, WaitingAsk, after_first, has_ask, is_live_permission, server_after, without_client}
 use Rattle.cb_protocol.specs.Session.{Session, has_live_txn}
 use Rattle.cb_protocol.specs.Settling.{doom_client, grant_row, permit_write}
-use Rattle.cb_protocol.specs.WaitsFor.{first_waits_for, holds_up, is_behind, waits_for, waits_for_below}
+use Rattle.cb_protocol.specs.WaitsFor.{first_waits_for, holds_up, waits_for, waits_for_below}
 use Rattle.cb_waits.proofs.Rows.{edges_of_ask, no_ask_no_edge, not_behind, not_first}
 use Rattle.cb_waits.specs.Follows.{Follows, waited_for}
 use Rattle.cb_waits.specs.Graph.{Edges, waits}

@@ -1,9 +1,9 @@
 -- What was sent for a first ask is noted there: who waits for whom stays.
-use Rattle.std.proofs.Common.{◌≡◌, ℕ, ◌≤◌, Bool, true, false, not, ◌||◌, ◌&&◌, ◌==◌, List, [], ◌∷◌, zero, suc, refl, sym, ap, ◌∙◌, subst, arith}
+use Rattle.std.proofs.Common.{◌≡◌, ℕ, ◌≤◌, true, false, not, ◌&&◌, ◌==◌, List, [], ◌∷◌, zero, suc, refl, sym, ap, ◌∙◌, subst, arith}
 use Rattle.cb_asks.specs.Asks.{AsksState, Has, queue_at}
 use Rattle.cb_asks.specs.Marks.{is_in_use}
 use Rattle.cb_callbacks.specs.Callbacks.{AreCallbacks}
-use Rattle.cb_callbacks.specs.Tables.{server_of, with_waits}
+use Rattle.cb_callbacks.specs.Tables.{server_of}
 use Rattle.cb_callbacks.specs.Waits.{Waits}
 use Rattle.cb_callbacks.specs.declared.tables.Tables.{Tables}
 use Rattle.cb_callbacks.proofs.Changes.{queued}
@@ -18,7 +18,7 @@ use Rattle.cb_protocol.specs.Basics.{update}
 use Rattle.cb_protocol.specs.Deadlock.{ask_count}
 use Rattle.cb_protocol.specs.Server.{MarkCalledBack, Server, WaitingAsk, has_ask, set_called_back, set_downgrade_sent}
 use Rattle.cb_protocol.specs.Settling.{call_back_once, nobody, send_callbacks}
-use Rattle.cb_protocol.specs.WaitsFor.{first_waits_for, is_behind, waits_for, waits_for_below}
+use Rattle.cb_protocol.specs.WaitsFor.{first_waits_for, is_behind, waits_for_below}
 use Rattle.cb_waits.specs.Follows.{Follows}
 use Rattle.cb_waits.specs.Graph.{Edges}
 

@@ -1,5 +1,5 @@
 -- A server that nobody has greeted.
-use Rattle.std.proofs.Common.{◌≡◌, ℕ, ◌≤◌, ◌+◌, Bool, false, List, [], refl, sym, ap, ◌∙◌, subst, arith}
+use Rattle.std.proofs.Common.{◌≡◌, ℕ, false, [], refl, sym, ◌∙◌, arith}
 use Rattle.cb_asks.specs.Asks.{AsksState, queue_at}
 use Rattle.cb_asks.specs.Marks.{MarksState, is_in_use}
 use Rattle.cb_callbacks.specs.Tables.{server_of, with_waits}
@@ -7,7 +7,7 @@ use Rattle.cb_callbacks.specs.Waits.{Waits}
 use Rattle.cb_holdings.specs.Holdings as holdings
 use Rattle.cb_holdings.specs.Holdings.{HoldingsState}
 use Rattle.cb_protocol.specs.Basics.{Limits}
-use Rattle.cb_protocol.specs.Server.{Server, WaitingAsk, new_server}
+use Rattle.cb_protocol.specs.Server.{Server, new_server}
 use Rattle.cb_protocol.specs.World.{Opening, opening_store}
 use Rattle.cb_waits.proofs.Rows.{no_ask_no_edge}
 use Rattle.cb_waits.specs.Follows.{Follows}

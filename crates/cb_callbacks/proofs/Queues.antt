@@ -1,12 +1,12 @@
 -- Asks in queues as they change.
-use Rattle.std.proofs.Common.{◌≡◌, ◌≢◌, ◌⊎◌, ℕ, ◌+◌, ◌<◌, ◌≤◌, Bool, true, false, ◌||◌, ◌&&◌, ◌==◌, if◌then◌else◌, List, [], ◌∷◌, ◌++◌, Option, Some, None, zero, suc, refl, sym, ap, ◌∙◌, subst, arith, inl, inr}
+use Rattle.std.proofs.Common.{◌≡◌, ◌≢◌, ℕ, ◌+◌, ◌<◌, ◌≤◌, Bool, true, false, ◌||◌, ◌==◌, if◌then◌else◌, List, [], ◌∷◌, ◌++◌, Option, None, refl, sym, ap, ◌∙◌, subst, arith, inl, inr}
 use Rattle.std.proofs.lemmas.Bool.Decides.{nat_tests}
 use Rattle.cb_protocol.proofs.ReadAsksWaiting.{reads_least}
 use Rattle.cb_protocol.specs.Basics.{is_none, max_number, update}
 use Rattle.cb_protocol.specs.Numbers.{first_free_grant}
 use Rattle.cb_protocol.specs.ServerMessages.{read_asks_in}
-use Rattle.cb_protocol.specs.Deadlock.{OneAsk, ask_count}
-use Rattle.cb_protocol.specs.Server.{Server, WaitingAsk, after_first, has_ask, set_called_back, set_downgrade_sent, without_client}
+use Rattle.cb_protocol.specs.Deadlock.{ask_count}
+use Rattle.cb_protocol.specs.Server.{Server, WaitingAsk, after_first, has_ask, without_client}
 use Rattle.cb_protocol.specs.WaitsFor.{HasAsk}
 use Rattle.cb_callbacks.specs.Deciding.{StartsWith}
 

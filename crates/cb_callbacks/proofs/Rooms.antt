@@ -1,5 +1,5 @@
 -- Room for some of the steps.
-use Rattle.std.proofs.Common.{◌≡◌, ℕ, List, ◌++◌, sym, subst, ◌∙◌, ap}
+use Rattle.std.proofs.Common.{◌≡◌, List, ◌++◌, subst, ◌∙◌}
 use Rattle.std.proofs.lemmas.List.{append_assoc}
 use Rattle.cb_outbox.specs.Saying.{HasRoomFor, OutboxState, Says}
 use Rattle.cb_outbox.proofs.Saying.{room_after, room_first}

@@ -1,5 +1,5 @@
 -- A page is settled decision by decision, and all pages one after another.
-use Rattle.std.proofs.Common.{◌≡◌, ◌≢◌, ◌⊎◌, ℕ, ◌+◌, ◌-◌, ◌<◌, ◌≤◌, Bool, true, false, if◌then◌else◌, List, [], ◌∷◌, ◌++◌, length, zero, suc, refl, sym, ap, ◌∙◌, subst, arith, add-one, inl, inr}
+use Rattle.std.proofs.Common.{◌≡◌, ℕ, ◌+◌, ◌<◌, ◌≤◌, Bool, true, if◌then◌else◌, List, [], ◌++◌, length, zero, suc, refl, sym, ap, ◌∙◌, subst, arith, add-one, inl, inr}
 use Rattle.std.proofs.lemmas.Bool.{cases_lt}
 use Rattle.std.proofs.lemmas.List.{append-nil, append_assoc}
 use Rattle.cb_callbacks.proofs.Rooms.{room_by, room_next}
@@ -9,11 +9,11 @@ use Rattle.cb_outbox.specs.Saying.{Decides, HasRoomFor, OutboxState, Says, goes_
 use Rattle.cb_outbox.proofs.Saying.{room_after, room_first, says_as, says_nothing, says_then, settle_more}
 use Rattle.cb_protocol.proofs.CycleTest.{test_is_exact}
 use Rattle.cb_protocol.proofs.GrantNumbers.{settling_takes_kept_grants}
-use Rattle.cb_protocol.proofs.SettlingAgain.{empty_page, settling_ends}
+use Rattle.cb_protocol.proofs.SettlingAgain.{empty_page}
 use Rattle.cb_protocol.proofs.SettlingClears.{right_settles}
 use Rattle.cb_protocol.specs.Basics.{max_number}
 use Rattle.cb_protocol.specs.Numbers.{first_free_grant}
-use Rattle.cb_protocol.specs.Server.{DeadlockTest, Server, ServerStep, WaitingAsk, server_after}
+use Rattle.cb_protocol.specs.Server.{DeadlockTest, Server, ServerStep, server_after}
 use Rattle.cb_protocol.specs.Settling.{Decided, Decision, Settled, decide, decision_steps, settle_page, settle_pages}
 use Rattle.cb_protocol.specs.WaitsFor.{on_cycle}
 

@@ -1,5 +1,5 @@
 -- The tables of a server that lets clients wait, and the protocol's server that they are.
-use Rattle.std.specs.Prelude.{◌≡◌, ℕ, ◌<◌, Bool, List, length}
+use Rattle.std.specs.Prelude.{◌≡◌, ℕ, Bool, List, length}
 use Rattle.cb_asks.specs.Asks.{queue_at}
 use Rattle.cb_asks.specs.Marks.{is_in_use}
 use Rattle.cb_callbacks.specs.declared.tables.Tables.{Tables}

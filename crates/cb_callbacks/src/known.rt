@@ -1,5 +1,5 @@
 //! What is there by what the server keeps.
-ghost use Rattle.std.specs.Prelude.{◌≡◌, ◌<◌, ◌≤◌};
+ghost use Rattle.std.specs.Prelude.{◌≡◌, ◌≤◌};
 ghost use Rattle.cb_holdings.specs.Holdings.{HasClient, HasPage, server_of};
 
 use cb_holdings::Holdings;

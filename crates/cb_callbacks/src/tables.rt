@@ -1,16 +1,15 @@
 //! The tables together. Each change here is one of the protocol's, without the view.
-ghost use Rattle.std.specs.Prelude.{◌≡◌, ◌≢◌, ◌<◌, ◌≤◌, ◌&&◌, ◌||◌, ◌∷◌, [], ℕ, List, true, false};
-ghost use Rattle.std.specs.Prelude.{not, MatchOption, Some};
+ghost use Rattle.std.specs.Prelude.{◌≡◌, ◌≢◌, ◌≤◌, [], true};
+ghost use Rattle.std.specs.Prelude.{Some};
 ghost use Rattle.cb_asks.specs.Asks.{Removes, queue_at};
 ghost use Rattle.cb_asks.specs.Marks.{HasMarks, is_in_use};
 ghost use Rattle.cb_callbacks.specs.Callbacks.{IsAsLarge};
 ghost use Rattle.cb_callbacks.specs.Tables.{AreTables, HasClient, HasPage, server_of};
-ghost use Rattle.cb_callbacks.specs.Waits.{HasBegun, IsGreeted, Waits};
+ghost use Rattle.cb_callbacks.specs.Waits.{HasBegun, IsGreeted};
 ghost use Rattle.cb_clients.specs.Clients.{has};
 ghost use Rattle.cb_holdings.specs.Holdings.{Stays};
 ghost use Rattle.cb_outbox.specs.Saying.{HasRoomFor, Says};
-ghost use Rattle.cb_protocol.specs.Basics.{is_exactly, is_none, max_number};
-ghost use Rattle.cb_protocol.specs.Server.{WaitingAsk, is_live_permission};
+ghost use Rattle.cb_protocol.specs.Basics.{is_none, max_number};
 ghost use Rattle.cb_protocol.specs.Server.{without_marks};
 ghost use Rattle.cb_protocol.specs.Session.{has_live_txn};
 ghost use Rattle.cb_protocol.specs.Settling.{doom_client, give_permission, grant_row};
@@ -21,11 +20,10 @@ mod holding_up;
 
 use crate::known;
 use cb_asks::{Asks, Marks};
-use cb_clients::ClientSet;
 use cb_frame::ShortBody;
 use cb_holdings::Holdings;
 use cb_outbox::Outbox;
-use cb_page::{ClientNo, GrantNo, PageNo, TxnNo};
+use cb_page::{ClientNo, GrantNo, PageNo};
 
 /// What the server has of its clients and pages, who waits, and who uses a page that it was called
 /// back for.

@@ -92,8 +92,8 @@ impl Callbacks {
         self.tables.asks.reserve(page)
     }
 
-    /// An ask of the client goes to the end of the page's queue: by the grant of its copy to write,
-    /// else to read. Where it isn't first and closes a cycle of waits, its client is doomed at once.
+    /// An ask of the client goes to the end of the page's queue: to write by the grant of its copy,
+    /// else to read. Where it isn't first and closes a cycle, its client is doomed at once.
     pub fn enter(
         &mut self,
         client: ClientNo,

@@ -1,8 +1,7 @@
 //! What is done about the first ask of a page.
-ghost use Rattle.std.specs.Prelude.{◌≡◌, ◌≢◌, ◌≤◌, ◌+◌, ◌∷◌, [], ℕ, true, None, Some};
-ghost use Rattle.cb_asks.specs.Asks.{queue_at};
+ghost use Rattle.std.specs.Prelude.{◌≡◌, ◌≤◌, ◌+◌, [], true, None, Some};
 ghost use Rattle.cb_asks.specs.Queues.{waiting_ask};
-ghost use Rattle.cb_callbacks.specs.Callbacks.{CallbacksState, IsAsLarge};
+ghost use Rattle.cb_callbacks.specs.Callbacks.{IsAsLarge};
 ghost use Rattle.cb_callbacks.specs.Deciding.{IsFirst};
 ghost use Rattle.cb_callbacks.specs.Tables.{HasPage, server_of};
 ghost use Rattle.cb_holdings.specs.Holdings.{Stays};
@@ -11,14 +10,13 @@ ghost use Rattle.cb_protocol.specs.Basics.{is_none, max_number};
 ghost use Rattle.cb_protocol.specs.Numbers.{first_free_grant};
 ghost use Rattle.cb_protocol.specs.Server.{has_ask, has_row};
 ghost use Rattle.cb_protocol.specs.Settling.{call_back_once, decide, decide_read, decide_write};
-ghost use Rattle.cb_protocol.specs.Settling.{decision_steps, doom_client, downgrade_once};
-ghost use Rattle.cb_protocol.specs.Settling.{grant_row, no_other_holder, permit_write, sole_row};
+ghost use Rattle.cb_protocol.specs.Settling.{decision_steps, downgrade_once};
+ghost use Rattle.cb_protocol.specs.Settling.{no_other_holder, sole_row};
 ghost use Rattle.cb_protocol.specs.Settling.{wait_or_doom};
 ghost use Rattle.cb_protocol.specs.WaitsFor.{on_cycle};
 
 use crate::{Callbacks, known};
 use cb_asks::Waiting;
-use cb_clients::ClientSet;
 use cb_outbox::Outbox;
 use cb_page::{ClientNo, GrantNo, PageNo};
 

@@ -1,5 +1,5 @@
 //! Transactions and incarnations end: their asks and marks go.
-ghost use Rattle.std.specs.Prelude.{◌≡◌, ◌∷◌, ◌<◌, ◌+◌, [], ℕ, true, IfOk, OnOk, OnErr};
+ghost use Rattle.std.specs.Prelude.{◌≡◌, ◌∷◌, ◌<◌, ◌+◌, [], true, IfOk, OnOk, OnErr};
 ghost use Rattle.cb_callbacks.specs.Callbacks.{Changes};
 ghost use Rattle.cb_callbacks.specs.Following.{FollowsAll, FollowsPages};
 ghost use Rattle.cb_callbacks.specs.Tables.{AreTables, HasClient, server_of};

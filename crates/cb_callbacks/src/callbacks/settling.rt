@@ -1,9 +1,9 @@
 //! Asks leave their queues, and pages are settled.
-ghost use Rattle.std.specs.Prelude.{◌≡◌, ◌≢◌, ◌≤◌, ◌<◌, ◌+◌, [], ℕ, true, length};
+ghost use Rattle.std.specs.Prelude.{◌≡◌, ◌≤◌, ◌+◌, true, length};
 ghost use Rattle.cb_callbacks.specs.Callbacks.{IsAsLarge};
 ghost use Rattle.cb_callbacks.specs.Deciding.{StartsWith};
 ghost use Rattle.cb_callbacks.specs.Leaving.{FollowsLeft};
-ghost use Rattle.cb_callbacks.specs.Tables.{AreTables, HasClient, HasPage, server_of};
+ghost use Rattle.cb_callbacks.specs.Tables.{AreTables, HasPage, server_of};
 ghost use Rattle.cb_holdings.specs.Holdings.{Stays};
 ghost use Rattle.cb_outbox.specs.Saying.{HasRoomFor, OutboxState, Says};
 ghost use Rattle.cb_protocol.specs.Basics.{is_none, max_number};

@@ -1,6 +1,6 @@
 //! Those in the way of a first ask are asked to give way.
-ghost use Rattle.std.specs.Prelude.{◌≡◌, ◌&&◌, ◌++◌, [], ℕ, true, false, MatchOption, Some};
-ghost use Rattle.cb_callbacks.specs.Tables.{AreTables, HasClient, HasPage, server_of};
+ghost use Rattle.std.specs.Prelude.{◌≡◌, false, MatchOption, Some};
+ghost use Rattle.cb_callbacks.specs.Tables.{HasClient, HasPage, server_of};
 ghost use Rattle.cb_callbacks.specs.Waits.{Waits};
 ghost use Rattle.cb_callbacks.specs.Asking.{IsKeeper, callback_to};
 ghost use Rattle.cb_outbox.specs.Saying.{HasRoomFor, Says};

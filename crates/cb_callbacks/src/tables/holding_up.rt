@@ -1,5 +1,5 @@
 //! Who holds up the first ask of a page.
-ghost use Rattle.std.specs.Prelude.{◌≡◌, ◌&&◌, ◌||◌, ◌∷◌, ℕ, List, Bool, if◌then◌else◌, false};
+ghost use Rattle.std.specs.Prelude.{◌≡◌, ◌&&◌, ◌||◌, ◌∷◌, ℕ, List};
 ghost use Rattle.cb_asks.specs.Asks.{queue_at};
 ghost use Rattle.cb_asks.specs.Marks.{is_in_use};
 ghost use Rattle.cb_callbacks.specs.Tables.{AreTables, HasPage, server_of};

@@ -1,4 +1,4 @@
-use Rattle.std.proofs.Common.{◌≡◌, ◌∙◌, ◌+◌, ◌-◌, ◌<◌, ◌≤◌, ℕ, sym, subst, arith}
+use Rattle.std.proofs.Common.{◌≡◌, ◌∙◌, ◌+◌, ◌-◌, ◌<◌, ℕ, sym, subst, arith}
 use Rattle.cb_outbox.specs.Saying.{HasRoomFor, Says}
 use Rattle.cb_protocol.specs.Settling.{settle_page}
 use Rattle.cb_protocol.specs.WaitsFor.{on_cycle}

@@ -1,7 +1,5 @@
-use Rattle.std.proofs.Common.{◌≡◌, sym, subst, refl}
-use Rattle.cb_callbacks.specs.Callbacks.{CallbacksState, Changes}
 use Rattle.cb_callbacks.specs.Tables.{server_of}
-use Rattle.cb_callbacks.proofs.Ending.{admits_ends, changes_forgot, ended, forgot, kept_ended, waits_forgot}
+use Rattle.cb_callbacks.proofs.Ending.{admits_ends, forgot, kept_ended, waits_forgot}
 use Rattle.cb_protocol.specs.Session.{Admit}
 use Rattle.cb_callbacks.proofs.callbacks.Callbacks.admit.Goals as goal
 

@@ -1,4 +1,4 @@
-use Rattle.std.proofs.Common.{◌≡◌, ◌∙◌, sym, subst, true, false, rules}
+use Rattle.std.proofs.Common.{◌≡◌, sym, subst, false, rules}
 use Rattle.cb_asks.specs.Queues.{waiting_ask}
 use Rattle.cb_outbox.specs.Saying.{HasRoomFor, Says}
 use Rattle.cb_protocol.specs.Server.{set_called_back}

@@ -1,4 +1,4 @@
-use Rattle.std.proofs.Common.{◌≡◌, ◌∙◌, ◌&&◌, sym, subst, ap, true, false, rules, ℕ, Bool, Option, None}
+use Rattle.std.proofs.Common.{◌≡◌, ◌∙◌, ◌&&◌, sym, subst, ap, false, rules, Bool}
 use Rattle.cb_asks.specs.Queues.{waiting_ask}
 use Rattle.cb_protocol.specs.Basics.{is_none}
 use Rattle.cb_protocol.specs.Settling.{no_other_holder}

@@ -1,4 +1,4 @@
-use Rattle.std.proofs.Common.{◌≡◌, ◌∙◌, ◌&&◌, sym, subst, ap, true, false, rules, Bool}
+use Rattle.std.proofs.Common.{◌≡◌, ◌∙◌, ◌&&◌, sym, subst, true, false, rules}
 use Rattle.cb_asks.specs.Queues.{waiting_ask}
 use Rattle.cb_protocol.specs.Server.{has_row}
 use Rattle.cb_protocol.specs.Settling.{call_back_once, no_other_holder, sole_row}

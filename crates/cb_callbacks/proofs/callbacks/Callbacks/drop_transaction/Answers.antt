@@ -1,4 +1,4 @@
-use Rattle.std.proofs.Common.{◌≡◌, sym, subst, refl}
+use Rattle.std.proofs.Common.{subst}
 use Rattle.cb_callbacks.specs.Callbacks.{CallbacksState, Changes}
 use Rattle.cb_callbacks.specs.Tables.{server_of}
 use Rattle.cb_callbacks.proofs.Ending.{drops_ends, changes_forgot, ended, forgot, kept_ended, waits_forgot}

@@ -1,4 +1,3 @@
-use Rattle.std.proofs.Common.{◌≡◌, ◌∙◌, sym, true, false}
 use Rattle.cb_callbacks.specs.Tables.{server_of}
 use Rattle.cb_callbacks.proofs.Entering.{entered_has}
 use Rattle.cb_protocol.specs.ServerMessages.{new_ask}

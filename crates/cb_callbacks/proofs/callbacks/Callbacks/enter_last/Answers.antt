@@ -1,4 +1,4 @@
-use Rattle.std.proofs.Common.{◌≡◌, ◌<◌, ◌∙◌, ◌∷◌, [], sym, subst, true, false}
+use Rattle.std.proofs.Common.{◌≡◌, ◌∙◌, ◌∷◌, [], sym, subst, true, false}
 use Rattle.cb_callbacks.specs.Callbacks.{CallbacksState}
 use Rattle.cb_callbacks.specs.Tables.{HasClient, HasPage, server_of}
 use Rattle.cb_callbacks.specs.Waits.{IsGreeted}

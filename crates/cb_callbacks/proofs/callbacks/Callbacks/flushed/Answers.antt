@@ -1,4 +1,4 @@
-use Rattle.std.proofs.Common.{◌≡◌, sym, subst, rules}
+use Rattle.std.proofs.Common.{subst, rules}
 use Rattle.cb_callbacks.specs.Callbacks.{CallbacksState, Changes}
 use Rattle.cb_callbacks.specs.Tables.{server_of}
 use Rattle.cb_callbacks.proofs.Flushing.{flushes_changes, kept_flushed}

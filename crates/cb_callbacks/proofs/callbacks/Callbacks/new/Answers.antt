@@ -1,6 +1,6 @@
-use Rattle.std.proofs.Common.{◌≡◌, ◌≤◌, ◌∙◌, sym, subst, arith}
+use Rattle.std.proofs.Common.{◌∙◌, sym, subst, arith}
 use Rattle.cb_holdings.specs.Holdings.{limits_of, opening_of}
-use Rattle.cb_protocol.specs.Server.{Server, new_server}
+use Rattle.cb_protocol.specs.Server.{new_server}
 use Rattle.cb_protocol.specs.World.{opening_store}
 use Rattle.cb_waits.specs.Follows.{Follows}
 use Rattle.cb_callbacks.specs.Waits.{Waits}

@@ -1,4 +1,4 @@
-use Rattle.std.proofs.Common.{◌≡◌, ◌<◌, ◌∙◌, [], ◌∷◌, ℕ, refl, sym, subst, arith}
+use Rattle.std.proofs.Common.{◌<◌, [], ◌∷◌, ℕ, sym, subst, arith}
 use Rattle.cb_callbacks.specs.Callbacks.{CallbacksState, Changes}
 use Rattle.cb_callbacks.specs.Tables.{HasPage, server_of}
 use Rattle.cb_callbacks.proofs.Page.{are_stays, kept_page, removes_at, removes_becomes}

@@ -1,13 +1,11 @@
-use Rattle.std.proofs.Common.{◌≡◌, ◌∙◌, ◌+◌, ◌<◌, ◌≤◌, [], ℕ, length, sym, subst, ap, arith, rules}
+use Rattle.std.proofs.Common.{◌≡◌, ◌∙◌, ◌+◌, ◌<◌, ◌≤◌, [], ℕ, length, sym, subst, ap, arith}
 use Rattle.cb_asks.specs.Asks.{queue_at}
 use Rattle.cb_asks.specs.Queues.{QueueState}
 use Rattle.cb_outbox.specs.Saying.{Says}
-use Rattle.cb_protocol.specs.Server.{Server}
 use Rattle.cb_protocol.specs.Settling.{settle_pages}
 use Rattle.cb_protocol.specs.WaitsFor.{on_cycle}
 use Rattle.cb_callbacks.specs.Callbacks.{CallbacksState}
-use Rattle.cb_callbacks.specs.Tables.{AreTables, HasPage, server_of}
-use Rattle.cb_callbacks.specs.Waits.{Waits}
+use Rattle.cb_callbacks.specs.Tables.{server_of}
 use Rattle.cb_callbacks.proofs.Settling.{left_settled, page_room, pages_all, pages_more, stays_then}
 use Rattle.cb_callbacks.proofs.callbacks.Callbacks.settle.Goals as goal
 

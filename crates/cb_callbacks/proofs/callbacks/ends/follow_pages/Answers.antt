@@ -1,4 +1,4 @@
-use Rattle.std.proofs.Common.{◌≡◌, ◌+◌, ◌<◌, ◌≤◌, ℕ, sym, subst, ap, arith}
+use Rattle.std.proofs.Common.{◌+◌, ◌<◌, ℕ, sym, subst, ap, arith}
 use Rattle.cb_callbacks.specs.Following.{FollowsPages}
 use Rattle.cb_callbacks.specs.Tables.{server_of}
 use Rattle.cb_callbacks.proofs.Ending.{pages_follow}

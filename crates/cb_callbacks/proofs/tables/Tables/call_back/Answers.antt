@@ -1,7 +1,5 @@
-use Rattle.std.proofs.Common.{◌≡◌, ◌+◌, ◌<◌, ◌≤◌, ℕ, true, false, sym, subst, arith, ◌∙◌, ap}
-use Rattle.cb_clients.specs.Clients.{has}
+use Rattle.std.proofs.Common.{◌≡◌, ◌+◌, ◌<◌, ℕ, sym, subst, arith, ap}
 use Rattle.cb_outbox.specs.Saying.{Says}
-use Rattle.cb_protocol.specs.Basics.{is_none}
 use Rattle.cb_protocol.specs.Server.{Server}
 use Rattle.cb_callbacks.specs.Tables.{server_of}
 use Rattle.cb_callbacks.proofs.Calling.{call_room, calls, calls_all, calls_more, no_row, some_row}

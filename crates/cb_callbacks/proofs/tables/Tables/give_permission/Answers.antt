@@ -1,4 +1,4 @@
-use Rattle.std.proofs.Common.{◌≡◌, ◌∙◌, sym, refl}
+use Rattle.std.proofs.Common.{refl}
 use Rattle.cb_callbacks.proofs.Changes.{gives}
 use Rattle.cb_callbacks.proofs.Page.{are_stays}
 use Rattle.cb_callbacks.proofs.tables.Tables.give_permission.Goals as goal

@@ -1,4 +1,4 @@
-use Rattle.std.proofs.Common.{◌≡◌, ◌∙◌, ◌<◌, ℕ, List, refl, sym, ap, subst, arith}
+use Rattle.std.proofs.Common.{◌≡◌, ◌∙◌, refl, ap, arith}
 use Rattle.cb_commit.specs.Stores.{StoreState, bytes_at, version_at}
 use Rattle.cb_protocol.specs.Server.{Server}
 use Rattle.cb_callbacks.specs.Tables.{server_of}
