@@ -39,10 +39,12 @@ fn take_page(
 {
     ask(alloc, limits, callbacks, client, page, None)?;
     settle(alloc, limits, callbacks)?;
-    let grant = callbacks.holdings().row(client, page);
-    ask(alloc, limits, callbacks, client, page, grant)?;
+    let Some(grant) = callbacks.holdings().row(client, page) else {
+        return Ok(None);
+    };
+    ask(alloc, limits, callbacks, client, page, Some(grant))?;
     settle(alloc, limits, callbacks)?;
-    Ok(grant)
+    Ok(Some(grant))
 }
 
 /// The client takes each page.
