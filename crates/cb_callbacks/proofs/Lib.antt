@@ -1,0 +1,15 @@
+pub mod Bounds
+pub mod Calling
+pub mod Changes
+pub mod Deciding
+pub mod Ending
+pub mod Entering
+pub mod Flushing
+pub mod Kept
+pub mod Left
+pub mod Noted
+pub mod Opening
+pub mod Page
+pub mod Queues
+pub mod Rooms
+pub mod Settling

@@ -1,0 +1,4 @@
+use Rattle.cb_callbacks.proofs.callbacks.Callbacks.+settle_page.Given as goal
+
+abbrev pub decreases-settle_page : goal.decreases-settle_page
+decreases-settle_page l = l.asks

@@ -1,0 +1,24 @@
+use Rattle.std.proofs.Common.{subst}
+use Rattle.cb_callbacks.specs.Callbacks.{CallbacksState, Changes}
+use Rattle.cb_callbacks.specs.Tables.{server_of}
+use Rattle.cb_callbacks.proofs.Ending.{commits_ends, changes_forgot, ended, forgot, kept_ended, waits_forgot}
+use Rattle.cb_outbox.specs.Messages.{page_writes}
+use Rattle.cb_protocol.specs.Session.{ApplyCommit}
+use Rattle.cb_callbacks.proofs.callbacks.Callbacks.apply_commit.Goals as goal
+
+pub follow_all-requires-clause-waits : goal.follow_all-requires-clause-waits
+follow_all-requires-clause-waits c =
+    waits_forgot c.self.inside.tables c.forget.new.self c.args.client (ApplyCommit c.args.txn (page_writes c.args.writes)) c.self.invariant.waits
+    (forgot c.self.inside.tables c.forget.new.self c.apply_commit.new.self c.args.client (ApplyCommit c.args.txn (page_writes c.args.writes)) c.in_ok-number.ensures.ok c.forget.ensures.holdings c.forget.ensures.asks c.forget.ensures.marks)
+    (commits_ends c.args.client c.args.txn (page_writes c.args.writes) (server_of c.self.inside.tables))
+
+pub invariant_of-self-2 : goal.invariant_of-self-2
+invariant_of-self-2 c =
+    kept_ended c.self.inside.tables c.self.inside.view c.forget.new.self c.follow_all.new.view c.args.client (ApplyCommit c.args.txn (page_writes c.args.writes)) c.self.invariant c.forget.ensures.are
+    (forgot c.self.inside.tables c.forget.new.self c.apply_commit.new.self c.args.client (ApplyCommit c.args.txn (page_writes c.args.writes)) c.in_ok-number.ensures.ok c.forget.ensures.holdings c.forget.ensures.asks c.forget.ensures.marks)
+    (commits_ends c.args.client c.args.txn (page_writes c.args.writes) (server_of c.self.inside.tables)) c.follow_all.ensures
+
+pub returns-clause-ok : goal.returns-clause-ok
+returns-clause-ok c = subst (λ (v : CallbacksState). Changes v.tables (ended c.args.client (ApplyCommit c.args.txn (page_writes c.args.writes))) c.forget.new.self) c.self.view_is
+    (changes_forgot c.self.inside.tables c.forget.new.self c.apply_commit.new.self c.args.client (ApplyCommit c.args.txn (page_writes c.args.writes))
+    c.in_ok-number.ensures.ok c.forget.ensures.holdings c.forget.ensures.asks c.forget.ensures.marks)

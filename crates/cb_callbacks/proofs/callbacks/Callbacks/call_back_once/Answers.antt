@@ -1,0 +1,27 @@
+use Rattle.std.proofs.Common.{◌≡◌, sym, subst, false, rules}
+use Rattle.cb_asks.specs.Queues.{waiting_ask}
+use Rattle.cb_outbox.specs.Saying.{HasRoomFor, Says}
+use Rattle.cb_protocol.specs.Server.{set_called_back}
+use Rattle.cb_protocol.specs.Settling.{call_back_once}
+use Rattle.cb_callbacks.specs.Callbacks.{CallbacksState}
+use Rattle.cb_callbacks.specs.Tables.{server_of}
+use Rattle.cb_callbacks.proofs.Noted.{called_back, kept_noted, notes_called, room_called}
+use Rattle.cb_callbacks.proofs.callbacks.Callbacks.call_back_once.Goals as goal
+
+pub call_back-requires-clause-room : goal.call_back-requires-clause-room
+call_back-requires-clause-room c =
+    let first : c.args.first.called_back ≡ false = search rules in
+    room_called (server_of c.self.inside.tables) c.args.page (waiting_ask c.args.first) c.args.outbox.now first
+    (subst (λ (v : CallbacksState). HasRoomFor (call_back_once (server_of v.tables) c.args.page (waiting_ask c.args.first)) c.args.outbox.now) (sym c.self.view_is) c.requires.room)
+
+pub invariant_of-self : goal.invariant_of-self
+invariant_of-self c =
+    kept_noted c.self.inside.tables c.self.inside.view c.mark_called_back.new.self c.args.page set_called_back notes_called c.self.invariant c.mark_called_back.ensures.has
+
+pub returns-then-not-first-clause-says : goal.returns-then-not-first-clause-says
+returns-then-not-first-clause-says c =
+    let first : c.args.first.called_back ≡ false = search rules in
+    subst (λ (v : CallbacksState). Says (server_of v.tables) (λ server. call_back_once server c.args.page (waiting_ask c.args.first))
+    (server_of (record c.self.inside.tables { asks = c.mark_called_back.new.self })) c.args.outbox.now c.call_back.new.outbox) c.self.view_is
+    (called_back c.self.inside.tables c.mark_called_back.new.self c.args.page (waiting_ask c.args.first) c.args.outbox.now c.call_back.new.outbox first
+    c.call_back.ensures c.mark_called_back.ensures.has)

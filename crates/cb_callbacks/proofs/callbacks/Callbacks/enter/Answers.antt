@@ -1,0 +1,8 @@
+use Rattle.cb_callbacks.specs.Tables.{server_of}
+use Rattle.cb_callbacks.proofs.Entering.{entered_has}
+use Rattle.cb_protocol.specs.ServerMessages.{new_ask}
+use Rattle.cb_callbacks.proofs.callbacks.Callbacks.enter.Goals as goal
+
+pub doom-requires-clause-here : goal.doom-requires-clause-here
+doom-requires-clause-here c =
+    entered_has (server_of c.args.self.now.tables) (server_of c.enter_last.new.self.tables) c.args.page (new_ask c.args.client c.args.write_grant) c.enter_last.ensures.becomes

@@ -1,0 +1,23 @@
+use Rattle.std.proofs.Common.{◌≤◌, ◌-◌, ◌+◌}
+use Rattle.cb_callbacks.specs.Tables.{server_of}
+use Rattle.cb_callbacks.specs.Waits.{Waits}
+use Rattle.cb_holdings.specs.Holdings.{Stays}
+use Rattle.cb_outbox.specs.Saying.{Says}
+use Rattle.cb_protocol.specs.Basics.{max_number}
+use Rattle.cb_protocol.specs.Numbers.{first_free_grant}
+use Rattle.cb_protocol.specs.Settling.{settle_pages}
+use Rattle.cb_protocol.specs.WaitsFor.{on_cycle}
+use Rattle.cb_callbacks.proofs.callbacks.Callbacks.settle.Given as goal
+
+-- the pages before `from` are settled
+abbrev pub invariant-loop-page : goal.invariant-loop-page
+invariant-loop-page l = record {
+  says : Says (server_of l.initial.self.tables) (λ server. settle_pages on_cycle server l.from) (server_of l.self.tables) l.initial.outbox l.outbox;
+  within : l.from ≤ (server_of l.self.tables).pages;
+  left : first_free_grant (server_of l.self.tables) ≤ max_number + 1;
+  waits : Waits (server_of l.initial.self.tables);
+  stays : Stays l.initial.self.tables.holdings l.self.tables.holdings;
+}
+
+abbrev pub decreases-loop-page : goal.decreases-loop-page
+decreases-loop-page l = (server_of l.self.tables).pages - l.from

@@ -1,0 +1,14 @@
+use Rattle.std.proofs.Common.{◌≤◌, ◌-◌}
+use Rattle.cb_callbacks.specs.Following.{FollowsPages}
+use Rattle.cb_callbacks.specs.Tables.{server_of}
+use Rattle.cb_callbacks.proofs.callbacks.ends.follow_pages.Given as goal
+
+-- the pages before `from` are followed
+abbrev pub invariant-loop-page : goal.invariant-loop-page
+invariant-loop-page l = record {
+  follows : FollowsPages l.initial.view (server_of l.tables) l.from l.view;
+  within : l.from ≤ (server_of l.tables).pages;
+}
+
+abbrev pub decreases-loop-page : goal.decreases-loop-page
+decreases-loop-page l = (server_of l.tables).pages - l.from

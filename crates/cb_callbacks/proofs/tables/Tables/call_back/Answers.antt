@@ -1,0 +1,37 @@
+use Rattle.std.proofs.Common.{◌≡◌, ◌+◌, ◌<◌, ℕ, sym, subst, arith, ap}
+use Rattle.cb_outbox.specs.Saying.{Says}
+use Rattle.cb_protocol.specs.Server.{Server}
+use Rattle.cb_callbacks.specs.Tables.{server_of}
+use Rattle.cb_callbacks.proofs.Calling.{call_room, calls, calls_all, calls_more, no_row, some_row}
+use Rattle.cb_callbacks.proofs.tables.Tables.call_back.Goals as goal
+
+pub call_back_one-requires-clause-room : goal.call_back_one-requires-clause-room
+call_back_one-requires-clause-room c =
+    call_room (server_of c.args.self.now) c.args.page c.args.asker c.loop-client.from c.in-Some.client c.args.outbox.now c.loop-client.outbox
+    c.in-Some.ensures.above
+    (c.requires.waits.rows c.in-Some.client c.args.page (some_row _ _ (c.rows_of_page-rows.ensures c.in-Some.client) c.in-Some.ensures.here)).0
+    (λ other above lt. no_row _ _ (c.rows_of_page-rows.ensures other) (c.in-Some.ensures.none_between other above lt))
+    c.requires.room c.loop-client.invariant.says
+
+pub loop-client-preserved : goal.loop-client-preserved
+loop-client-preserved c = record {
+  says = subst (λ (n : ℕ). Says s (λ server. calls server c.args.page c.args.asker n) s c.args.outbox.now c.call_back_one.new.outbox) next
+      (calls_more s c.args.page c.args.asker c.loop-client.from c.in-Some.client c.args.outbox.now c.loop-client.outbox c.call_back_one.new.outbox
+      c.in-Some.ensures.above
+      (λ other above lt. no_row _ _ (c.rows_of_page-rows.ensures other) (c.in-Some.ensures.none_between other above lt))
+      c.loop-client.invariant.says c.call_back_one.ensures);
+  within = let value = c.index-from.ensures.value in let lt = in_range in omega (arith, value, lt);
+}
+  where
+    s : Server
+    s = server_of c.args.self.now
+
+    next : c.in-Some.client + 1 ≡ c.index-from.result + 1
+    next = ap (λ (n : ℕ). n + 1) (sym c.index-from.ensures.value)
+
+    in_range : c.in-Some.client < (server_of c.args.self.now).clients
+    in_range = (c.requires.waits.rows c.in-Some.client c.args.page (some_row _ _ (c.rows_of_page-rows.ensures c.in-Some.client) c.in-Some.ensures.here)).0
+
+pub returns : goal.returns
+returns c = calls_all (server_of c.args.self.now) c.args.page c.args.asker c.loop-client.from c.args.outbox.now c.loop-client.outbox c.loop-client.invariant.within
+    (λ client above lt. no_row _ _ (c.rows_of_page-rows.ensures client) (c.in_default.ensures client above)) c.loop-client.invariant.says

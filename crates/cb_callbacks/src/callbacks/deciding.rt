@@ -1,0 +1,171 @@
+//! What is done about the first ask of a page.
+ghost use Rattle.std.specs.Prelude.{◌≡◌, ◌≤◌, ◌+◌, [], true, None, Some};
+ghost use Rattle.cb_asks.specs.Queues.{waiting_ask};
+ghost use Rattle.cb_callbacks.specs.Callbacks.{IsAsLarge};
+ghost use Rattle.cb_callbacks.specs.Deciding.{IsFirst};
+ghost use Rattle.cb_callbacks.specs.Tables.{HasPage, server_of};
+ghost use Rattle.cb_holdings.specs.Holdings.{Stays};
+ghost use Rattle.cb_outbox.specs.Saying.{Decides, HasRoomFor, Says};
+ghost use Rattle.cb_protocol.specs.Basics.{is_none, max_number};
+ghost use Rattle.cb_protocol.specs.Numbers.{first_free_grant};
+ghost use Rattle.cb_protocol.specs.Server.{has_ask, has_row};
+ghost use Rattle.cb_protocol.specs.Settling.{call_back_once, decide, decide_read, decide_write};
+ghost use Rattle.cb_protocol.specs.Settling.{decision_steps, downgrade_once};
+ghost use Rattle.cb_protocol.specs.Settling.{no_other_holder, sole_row};
+ghost use Rattle.cb_protocol.specs.Settling.{wait_or_doom};
+ghost use Rattle.cb_protocol.specs.WaitsFor.{on_cycle};
+
+use crate::{Callbacks, known};
+use cb_asks::Waiting;
+use cb_outbox::Outbox;
+use cb_page::{ClientNo, GrantNo, PageNo};
+
+impl Callbacks {
+    /// What is done about the first ask of the page. The next ask is to be looked at where it
+    /// answers true; else the page is settled.
+    pub(crate) fn decide(&mut self, page: PageNo, outbox: &mut Outbox) -> bool
+        requires page { HasPage self.old.tables page }
+        requires left { first_free_grant (server_of self.old.tables) ≤ max_number + 1 }
+        requires size { IsAsLarge outbox.old self.old.tables }
+        requires room { HasRoomFor (decision_steps (decide on_cycle (server_of self.old.tables)
+            page ((server_of self.old.tables).queue page))) outbox.old }
+        ensures decides { Decides (server_of self.old.tables)
+            (λ server. decide on_cycle server page (server.queue page))
+            (server_of self.new.tables) result outbox.old outbox.new }
+        ensures stays { Stays self.old.tables.holdings self.new.tables.holdings }
+    {
+        let Some(first) = self.tables.asks.queue(page).first() else {
+            return false;
+        };
+        match first.write_grant {
+            None => self.decide_read(page, first, outbox),
+            Some(grant) => self.decide_write(page, first, grant, outbox),
+        }
+    }
+
+    /// The first ask is to read: it is granted where the client has no copy and no other client has
+    /// the write permission.
+    fn decide_read(&mut self, page: PageNo, first: Waiting, outbox: &mut Outbox) -> bool
+        requires page { HasPage self.old.tables page }
+        requires first { IsFirst self.old.tables page (waiting_ask first) }
+        requires reads { first.write_grant ≡ None }
+        requires left { first_free_grant (server_of self.old.tables) ≤ max_number + 1 }
+        requires size { IsAsLarge outbox.old self.old.tables }
+        requires room { HasRoomFor (decision_steps
+            (decide_read on_cycle (server_of self.old.tables) page (waiting_ask first)))
+            outbox.old }
+        ensures decides { Decides (server_of self.old.tables)
+            (λ server. decide_read on_cycle server page (waiting_ask first))
+            (server_of self.new.tables) result outbox.old outbox.new }
+        ensures stays { Stays self.old.tables.holdings self.new.tables.holdings }
+    {
+        let client = first.client;
+        let is_free = self.tables.holdings.no_other_holder(client, page);
+        let has_none = self.tables.holdings.row(client, page).is_none();
+        if is_free && has_none {
+            self.grant_first(client, page, outbox);
+            true
+        } else {
+            self.downgrade_once(page, first, outbox);
+            self.wait_or_doom(client, page, outbox)
+        }
+    }
+
+    /// The first ask is to write by that grant: it is permitted where the client has that copy and
+    /// no other client has a copy or the write permission.
+    fn decide_write(
+        &mut self,
+        page: PageNo,
+        first: Waiting,
+        grant: GrantNo,
+        outbox: &mut Outbox,
+    ) -> bool
+        requires page { HasPage self.old.tables page }
+        requires first { IsFirst self.old.tables page (waiting_ask first) }
+        requires size { IsAsLarge outbox.old self.old.tables }
+        requires room { HasRoomFor (decision_steps
+            (decide_write on_cycle (server_of self.old.tables) page (waiting_ask first) grant))
+            outbox.old }
+        ensures decides { Decides (server_of self.old.tables)
+            (λ server. decide_write on_cycle server page (waiting_ask first) grant)
+            (server_of self.new.tables) result outbox.old outbox.new }
+        ensures stays { Stays self.old.tables.holdings self.new.tables.holdings }
+    {
+        let client = first.client;
+        let is_free = self.tables.holdings.no_other_holder(client, page);
+        let has_copy = self.tables.holdings.has_row(client, page, grant);
+        let is_alone = self.tables.holdings.sole_row(client, page);
+        if is_free && has_copy && is_alone {
+            self.permit_first(client, page, grant, outbox);
+            true
+        } else {
+            self.call_back_once(page, first, outbox);
+            self.wait_or_doom(client, page, outbox)
+        }
+    }
+
+    /// The first ask can't be met: where its client lies on a cycle of waits, its transaction is
+    /// doomed.
+    fn wait_or_doom(&mut self, client: ClientNo, page: PageNo, outbox: &mut Outbox) -> bool
+        requires page { HasPage self.old.tables page }
+        requires here { has_ask client ((server_of self.old.tables).queue page) ≡ true }
+        requires room { HasRoomFor
+            (decision_steps (wait_or_doom on_cycle (server_of self.old.tables) client []))
+            outbox.old }
+        ensures decides { Decides (server_of self.old.tables)
+            (λ server. wait_or_doom on_cycle server client [])
+            (server_of self.new.tables) result outbox.old outbox.new }
+        ensures stays { Stays self.old.tables.holdings self.new.tables.holdings }
+    {
+        if self.closes_cycle(client) {
+            self.doom(client, page, outbox);
+            true
+        } else {
+            false
+        }
+    }
+
+    /// Callbacks for the first ask, once.
+    fn call_back_once(&mut self, page: PageNo, first: Waiting, outbox: &mut Outbox)
+        requires page { HasPage self.old.tables page }
+        requires first { IsFirst self.old.tables page (waiting_ask first) }
+        requires room { HasRoomFor
+            (call_back_once (server_of self.old.tables) page (waiting_ask first)) outbox.old }
+        ensures says { Says (server_of self.old.tables)
+            (λ server. call_back_once server page (waiting_ask first))
+            (server_of self.new.tables) outbox.old outbox.new }
+        ensures here { has_ask first.client ((server_of self.new.tables).queue page) ≡ true }
+        ensures stays { Stays self.old.tables.holdings self.new.tables.holdings }
+    {
+        if !first.called_back {
+            self.tables.call_back(first.client, page, outbox);
+            self.tables.asks.mark_called_back(page);
+        }
+    }
+
+    /// A Downgrade to another client that merely keeps the write permission, once for each tag.
+    fn downgrade_once(&mut self, page: PageNo, first: Waiting, outbox: &mut Outbox)
+        requires page { HasPage self.old.tables page }
+        requires first { IsFirst self.old.tables page (waiting_ask first) }
+        requires room { HasRoomFor
+            (downgrade_once (server_of self.old.tables) page (waiting_ask first)) outbox.old }
+        ensures says { Says (server_of self.old.tables)
+            (λ server. downgrade_once server page (waiting_ask first))
+            (server_of self.new.tables) outbox.old outbox.new }
+        ensures here { has_ask first.client ((server_of self.new.tables).queue page) ≡ true }
+        ensures stays { Stays self.old.tables.holdings self.new.tables.holdings }
+    {
+        if !self.tables.holdings.keep_write() {
+            return;
+        }
+        let Some(keeper) = self.tables.keeper(page, first.client) else {
+            return;
+        };
+        let tag = known::tag(&self.tables.holdings, page);
+        if first.downgrade_sent == Some(tag) {
+            return;
+        }
+        self.tables.ask_down(keeper, page, tag, outbox);
+        self.tables.asks.mark_downgrade_sent(page, tag);
+    }
+}

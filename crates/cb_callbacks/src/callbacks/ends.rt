@@ -1,0 +1,138 @@
+//! Transactions and incarnations end: their asks and marks go.
+ghost use Rattle.std.specs.Prelude.{◌≡◌, ◌∷◌, ◌<◌, ◌+◌, [], true, IfOk, OnOk, OnErr};
+ghost use Rattle.cb_callbacks.specs.Callbacks.{Changes};
+ghost use Rattle.cb_callbacks.specs.Following.{FollowsAll, FollowsPages};
+ghost use Rattle.cb_callbacks.specs.Tables.{AreTables, HasClient, server_of};
+ghost use Rattle.cb_callbacks.specs.Waits.{Waits};
+ghost use Rattle.cb_commit.specs.History.{FitsInto};
+ghost use Rattle.cb_outbox.specs.Messages.{messages_of, page_writes};
+ghost use Rattle.cb_protocol.specs.Basics.{max_number};
+ghost use Rattle.cb_protocol.specs.Flush.{can_flush, server_flush};
+ghost use Rattle.cb_protocol.specs.Server.{ChangeSession, ForgetTransaction};
+ghost use Rattle.cb_protocol.specs.Session.{Admit, ApplyCommit, BeginTransaction};
+ghost use Rattle.cb_protocol.specs.Session.{DropTransaction, has_live_txn};
+ghost use Rattle.cb_protocol.specs.World.{messages_sent};
+
+use crate::Callbacks;
+use crate::callbacks::changes::follow_page;
+use crate::tables::Tables;
+use cb_clients::ClientSet;
+use cb_frame::{Frame, Writes};
+use cb_page::{ClientNo, CommitNo, Incarnation, TxnNo};
+use cb_waits::View;
+use std::alloc::{AllocError, Global};
+
+impl Callbacks {
+    /// A greater incarnation of the client becomes current: all of the old one goes.
+    pub fn admit(&mut self, client: ClientNo, incarnation: Incarnation)
+        requires client { HasClient self.old.tables client }
+        requires newer { ((server_of self.old.tables).session client).current < incarnation }
+        ensures { Changes self.old.tables
+            (ForgetTransaction client ∷ ChangeSession client (Admit incarnation) ∷ [])
+            self.new.tables }
+    {
+        self.tables.holdings.admit(client, incarnation);
+        self.tables.forget(client);
+        follow_all(&mut self.view, &self.tables, client);
+    }
+
+    /// A later transaction of the client begins; the one before it, if it lives, ends as dropped.
+    pub fn begin(&mut self, client: ClientNo, txn: TxnNo)
+        requires client { HasClient self.old.tables client }
+        requires later { ((server_of self.old.tables).session client).txn < txn }
+        ensures { Changes self.old.tables
+            (ForgetTransaction client ∷ ChangeSession client (BeginTransaction txn) ∷ [])
+            self.new.tables }
+    {
+        self.tables.holdings.begin(client, txn);
+        self.tables.forget(client);
+        follow_all(&mut self.view, &self.tables, client);
+    }
+
+    /// The client's live transaction ends as dropped.
+    pub fn drop_transaction(&mut self, client: ClientNo)
+        requires client { HasClient self.old.tables client }
+        requires live { has_live_txn ((server_of self.old.tables).session client) ≡ true }
+        ensures { Changes self.old.tables
+            (ForgetTransaction client
+            ∷ ChangeSession client
+            (DropTransaction ((server_of self.old.tables).session client).txn) ∷ [])
+            self.new.tables }
+    {
+        self.tables.holdings.drop_transaction(client);
+        self.tables.forget(client);
+        follow_all(&mut self.view, &self.tables, client);
+    }
+
+    /// The client's live transaction, which is handed in, ends by the next commit, whose number is
+    /// answered. The commit keeps the pages that are handed in.
+    ///
+    /// `AllocError` only where memory was refused.
+    pub fn apply_commit(
+        &mut self,
+        client: ClientNo,
+        incarnation: Incarnation,
+        txn: TxnNo,
+        writes: Writes,
+    ) -> Result<CommitNo, AllocError>
+        requires client { HasClient self.old.tables client }
+        requires current { incarnation ≡ ((server_of self.old.tables).session client).current }
+        requires txn { txn ≡ ((server_of self.old.tables).session client).txn }
+        requires live { has_live_txn ((server_of self.old.tables).session client) ≡ true }
+        requires left { (server_of self.old.tables).store.last_commit < max_number }
+        requires fit { FitsInto self.old.tables.holdings.commits.store writes }
+        ensures number { IfOk result (λ number.
+            number ≡ (server_of self.old.tables).store.last_commit + 1) }
+        ensures ok { OnOk result (Changes self.old.tables
+            (ForgetTransaction client
+            ∷ ChangeSession client (ApplyCommit txn (page_writes writes)) ∷ [])
+            self.new.tables) }
+        ensures err { OnErr result (self.new ≡ self.old) }
+    {
+        let number = self
+            .tables
+            .holdings
+            .apply_commit(client, incarnation, txn, writes)?;
+        self.tables.forget(client);
+        follow_all(&mut self.view, &self.tables, client);
+        Ok(number)
+    }
+
+    /// The commits up to this number are on disk now: a Done for each that wasn't before, in order.
+    ///
+    /// `AllocError` only where memory was refused.
+    pub fn flushed(&mut self, alloc: Global, number: CommitNo) -> Result<Vec<Frame>, AllocError>
+        requires { can_flush (server_of self.old.tables) number ≡ true }
+        ensures dones { IfOk result (λ frames. messages_of frames.items
+            ≡ messages_sent (server_flush (server_of self.old.tables) number)) }
+        ensures ok { OnOk result (Changes self.old.tables
+            (server_flush (server_of self.old.tables) number) self.new.tables) }
+        ensures err { OnErr result (self.new ≡ self.old) }
+    {
+        let dones = self.tables.holdings.flushed(alloc, number)?;
+        Ok(dones)
+    }
+}
+
+/// The view follows the end of the client's transaction: at each page with asks.
+fn follow_all(view: &mut View, tables: &Tables, client: ClientNo)
+    requires are { AreTables tables.now }
+    requires waits { Waits (server_of tables.now) }
+    ensures { FollowsAll view.old (server_of tables.now) client view.new }
+{
+    view.put_row(client, ClientSet::empty());
+    follow_pages(view, tables);
+}
+
+/// The view follows each page with asks.
+fn follow_pages(view: &mut View, tables: &Tables)
+    requires are { AreTables tables.now }
+    requires waits { Waits (server_of tables.now) }
+    ensures { FollowsPages view.old (server_of tables.now) (server_of tables.now).pages view.new }
+{
+    let mut from = 0;
+    while let Some(page) = tables.asks.next_page(from) {
+        follow_page(view, tables, page);
+        from = page.index() + 1;
+    }
+}

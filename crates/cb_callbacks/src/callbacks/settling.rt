@@ -1,0 +1,144 @@
+//! Asks leave their queues, and pages are settled.
+ghost use Rattle.std.specs.Prelude.{◌≡◌, ◌≤◌, ◌+◌, true, length};
+ghost use Rattle.cb_callbacks.specs.Callbacks.{IsAsLarge};
+ghost use Rattle.cb_callbacks.specs.Deciding.{StartsWith};
+ghost use Rattle.cb_callbacks.specs.Leaving.{FollowsLeft};
+ghost use Rattle.cb_callbacks.specs.Tables.{AreTables, HasPage, server_of};
+ghost use Rattle.cb_holdings.specs.Holdings.{Stays};
+ghost use Rattle.cb_outbox.specs.Saying.{HasRoomFor, OutboxState, Says};
+ghost use Rattle.cb_protocol.specs.Basics.{is_none, max_number};
+ghost use Rattle.cb_protocol.specs.Numbers.{first_free_grant};
+ghost use Rattle.cb_protocol.specs.Server.{has_ask};
+ghost use Rattle.cb_protocol.specs.ServerMessages.{read_asks_below};
+ghost use Rattle.cb_protocol.specs.Settling.{doom_client, grant_row, no_other_holder};
+ghost use Rattle.cb_protocol.specs.Settling.{permit_write, settle_page, settle_pages, sole_row};
+ghost use Rattle.cb_protocol.specs.WaitsFor.{on_cycle};
+
+use crate::Callbacks;
+use crate::tables::Tables;
+use cb_clients::ClientSet;
+use cb_outbox::Outbox;
+use cb_page::{ClientNo, GrantNo, PageNo};
+use cb_waits::View;
+
+impl Callbacks {
+    /// Every page with asks is settled, rising.
+    pub fn settle(&mut self, outbox: &mut Outbox)
+        requires left { first_free_grant (server_of self.old.tables) ≤ max_number + 1 }
+        requires size { IsAsLarge outbox.old self.old.tables }
+        requires room { HasRoomFor (settle_pages on_cycle (server_of self.old.tables)
+            (server_of self.old.tables).pages) outbox.old }
+        ensures says { Says (server_of self.old.tables)
+            (λ server. settle_pages on_cycle server server.pages)
+            (server_of self.new.tables) outbox.old outbox.new }
+        ensures stays { Stays self.old.tables.holdings self.new.tables.holdings }
+    {
+        // The invariant of all as it is before the first page, which the proof cites.
+        let _ = &self.tables;
+        let mut from = 0;
+        while let Some(page) = self.tables.asks.next_page(from) {
+            let asks = self.tables.asks.queue(page).len();
+            self.settle_page(page, asks, outbox);
+            from = page.index() + 1;
+        }
+    }
+
+    /// Settling sends at most 33 messages for each of 32 clients, and a copy for each ask to read.
+    ///
+    /// It does nothing: who is to settle cites it for the room that is needed.
+    pub fn settling_is_bounded(&self)
+        ensures { (outbox : OutboxState) → length outbox.sent + 1056 ≤ outbox.room
+            → read_asks_below (server_of self.now.tables) (server_of self.now.tables).pages
+            ≤ outbox.spare
+            → HasRoomFor (settle_pages on_cycle (server_of self.now.tables)
+            (server_of self.now.tables).pages) outbox }
+    {
+        // To look at a field shows the invariant.
+        let _ = &self.tables;
+    }
+
+    /// The page is settled, in so many decisions at most and one.
+    fn settle_page(&mut self, page: PageNo, asks: usize, outbox: &mut Outbox)
+        requires page { HasPage self.old.tables page }
+        requires left { first_free_grant (server_of self.old.tables) ≤ max_number + 1 }
+        requires size { IsAsLarge outbox.old self.old.tables }
+        requires room { HasRoomFor
+            (settle_page on_cycle (asks + 1) (server_of self.old.tables) page) outbox.old }
+        ensures says { Says (server_of self.old.tables)
+            (λ server. settle_page on_cycle (asks + 1) server page)
+            (server_of self.new.tables) outbox.old outbox.new }
+        ensures stays { Stays self.old.tables.holdings self.new.tables.holdings }
+    {
+        let goes_on = self.decide(page, outbox);
+        if goes_on && asks > 0 {
+            self.settle_page(page, asks - 1, outbox);
+        }
+    }
+
+    /// The first ask of the page is permitted, and the view follows.
+    pub(crate) fn permit_first(
+        &mut self,
+        client: ClientNo,
+        page: PageNo,
+        grant: GrantNo,
+        outbox: &mut Outbox,
+    )
+        requires page { HasPage self.old.tables page }
+        requires first { StartsWith client ((server_of self.old.tables).queue page) }
+        requires alone { no_other_holder ((server_of self.old.tables).store.holder page) client
+            ≡ true }
+        requires sole { sole_row (server_of self.old.tables) page client
+            (server_of self.old.tables).clients ≡ true }
+        requires room { HasRoomFor (permit_write (server_of self.old.tables) page client grant)
+            outbox.old }
+        ensures says { Says (server_of self.old.tables)
+            (λ server. permit_write server page client grant)
+            (server_of self.new.tables) outbox.old outbox.new }
+        ensures stays { Stays self.old.tables.holdings self.new.tables.holdings }
+    {
+        self.tables.permit_first(client, page, grant, outbox);
+        follow_left(&mut self.view, &self.tables, client, page);
+    }
+
+    /// The first ask of the page is granted, and the view follows.
+    pub(crate) fn grant_first(&mut self, client: ClientNo, page: PageNo, outbox: &mut Outbox)
+        requires page { HasPage self.old.tables page }
+        requires first { StartsWith client ((server_of self.old.tables).queue page) }
+        requires alone { no_other_holder ((server_of self.old.tables).store.holder page) client
+            ≡ true }
+        requires no_row { is_none (((server_of self.old.tables).session client).row page) ≡ true }
+        requires left { (server_of self.old.tables).next_grant ≤ max_number }
+        requires size { IsAsLarge outbox.old self.old.tables }
+        requires room { HasRoomFor (grant_row (server_of self.old.tables) page client) outbox.old }
+        ensures says { Says (server_of self.old.tables) (λ server. grant_row server page client)
+            (server_of self.new.tables) outbox.old outbox.new }
+        ensures stays { Stays self.old.tables.holdings self.new.tables.holdings }
+    {
+        self.tables.grant_first(client, page, outbox);
+        follow_left(&mut self.view, &self.tables, client, page);
+    }
+
+    /// The client, whose ask waits at the page, is doomed, and the view follows.
+    pub(crate) fn doom(&mut self, client: ClientNo, page: PageNo, outbox: &mut Outbox)
+        requires page { HasPage self.old.tables page }
+        requires here { has_ask client ((server_of self.old.tables).queue page) ≡ true }
+        requires room { HasRoomFor (doom_client (server_of self.old.tables) client) outbox.old }
+        ensures says { Says (server_of self.old.tables) (λ server. doom_client server client)
+            (server_of self.new.tables) outbox.old outbox.new }
+        ensures stays { Stays self.old.tables.holdings self.new.tables.holdings }
+    {
+        self.tables.doom(client, outbox);
+        follow_left(&mut self.view, &self.tables, client, page);
+    }
+}
+
+/// The view follows a page that the client's ask has left.
+fn follow_left(view: &mut View, tables: &Tables, client: ClientNo, page: PageNo)
+    requires are { AreTables tables.now }
+    requires page { HasPage tables.now page }
+    ensures { FollowsLeft view.old (server_of tables.now) client page view.new }
+{
+    view.put_row(client, ClientSet::empty());
+    let held_up_by = tables.held_up_by(page);
+    view.follow(tables.asks.queue(page), held_up_by);
+}
