@@ -7,6 +7,7 @@ ghost use Rattle.cb_protocol.specs.Server.{new_server};
 ghost use Rattle.cb_protocol.specs.ServerMessages.{has_waiting_ask, read_asks_below};
 ghost use Rattle.cb_protocol.specs.WaitsFor.{on_cycle};
 ghost use Rattle.cb_protocol.specs.World.{opening_store};
+ghost use Rattle.cb_waits.specs.Follows.{Follows};
 
 mod changes;
 mod deciding;
@@ -67,6 +68,27 @@ impl Callbacks {
         ensures { result.now ≡ self.now.tables.holdings }
     {
         &self.tables.holdings
+    }
+
+    /// The queues of asks.
+    pub fn asks(&self) -> &Asks
+        ensures { result.now ≡ self.now.tables.asks }
+    {
+        &self.tables.asks
+    }
+
+    /// Who uses which page that it was called back for.
+    pub fn marks(&self) -> &Marks
+        ensures { result.now ≡ self.now.tables.marks }
+    {
+        &self.tables.marks
+    }
+
+    /// Who waits for whom, as it is kept.
+    pub fn kept_view(&self) -> &View
+        ensures { Follows result.now (server_of self.now.tables) }
+    {
+        &self.view
     }
 
     /// Whether the client waits, in one or more steps, for itself.
