@@ -1,6 +1,8 @@
-//! Tests of the client's parts by their public calls.
+//! Tests of the client and of its parts by their public calls.
 #![tactic(auto)]
 
+#[cfg(test)]
+mod client;
 #[cfg(test)]
 mod copies;
 #[cfg(test)]
