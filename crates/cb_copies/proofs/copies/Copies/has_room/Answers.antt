@@ -11,4 +11,4 @@ returns-clause-within g c = λ client. rw (← c.self.view_is) (
     let within = c.room.ensures.is_pool.within in
     let slots = c.self.invariant.sizes.slots in
     omega arith
-)
+    )
