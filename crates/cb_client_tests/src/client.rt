@@ -101,6 +101,68 @@ fn refuses<Q: Chooser>(client: &mut Client<Q>, page: PageNo, fault: ClientFault)
     }
 }
 
+/// Whether a transaction of that number begins.
+fn begins<Q: Chooser>(client: &mut Client<Q>, txn: TxnNo) -> bool {
+    match client.begin() {
+        Ok(begun) => begun == txn,
+        Err(_) => false,
+    }
+}
+
+/// Whether the client says these bodies again, and no others.
+fn says_again<Q: Chooser>(alloc: Global, client: &Client<Q>, bodies: &[ShortBody]) -> bool {
+    match client.again(alloc) {
+        Ok(frames) => are(frames.as_slice(), bodies),
+        Err(_) => false,
+    }
+}
+
+/// Whether the transaction is dropped with these frames.
+fn drops<Q: Chooser>(alloc: Global, client: &mut Client<Q>, bodies: &[ShortBody]) -> bool {
+    match client.drop_txn(alloc) {
+        Ok(frames) => are(frames.as_slice(), bodies),
+        Err(_) => false,
+    }
+}
+
+/// Whether a page in use is given back when its transaction is dropped, once.
+fn is_given_back_once<Q: Chooser>(alloc: Global, client: &mut Client<Q>) -> bool {
+    let (txn, page, grant) = (TxnNo::new(1), PageNo::new(5), GrantNo::new(1));
+    let callback = ShortBody::Callback { page, grant };
+    let in_use = [ShortBody::InUse { txn, page, grant }];
+    let give_back = ShortBody::GiveBack { page, grant };
+    is(&client.hello(), ShortBody::Hello)
+        && says(alloc, client, ShortBody::Welcome, &[])
+        && begins(client, txn)
+        && asks(client, txn, page)
+        && granted(alloc, client, (page, grant), &[])
+        && says(alloc, client, callback, &in_use)
+        && says(alloc, client, callback, &in_use)
+        && drops(alloc, client, &[ShortBody::Drop { txn }, give_back])
+        && says(alloc, client, callback, &[give_back])
+}
+
+/// Whether the grant that went is refused later, and an aborted transaction gives back what it
+/// wrote.
+fn is_aborted<Q: Chooser>(alloc: Global, client: &mut Client<Q>) -> bool {
+    let (one, txn, page) = (TxnNo::new(1), TxnNo::new(2), PageNo::new(5));
+    let (first, fourth) = (GrantNo::new(1), GrantNo::new(4));
+    let give_back = [ShortBody::GiveBack { page, grant: first }];
+    let again = [
+        ShortBody::Drop { txn: one },
+        ShortBody::AskRead { txn, page },
+    ];
+    begins(client, txn)
+        && asks(client, txn, page)
+        && says_again(alloc, client, &again)
+        && granted(alloc, client, (page, first), &give_back)
+        && granted(alloc, client, (page, fourth), &[])
+        && writes_and_aborts(alloc, client, txn, (page, fourth))
+        && client.status() == ClientStatus::Idle
+        && client.last() == Some(Outcome::Aborted)
+        && says_again(alloc, client, &[ShortBody::Drop { txn }])
+}
+
 /// A page in use is given back when its transaction is dropped, once; a grant that went is refused
 /// later, and an aborted transaction gives back what it wrote.
 #[test]
@@ -108,38 +170,13 @@ fn client_in_use_then_aborted(rt: HostRuntime) -> anyhow::Result<()> {
     let alloc = rt.alloc();
     let limits = Limits::new(2, 8, 16, 2, 1, 1)?;
     let pool = TwoQ::make(alloc, &limits)?;
-    let mut client = Client::new(alloc, ClientNo::new(0), Incarnation::new(1), &limits, pool)?;
-    let (page, first, fourth) = (PageNo::new(5), GrantNo::new(1), GrantNo::new(4));
-    let (one, two) = (TxnNo::new(1), TxnNo::new(2));
-    let give_back = ShortBody::GiveBack { page, grant: first };
-    let in_use = ShortBody::InUse {
-        txn: one,
-        page,
-        grant: first,
+    let seen = match Client::new(alloc, ClientNo::new(0), Incarnation::new(1), &limits, pool) {
+        Ok(mut client) => {
+            is_given_back_once(alloc, &mut client) && is_aborted(alloc, &mut client)
+        }
+        Err(_) => false,
     };
-    let callback = ShortBody::Callback { page, grant: first };
-    assert!(rt; is(&client.hello(), ShortBody::Hello));
-    assert!(rt; says(alloc, &mut client, ShortBody::Welcome, &[]));
-    assert!(rt; client.begin()? == one);
-    assert!(rt; asks(&mut client, one, page));
-    assert!(rt; granted(alloc, &mut client, (page, first), &[]));
-    assert!(rt; says(alloc, &mut client, callback, &[in_use]));
-    assert!(rt; says(alloc, &mut client, callback, &[in_use]));
-    let ended = client.drop_txn(alloc)?;
-    assert!(rt; are(ended.as_slice(), &[ShortBody::Drop { txn: one }, give_back]));
-    assert!(rt; says(alloc, &mut client, callback, &[give_back]));
-    assert!(rt; client.begin()? == two);
-    assert!(rt; asks(&mut client, two, page));
-    let again = client.again(alloc)?;
-    let asked = ShortBody::AskRead { txn: two, page };
-    assert!(rt; are(again.as_slice(), &[ShortBody::Drop { txn: one }, asked]));
-    assert!(rt; granted(alloc, &mut client, (page, first), &[give_back]));
-    assert!(rt; granted(alloc, &mut client, (page, fourth), &[]));
-    assert!(rt; writes_and_aborts(alloc, &mut client, two, (page, fourth)));
-    assert!(rt; client.status() == ClientStatus::Idle);
-    assert!(rt; client.last() == Some(Outcome::Aborted));
-    let again = client.again(alloc)?;
-    assert!(rt; are(again.as_slice(), &[ShortBody::Drop { txn: two }]));
+    assert!(rt; seen);
     Ok(())
 }
 
@@ -162,43 +199,49 @@ fn writes_and_aborts<Q: Chooser>(
     asked && permitted && wrote && aborted
 }
 
-/// A hit and an install are references; a refused read, an ask and a repeated Granted are not. A
-/// page is forgotten as its copy goes.
-#[test]
-fn references_of_a_client(rt: HostRuntime) -> anyhow::Result<()> {
-    let alloc = rt.alloc();
-    let limits = Limits::new(2, 8, 16, 4, 1, 2)?;
-    let pool = Recorder::<TwoQ>::make(alloc, &limits)?;
-    let mut client = Client::new(alloc, ClientNo::new(0), Incarnation::new(1), &limits, pool)?;
+/// Whether refused reads, asks, hits and grants, one of them repeated, come as they should.
+fn reads_of_one_transaction<Q: Chooser>(alloc: Global, client: &mut Client<Q>) -> bool {
     let (low, high, last) = (PageNo::new(0), PageNo::new(3), PageNo::new(2));
     let (first, second, third) = (GrantNo::new(1), GrantNo::new(2), GrantNo::new(3));
     let one = TxnNo::new(1);
-    assert!(rt; refuses(&mut client, low, ClientFault::NotWelcome));
-    assert!(rt; says(alloc, &mut client, ShortBody::Welcome, &[]));
-    assert!(rt; refuses(&mut client, low, ClientFault::NoTransaction));
-    assert!(rt; client.begin()? == one);
-    assert!(rt; refuses(&mut client, PageNo::new(9), ClientFault::PageRange));
-    assert!(rt; asks(&mut client, one, low));
-    assert!(rt; refuses(&mut client, high, ClientFault::Waiting));
-    assert!(rt; granted(alloc, &mut client, (low, first), &[]));
-    assert!(rt; granted(alloc, &mut client, (low, first), &[]));
-    assert!(rt; reads(&mut client, low) && reads(&mut client, low));
-    assert!(rt; asks(&mut client, one, high) && granted(alloc, &mut client, (high, second), &[]));
-    assert!(rt; asks(&mut client, one, last));
-    assert!(rt; refuses(&mut client, low, ClientFault::Waiting) && client.peek(low).is_some());
-    assert!(rt; granted(alloc, &mut client, (last, third), &[]));
-    assert!(rt; ends_with_a_page_in_use(alloc, &mut client, (low, first)));
-    client.begin()?;
-    assert!(rt; reads(&mut client, last));
-    let callback = ShortBody::Callback {
-        page: high,
-        grant: second,
-    };
-    let give_back = ShortBody::GiveBack {
-        page: high,
-        grant: second,
-    };
-    assert!(rt; says(alloc, &mut client, callback, &[give_back]));
+    refuses(client, low, ClientFault::NotWelcome)
+        && says(alloc, client, ShortBody::Welcome, &[])
+        && refuses(client, low, ClientFault::NoTransaction)
+        && begins(client, one)
+        && refuses(client, PageNo::new(9), ClientFault::PageRange)
+        && asks(client, one, low)
+        && refuses(client, high, ClientFault::Waiting)
+        && granted(alloc, client, (low, first), &[])
+        && granted(alloc, client, (low, first), &[])
+        && reads(client, low)
+        && reads(client, low)
+        && asks(client, one, high)
+        && granted(alloc, client, (high, second), &[])
+        && asks(client, one, last)
+        && refuses(client, low, ClientFault::Waiting)
+        && client.peek(low).is_some()
+        && granted(alloc, client, (last, third), &[])
+        && ends_with_a_page_in_use(alloc, client, (low, first))
+}
+
+/// Whether a page is read by the next transaction, and one that isn't is given back at once.
+fn reads_of_the_next<Q: Chooser>(alloc: Global, client: &mut Client<Q>) -> bool {
+    let (page, grant) = (PageNo::new(3), GrantNo::new(2));
+    let give_back = [ShortBody::GiveBack { page, grant }];
+    begins(client, TxnNo::new(2))
+        && reads(client, PageNo::new(2))
+        && says(
+            alloc,
+            client,
+            ShortBody::Callback { page, grant },
+            &give_back,
+        )
+}
+
+/// Whether the chooser was called for these, in order.
+fn refers_as_wanted(alloc: Global, client: &mut Client<Recorder<TwoQ>>) -> bool {
+    let (low, high, last) = (PageNo::new(0), PageNo::new(3), PageNo::new(2));
+    let played = reads_of_one_transaction(alloc, client) && reads_of_the_next(alloc, client);
     let calls = [
         Called::Reference(low),
         Called::Reference(low),
@@ -209,7 +252,21 @@ fn references_of_a_client(rt: HostRuntime) -> anyhow::Result<()> {
         Called::Reference(last),
         Called::Forget(high),
     ];
-    assert!(rt; client.chooser().calls() == calls.as_slice());
+    played && client.chooser().calls() == calls.as_slice()
+}
+
+/// A hit and an install are references; a refused read, an ask and a repeated Granted are not. A
+/// page is forgotten as its copy goes.
+#[test]
+fn references_of_a_client(rt: HostRuntime) -> anyhow::Result<()> {
+    let alloc = rt.alloc();
+    let limits = Limits::new(2, 8, 16, 4, 1, 2)?;
+    let pool = Recorder::<TwoQ>::make(alloc, &limits)?;
+    let seen = match Client::new(alloc, ClientNo::new(0), Incarnation::new(1), &limits, pool) {
+        Ok(mut client) => refers_as_wanted(alloc, &mut client),
+        Err(_) => false,
+    };
+    assert!(rt; seen);
     Ok(())
 }
 
@@ -271,13 +328,8 @@ fn is_cut<Q: Chooser>(alloc: Global, client: &mut Client<Q>, frame: &Frame) -> b
     }
 }
 
-/// Each kind for a client, and one for the server, cut at every length.
-#[test]
-fn frames_for_a_client_are_cut(rt: HostRuntime) -> anyhow::Result<()> {
-    let alloc = rt.alloc();
-    let limits = Limits::new(2, 8, 16, 2, 1, 1)?;
-    let pool = TwoQ::make(alloc, &limits)?;
-    let mut client = Client::new(alloc, ClientNo::new(0), Incarnation::new(1), &limits, pool)?;
+/// Whether each kind for a client, and one for the server, can be cut at every length.
+fn are_cut<Q: Chooser>(alloc: Global, client: &mut Client<Q>) -> bool {
     let (txn, page, grant) = (TxnNo::new(1), PageNo::new(5), GrantNo::new(1));
     let number = CommitNo::new(1);
     let bodies = [
@@ -290,15 +342,33 @@ fn frames_for_a_client_are_cut(rt: HostRuntime) -> anyhow::Result<()> {
         ShortBody::Downgrade { page, grant, txn },
     ];
     for body in bodies {
-        assert!(rt; is_cut(alloc, &mut client, &frame(Body::Short(body))));
+        if !is_cut(alloc, client, &frame(Body::Short(body))) {
+            return false;
+        }
     }
+    let Ok(bytes) = vec![in alloc; 7u8; 16] else {
+        return false;
+    };
     let granted = frame(Body::Granted {
         page,
         grant,
         version: Version::new(0),
-        bytes: Page::from_vec(vec![in alloc; 7u8; 16]?),
+        bytes: Page::from_vec(bytes),
     });
-    assert!(rt; is_cut(alloc, &mut client, &granted));
+    is_cut(alloc, client, &granted)
+}
+
+/// Each kind for a client, and one for the server, cut at every length.
+#[test]
+fn frames_for_a_client_are_cut(rt: HostRuntime) -> anyhow::Result<()> {
+    let alloc = rt.alloc();
+    let limits = Limits::new(2, 8, 16, 2, 1, 1)?;
+    let pool = TwoQ::make(alloc, &limits)?;
+    let seen = match Client::new(alloc, ClientNo::new(0), Incarnation::new(1), &limits, pool) {
+        Ok(mut client) => are_cut(alloc, &mut client),
+        Err(_) => false,
+    };
+    assert!(rt; seen);
     Ok(())
 }
 
@@ -344,6 +414,32 @@ fn are_written<Q: Chooser>(alloc: Global, client: &mut Client<Q>, txn: TxnNo, co
     true
 }
 
+/// Whether 300 pages are written and committed, and the next transaction dropped.
+fn has_memory<Q: Chooser>(alloc: Global, client: &mut Client<Q>, limits: &Limits) -> bool {
+    let txn = TxnNo::new(1);
+    let number = CommitNo::new(1);
+    let began = says(alloc, client, ShortBody::Welcome, &[]) && begins(client, txn);
+    if !(began && are_written(alloc, client, txn, 300)) {
+        return false;
+    }
+    let length = match client.finish(alloc) {
+        Ok(commit) => encode_of(alloc, &commit, limits),
+        Err(_) => 0,
+    };
+    let again = match client.again(alloc) {
+        Ok(frames) => frames.len(),
+        Err(_) => 0,
+    };
+    let done = Body::Short(ShortBody::Done { txn, number });
+    let given = taken(alloc, client, done).len();
+    let next = TxnNo::new(2);
+    length == 16 + 10 + 300 * (16 + 4096)
+        && again == 1
+        && given == 300
+        && begins(client, next)
+        && drops(alloc, client, &[ShortBody::Drop { txn: next }])
+}
+
 /// At the greatest limits but the pages' size, with 300 pages of 4,096 bytes written: each call
 /// that can answer Memory has it.
 #[test]
@@ -351,19 +447,11 @@ fn greatest_client(rt: HostRuntime) -> anyhow::Result<()> {
     let alloc = rt.alloc();
     let limits = Limits::new(32, 4096, 4096, 1024, 256, 512)?;
     let pool = TwoQ::make(alloc, &limits)?;
-    let mut client = Client::new(alloc, ClientNo::new(0), Incarnation::new(1), &limits, pool)?;
-    assert!(rt; says(alloc, &mut client, ShortBody::Welcome, &[]));
-    let one = client.begin()?;
-    assert!(rt; are_written(alloc, &mut client, one, 300));
-    assert!(rt; encode_of(alloc, &client.finish(alloc)?, &limits) == 16 + 10 + 300 * (16 + 4096));
-    assert!(rt; client.again(alloc)?.len() == 1);
-    let done = ShortBody::Done {
-        txn: one,
-        number: CommitNo::new(1),
+    let seen = match Client::new(alloc, ClientNo::new(0), Incarnation::new(1), &limits, pool) {
+        Ok(mut client) => has_memory(alloc, &mut client, &limits),
+        Err(_) => false,
     };
-    assert!(rt; taken(alloc, &mut client, Body::Short(done)).len() == 300);
-    let two = client.begin()?;
-    assert!(rt; are_written(alloc, &mut client, two, 0) && client.drop_txn(alloc)?.len() == 1);
+    assert!(rt; seen);
     Ok(())
 }
 
