@@ -125,21 +125,31 @@ fn drops<Q: Chooser>(alloc: Global, client: &mut Client<Q>, bodies: &[ShortBody]
     }
 }
 
+/// Whether the client says these bodies, and no others, to a callback.
+fn is_called<Q: Chooser>(
+    alloc: Global,
+    client: &mut Client<Q>,
+    (page, grant): (PageNo, GrantNo),
+    bodies: &[ShortBody],
+) -> bool {
+    says(alloc, client, ShortBody::Callback { page, grant }, bodies)
+}
+
 /// Whether a page in use is given back when its transaction is dropped, once.
 fn is_given_back_once<Q: Chooser>(alloc: Global, client: &mut Client<Q>) -> bool {
     let (txn, page, grant) = (TxnNo::new(1), PageNo::new(5), GrantNo::new(1));
-    let callback = ShortBody::Callback { page, grant };
     let in_use = [ShortBody::InUse { txn, page, grant }];
-    let give_back = ShortBody::GiveBack { page, grant };
+    let ends = [ShortBody::Drop { txn }, ShortBody::GiveBack { page, grant }];
+    let give_back = [ShortBody::GiveBack { page, grant }];
     is(&client.hello(), ShortBody::Hello)
         && says(alloc, client, ShortBody::Welcome, &[])
         && begins(client, txn)
         && asks(client, txn, page)
         && granted(alloc, client, (page, grant), &[])
-        && says(alloc, client, callback, &in_use)
-        && says(alloc, client, callback, &in_use)
-        && drops(alloc, client, &[ShortBody::Drop { txn }, give_back])
-        && says(alloc, client, callback, &[give_back])
+        && is_called(alloc, client, (page, grant), &in_use)
+        && is_called(alloc, client, (page, grant), &in_use)
+        && drops(alloc, client, &ends)
+        && is_called(alloc, client, (page, grant), &give_back)
 }
 
 /// Whether the grant that went is refused later, and an aborted transaction gives back what it
