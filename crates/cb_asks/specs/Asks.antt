@@ -39,7 +39,8 @@ pub record IsAsks (state : AsksState) : Type 0 where
   -- a client has one ask at its place, and no other
   pub counts : (client page : ℕ) → ask_count client (queue_at state page)
       ≡ one_if (is_exactly (place_of state.places client) page)
-  pub waiting : (client : ℕ) → has state.places.waiting client ≡ is_some (place_of state.places client)
+  pub waiting : (client : ℕ)
+      → has state.places.waiting client ≡ is_some (place_of state.places client)
   pub reads : state.places.reads
       ≡ sum_below (λ page. read_asks_in (queue_at state page)) (length state.queues)
   pub sizes : sum_below (λ page. length (queue_at state page)) (length state.queues)

@@ -164,8 +164,8 @@ static TWO_WRITERS_DEADLOCK: [Row; 13] = [
     (Settle, 0, 0, 21),
 ];
 
-/// A waits for b's page and b for a's: the one whose ask would close the cycle is doomed as its page
-/// is settled, and an ask behind it goes on.
+/// A waits for b's page and b for a's: the one whose ask would close the cycle is doomed as its
+/// page is settled, and an ask behind it goes on.
 static CYCLE_OF_TWO_PAGES: [Row; 17] = [
     (Greet, 0, 0, 0),
     (Greet, 1, 0, 0),

@@ -12,8 +12,8 @@ use Rattle.cb_outbox.specs.Messages.{message_of, short_of}
 use Rattle.cb_protocol.specs.Answers as table
 use Rattle.cb_protocol.specs.Basics.{Bytes, is_none}
 use Rattle.cb_protocol.specs.Client.{bodies_said}
-use Rattle.cb_protocol.specs.ClientCalls.{Call, CallBegin, CallFinish, CallRead, CallWant, CallWrite}
-use Rattle.cb_protocol.specs.ClientCalls.{call_fault, client_call}
+use Rattle.cb_protocol.specs.ClientCalls.{Call, CallBegin, CallFinish, CallRead, CallWant}
+use Rattle.cb_protocol.specs.ClientCalls.{CallWrite, call_fault, client_call}
 use Rattle.cb_protocol.specs.Messages.{AskRead, Message}
 use Rattle.cb_protocol.specs.Serial.{Operation, Put, Saw}
 use Rattle.cb_client.specs.ClientState.{ClientState, client_of}

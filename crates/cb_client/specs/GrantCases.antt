@@ -1,7 +1,7 @@
 -- What becomes of a grant that comes to a client (TODS 1997; that a grant is to be greater than all
 -- that came before is this project's rule).
-use Rattle.std.specs.Prelude.{◌==◌, nat_lt, ℕ, Bool, true, false, not, ◌&&◌, if◌then◌else◌, List, []}
-use Rattle.std.specs.Prelude.{◌∷◌, Option, Some, None, unwrap_or}
+use Rattle.std.specs.Prelude.{◌==◌, nat_lt, ℕ, Bool, true, false, not, ◌&&◌, if◌then◌else◌, List}
+use Rattle.std.specs.Prelude.{[], ◌∷◌, Option, Some, None, unwrap_or}
 use Rattle.std.specs.Option.{is_some}
 use Rattle.cb_page.specs.Flags.{has}
 use Rattle.cb_copies.specs.CopiesState.{CopiesState, content_at, copy_at}

@@ -4,7 +4,8 @@ ghost use Rattle.std.specs.Prelude.{IfOk, IfSome, OnErr, Some};
 ghost use Rattle.std.specs.Vec.{vec_capacity, vec_len};
 ghost use Rattle.cb_page.specs.Flags.{has};
 ghost use Rattle.cb_protocol.specs.Cache.{Abandon, TakeDone};
-ghost use Rattle.cb_protocol.specs.Client.{ChangeCache, EndTransaction, LastOutcome, Say, bodies_said};
+ghost use Rattle.cb_protocol.specs.Client.{ChangeCache, EndTransaction, LastOutcome, Say};
+ghost use Rattle.cb_protocol.specs.Client.{bodies_said};
 ghost use Rattle.cb_outbox.specs.Messages.{messages_of, short_of};
 ghost use Rattle.cb_copies.specs.ByTable.{Does};
 ghost use Rattle.cb_copies.specs.CopiesState.{copy_at};
@@ -100,8 +101,8 @@ fn end_pages<Q: Chooser>(
 }
 
 /// The transaction ends as committed with that number: what it wrote has it as its version; copies
-/// that are due or bare are given back, and permissions that are due alone given up, by rising page.
-/// Answers these frames.
+/// that are due or bare are given back, and permissions that are due alone given up, by rising
+/// page. Answers these frames.
 ///
 /// `AllocError` only where memory for them was refused; nothing changes then.
 pub fn commit_ends<Q: Chooser>(
@@ -123,8 +124,8 @@ pub fn commit_ends<Q: Chooser>(
     Ok(frames)
 }
 
-/// The transaction ends as dropped or aborted, which is said first: the copies that it wrote go, and
-/// all permissions; these copies and those that are due or bare are given back, by rising page.
+/// The transaction ends as dropped or aborted, which is said first: the copies that it wrote go,
+/// and all permissions; these copies and those that are due or bare are given back, by rising page.
 /// Answers these frames.
 ///
 /// `AllocError` only where memory for them was refused; nothing changes then.

@@ -55,7 +55,8 @@ impl CallbackDue {
     /// Answers a permission that is called back alone by giving it up; the copy stays.
     pub fn give_down(self) -> Frame
         requires { IsSome self.tag }
-        ensures { IfSome self.tag (λ tag. result ≡ saying self (Downgraded self.page self.grant tag)) }
+        ensures { IfSome self.tag (λ tag.
+            result ≡ saying self (Downgraded self.page self.grant tag)) }
     {
         let Some(txn) = self.tag else { unreachable!() };
         let body = ShortBody::Downgraded {

@@ -30,8 +30,8 @@ fn hold(alloc: Global, commits: &Commits, held: &mut Option<Batch>) -> Result<()
     Ok(())
 }
 
-/// Writes the batch that is held, or else the next one, and reports it: a Done for each commit in it
-/// that wasn't reported before. Where it is refused the batch stays held, and is written again
+/// Writes the batch that is held, or else the next one, and reports it: a Done for each commit in
+/// it that wasn't reported before. Where it is refused the batch stays held, and is written again
 /// before another is taken.
 ///
 /// `Memory` besides where the database answers it: where memory was refused for the batch (then

@@ -6,8 +6,8 @@ ghost use Rattle.sqlite.specs.Held.{state};
 ghost use Rattle.cb_commit.specs.Stores.{IsOf, zeros};
 ghost use Rattle.cb_shelf.specs.Statements.{MakesAll};
 ghost use Rattle.cb_shelf.specs.Inside.{Inside, IsAny, IsSame};
-ghost use Rattle.cb_shelf.specs.Opening.{LaysOut, LaidBy, Opened, IsFound, table_statements, first_pages, mark_row};
-ghost use Rattle.cb_shelf.specs.Opening.{clear_statements, laid};
+ghost use Rattle.cb_shelf.specs.Opening.{LaysOut, LaidBy, Opened, IsFound, table_statements};
+ghost use Rattle.cb_shelf.specs.Opening.{clear_statements, first_pages, laid, mark_row};
 
 use crate::ShelfFault;
 use crate::reading::{OLD_TABLES, TABLES, ask_number, read_store};
@@ -149,7 +149,8 @@ fn look<S: Alter>(
     ensures of { IfOk result (IsFound limits.now) }
     ensures same { HasCleanDisk (state S.Store conn.new)
         → IsSame (state S.Store conn.old) (state S.Store conn.new) }
-    ensures settled { HasCleanDisk (state S.Store conn.new) → IsTrue (state S.Store conn.new).is_open
+    ensures settled { HasCleanDisk (state S.Store conn.new)
+        → IsTrue (state S.Store conn.new).is_open
         → OnOk result ((state S.Store conn.new).committed ≡ (state S.Store conn.old).now) }
     ensures crash { Survives (state S.Store conn.old) (state S.Store conn.new) (λ _. ⊥) }
 {
@@ -173,7 +174,8 @@ fn create_tables<S: Alter>(tx: &mut Transaction<'_, S>) -> Result<(), ShelfFault
 {
     run(
         tx,
-        "CREATE TABLE mark2(id INTEGER PRIMARY KEY, commits INTEGER NOT NULL, page_size INTEGER NOT NULL, pages INTEGER NOT NULL) STRICT",
+        "CREATE TABLE mark2(id INTEGER PRIMARY KEY, commits INTEGER NOT NULL, \
+        page_size INTEGER NOT NULL, pages INTEGER NOT NULL) STRICT",
         &[],
     )?;
     run(
@@ -183,7 +185,8 @@ fn create_tables<S: Alter>(tx: &mut Transaction<'_, S>) -> Result<(), ShelfFault
     )?;
     run(
         tx,
-        "CREATE TABLE part(no INTEGER NOT NULL, place INTEGER NOT NULL, body BLOB NOT NULL, PRIMARY KEY(no, place)) STRICT",
+        "CREATE TABLE part(no INTEGER NOT NULL, place INTEGER NOT NULL, \
+        body BLOB NOT NULL, PRIMARY KEY(no, place)) STRICT",
         &[],
     )
 }
@@ -318,7 +321,8 @@ pub(crate) fn open_tables<S: Alter>(
     conn: &mut Connection<S>,
     limits: &Limits,
 ) -> Result<(), ShelfFault>
-    ensures laid_out { HasCleanDisk (state S.Store conn.new) → IsTrue (state S.Store conn.new).is_open
+    ensures laid_out { HasCleanDisk (state S.Store conn.new)
+        → IsTrue (state S.Store conn.new).is_open
         → OnOk result (LaysOut S.Store limits.now (state S.Store conn.old).now
         (state S.Store conn.new).committed) }
     ensures neither { HasCleanDisk (state S.Store conn.new)

@@ -28,8 +28,8 @@ pub struct Shelf<S: Alter> {
 }
 
 impl<S: Alter> Shelf<S> {
-    /// Opens the tables of a store of these limits. It makes them, with zeros, where there are none,
-    /// and copies what older ones hold; tables of any other shape are refused.
+    /// Opens the tables of a store of these limits. It makes them, with zeros, where there are
+    /// none, and copies what older ones hold; tables of any other shape are refused.
     ///
     /// What is refused comes with the connection.
     pub fn open(
@@ -44,7 +44,8 @@ impl<S: Alter> Shelf<S> {
             (state S.Store shelf.conn).committed) }
         ensures neither { IfErr result (λ refused. HasCleanDisk (state S.Store refused.1)
             → IsSame (state S.Store conn) (state S.Store refused.1)) }
-        ensures crash { IfOk result (λ shelf. Survives (state S.Store conn) (state S.Store shelf.conn)
+        ensures crash { IfOk result (λ shelf.
+            Survives (state S.Store conn) (state S.Store shelf.conn)
             (Opened S.Store limits.now conn)) }
         ensures refused_crash { IfErr result (λ refused.
             Survives (state S.Store conn) (state S.Store refused.1)
@@ -83,7 +84,8 @@ impl<S: Alter> Shelf<S> {
         ensures limits { self.new.limits ≡ self.old.limits }
         ensures same { HasCleanDisk (state S.Store self.new.conn)
             → IsSame (state S.Store self.old.conn) (state S.Store self.new.conn) }
-        ensures crash { Survives (state S.Store self.old.conn) (state S.Store self.new.conn) (λ _. ⊥) }
+        ensures crash { Survives (state S.Store self.old.conn) (state S.Store self.new.conn)
+            (λ _. ⊥) }
     {
         read_back(alloc, &mut self.conn, &self.limits)
     }

@@ -20,7 +20,8 @@ pub(crate) fn run<S: Alter>(
     ensures inside { Inside S.Store
         (MakesAll S.Store (record { text = text.now; params = bound params.now } ∷ []))
         tx.old.conn.now tx.new.conn.now result }
-    ensures open { HasCleanDisk (state S.Store tx.new.conn.now) → IsTrue tx.old.conn.now.in_transaction
+    ensures open { HasCleanDisk (state S.Store tx.new.conn.now)
+        → IsTrue tx.old.conn.now.in_transaction
         → OnOk result (IsTrue (state S.Store tx.old.conn.now).is_open) }
 {
     tx.execute(text, params)?;

@@ -16,7 +16,11 @@ type Old = (u64, u64, u8);
 
 /// The tables of an older generation, with a store.
 static OLD: &'static str =
-    "BEGIN; CREATE TABLE page(no INTEGER PRIMARY KEY, version INTEGER NOT NULL, body BLOB NOT NULL) STRICT; CREATE TABLE mark(id INTEGER PRIMARY KEY, commits INTEGER NOT NULL, page_size INTEGER NOT NULL) STRICT; INSERT INTO page VALUES (0, 3, x'07070707070707070707070707070707'), (1, 0, x'00000000000000000000000000000000'); INSERT INTO mark VALUES (1, 3, 16); COMMIT";
+    "BEGIN; CREATE TABLE page(no INTEGER PRIMARY KEY, version INTEGER NOT NULL, body BLOB NOT \
+     NULL) STRICT; CREATE TABLE mark(id INTEGER PRIMARY KEY, commits INTEGER NOT NULL, \
+     page_size INTEGER NOT NULL) STRICT; INSERT INTO page VALUES (0, 3, \
+     x'07070707070707070707070707070707'), (1, 0, x'00000000000000000000000000000000'); \
+     INSERT INTO mark VALUES (1, 3, 16); COMMIT";
 
 /// How far a run came before the disk stopped.
 #[derive(Clone, Copy, Debug, PartialEq, Eq)]

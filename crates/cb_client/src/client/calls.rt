@@ -1,6 +1,7 @@
 //! The calls of an application: what each is refused for, and what it does.
-ghost use Rattle.std.specs.Prelude.{◌≡◌, ◌≢◌, ℕ, ◌+◌, ◌<◌, List, ◌∷◌, ◌++◌, [], Ok, Some, None, IfOk, IfSome};
-ghost use Rattle.std.specs.Prelude.{IsOk, option_to_list, length, false, true, unwrap_or};
+ghost use Rattle.std.specs.Prelude.{◌≡◌, ◌≢◌, ℕ, ◌+◌, ◌<◌, List, ◌∷◌, ◌++◌, [], Ok, Some, None};
+ghost use Rattle.std.specs.Prelude.{IfOk, IfSome, IsOk, option_to_list, length, false, true};
+ghost use Rattle.std.specs.Prelude.{unwrap_or};
 ghost use Rattle.std.specs.Borrow.{sem};
 ghost use Rattle.std.specs.Option.{is_some, option_copied, option_map};
 ghost use Rattle.cb_client.specs.ByTable.{Called, Calls, IsDecided, IsFirst, as_before, limits_at};
@@ -223,7 +224,8 @@ impl<Q: Chooser> Client<Q> {
     /// Reads a page in the open transaction, and lends its bytes, which is a reference to it; or
     /// asks for it where they are not in the pool.
     pub fn read(&mut self, page: PageNo) -> Result<ReadAnswer<'_>, ClientFault>
-        ensures* ends { sem 𝓛 (client_ends_as Q.row Q.Chooser self.entry (after_read self.old page)) }
+        ensures* ends { sem 𝓛 (client_ends_as Q.row Q.Chooser self.entry
+            (after_read self.old page)) }
         ensures by_table { Called self.old (CallRead page) (after_read self.old page) }
         ensures answer { AnswersRead self.old page result }
     {

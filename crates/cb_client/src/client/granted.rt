@@ -89,8 +89,8 @@ impl<Q: Chooser> Client<Q> {
         }
     }
 
-    /// A grant comes with the page's bytes. Answers the frame that gives it, or the copy of the page
-    /// that went for it, back.
+    /// A grant comes with the page's bytes. Answers the frame that gives it, or the copy of the
+    /// page that went for it, back.
     pub(super) fn take_granted(
         &mut self,
         page: PageNo,

@@ -174,7 +174,8 @@ impl Holdings {
 
     /// The number that the next commit gets; `None` where all numbers are used up.
     pub fn next_commit(&self) -> Option<CommitNo>
-        ensures value { IsSome result → or_zero result ≡ (server_of self.now).store.last_commit + 1 }
+        ensures value { IsSome result
+            → or_zero result ≡ (server_of self.now).store.last_commit + 1 }
         ensures left { IsSome result ↔ ((server_of self.now).store.last_commit < max_number) }
     {
         self.commits.next_number()
