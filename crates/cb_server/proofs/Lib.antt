@@ -6,3 +6,4 @@ pub mod Rooms
 pub mod Lacking
 pub mod Arising
 pub mod Committing
+pub mod LawsKept
