@@ -5,4 +5,8 @@ pub mod DirectAnswers
 pub mod Rooms
 pub mod Lacking
 pub mod Arising
+<<<<<<< HEAD
 pub mod Greeting
+=======
+pub mod Committing
+>>>>>>> w-below

@@ -1,5 +1,6 @@
 -- What a server's engine does for a message, and the room that it has for it.
-use Rattle.std.specs.Prelude.{◌≡◌, ◌≤◌, ◌<◌, ◌+◌, ℕ, Bool, true, false, if◌then◌else◌, List, [], ◌++◌}
+use Rattle.std.specs.Prelude.{◌≡◌, ◌≤◌, ◌<◌, ◌+◌, ◌&&◌, ℕ, Bool, true, false, if◌then◌else◌, List}
+use Rattle.std.specs.Prelude.{[], ◌++◌}
 use Rattle.std.specs.Prelude.{length, Option, Some, None, ⊤}
 use Rattle.cb_asks.specs.Asks.{room_at}
 use Rattle.cb_callbacks.specs.Callbacks.{IsAsLarge}
@@ -16,8 +17,9 @@ use Rattle.cb_protocol.specs.Messages as protocol
 use Rattle.cb_protocol.specs.Numbers.{HasGrantsLeft}
 use Rattle.cb_protocol.specs.Ranges.{BodyFits}
 use Rattle.cb_protocol.specs.Server.{DeadlockTest, Server, ServerStep, has_not_ended, server_after}
-use Rattle.cb_protocol.specs.ServerMessages.{and_then, begin_transaction, direct_answer}
-use Rattle.cb_protocol.specs.ServerMessages.{lacks_number, named_txn, read_asks_below}
+use Rattle.cb_protocol.specs.ServerMessages.{and_then, begin_transaction, commit_allowed}
+use Rattle.cb_protocol.specs.ServerMessages.{direct_answer, lacks_number, may_proceed, named_txn}
+use Rattle.cb_protocol.specs.ServerMessages.{read_asks_below}
 use Rattle.cb_protocol.specs.Session.{has_live_txn}
 use Rattle.cb_protocol.specs.World.{messages_sent}
 use Rattle.cb_server.specs.declared.engine.Engine.{Engine}
@@ -78,6 +80,12 @@ abbrev pub LacksNumber : Engine → ℕ → protocol.Body → Bool → Type 0
 LacksNumber engine client body answer =
     lacks_number (server_after (server_in engine)
     (begin_transaction (server_in engine) client (named_txn body))) client body ≡ answer
+
+-- whether a commit would be applied, once its transaction has begun
+abbrev pub applies : Server → (client txn : ℕ) → List protocol.PageWrite → Bool
+applies server client txn writes =
+    let begun = server_after server (begin_transaction server client txn) in
+    may_proceed begun client txn && commit_allowed begun client writes
 
 -- Between two messages: nothing is to be sent yet, and each ask to read that waits can have a grant
 -- number.
