@@ -5,8 +5,5 @@ pub mod DirectAnswers
 pub mod Rooms
 pub mod Lacking
 pub mod Arising
-<<<<<<< HEAD
 pub mod Greeting
-=======
 pub mod Committing
->>>>>>> w-below
