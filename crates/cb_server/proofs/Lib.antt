@@ -7,3 +7,4 @@ pub mod Lacking
 pub mod Arising
 pub mod Greeting
 pub mod Committing
+pub mod Serving

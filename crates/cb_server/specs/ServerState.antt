@@ -44,11 +44,11 @@ pub record IsServer (state : ServerState) : Type 0 where
   pub of : AreOf state.limits state.tables.holdings
 
 -- A server as it begins over a store: no client is known.
-pub record IsNew (limits : Bounds) (store : StoreState) (state : ServerState) : Type 0 where
-  pub limits : state.limits ≡ limits
+pub record IsNew (bounds : Bounds) (store : StoreState) (state : ServerState) : Type 0 where
+  pub limits : state.limits ≡ bounds
   pub commits : commits_of state ≡ begun store
-  pub server : server_of state ≡ new_server limits.clients limits.pages
-      (opening_store (limits_of limits) (opening_of store))
+  pub server : server_of state ≡ new_server bounds.clients bounds.pages
+      (opening_store (limits_of bounds) (opening_of store))
 
 -- Nothing changes but room.
 pub record IsUnchanged (old new : ServerState) : Type 0 where
