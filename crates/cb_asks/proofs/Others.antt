@@ -39,6 +39,6 @@ but_own state is client page ask there found =
     let own = reads_without client (queue_at state page) ask (omega (arith, one)) found in
     let all = is.reads in
     let changed = sum_changed (λ at. read_asks_in (queue_at state at)) (λ at. read_asks_in (without_client client (queue_at state at)))
-        page (length state.queues) (place_within state is client page there)
-        (λ at ne. ap read_asks_in (without_none client (queue_at state at) (elsewhere_none state is client page there at ne))) in
+    page (length state.queues) (place_within state is client page there)
+    (λ at ne. ap read_asks_in (without_none client (queue_at state at) (elsewhere_none state is client page there at ne))) in
     omega (arith, own, all, changed)
