@@ -5,4 +5,5 @@ pub mod DirectAnswers
 pub mod Rooms
 pub mod Lacking
 pub mod Arising
+pub mod Greeting
 pub mod Committing
