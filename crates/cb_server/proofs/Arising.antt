@@ -28,11 +28,7 @@ use Rattle.cb_protocol.specs.Server.{Server, server_after}
 use Rattle.cb_protocol.specs.WaitsFor.{on_cycle}
 use Rattle.cb_protocol.specs.World.{Opening, messages_sent}
 use Rattle.cb_server.specs.Answering.{FitsIn, limits_in, server_in}
-<<<<<<< HEAD
 use Rattle.cb_server.specs.ServerState.{IsServer, ServerState}
-=======
-use Rattle.cb_server.specs.ServerState.{IsAtRest, IsServer, ServerState, state_of}
->>>>>>> w-below
 use Rattle.cb_server.specs.declared.engine.Engine.{Engine}
 
 -- grant numbers never run out
@@ -45,20 +41,6 @@ pub has_grants : (L : Limits) (o : Opening) (s : Server) → ReachedBy L on_cycl
 has_grants L o s Opened = grants_left_at_first L o
 has_grants L o s (AfterInput {server = k} r i t) = (grants_never_run_out on_cycle k i (has_grants L o k r) (is_taken L k i t)).0
 
-<<<<<<< HEAD
-=======
--- one input more
-pub arises : (limits : Bounds) (before after : Tables) (input : Input) → IsServer (state_of limits before) → InputTaken (limits_of limits) (server_of before) input
-    → after.holdings.commits.opening ≡ before.holdings.commits.opening
-    → server_of after ≡ server_after (server_of before) (input_steps on_cycle (server_of before) input) → IsServer (state_of limits after)
-arises limits before after input is taken same e = record {
-  opening = subst (λ (o : StoreState). StoreFits (limits_of limits) (opening_of o)) (sym same) is.opening;
-  reached = subst (λ (o : StoreState). ReachedBy (limits_of limits) on_cycle (opening_of o) (InputTaken (limits_of limits)) (server_of after)) (sym same)
-      (subst (λ (s : Server). ReachedBy (limits_of limits) on_cycle (opening_of before.holdings.commits.opening) (InputTaken (limits_of limits)) s) (sym e)
-      (AfterInput is.reached input taken));
-}
-
->>>>>>> w-below
 pub of_stays : (limits : Bounds) (before after : HoldingsState) → AreOf limits before → Stays before after → AreOf limits after
 of_stays limits before after is s = record {
   clients = s.clients ∙ is.clients;
@@ -66,7 +48,6 @@ of_stays limits before after is s = record {
   keep_write = s.keep_write ∙ is.keep_write;
 }
 
-<<<<<<< HEAD
 -- one input more
 pub arises : (limits : Bounds) (before after : Tables) (input : Input) → IsServer (record { limits = limits; tables = before }) → InputTaken (limits_of limits) (server_of before) input
     → Stays before.holdings after.holdings
@@ -79,8 +60,6 @@ arises limits before after input is taken stays e = record {
       (AfterInput is.reached input taken));
 }
 
-=======
->>>>>>> w-below
 -- a sound store of these limits fits them
 pub store_fits : (limits : Bounds) (store : StoreState) → IsSound store → IsOf limits store → StoreFits (limits_of limits) (opening_of store)
 store_fits limits store sound of = record {
@@ -209,11 +188,7 @@ all_fit : (b : Bounds) (frames : List Frame) → AllMessagesFit (limits_of b) (m
 all_fit b [] h = tt
 all_fit b (frame ∷ frames) h = (record { client = h.0.0; incarnation = h.0.1; body = body_fits b frame.body h.0.2 }, all_fit b frames h.1)
 
-<<<<<<< HEAD
 pub said_fits : (limits : Bounds) (kept : Tables) (input : Input) (frames : List Frame) → IsServer (record { limits = limits; tables = kept }) → InputTaken (limits_of limits) (server_of kept) input
-=======
-pub said_fits : (limits : Bounds) (kept : Tables) (input : Input) (frames : List Frame) → IsServer (state_of limits kept) → InputTaken (limits_of limits) (server_of kept) input
->>>>>>> w-below
     → messages_of frames ≡ messages_sent (input_steps on_cycle (server_of kept) input) → AllByRecursion (grammar.Fits limits) frames
 said_fits limits kept input frames is taken e =
     all_fit limits frames (subst (λ (l : List Message). AllMessagesFit (limits_of limits) l) (sym e)

@@ -1,9 +1,5 @@
 -- Steps of the engine, one after another, and what one change of its tables is.
-<<<<<<< HEAD
 use Rattle.std.proofs.Common.{◌≡◌, ◌≢◌, ℕ, ◌+◌, ◌<◌, ◌≤◌, nat_lt, Bool, true, false, not, ◌&&◌, ◌==◌, if◌then◌else◌, List, [], ◌∷◌, ◌++◌, length, Option, Some, None, Result, Ok, Err, OnOk, refl, sym, ap, ◌∙◌, subst, arith}
-=======
-use Rattle.std.proofs.Common.{◌≡◌, ◌≢◌, ℕ, ◌+◌, ◌<◌, ◌≤◌, nat_lt, Bool, true, false, not, ◌&&◌, ◌==◌, if◌then◌else◌, List, [], ◌∷◌, ◌++◌, length, Option, Some, None, refl, sym, ap, ◌∙◌, subst, arith}
->>>>>>> w-below
 use Rattle.std.proofs.lemmas.Bool.Decides.{nat_tests}
 use Rattle.std.proofs.lemmas.List.{append-nil, append_assoc, length-append}
 use Rattle.cb_callbacks.proofs.Settling.{stays_then}
@@ -13,25 +9,15 @@ use Rattle.cb_holdings.specs.Holdings.{HoldingsState, Stays}
 use Rattle.cb_outbox.proofs.Saying.{after_append, says_as, says_nothing, says_then}
 use Rattle.cb_outbox.specs.Saying.{OutboxState, Says}
 use Rattle.cb_protocol.specs.Basics.{max_number}
-<<<<<<< HEAD
 use Rattle.cb_protocol.specs.Messages.{Body, Hello, Message, Welcome}
 use Rattle.cb_protocol.specs.Numbers.{HasGrantsLeft, copies_sent}
 use Rattle.cb_protocol.specs.Server.{ChangeSession, DeadlockTest, ForgetTransaction, Send, Server, ServerStep, server_after}
 use Rattle.cb_protocol.specs.Session.{Admit, BeginTransaction}
-=======
-use Rattle.cb_protocol.specs.Messages.{Body, Message}
-use Rattle.cb_protocol.specs.Numbers.{HasGrantsLeft, copies_sent}
-use Rattle.cb_protocol.specs.Server.{DeadlockTest, Server, ServerStep, server_after}
->>>>>>> w-below
 use Rattle.cb_protocol.specs.ServerMessages.{and_then, begin_transaction, direct_answer, lacks_number, named_txn, take_current}
 use Rattle.cb_protocol.specs.Settling.{settle_pages}
 use Rattle.cb_protocol.specs.WaitsFor.{on_cycle}
 use Rattle.cb_protocol.specs.World.{messages_sent}
-<<<<<<< HEAD
 use Rattle.cb_server.specs.Answering.{Begins, CanAnswer, CanSay, CanSettle, HasRoom, IsLeft, IsReady, LacksNumber, Makes, Serves, answer_to, server_in}
-=======
-use Rattle.cb_server.specs.Answering.{Begins, CanAnswer, CanSay, CanSettle, HasRoom, IsLeft, IsReady, LacksNumber, Makes, answer_to, server_in}
->>>>>>> w-below
 use Rattle.cb_server.specs.declared.engine.Engine.{Engine}
 use Rattle.cb_server.proofs.Counting.{answer_costs, begins_quietly, begins_with_fewer, begins_with_no_copy, reads}
 
@@ -68,11 +54,7 @@ changes_make old new steps c o m k = record {
 pub begins_none : (s : Server) (c : ℕ) → begin_transaction s c 0 ≡ []
 begins_none s c = go (nat_lt (s.session c).txn 0) refl
   where
-<<<<<<< HEAD
     go : (r : Bool) → nat_lt (s.session c).txn 0 ≡ r → (if r then ForgetTransaction c ∷ ChangeSession c (BeginTransaction 0) ∷ [] else []) ≡ []
-=======
-    go : (r : Bool) → nat_lt (s.session c).txn 0 ≡ r → (if r then _ else []) ≡ []
->>>>>>> w-below
     go true e = absurd (grind (arith, nat_tests))
     go false e = refl
 
@@ -108,7 +90,6 @@ takes old mid new c b a m =
         ≡ (first ++ next) ++ settle_pages on_cycle (server_after s (first ++ next)) (server_after s (first ++ next)).pages
     parts = sym (append_assoc first next (settle_pages on_cycle (server_after (server_after s first) next) (server_after (server_after s first) next).pages))
         ∙ ap (λ (t : Server). (first ++ next) ++ settle_pages on_cycle t t.pages) (sym (after_append s first next))
-<<<<<<< HEAD
 
 -- where room was made before
 pub serves : (old mid new : Engine) (f : Server → List ServerStep) → IsLeft old mid → Makes mid f new → Serves old f new
@@ -158,5 +139,3 @@ admits old new c i changes o = record {
 pub on_ok : {X F : Type 0} (r : Result X F) {P Q : Type 0} → (P → Q) → OnOk r P → OnOk r Q
 on_ok (Ok x) f p = f p
 on_ok (Err x) f p = p
-=======
->>>>>>> w-below
