@@ -28,7 +28,7 @@ use Rattle.cb_protocol.specs.Server.{Server, server_after}
 use Rattle.cb_protocol.specs.WaitsFor.{on_cycle}
 use Rattle.cb_protocol.specs.World.{Opening, messages_sent}
 use Rattle.cb_server.specs.Answering.{FitsIn, limits_in, server_in}
-use Rattle.cb_server.specs.ServerState.{IsAtRest, IsServer, ServerState, state_of}
+use Rattle.cb_server.specs.ServerState.{IsServer, ServerState}
 use Rattle.cb_server.specs.declared.engine.Engine.{Engine}
 
 -- grant numbers never run out
@@ -41,22 +41,23 @@ pub has_grants : (L : Limits) (o : Opening) (s : Server) → ReachedBy L on_cycl
 has_grants L o s Opened = grants_left_at_first L o
 has_grants L o s (AfterInput {server = k} r i t) = (grants_never_run_out on_cycle k i (has_grants L o k r) (is_taken L k i t)).0
 
--- one input more
-pub arises : (limits : Bounds) (before after : Tables) (input : Input) → IsServer (state_of limits before) → InputTaken (limits_of limits) (server_of before) input
-    → after.holdings.commits.opening ≡ before.holdings.commits.opening
-    → server_of after ≡ server_after (server_of before) (input_steps on_cycle (server_of before) input) → IsServer (state_of limits after)
-arises limits before after input is taken same e = record {
-  opening = subst (λ (o : StoreState). StoreFits (limits_of limits) (opening_of o)) (sym same) is.opening;
-  reached = subst (λ (o : StoreState). ReachedBy (limits_of limits) on_cycle (opening_of o) (InputTaken (limits_of limits)) (server_of after)) (sym same)
-      (subst (λ (s : Server). ReachedBy (limits_of limits) on_cycle (opening_of before.holdings.commits.opening) (InputTaken (limits_of limits)) s) (sym e)
-      (AfterInput is.reached input taken));
-}
-
 pub of_stays : (limits : Bounds) (before after : HoldingsState) → AreOf limits before → Stays before after → AreOf limits after
 of_stays limits before after is s = record {
   clients = s.clients ∙ is.clients;
   store = record { count = s.pages ∙ is.store.count; page_size = s.page_size ∙ is.store.page_size };
   keep_write = s.keep_write ∙ is.keep_write;
+}
+
+-- one input more
+pub arises : (limits : Bounds) (before after : Tables) (input : Input) → IsServer (record { limits = limits; tables = before }) → InputTaken (limits_of limits) (server_of before) input
+    → Stays before.holdings after.holdings
+    → server_of after ≡ server_after (server_of before) (input_steps on_cycle (server_of before) input) → IsServer (record { limits = limits; tables = after })
+arises limits before after input is taken stays e = record {
+  of = of_stays limits before.holdings after.holdings is.of stays;
+  opening = subst (λ (o : StoreState). StoreFits (limits_of limits) (opening_of o)) (sym stays.opening) is.opening;
+  reached = subst (λ (o : StoreState). ReachedBy (limits_of limits) on_cycle (opening_of o) (InputTaken (limits_of limits)) (server_of after)) (sym stays.opening)
+      (subst (λ (s : Server). ReachedBy (limits_of limits) on_cycle (opening_of before.holdings.commits.opening) (InputTaken (limits_of limits)) s) (sym e)
+      (AfterInput is.reached input taken));
 }
 
 -- a sound store of these limits fits them
@@ -187,7 +188,7 @@ all_fit : (b : Bounds) (frames : List Frame) → AllMessagesFit (limits_of b) (m
 all_fit b [] h = tt
 all_fit b (frame ∷ frames) h = (record { client = h.0.0; incarnation = h.0.1; body = body_fits b frame.body h.0.2 }, all_fit b frames h.1)
 
-pub said_fits : (limits : Bounds) (kept : Tables) (input : Input) (frames : List Frame) → IsServer (state_of limits kept) → InputTaken (limits_of limits) (server_of kept) input
+pub said_fits : (limits : Bounds) (kept : Tables) (input : Input) (frames : List Frame) → IsServer (record { limits = limits; tables = kept }) → InputTaken (limits_of limits) (server_of kept) input
     → messages_of frames ≡ messages_sent (input_steps on_cycle (server_of kept) input) → AllByRecursion (grammar.Fits limits) frames
 said_fits limits kept input frames is taken e =
     all_fit limits frames (subst (λ (l : List Message). AllMessagesFit (limits_of limits) l) (sym e)

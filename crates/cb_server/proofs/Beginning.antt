@@ -131,3 +131,6 @@ can_say e r = record {
   copy = let k = r.copies_of_pages in omega (arith, k);
   size = r.size;
 }
+
+pub current_reserved : (old res : Engine) (c i : ℕ) → server_in res ≡ server_in old → IsCurrent old c i → IsCurrent res c i
+current_reserved old res c i e is = is ∙ sym (ap (λ (s : Server). (s.session c).current) e)

@@ -32,9 +32,6 @@ pub allowed_waits : (s : Server) (queue : ℕ → List WaitingAsk) (in_use : ℕ
 allowed_waits s queue in_use c [] = refl
 allowed_waits s queue in_use c (w ∷ ws) = ap (λ (b : Bool). is_write_holder s c w.page && has_row s c w.page w.grant && b) (allowed_waits s queue in_use c ws)
 
-pub pages_there : (h : HoldingsState) (ws : List Write) → FitsInto h.commits.store ws → All (λ w. holdings.HasPage h w.page) ws
-pages_there h ws fit = λ k d lt. (fit.pages k d lt).page
-
 live_later : standing.Live ≢ standing.Later
 live_later e = absurd cc
 
@@ -75,18 +72,6 @@ applies_doomed s c t ws is last = as_it_is s c t ws standing.Doomed doomed_later
 pub applies_ended : (s : Server) (c t : ℕ) (ws : List PageWrite) → standing.Ended ≡ standing_in s c t → applies s c t ws ≡ false
 applies_ended s c t ws is = as_it_is s c t ws standing.Ended ended_later is ∙ rw (ended_stands s c t is) refl
 
--- which stands so that it is applied
-pub record Lives (s : Server) (c t : ℕ) (x : Standing) : Type 0 where
-  pub last : IsLast s c t
-  pub is : standing.Live ≡ standing_in s c t
-
-pub lives_by : (s : Server) (c t : ℕ) (ws : List PageWrite) (x : Standing) → x ≢ standing.Later → x ≡ standing_in s c t → IsLastIfLive x s c t
-    → applies s c t ws ≡ true → Lives s c t x
-lives_by s c t ws standing.Later n is last e = absurd (n refl)
-lives_by s c t ws standing.Live n is last e = record { last = last; is = is }
-lives_by s c t ws standing.Doomed n is last e = absurd (let none = applies_doomed s c t ws is last in cc)
-lives_by s c t ws standing.Ended n is last e = absurd (let none = applies_ended s c t ws is in cc)
-
 -- whether a number is lacking for it
 last_same : (s : Server) (c t : ℕ) → (server_after s (begin_transaction s c t)).store.last_commit ≡ s.store.last_commit
 last_same s c t = go (nat_lt (s.session c).txn t)
@@ -123,56 +108,6 @@ lacks_nothing e c t ws some = none _ _ _ (full (server_in e) c t false tested)
     none true false z e = refl
     none false y z e = refl
 
-pub number_left : (e : Engine) (c t : ℕ) (ws : List PageWrite) → LacksNumber e c (Commit t ws) false → applies (server_in e) c t ws ≡ true
-    → (server_in e).store.last_commit < max_number
-number_left e c t ws lacks a =
-    by (ap (nat_le max_number) (sym (last_same (server_in e) c t)) ∙ left _ _ _ lacks a)
-  where
-    left : (x y z : Bool) → (x && y && z) ≡ false → (x && y) ≡ true → z ≡ false
-    left true true z e f = e
-    left true false z e f = absurd cc
-    left false y z e f = absurd cc
-
-    by : nat_le max_number (server_in e).store.last_commit ≡ false → (server_in e).store.last_commit < max_number
-    by f = grind (arith, nat_tests, f)
-
--- it is applied
-pub applied_later : (old new : Engine) (c t : ℕ) (ws : List PageWrite) → standing.Later ≡ standing_in (server_in old) c t → applies (server_in old) c t ws ≡ true
-    → Changes old.callbacks.tables (ForgetTransaction c ∷ ChangeSession c (BeginTransaction t) ∷ ForgetTransaction c ∷ ChangeSession c (ApplyCommit t ws) ∷ []) new.callbacks.tables
-    → new.outbox ≡ old.outbox → Makes old (answer_to on_cycle c (Commit t ws)) new
-applied_later old new c t ws is a changes o =
-    makes_as old new (answer_to on_cycle c (Commit t ws)) (λ s. ForgetTransaction c ∷ ChangeSession c (BeginTransaction t) ∷ ForgetTransaction c ∷ ChangeSession c (ApplyCommit t ws) ∷ [])
-    (ap (λ (l : List ServerStep). l ++ direct_answer on_cycle (server_after (server_in old) l) c (Commit t ws)) (later_begins (server_in old) c t is)
-    ∙ ap (λ (l : List ServerStep). ForgetTransaction c ∷ ChangeSession c (BeginTransaction t) ∷ l) applied)
-    (changes_make old new (ForgetTransaction c ∷ ChangeSession c (BeginTransaction t) ∷ ForgetTransaction c ∷ ChangeSession c (ApplyCommit t ws) ∷ []) changes o refl refl)
-  where
-    lives : IsLiveOne (begun_server (server_in old) c t) c t false
-    lives = later_lives (server_in old) c t (is_later (server_in old) c t is)
-
-    allowed : commit_allowed (begun_server (server_in old) c t) c ws ≡ true
-    allowed = sym (applies_later (server_in old) c t ws is) ∙ a
-
-    applied : take_commit (begun_server (server_in old) c t) c t ws ≡ ForgetTransaction c ∷ ChangeSession c (ApplyCommit t ws) ∷ []
-    applied = rw (lives.not_ended, lives.doomed, allowed) refl
-
-pub applied_live : (old new : Engine) (c t : ℕ) (ws : List PageWrite) (x : Standing) → Lives (server_in old) c t x → applies (server_in old) c t ws ≡ true
-    → Changes old.callbacks.tables (ForgetTransaction c ∷ ChangeSession c (ApplyCommit t ws) ∷ []) new.callbacks.tables
-    → new.outbox ≡ old.outbox → Makes old (answer_to on_cycle c (Commit t ws)) new
-applied_live old new c t ws x l a changes o =
-    makes_as old new (answer_to on_cycle c (Commit t ws)) (λ s. ForgetTransaction c ∷ ChangeSession c (ApplyCommit t ws) ∷ [])
-    (ap (λ (steps : List ServerStep). steps ++ direct_answer on_cycle (server_after (server_in old) steps) c (Commit t ws))
-    (not_later_begins (server_in old) c t standing.Live live_later l.is) ∙ applied)
-    (changes_make old new (ForgetTransaction c ∷ ChangeSession c (ApplyCommit t ws) ∷ []) changes o refl refl)
-  where
-    lives : IsLiveOne (server_in old) c t false
-    lives = live_stands (server_in old) c t l.is l.last
-
-    allowed : commit_allowed (server_in old) c ws ≡ true
-    allowed = sym (applies_live (server_in old) c t ws l.is l.last) ∙ a
-
-    applied : take_commit (server_in old) c t ws ≡ ForgetTransaction c ∷ ChangeSession c (ApplyCommit t ws) ∷ []
-    applied = rw (lives.not_ended, lives.doomed, allowed) refl
-
 -- it is not: its transaction has begun
 denied : (old mid : Engine) (c t : ℕ) (ws : List PageWrite) → Begins old c t mid → applies (server_in old) c t ws ≡ false → IsLiveOne (server_in mid) c t false
     → commit_allowed (server_in mid) c ws ≡ false
@@ -202,55 +137,3 @@ not_applied_doomed old mid new c t ws b l m =
 pub not_applied_ended : (old mid new : Engine) (c t : ℕ) (ws : List PageWrite) → Begins old c t mid
     → Makes mid (λ s. take_commit s c t ws) new → Makes old (answer_to on_cycle c (Commit t ws)) new
 not_applied_ended old mid new c t ws b m = answers old mid new c t (Commit t ws) refl b m
-
--- of a transaction that ended by a commit, none is later
-ended_last : (h : HoldingsState) (c number : ℕ) → commit_of (transaction_of h c) ≡ Some number → (client_session h c).ended ≡ (client_session h c).txn
-ended_last h c number = go (transaction_of h c)
-  where
-    go : (t : Transaction) → commit_of t ≡ Some number → holdings.ended_txn t ≡ holdings.begun_txn t
-    go NotBegun e = absurd cc
-    go (Live txn is_doomed) e = absurd cc
-    go (Ended txn commit) e = refl
-
--- Done again
-no_outcome : (s : Server) (c t : ℕ) (ws : List PageWrite) → has_not_ended s c t ≡ false → s.outcome c ≡ None → take_commit s c t ws ≡ []
-no_outcome s c t ws over none = rw over (by (t == (s.session c).ended))
-  where
-    by : (b : Bool) → (if b then repeat_done s c t (s.outcome c) else []) ≡ []
-    by true = ap (repeat_done s c t) none
-    by false = refl
-
-pub none_again : (e : Engine) (c t : ℕ) → has_not_ended (server_in e) c t ≡ false → (server_in e).outcome c ≡ None
-    → (ws : List PageWrite) → Makes e (λ s. take_commit s c t ws) e
-none_again e c t over none ws = makes_as e e (λ s. take_commit s c t ws) (λ s. []) (no_outcome (server_in e) c t ws over none) (makes_nothing e)
-
-pub other_again : (e : Engine) (c t : ℕ) → has_not_ended (server_in e) c t ≡ false → t ≢ ((server_in e).session c).txn
-    → (ws : List PageWrite) → Makes e (λ s. take_commit s c t ws) e
-other_again e c t over ne ws = makes_as e e (λ s. take_commit s c t ws) (λ s. []) (rw over (by (t == ((server_in e).session c).ended) refl ((server_in e).outcome c) refl)) (makes_nothing e)
-  where
-    by : (b : Bool) → (t == ((server_in e).session c).ended) ≡ b → (o : Option ℕ) → (server_in e).outcome c ≡ o
-        → (if b then repeat_done (server_in e) c t ((server_in e).outcome c) else []) ≡ []
-    by false is o f = refl
-    by true is None f = ap (repeat_done (server_in e) c t) f
-    by true is (Some number) f = absurd (ne (same ∙ ended_last e.callbacks.tables.holdings c number f))
-      where
-        same : t ≡ ((server_in e).session c).ended
-        same = grind (arith, nat_tests, is)
-
-pub unflushed_again : (e : Engine) (c t number : ℕ) → has_not_ended (server_in e) c t ≡ false → (server_in e).outcome c ≡ Some number
-    → nat_le number (server_in e).flushed ≡ false → (ws : List PageWrite) → Makes e (λ s. take_commit s c t ws) e
-unflushed_again e c t number over some later ws = makes_as e e (λ s. take_commit s c t ws) (λ s. []) (rw over (by (t == ((server_in e).session c).ended))) (makes_nothing e)
-  where
-    by : (b : Bool) → (if b then repeat_done (server_in e) c t ((server_in e).outcome c) else []) ≡ []
-    by true = ap (repeat_done (server_in e) c t) some ∙ ap (λ (b : Bool). if b then send_to (server_in e) c (Done t number) ∷ [] else []) later
-    by false = refl
-
-pub said_again : (e new : Engine) (c t number : ℕ) → has_not_ended (server_in e) c t ≡ false → t ≡ ((server_in e).session c).txn → (server_in e).outcome c ≡ Some number
-    → nat_le number (server_in e).flushed ≡ true → Makes e (λ s. send_to s c (Done t number) ∷ []) new → (ws : List PageWrite) → Makes e (λ s. take_commit s c t ws) new
-said_again e new c t number over is some there m ws = makes_as e new (λ s. take_commit s c t ws) (λ s. send_to s c (Done t number) ∷ []) said m
-  where
-    same : (t == ((server_in e).session c).ended) ≡ true
-    same = let last = is ∙ sym (ended_last e.callbacks.tables.holdings c number some) in grind (arith, nat_tests, last)
-
-    said : take_commit (server_in e) c t ws ≡ send_to (server_in e) c (Done t number) ∷ []
-    said = rw (over, same) (ap (repeat_done (server_in e) c t) some ∙ ap (λ (b : Bool). if b then send_to (server_in e) c (Done t number) ∷ [] else []) there)

@@ -155,5 +155,5 @@ pub begins_with_fewer : (s : Server) (c t : ℕ) → reads (server_after s (begi
 begins_with_fewer s c t = go (nat_lt (s.session c).txn t)
   where
     go : (r : Bool) → reads (server_after s (if r then ForgetTransaction c ∷ ChangeSession c (BeginTransaction t) ∷ [] else [])) ≤ reads s
-    go true = reads_fewer s _ s.pages (λ q. count_without c (s.queue q))
-    go false = same _
+    go true = reads_fewer s (server_after s (ForgetTransaction c ∷ ChangeSession c (BeginTransaction t) ∷ [])) s.pages (λ q. count_without c (s.queue q))
+    go false = same (reads s)

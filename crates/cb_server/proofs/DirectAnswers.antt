@@ -34,7 +34,7 @@ gives_nothing_back old c p g e =
     (makes_nothing old)
 
 -- Downgraded
-gives_up : Server → (c p g t : ℕ) → Bool
+abbrev pub gives_up : Server → (c p g t : ℕ) → Bool
 gives_up s c p g t = s.store.keep_write && has_row s c p g && is_write_holder s c p && (s.store.tag p == t)
 
 pub goes_down : (old new : Engine) (c p g t : ℕ) → gives_up (server_in old) c p g t ≡ true

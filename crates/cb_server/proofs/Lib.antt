@@ -5,5 +5,7 @@ pub mod DirectAnswers
 pub mod Rooms
 pub mod Lacking
 pub mod Arising
+pub mod Greeting
 pub mod Committing
+pub mod Serving
 pub mod LawsKept

@@ -1,5 +1,5 @@
 -- Steps of the engine, one after another, and what one change of its tables is.
-use Rattle.std.proofs.Common.{◌≡◌, ◌≢◌, ℕ, ◌+◌, ◌<◌, ◌≤◌, nat_lt, Bool, true, false, not, ◌&&◌, ◌==◌, if◌then◌else◌, List, [], ◌∷◌, ◌++◌, length, Option, Some, None, refl, sym, ap, ◌∙◌, subst, arith}
+use Rattle.std.proofs.Common.{◌≡◌, ◌≢◌, ℕ, ◌+◌, ◌<◌, ◌≤◌, nat_lt, Bool, true, false, not, ◌&&◌, ◌==◌, if◌then◌else◌, List, [], ◌∷◌, ◌++◌, length, Option, Some, None, Result, Ok, Err, OnOk, refl, sym, ap, ◌∙◌, subst, arith}
 use Rattle.std.proofs.lemmas.Bool.Decides.{nat_tests}
 use Rattle.std.proofs.lemmas.List.{append-nil, append_assoc, length-append}
 use Rattle.cb_callbacks.proofs.Settling.{stays_then}
@@ -9,14 +9,15 @@ use Rattle.cb_holdings.specs.Holdings.{HoldingsState, Stays}
 use Rattle.cb_outbox.proofs.Saying.{after_append, says_as, says_nothing, says_then}
 use Rattle.cb_outbox.specs.Saying.{OutboxState, Says}
 use Rattle.cb_protocol.specs.Basics.{max_number}
-use Rattle.cb_protocol.specs.Messages.{Body, Message}
+use Rattle.cb_protocol.specs.Messages.{Body, Hello, Message, Welcome}
 use Rattle.cb_protocol.specs.Numbers.{HasGrantsLeft, copies_sent}
-use Rattle.cb_protocol.specs.Server.{DeadlockTest, Server, ServerStep, server_after}
+use Rattle.cb_protocol.specs.Server.{ChangeSession, DeadlockTest, ForgetTransaction, Send, Server, ServerStep, server_after}
+use Rattle.cb_protocol.specs.Session.{Admit, BeginTransaction}
 use Rattle.cb_protocol.specs.ServerMessages.{and_then, begin_transaction, direct_answer, lacks_number, named_txn, take_current}
 use Rattle.cb_protocol.specs.Settling.{settle_pages}
 use Rattle.cb_protocol.specs.WaitsFor.{on_cycle}
 use Rattle.cb_protocol.specs.World.{messages_sent}
-use Rattle.cb_server.specs.Answering.{Begins, CanAnswer, CanSay, CanSettle, HasRoom, IsLeft, IsReady, LacksNumber, Makes, answer_to, server_in}
+use Rattle.cb_server.specs.Answering.{Begins, CanAnswer, CanSay, CanSettle, HasRoom, IsLeft, IsReady, LacksNumber, Makes, Serves, answer_to, server_in}
 use Rattle.cb_server.specs.declared.engine.Engine.{Engine}
 use Rattle.cb_server.proofs.Counting.{answer_costs, begins_quietly, begins_with_fewer, begins_with_no_copy, reads}
 
@@ -53,7 +54,7 @@ changes_make old new steps c o m k = record {
 pub begins_none : (s : Server) (c : ℕ) → begin_transaction s c 0 ≡ []
 begins_none s c = go (nat_lt (s.session c).txn 0) refl
   where
-    go : (r : Bool) → nat_lt (s.session c).txn 0 ≡ r → (if r then _ else []) ≡ []
+    go : (r : Bool) → nat_lt (s.session c).txn 0 ≡ r → (if r then ForgetTransaction c ∷ ChangeSession c (BeginTransaction 0) ∷ [] else []) ≡ []
     go true e = absurd (grind (arith, nat_tests))
     go false e = refl
 
@@ -89,3 +90,52 @@ takes old mid new c b a m =
         ≡ (first ++ next) ++ settle_pages on_cycle (server_after s (first ++ next)) (server_after s (first ++ next)).pages
     parts = sym (append_assoc first next (settle_pages on_cycle (server_after (server_after s first) next) (server_after (server_after s first) next).pages))
         ∙ ap (λ (t : Server). (first ++ next) ++ settle_pages on_cycle t t.pages) (sym (after_append s first next))
+
+-- where room was made before
+pub serves : (old mid new : Engine) (f : Server → List ServerStep) → IsLeft old mid → Makes mid f new → Serves old f new
+serves old mid new f l m = record {
+  becomes = m.says.becomes ∙ ap (λ (s : Server). server_after s (f s)) l.server;
+  sends = m.says.sends ∙ (ap (λ (x : List Message). x ++ messages_sent (f (server_in mid))) l.sent
+      ∙ ap (λ (s : Server). old.outbox.sent ++ messages_sent (f s)) l.server);
+  stays = subst (λ (h : HoldingsState). Stays h new.callbacks.tables.holdings) l.holdings m.stays;
+  page_size = m.says.page_size ∙ l.page_size;
+}
+
+pub serves_as : (old new : Engine) (f g : Server → List ServerStep) → f (server_in old) ≡ g (server_in old) → Serves old g new → Serves old f new
+serves_as old new f g e m = record {
+  becomes = m.becomes ∙ ap (λ (l : List ServerStep). server_after (server_in old) l) (sym e);
+  sends = m.sends ∙ ap (λ (l : List ServerStep). old.outbox.sent ++ messages_sent l) (sym e);
+  stays = m.stays;
+  page_size = m.page_size;
+}
+
+pub serves_nothing : (e : Engine) → Serves e (λ s. []) e
+serves_nothing e = record { becomes = refl; sends = sym (append-nil e.outbox.sent); stays = stays_same e.callbacks.tables.holdings; page_size = refl }
+
+-- room for an ask's place is made before
+pub reserved : (old res : Engine) → Changes old.callbacks.tables [] res.callbacks.tables → res.outbox ≡ old.outbox → Makes old (λ s. []) res
+reserved old res changes o = changes_make old res [] changes o refl refl
+
+pub answers_reserved : (old res mid new : Engine) (c t : ℕ) (b : Body) → named_txn b ≡ t → Makes old (λ s. []) res → Begins res c t mid → Makes mid (λ s. direct_answer on_cycle s c b) new
+    → Makes old (answer_to on_cycle c b) new
+answers_reserved old res mid new c t b e r a m = makes_then old res new (λ s. []) (answer_to on_cycle c b) r (answers res mid new c t b e a m)
+
+-- a greater incarnation is admitted and welcomed
+pub admits : (old new : Engine) (c i : ℕ) → Changes old.callbacks.tables (ForgetTransaction c ∷ ChangeSession c (Admit i) ∷ []) new.callbacks.tables
+    → new.outbox ≡ record old.outbox { sent = old.outbox.sent ++ record { client = c; incarnation = i; body = Welcome } ∷ [] }
+    → Makes old (λ s. ForgetTransaction c ∷ ChangeSession c (Admit i) ∷ Send c i Welcome ∷ []) new
+admits old new c i changes o = record {
+  says = record {
+    becomes = changes.becomes;
+    sends = ap (λ (x : OutboxState). x.sent) o;
+    room = ap (λ (x : OutboxState). x.room) o;
+    spare = let e = ap (λ (x : OutboxState). x.spare) o in omega (arith, e);
+    page_size = ap (λ (x : OutboxState). x.page_size) o;
+  };
+  stays = changes.stays;
+}
+
+-- what is passed on where nothing is refused
+pub on_ok : {X F : Type 0} (r : Result X F) {P Q : Type 0} → (P → Q) → OnOk r P → OnOk r Q
+on_ok (Ok x) f p = f p
+on_ok (Err x) f p = p

@@ -1,6 +1,6 @@
 -- What a server's engine does for a message, and the room that it has for it.
 use Rattle.std.specs.Prelude.{◌≡◌, ◌≤◌, ◌<◌, ◌+◌, ◌&&◌, ℕ, Bool, true, false, if◌then◌else◌, List}
-use Rattle.std.specs.Prelude.{[]}
+use Rattle.std.specs.Prelude.{[], ◌++◌}
 use Rattle.std.specs.Prelude.{length, Option, Some, None, ⊤}
 use Rattle.cb_asks.specs.Asks.{room_at}
 use Rattle.cb_callbacks.specs.Callbacks.{IsAsLarge}
@@ -21,7 +21,7 @@ use Rattle.cb_protocol.specs.ServerMessages.{and_then, begin_transaction, commit
 use Rattle.cb_protocol.specs.ServerMessages.{direct_answer, lacks_number, may_proceed, named_txn}
 use Rattle.cb_protocol.specs.ServerMessages.{read_asks_below}
 use Rattle.cb_protocol.specs.Session.{has_live_txn}
-use Rattle.cb_protocol.specs.WaitsFor.{on_cycle}
+use Rattle.cb_protocol.specs.World.{messages_sent}
 use Rattle.cb_server.specs.declared.engine.Engine.{Engine}
 use Rattle.cb_server.specs.declared.engine.answers.Begun.{Begun}
 use Rattle.cb_server.specs.declared.engine.answers.Begun.TheVariants as begun
@@ -61,6 +61,13 @@ pub record CanSay (engine : Engine) : Type 0 where
 pub record Makes (old : Engine) (steps : Server → List ServerStep) (new : Engine) : Type 0 where
   pub says : Says (server_in old) steps (server_in new) old.outbox new.outbox
   pub stays : Stays old.callbacks.tables.holdings new.callbacks.tables.holdings
+
+-- So it does, in whatever room.
+pub record Serves (old : Engine) (steps : Server → List ServerStep) (new : Engine) : Type 0 where
+  pub becomes : server_in new ≡ server_after (server_in old) (steps (server_in old))
+  pub sends : new.outbox.sent ≡ old.outbox.sent ++ messages_sent (steps (server_in old))
+  pub stays : Stays old.callbacks.tables.holdings new.callbacks.tables.holdings
+  pub page_size : new.outbox.page_size ≡ old.outbox.page_size
 
 -- a message's transaction begins, and it is answered; settling is still to come
 abbrev pub answer_to : DeadlockTest → ℕ → protocol.Body → Server → List ServerStep
@@ -135,3 +142,8 @@ FitsIn engine (body.Short short) = BodyFits (limits_in engine) (short_of short)
 FitsIn engine (body.Commit txn writes) =
     FitsInto engine.callbacks.tables.holdings.commits.store writes
 FitsIn engine (body.Granted page grant version bytes) = ⊤
+
+-- the message is a Hello
+abbrev pub is_hello : protocol.Body → Bool
+is_hello protocol.Hello = true
+is_hello _ = false

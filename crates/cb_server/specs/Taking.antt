@@ -13,7 +13,7 @@ use Rattle.cb_protocol.specs.Server.{Server, server_after}
 use Rattle.cb_protocol.specs.ServerMessages.{is_exhausted}
 use Rattle.cb_protocol.specs.WaitsFor.{on_cycle}
 use Rattle.cb_protocol.specs.World.{messages_sent}
-use Rattle.cb_server.specs.ServerState.{ServerState}
+use Rattle.cb_server.specs.ServerState.{ServerState, commits_of, server_of}
 use Rattle.cb_server.specs.declared.server_fault.ServerFault.{ServerFault}
 use Rattle.cb_server.specs.declared.server_fault.ServerFault.TheVariants as fault
 
@@ -21,10 +21,11 @@ use Rattle.cb_server.specs.declared.server_fault.ServerFault.TheVariants as faul
 -- order. Its limits and its opening store are as before.
 pub record Does (old : ServerState) (input : Input) (messages : List Message) (new : ServerState)
     : Type 0 where
-  pub sends : messages ≡ messages_sent (input_steps on_cycle old.server input)
-  pub becomes : new.server ≡ server_after old.server (input_steps on_cycle old.server input)
+  pub sends : messages ≡ messages_sent (input_steps on_cycle (server_of old) input)
+  pub becomes : server_of new
+      ≡ server_after (server_of old) (input_steps on_cycle (server_of old) input)
   pub limits : new.limits ≡ old.limits
-  pub opening : new.commits.opening ≡ old.commits.opening
+  pub opening : (commits_of new).opening ≡ (commits_of old).opening
 
 -- what comes by a frame
 abbrev pub input_of : Frame → Input
@@ -33,7 +34,7 @@ input_of frame = MessageComes frame.client frame.incarnation (body_of frame.body
 -- no number is left for it
 abbrev pub lacks_number_for : ServerState → Frame → Bool
 lacks_number_for state frame =
-    is_exhausted state.server frame.client frame.incarnation (body_of frame.body)
+    is_exhausted (server_of state) frame.client frame.incarnation (body_of frame.body)
 
 -- The frame is taken as the protocol's table of messages says: no number is lacking for it.
 pub record Takes (old : ServerState) (frame : Frame) (messages : List Message)

@@ -10,7 +10,7 @@ ghost use Rattle.cb_protocol.specs.ServerMessages.{server_take, take_current};
 ghost use Rattle.cb_protocol.specs.Settling.{settle_pages};
 ghost use Rattle.cb_protocol.specs.WaitsFor.{on_cycle};
 ghost use Rattle.cb_server.specs.Answering.{CanAnswer, CanSettle, FitsIn, IsCurrent, IsLeft, IsReady};
-ghost use Rattle.cb_server.specs.Answering.{LacksNumber, Makes, server_in};
+ghost use Rattle.cb_server.specs.Answering.{LacksNumber, Makes, Serves, is_hello, server_in};
 ghost use Rattle.cb_server.specs.Taking.{is_exhaustion};
 
 mod answers;
@@ -45,7 +45,7 @@ impl Engine {
         requires ready { IsReady self.old }
         requires client { HasClient self.old.callbacks.tables client }
         requires fits { FitsIn self.old body }
-        ensures ok { OnOk result (Makes self.old
+        ensures ok { OnOk result (Serves self.old
             (λ server. server_take on_cycle server client incarnation (body_of body)) self.new) }
         ensures taken { OnOk result
             (is_exhausted (server_in self.old) client incarnation (body_of body) ≡ false) }
@@ -54,7 +54,7 @@ impl Engine {
             ≡ is_exhaustion fault) }
         ensures left { OnErr result (IsLeft self.old self.new) }
     {
-        if let Body::Short(ShortBody::Hello) = body {
+        if is_hello(&body) {
             self.hello(alloc, client, incarnation)?;
             return Ok(());
         }
@@ -76,7 +76,7 @@ impl Engine {
         requires client { HasClient self.old.callbacks.tables client }
         requires current { IsCurrent self.old client incarnation }
         requires fits { FitsIn self.old body }
-        ensures ok { OnOk result (Makes self.old
+        ensures ok { OnOk result (Serves self.old
             (λ server. take_current on_cycle server client (body_of body)) self.new) }
         ensures taken { OnOk result (LacksNumber self.old client (body_of body) false) }
         ensures err { IfErr result (λ fault.
@@ -101,7 +101,7 @@ impl Engine {
     ) -> Result<(), AllocError>
         requires ready { IsReady self.old }
         requires client { HasClient self.old.callbacks.tables client }
-        ensures ok { OnOk result (Makes self.old
+        ensures ok { OnOk result (Serves self.old
             (λ server. server_take on_cycle server client incarnation Hello) self.new) }
         ensures left { OnErr result (IsLeft self.old self.new) }
     {
@@ -119,7 +119,7 @@ impl Engine {
         client: ClientNo,
         incarnation: Incarnation,
     ) -> Result<(), AllocError>
-        ensures ok { OnOk result (Makes self.old
+        ensures ok { OnOk result (Serves self.old
             (λ server. Send client incarnation Welcome ∷ []) self.new) }
         ensures left { OnErr result (IsLeft self.old self.new) }
     {
@@ -138,7 +138,7 @@ impl Engine {
         requires ready { IsReady self.old }
         requires client { HasClient self.old.callbacks.tables client }
         requires newer { ((server_in self.old).session client).current < incarnation }
-        ensures ok { OnOk result (Makes self.old
+        ensures ok { OnOk result (Serves self.old
             (λ server. admit_incarnation on_cycle server client incarnation) self.new) }
         ensures left { OnErr result (IsLeft self.old self.new) }
     {
@@ -173,11 +173,21 @@ impl Engine {
     /// What may be lost is said again.
     pub(crate) fn again(&mut self, alloc: Global) -> Result<(), AllocError>
         requires ready { IsReady self.old }
-        ensures ok { OnOk result (Makes self.old server_again self.new) }
+        ensures ok { OnOk result (Serves self.old server_again self.new) }
         ensures callbacks { self.new.callbacks ≡ self.old.callbacks }
         ensures left { IsLeft self.old self.new }
     {
         self.outbox.reserve(alloc, 1_056, 0)?;
         Ok(())
+    }
+}
+
+/// Whether the message is a Hello.
+fn is_hello(body: &Body) -> bool
+    ensures { result ≡ is_hello (body_of body.now) }
+{
+    match body {
+        Body::Short(ShortBody::Hello) => true,
+        _ => false,
     }
 }

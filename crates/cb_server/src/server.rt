@@ -6,11 +6,11 @@ ghost use Rattle.cb_commit.specs.History.{CatchesUp};
 ghost use Rattle.cb_commit.specs.Stores.{IsOf};
 ghost use Rattle.cb_frame_types.specs.Grammar.{Fits};
 ghost use Rattle.cb_holdings.specs.Commits.{batch_of};
-ghost use Rattle.cb_holdings.specs.Holdings.{AreOf, newest_first, server_of};
+ghost use Rattle.cb_holdings.specs.Holdings.{AreOf, newest_first};
 ghost use Rattle.cb_outbox.specs.Messages.{messages_of};
 ghost use Rattle.cb_protocol.specs.AnyMessages.{ReachesDisk, SendsAgain};
 ghost use Rattle.cb_protocol.specs.Flush.{can_flush, next_batch};
-ghost use Rattle.cb_server.specs.ServerState.{new_state};
+ghost use Rattle.cb_server.specs.ServerState.{IsNew, IsServer, IsUnchanged, commits_of, server_of};
 ghost use Rattle.cb_server.specs.Taking.{Does, IsBytesFault, Refuses, Takes, TakesBytes};
 ghost use Rattle.cb_waits.specs.Follows.{Follows};
 
@@ -37,14 +37,19 @@ pub struct Server {
 }
 
 impl Model for Server {
-    ghost use Rattle.cb_server.specs.ServerState.{IsAtRest, ServerState, state_of};
+    ghost use Rattle.cb_server.specs.ServerState.{IsAtRest, ServerState};
 
     ghost Value = { ServerState };
 
-    ghost view = { λ server. state_of server.limits server.engine.callbacks.tables };
+    ghost view = { λ server. record {
+      limits = server.limits;
+      tables = server.engine.callbacks.tables;
+    } };
 
-    ghost invariant = { λ server. IsAtRest server.limits server.engine.callbacks.tables
-      server.engine.outbox };
+    ghost invariant = { λ server. IsAtRest (record {
+      limits = server.limits;
+      tables = server.engine.callbacks.tables;
+    }) server.engine.outbox };
 }
 
 impl Server {
@@ -53,7 +58,7 @@ impl Server {
     /// It copies the store. `AllocError` only where memory was refused.
     pub fn new(alloc: Global, limits: &Limits, store: Store) -> Result<Server, AllocError>
         requires { IsOf limits.now store }
-        ensures { IfOk result (λ server. server ≡ new_state limits.now store) }
+        ensures { IfOk result (IsNew limits.now store) }
     {
         Ok(Server {
             limits: *limits,
@@ -84,7 +89,7 @@ impl Server {
         ensures ok { IfOk result (λ said. Takes self.old frame (messages_of said.items) self.new) }
         ensures fits { IfOk result (λ said. AllByRecursion (Fits self.old.limits) said.items) }
         ensures err { IfErr result (Refuses self.old frame) }
-        ensures unchanged { OnErr result (self.new ≡ self.old) }
+        ensures unchanged { OnErr result (IsUnchanged self.old self.new) }
     {
         let Frame {
             client,
@@ -109,7 +114,7 @@ impl Server {
         ensures fits { IfOk result (λ answered.
             AllByRecursion (Fits self.old.limits) answered.0.items) }
         ensures err { IfErr result (IsBytesFault self.old bytes.now) }
-        ensures unchanged { OnErr result (self.new ≡ self.old) }
+        ensures unchanged { OnErr result (IsUnchanged self.old self.new) }
     {
         match decode(alloc, &self.limits, bytes) {
             Err(fault) => Err(BytesFault::Frame(fault)),
@@ -128,7 +133,7 @@ impl Server {
         ensures ok { IfOk result (λ said. Does self.old SendsAgain (messages_of said.items)
             self.new) }
         ensures fits { IfOk result (λ said. AllByRecursion (Fits self.old.limits) said.items) }
-        ensures unchanged { self.new ≡ self.old }
+        ensures unchanged { IsUnchanged self.old self.new }
     {
         self.engine.again(alloc)?;
         Ok(self.engine.outbox.take(alloc))
@@ -140,17 +145,17 @@ impl Server {
     /// `AllocError` only where memory was refused.
     pub fn batch(&self, alloc: Global) -> Result<Option<Batch>, AllocError>
         ensures batch { IfOk result (λ batch.
-            option_map batch_of batch ≡ next_batch self.now.server) }
-        ensures catches_up { IfOk result (λ batch. IfSome batch (CatchesUp self.now.commits)) }
+            option_map batch_of batch ≡ next_batch (server_of self.now)) }
+        ensures catches_up { IfOk result (λ batch. IfSome batch (CatchesUp (commits_of self.now))) }
         ensures can_flush { IfOk result (λ batch.
-            IfSome batch (λ b. can_flush self.now.server b.number ≡ true)) }
+            IfSome batch (λ b. can_flush (server_of self.now) b.number ≡ true)) }
     {
         self.engine.callbacks.holdings().batch(alloc)
     }
 
     /// Whether that commit was made and isn't on disk yet.
     pub fn can_flush(&self, number: CommitNo) -> bool
-        ensures { result ≡ can_flush self.now.server number }
+        ensures { result ≡ can_flush (server_of self.now) number }
     {
         self.engine.callbacks.holdings().can_flush(number)
     }
@@ -159,11 +164,11 @@ impl Server {
     ///
     /// `AllocError` only where memory was refused; nothing changes then.
     pub fn flushed(&mut self, alloc: Global, number: CommitNo) -> Result<Vec<Frame>, AllocError>
-        requires { can_flush self.old.server number ≡ true }
+        requires { can_flush (server_of self.old) number ≡ true }
         ensures ok { IfOk result (λ said. Does self.old (ReachesDisk number)
             (messages_of said.items) self.new) }
         ensures fits { IfOk result (λ said. AllByRecursion (Fits self.old.limits) said.items) }
-        ensures unchanged { OnErr result (self.new ≡ self.old) }
+        ensures unchanged { OnErr result (IsUnchanged self.old self.new) }
     {
         let dones = self.engine.callbacks.flushed(alloc, number)?;
         Ok(dones)
@@ -171,16 +176,14 @@ impl Server {
 
     /// All commits, the first one first.
     pub fn committed(&self) -> &[Commit]
-        ensures { newest_first result.now ≡ self.now.server.commits }
+        ensures { newest_first result.now ≡ (server_of self.now).commits }
     {
         self.engine.callbacks.holdings().committed()
     }
 
     /// What it has of its clients and pages, but for who waits and which pages are in use.
     pub fn holdings(&self) -> &Holdings
-        ensures session { (server_of result.now).session ≡ self.now.server.session }
-        ensures store { (server_of result.now).store ≡ self.now.server.store }
-        ensures doomed { (server_of result.now).doomed ≡ self.now.server.doomed }
+        ensures value { result.now ≡ self.now.tables.holdings }
         ensures of { AreOf self.now.limits result.now }
     {
         self.engine.callbacks.holdings()
@@ -188,7 +191,7 @@ impl Server {
 
     /// Who waits for whom, as it is kept.
     pub fn kept_view(&self) -> &View
-        ensures { Follows result.now self.now.server }
+        ensures { Follows result.now (server_of self.now) }
     {
         self.engine.callbacks.kept_view()
     }

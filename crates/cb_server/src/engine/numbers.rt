@@ -36,7 +36,7 @@ impl Engine {
             return false;
         }
         match self.callbacks.holdings().standing(client, txn) {
-            Standing::Later => self.lacks_grant_after(self.callbacks.read_asks()),
+            Standing::Later => self.lacks_grant_after(self.callbacks.read_asks_of_others(client)),
             Standing::Live => {
                 !self.callbacks.waits(client)
                     && self.lacks_grant_after(self.callbacks.read_asks())
