@@ -17,7 +17,7 @@ use Rattle.cb_protocol.proofs.AsksAnswered.{asks_answered}
 use Rattle.cb_protocol.specs.LeavingLaws.{IsAnswered, IsMet, IsTold, TransactionEnds, WaitsIn}
 use Rattle.cb_server.specs.ServerLaws.{AsksAreFew, DoomedLayOnCycle, FramesAreTaken, NoAskIsForgotten, NobodyIsDeadlocked, RulesAreKept}
 use Rattle.cb_server.proofs.Arising.{frame_comes}
-use Rattle.cb_server.specs.ServerState.{IsServer, ServerState, limits_at, opening_at}
+use Rattle.cb_server.specs.ServerState.{IsServer, ServerState, limits_at, opening_at, server_of}
 
 -- clients and pages stay as many
 same_step : (s : Server) (d : ServerStep) → ((after_server_step s d).clients ≡ s.clients) × ((after_server_step s d).pages ≡ s.pages)
@@ -65,17 +65,17 @@ reached_by_clients : (L : Limits) (o : Opening) (s : Server) → ReachedBy L on_
 reached_by_clients L o s Opened = Opened
 reached_by_clients L o s (AfterInput {server = k} r i f) = AfterInput (reached_by_clients L o k r) i (by_client L k i f)
 
-reached : (state : ServerState) → IsServer state → ReachedServer state.server
-reached state is = (limits_at state, opening_at state, reached_in_range (limits_at state) (opening_at state) state.server is.reached)
+reached : (state : ServerState) → IsServer state → ReachedServer (server_of state)
+reached state is = (limits_at state, opening_at state, reached_in_range (limits_at state) (opening_at state) (server_of state) is.reached)
 
 pub rules_kept : RulesAreKept
-rules_kept state is = holds_always (limits_at state) on_cycle (opening_at state) state.server (reached_by_clients (limits_at state) (opening_at state) state.server is.reached)
+rules_kept state is = holds_always (limits_at state) on_cycle (opening_at state) (server_of state) (reached_by_clients (limits_at state) (opening_at state) (server_of state) is.reached)
 
 pub nobody_deadlocked : NobodyIsDeadlocked
-nobody_deadlocked state is = no_cycle state.server (reached state is)
+nobody_deadlocked state is = no_cycle (server_of state) (reached state is)
 
 pub asks_few : AsksAreFew
-asks_few state is = ((one_ask state.server (reached state is) SendsAgain tt [] (input_steps on_cycle state.server SendsAgain) refl).0, doomed_have_no_ask state.server (reached state is))
+asks_few state is = ((one_ask (server_of state) (reached state is) SendsAgain tt [] (input_steps on_cycle (server_of state) SendsAgain) refl).0, doomed_have_no_ask (server_of state) (reached state is))
 
 -- a doom among the steps
 abbrev DoomAmong : ℕ → List ServerStep → Type 0
@@ -110,25 +110,25 @@ doomed_by c s (SetFlushed n ∷ ds) e f = later c (SetFlushed n) ds (doomed_by c
 pub doomed_lay : DoomedLayOnCycle
 doomed_lay old new input messages is taken does c e f = (lay.0, at.1, at.2 ∙ ap (λ (xs : List ServerStep). xs ++ Doom c ∷ at.1) lay.1 ∙ append_assoc lay.0 (RemoveAsk c ∷ []) (Doom c ∷ at.1), lay.2)
   where
-    many : (old.server.clients ≡ (limits_at old).clients) × (old.server.pages ≡ (limits_at old).pages)
-    many = as_many (limits_at old) on_cycle (opening_at old) (InputTaken (limits_at old)) old.server is.reached
+    many : ((server_of old).clients ≡ (limits_at old).clients) × ((server_of old).pages ≡ (limits_at old).pages)
+    many = as_many (limits_at old) on_cycle (opening_at old) (InputTaken (limits_at old)) (server_of old) is.reached
 
-    at : DoomAmong c (input_steps on_cycle old.server input)
-    at = doomed_by c old.server (input_steps on_cycle old.server input) e (ap (λ (s : Server). s.doomed c) (sym does.becomes) ∙ f)
+    at : DoomAmong c (input_steps on_cycle (server_of old) input)
+    at = doomed_by c (server_of old) (input_steps on_cycle (server_of old) input) e (ap (λ (s : Server). s.doomed c) (sym does.becomes) ∙ f)
 
-    lay : (earlier : List ServerStep) × (at.0 ≡ earlier ++ RemoveAsk c ∷ []) × LiesOnCycle (WaitsFor (server_after old.server earlier)) c
-    lay = doomed_on_cycle old.server (reached old is) input (in_range (limits_at old) old.server input many.0 many.1 taken) at.0 at.1 c at.2
+    lay : (earlier : List ServerStep) × (at.0 ≡ earlier ++ RemoveAsk c ∷ []) × LiesOnCycle (WaitsFor (server_after (server_of old) earlier)) c
+    lay = doomed_on_cycle (server_of old) (reached old is) input (in_range (limits_at old) (server_of old) input many.0 many.1 taken) at.0 at.1 c at.2
 
 pub none_forgotten : NoAskIsForgotten
-none_forgotten old new input messages does p c w h = go (asks_answered on_cycle old.server input p c w h)
+none_forgotten old new input messages does p c w h = go (asks_answered on_cycle (server_of old) input p c w h)
   where
     Outcome : Type 0
-    Outcome = WaitsIn c w (new.server.queue p) ⊎ (IsMet old.server p c w messages ⊎ (IsTold old.server c (AbortNow (old.server.session c).txn) messages ⊎ TransactionEnds c (input_steps on_cycle old.server input)))
+    Outcome = WaitsIn c w ((server_of new).queue p) ⊎ (IsMet (server_of old) p c w messages ⊎ (IsTold (server_of old) c (AbortNow ((server_of old).session c).txn) messages ⊎ TransactionEnds c (input_steps on_cycle (server_of old) input)))
 
-    go : WaitsIn c w ((server_after old.server (input_steps on_cycle old.server input)).queue p) ⊎ IsAnswered old.server p c w (input_steps on_cycle old.server input) → Outcome
+    go : WaitsIn c w ((server_after (server_of old) (input_steps on_cycle (server_of old) input)).queue p) ⊎ IsAnswered (server_of old) p c w (input_steps on_cycle (server_of old) input) → Outcome
     go (inl v) = inl (subst (λ (s : Server). WaitsIn c w (s.queue p)) (sym does.becomes) v)
-    go (inr (inl m)) = inr (inl (subst (λ (fs : List Message). IsMet old.server p c w fs) (sym does.sends) m))
-    go (inr (inr (inl t))) = inr (inr (inl (subst (λ (fs : List Message). IsTold old.server c (AbortNow (old.server.session c).txn) fs) (sym does.sends) t)))
+    go (inr (inl m)) = inr (inl (subst (λ (fs : List Message). IsMet (server_of old) p c w fs) (sym does.sends) m))
+    go (inr (inr (inl t))) = inr (inr (inl (subst (λ (fs : List Message). IsTold (server_of old) c (AbortNow ((server_of old).session c).txn) fs) (sym does.sends) t)))
     go (inr (inr (inr e))) = inr (inr (inr e))
 
 pub frames_taken : FramesAreTaken

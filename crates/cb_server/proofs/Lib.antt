@@ -9,3 +9,4 @@ pub mod Greeting
 pub mod Committing
 pub mod Serving
 pub mod LawsKept
+pub mod Resending
