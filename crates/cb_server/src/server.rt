@@ -135,7 +135,7 @@ impl Server {
         ensures fits { IfOk result (λ said. AllByRecursion (Fits self.old.limits) said.items) }
         ensures unchanged { IsUnchanged self.old self.new }
     {
-        self.engine.again(alloc)?;
+        self.engine.again(alloc, &self.limits)?;
         Ok(self.engine.outbox.take(alloc))
     }
 
