@@ -119,12 +119,12 @@ pages_followed s v w from le empty f = record {
 }
 
 -- a client that waits somewhere
-record WaitsAt (s : Server) (client end : ℕ) : Type 0 where
-  page : ℕ
-  within : page < end
-  there : has_ask client (s.queue page) ≡ true
+pub record WaitsAt (s : Server) (client end : ℕ) : Type 0 where
+  pub page : ℕ
+  pub within : page < end
+  pub there : has_ask client (s.queue page) ≡ true
 
-waits_at : (s : Server) (client end : ℕ) → has_waiting_ask s client end ≡ true → WaitsAt s client end
+pub waits_at : (s : Server) (client end : ℕ) → has_waiting_ask s client end ≡ true → WaitsAt s client end
 waits_at s client zero e = absurd cc
 waits_at s client (suc page) e = go (λ f. waits_at s client page f) (has_waiting_ask s client page) refl e
   where

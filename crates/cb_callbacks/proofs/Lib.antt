@@ -1,3 +1,4 @@
+pub mod Anew
 pub mod Bounds
 pub mod Calling
 pub mod Changes

@@ -125,7 +125,7 @@ fn follow_all(view: &mut View, tables: &Tables, client: ClientNo)
 }
 
 /// The view follows each page with asks.
-fn follow_pages(view: &mut View, tables: &Tables)
+pub(crate) fn follow_pages(view: &mut View, tables: &Tables)
     requires are { AreTables tables.now }
     requires waits { Waits (server_of tables.now) }
     ensures { FollowsPages view.old (server_of tables.now) (server_of tables.now).pages view.new }

@@ -1,0 +1,19 @@
+//! Who waits for whom, built anew.
+ghost use Rattle.cb_callbacks.specs.Tables.{server_of};
+ghost use Rattle.cb_waits.specs.Follows.{Follows};
+
+use crate::Callbacks;
+use crate::callbacks::ends::follow_pages;
+use cb_waits::View;
+
+impl Callbacks {
+    /// Who waits for whom, built anew from the queues of asks: the slow form, to compare with
+    /// [`Callbacks::kept_view`]. Both have the same rows.
+    pub fn view(&self) -> View
+        ensures { Follows result (server_of self.now.tables) }
+    {
+        let mut view = View::nobody();
+        follow_pages(&mut view, &self.tables);
+        view
+    }
+}
