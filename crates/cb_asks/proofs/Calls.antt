@@ -83,7 +83,7 @@ place_known state is client page e = by (cases_lt client 32)
     by (inr past) = absurd (none_some (sym (get_or_past {X = Option ℕ} state.places.at client None (let n = is.clients in omega arith)) ∙ e))
 
 -- a client's ask is counted at its place alone
-elsewhere_none : (state : AsksState) → IsAsks state → (client page : ℕ) → place_of state.places client ≡ Some page → (other : ℕ) → other ≢ page → ask_count client (queue_at state other) ≡ 0
+pub elsewhere_none : (state : AsksState) → IsAsks state → (client page : ℕ) → place_of state.places client ≡ Some page → (other : ℕ) → other ≢ page → ask_count client (queue_at state other) ≡ 0
 elsewhere_none state is client page e other ne = is.counts client other ∙ ap (λ p. one_if (is_exactly p other)) e ∙ ap one_if (apart_is page other (λ same. ne (sym same)))
 
 pub only_there : (state : AsksState) → IsAsks state → (client page : ℕ) → place_of state.places client ≡ Some page → (other : ℕ) → ask_count client (queue_at state other) ≢ 0 → page ≡ other

@@ -4,3 +4,4 @@ pub mod Sums
 pub mod Steps
 pub mod Marking
 pub mod Calls
+pub mod Others

@@ -28,6 +28,12 @@ queue_at state page = (queue_of state page).asks
 abbrev pub room_at : AsksState → ℕ → ℕ
 room_at state page = (queue_of state page).room
 
+-- how many asks to read of other clients wait
+abbrev pub reads_of_others : AsksState → (client : ℕ) → ℕ
+reads_of_others state client =
+    sum_below (λ page. read_asks_in (without_client client (queue_at state page)))
+    (length state.queues)
+
 -- there is such a page
 abbrev pub HasPage : AsksState → ℕ → Type 0
 HasPage state page = page < length state.queues

@@ -1,13 +1,15 @@
 //! The queues of all pages.
-ghost use Rattle.std.specs.Prelude.{◌≡◌, ◌≢◌, ◌⊎◌, ℕ, ◌<◌, ◌≤◌, [], length, None, Some, slice_get};
+ghost use Rattle.std.specs.Prelude.{◌≡◌, ◌≢◌, ◌⊎◌, ℕ, ◌+◌, ◌<◌, ◌≤◌, [], length, None, Some};
+ghost use Rattle.std.specs.Prelude.{slice_get};
 ghost use Rattle.std.specs.Prelude.{slice_index_or, IfOk, IfSome, OnOk, MatchOption};
 ghost use Rattle.std.specs.Option.{is_some, option_map};
 ghost use Rattle.cb_protocol.specs.Basics.{is_exactly};
 ghost use Rattle.cb_protocol.specs.Deadlock.{OneAsk, ask_count};
-ghost use Rattle.cb_protocol.specs.Server.{Server};
+ghost use Rattle.cb_protocol.specs.Server.{ForgetTransaction, Server, after_server_step};
 ghost use Rattle.cb_protocol.specs.ServerMessages.{has_waiting_ask, read_asks_below};
 ghost use Rattle.cb_asks.specs.Asks.{CallsBack, Enters, HasPage, HasQueues, Leaves, Removes};
-ghost use Rattle.cb_asks.specs.Asks.{Reserves, SendsDowngrade, queue_at, queue_of, room_at};
+ghost use Rattle.cb_asks.specs.Asks.{Reserves, SendsDowngrade, queue_at, queue_of, reads_of_others};
+ghost use Rattle.cb_asks.specs.Asks.{room_at};
 ghost use Rattle.cb_asks.specs.Places.{IsUpTo};
 ghost use Rattle.cb_asks.specs.Queues.{ask_by, asked, no_queue};
 ghost use Rattle.cb_asks.specs.Sums.{one_if};
@@ -95,6 +97,29 @@ impl Asks {
             → read_asks_below server server.pages ≡ result }
     {
         self.places.reads()
+    }
+
+    /// How many asks to read wait once the client's transaction is forgotten, and its ask is gone.
+    /// It costs a look at the client's ask.
+    pub fn read_asks_of_others(&self, client: ClientNo) -> usize
+        ensures { (server : Server) → HasQueues server self.now
+            → read_asks_below (after_server_step server (ForgetTransaction client)) server.pages
+            ≡ result }
+    {
+        self.places.reads() - self.reads_of(client)
+    }
+
+    /// How many of the asks to read are the client's.
+    fn reads_of(&self, client: ClientNo) -> usize
+        ensures { reads_of_others self.now client + result ≡ self.now.places.reads }
+    {
+        let Some(page) = self.places.get(client) else {
+            return 0;
+        };
+        let Some(ask) = self.queues[page.index()].ask_of(client) else {
+            unreachable!();
+        };
+        if ask.write_grant.is_none() { 1 } else { 0 }
     }
 
     /// Makes room for one more ask at the page. Whether it is refused or not, nobody asks more or

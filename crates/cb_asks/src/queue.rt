@@ -109,6 +109,14 @@ impl Queue {
         Some(key.client())
     }
 
+    /// The client's ask.
+    pub fn ask_of(&self, client: ClientNo) -> Option<Waiting>
+        ensures { option_map waiting_ask result ≡ ask_by client self.now.asks }
+    {
+        let entry = self.entries.get(&Key::of(client))?;
+        Some(entry.of(client))
+    }
+
     /// The clients that wait.
     pub fn clients(&self) -> ClientSet
         ensures { (client : ℕ) → has result client ≡ has_ask client self.now.asks }

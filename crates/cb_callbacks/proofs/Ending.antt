@@ -1,5 +1,5 @@
 -- A transaction or an incarnation ends.
-use Rattle.std.proofs.Common.{◌≡◌, ◌≢◌, ◌⊎◌, ℕ, ◌+◌, ◌<◌, ◌≤◌, Bool, true, false, ◌||◌, if◌then◌else◌, nat_lt, List, [], ◌∷◌, zero, suc, refl, sym, ap, ◌∙◌, subst, arith, inl, inr}
+use Rattle.std.proofs.Common.{◌≡◌, ◌≢◌, ◌⊎◌, ℕ, ◌+◌, ◌<◌, ◌≤◌, Bool, true, false, ◌||◌, ◌==◌, if◌then◌else◌, nat_lt, List, [], ◌∷◌, zero, suc, refl, sym, ap, ◌∙◌, subst, arith, inl, inr}
 use Rattle.std.proofs.lemmas.Bool.{cases_eq, cases_lt}
 use Rattle.cb_asks.specs.Asks.{AsksState, Removes, queue_at}
 use Rattle.cb_asks.specs.Marks.{HasMarks, MarksState, is_in_use}
@@ -17,7 +17,7 @@ use Rattle.cb_protocol.proofs.NoCycles.{none_waits}
 use Rattle.cb_protocol.proofs.SettlingClears.{SoundAsks, count_without, put_other, sound_fewer}
 use Rattle.cb_protocol.specs.Basics.{is_none}
 use Rattle.cb_protocol.specs.Messages.{PageWrite}
-use Rattle.cb_protocol.specs.Server.{ChangeSession, ForgetTransaction, Server, ServerStep, has_ask, server_after, without_client, without_marks}
+use Rattle.cb_protocol.specs.Server.{ChangeSession, ForgetTransaction, Server, ServerStep, WaitingAsk, has_ask, server_after, without_client, without_marks}
 use Rattle.cb_protocol.specs.ServerMessages.{has_waiting_ask}
 use Rattle.cb_protocol.specs.Session.{Admit, ApplyCommit, BeginTransaction, DropTransaction, Session, SessionChange, has_live_txn, session_after, store_after, without_holder}
 use Rattle.cb_protocol.specs.WaitsFor.{waits_for}
@@ -132,31 +132,34 @@ waits_at s client (suc page) e = go (λ f. waits_at s client page f) (has_waitin
     go before true is f = let w = before is in let lt = w.within in record { page = w.page; within = omega (arith, lt); there = w.there }
     go before false is f = record { page = page; within = omega arith; there = f }
 
+-- so the view follows, where the client's ask alone went
+follows_gone : (client : ℕ) (s t : Server) (v w : Edges) → Waits t → ((page : ℕ) → t.queue page ≡ without_client client (s.queue page)) → Follows v s
+    → FollowsAll v t client w → Follows w t
+follows_gone client s t v w after same old f waiting other = go (has_waiting_ask t waiting t.pages) refl
+  where
+    none : has_waiting_ask t waiting t.pages ≡ false → (page : ℕ) → has_ask waiting (t.queue page) ≡ false
+    none e page = none_counted waiting (t.queue page) (none_waits t waiting (record { one = after.one_ask; known = after.in_range }) e page)
+
+    gone : (page : ℕ) → has_ask client (t.queue page) ≡ false
+    gone page = ap (has_ask client) (same page) ∙ without_gone client (s.queue page)
+
+    by : ((page : ℕ) → has_ask waiting (t.queue page) ≡ false) → (waiting ≡ client) ⊎ (waiting ≢ client)
+        → waits w waiting other ≡ waits_for t waiting other
+    by nowhere (inl is) = subst (λ (n : ℕ). waits w n other ≡ waits_for t n other) (sym is)
+        (f.left gone other ∙ sym (no_ask_no_edge t client other gone))
+    by nowhere (inr ne) = f.rest waiting other ne nowhere ∙ old waiting other
+        ∙ no_ask_no_edge s waiting other (λ page. sym (without_other client waiting (s.queue page) ne) ∙ (ap (has_ask waiting) (sym (same page)) ∙ nowhere page))
+        ∙ sym (no_ask_no_edge t waiting other nowhere)
+
+    go : (b : Bool) → has_waiting_ask t waiting t.pages ≡ b → waits w waiting other ≡ waits_for t waiting other
+    go true e = let at = waits_at t waiting t.pages e in f.asks waiting at.page at.within at.there other
+    go false e = by (none e) (cases_eq waiting client)
+
 -- so the view follows the end
 pub follows_ended : (client : ℕ) (s : Server) (change : SessionChange) (v w : Edges) → Waits s → OnlyEnds client s change → Follows v s
     → FollowsAll v (server_after s (ended client change)) client w → Follows w (server_after s (ended client change))
-follows_ended client s change v w known o old f waiting other = go (has_waiting_ask t waiting t.pages) refl
-  where
-    t : Server
-    t = server_after s (ended client change)
-
-    after : Waits (server_after s (ended client change))
-    after = waits_ended client s change known o
-
-    none : has_waiting_ask (server_after s (ended client change)) waiting s.pages ≡ false → (page : ℕ) → has_ask waiting (without_client client (s.queue page)) ≡ false
-    none e page = none_counted waiting (without_client client (s.queue page)) (none_waits (server_after s (ended client change)) waiting (record { one = after.one_ask; known = after.in_range }) e page)
-
-    by : ((page : ℕ) → has_ask waiting (without_client client (s.queue page)) ≡ false) → (waiting ≡ client) ⊎ (waiting ≢ client)
-        → waits w waiting other ≡ waits_for (server_after s (ended client change)) waiting other
-    by nowhere (inl same) = subst (λ (n : ℕ). waits w n other ≡ waits_for (server_after s (ended client change)) n other) (sym same)
-        (f.left (λ page. without_gone client (s.queue page)) other ∙ sym (no_ask_no_edge (server_after s (ended client change)) client other (λ page. without_gone client (s.queue page))))
-    by nowhere (inr ne) = f.rest waiting other ne nowhere ∙ old waiting other
-        ∙ no_ask_no_edge s waiting other (λ page. sym (without_other client waiting (s.queue page) ne) ∙ nowhere page)
-        ∙ sym (no_ask_no_edge (server_after s (ended client change)) waiting other nowhere)
-
-    go : (b : Bool) → has_waiting_ask (server_after s (ended client change)) waiting s.pages ≡ b → waits w waiting other ≡ waits_for (server_after s (ended client change)) waiting other
-    go true e = let at = waits_at (server_after s (ended client change)) waiting s.pages e in f.asks waiting at.page at.within at.there other
-    go false e = by (none e) (cases_eq waiting client)
+follows_ended client s change v w known o old f =
+    follows_gone client s (server_after s (ended client change)) v w (waits_ended client s change known o) (λ page. refl) old f
 
 -- the invariant is kept
 pub kept_ended : (before : Tables) (view : Edges) (after : Tables) (follows : Edges) (client : ℕ) (change : SessionChange)
@@ -190,6 +193,80 @@ pub changes_forgot : (before after : Tables) (h : HoldingsState) (client : ℕ) 
     → HasMarks before.marks after.marks (without_marks (is_in_use before.marks) client) → Changes before (ended client change) after
 changes_forgot before after h client change does same removes clears = record {
   becomes = forgot before after h client change does same removes clears;
+  stays = subst (λ (x : HoldingsState). Stays before.holdings x) (sym same) does.stays;
+  room = removes.room;
+}
+
+-- Two ends of one client, the one after the other: what is gone is gone.
+without_twice : (client : ℕ) (queue : List WaitingAsk) → without_client client (without_client client queue) ≡ without_client client queue
+without_twice client [] = refl
+without_twice client (ask ∷ queue) = go (without_twice client queue) (ask.client == client) refl
+  where
+    go : without_client client (without_client client queue) ≡ without_client client queue → (b : Bool) → (ask.client == client) ≡ b
+        → without_client client (if b then without_client client queue else ask ∷ without_client client queue) ≡ (if b then without_client client queue else ask ∷ without_client client queue)
+    go same true e = same
+    go same false e = rw e (ap (λ (l : List WaitingAsk). ask ∷ l) same)
+
+marks_twice : (in_use : ℕ → ℕ → Bool) (client other page : ℕ) → without_marks in_use client other page ≡ without_marks (without_marks in_use client) client other page
+marks_twice in_use client other page = go (other == client)
+  where
+    go : (b : Bool) → (if b then false else in_use other page) ≡ (if b then false else if b then false else in_use other page)
+    go true = refl
+    go false = refl
+
+abbrev pub ended_twice : (client : ℕ) → SessionChange → SessionChange → List ServerStep
+ended_twice client first second = ForgetTransaction client ∷ ChangeSession client first ∷ ForgetTransaction client ∷ ChangeSession client second ∷ []
+
+pub forgot_twice : (before after : Tables) (h : HoldingsState) (client : ℕ) (first second : SessionChange)
+    → Does before.holdings (ended_twice client first second) h → after.holdings ≡ h → Removes before.asks client after.asks
+    → HasMarks before.marks after.marks (without_marks (is_in_use before.marks) client)
+    → server_of after ≡ server_after (server_of before) (ended_twice client first second)
+forgot_twice before after h client first second does same removes clears =
+    queued (holdings.server_of after.holdings) (queue_at after.asks) asks (is_in_use after.marks)
+    (λ page. removes.has.queues page ∙ sym (without_twice client (queue_at before.asks page)))
+    ∙ marked (holdings.server_of after.holdings) asks (is_in_use after.marks) marks
+    (λ other page. clears.marks other page ∙ marks_twice (is_in_use before.marks) client other page)
+    ∙ ap (λ (s : Server). with_waits s asks marks) (subst (λ (x : HoldingsState). Does before.holdings (ended_twice client first second) x) (sym same) does).becomes
+  where
+    asks : ℕ → List WaitingAsk
+    asks page = without_client client (without_client client (queue_at before.asks page))
+
+    marks : ℕ → ℕ → Bool
+    marks = without_marks (without_marks (is_in_use before.marks) client) client
+
+waits_twice : (client : ℕ) (s : Server) (first second : SessionChange) → Waits s → OnlyEnds client s first
+    → OnlyEnds client (server_after s (ended client first)) second → Waits (server_after s (ended_twice client first second))
+waits_twice client s first second waits one two =
+    waits_ended client (server_after s (ended client first)) second (waits_ended client s first waits one) two
+
+pub waits_forgot_twice : (before after : Tables) (client : ℕ) (first second : SessionChange) → Waits (server_of before)
+    → server_of after ≡ server_after (server_of before) (ended_twice client first second) → OnlyEnds client (server_of before) first
+    → OnlyEnds client (server_after (server_of before) (ended client first)) second → Waits (server_of after)
+waits_forgot_twice before after client first second waits becomes one two = subst Waits (sym becomes) (waits_twice client (server_of before) first second waits one two)
+
+pub kept_twice : (before : Tables) (view : Edges) (after : Tables) (follows : Edges) (client : ℕ) (first second : SessionChange)
+    → AreCallbacks (record { tables = before; view = view }) → AreTables after
+    → server_of after ≡ server_after (server_of before) (ended_twice client first second) → OnlyEnds client (server_of before) first
+    → OnlyEnds client (server_after (server_of before) (ended client first)) second
+    → FollowsAll view (server_of after) client follows → AreCallbacks (record { tables = after; view = follows })
+kept_twice before view after follows client first second kept are becomes one two followed = record {
+  tables = are;
+  waits = subst Waits (sym becomes) known;
+  follows = subst (Follows follows) (sym becomes)
+      (follows_gone client (server_of before) (server_after (server_of before) (ended_twice client first second)) view follows known
+      (λ page. without_twice client ((server_of before).queue page)) kept.follows
+      (subst (λ (s : Server). FollowsAll view s client follows) becomes followed));
+  few = subst (λ (s : Server). s.clients ≤ 32) (sym becomes) kept.few;
+}
+  where
+    known : Waits (server_after (server_of before) (ended_twice client first second))
+    known = waits_twice client (server_of before) first second kept.waits one two
+
+pub changes_twice : (before after : Tables) (h : HoldingsState) (client : ℕ) (first second : SessionChange)
+    → Does before.holdings (ended_twice client first second) h → after.holdings ≡ h → Removes before.asks client after.asks
+    → HasMarks before.marks after.marks (without_marks (is_in_use before.marks) client) → Changes before (ended_twice client first second) after
+changes_twice before after h client first second does same removes clears = record {
+  becomes = forgot_twice before after h client first second does same removes clears;
   stays = subst (λ (x : HoldingsState). Stays before.holdings x) (sym same) does.stays;
   room = removes.room;
 }

@@ -1,9 +1,10 @@
 //! The tables with the view of who waits for whom.
 ghost use Rattle.std.specs.Prelude.{◌≡◌, IfOk};
 ghost use Rattle.cb_callbacks.specs.Tables.{server_of};
+ghost use Rattle.cb_commit.specs.History.{begun};
 ghost use Rattle.cb_commit.specs.Stores.{IsOf};
 ghost use Rattle.cb_holdings.specs.Holdings.{AreOf, limits_of, opening_of};
-ghost use Rattle.cb_protocol.specs.Server.{new_server};
+ghost use Rattle.cb_protocol.specs.Server.{ForgetTransaction, after_server_step, new_server};
 ghost use Rattle.cb_protocol.specs.ServerMessages.{has_waiting_ask, read_asks_below};
 ghost use Rattle.cb_protocol.specs.WaitsFor.{on_cycle};
 ghost use Rattle.cb_protocol.specs.World.{opening_store};
@@ -51,6 +52,8 @@ impl Callbacks {
             ≡ new_server limits.now.clients limits.now.pages
             (opening_store (limits_of limits.now) (opening_of store))) }
         ensures of { IfOk result (λ callbacks. AreOf limits.now callbacks.tables.holdings) }
+        ensures commits { IfOk result (λ callbacks.
+            callbacks.tables.holdings.commits ≡ begun store) }
     {
         // At most 32 clients, by its type.
         let _few = limits.clients();
@@ -115,5 +118,15 @@ impl Callbacks {
             (server_of self.now.tables).pages }
     {
         self.tables.asks.read_asks()
+    }
+
+    /// How many asks to read wait once a later transaction of the client has begun, with which its
+    /// own ask goes.
+    pub fn read_asks_of_others(&self, client: ClientNo) -> usize
+        ensures { result ≡ read_asks_below
+            (after_server_step (server_of self.now.tables) (ForgetTransaction client))
+            (server_of self.now.tables).pages }
+    {
+        self.tables.asks.read_asks_of_others(client)
     }
 }

@@ -14,4 +14,4 @@ mod laws;
 mod tables;
 
 pub use callbacks::Callbacks;
-pub use laws::an_ask_sends_at_most_one;
+pub use laws::{an_ask_sends_at_most_one, grants_are_left};

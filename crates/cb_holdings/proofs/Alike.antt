@@ -1,7 +1,6 @@
 -- Two servers that are alike point by point are the same.
-use Rattle.std.proofs.Common.{◌≡◌, ℕ, Bool, List, Option}
-use Rattle.cb_protocol.specs.Basics.{Bytes}
-use Rattle.cb_protocol.specs.Server.{AppliedCommit, Server, WaitingAsk}
+use Rattle.std.proofs.Common.{◌≡◌, ℕ}
+use Rattle.cb_protocol.specs.Server.{Server}
 
 pub record Alike (s t : Server) : Type 0 where
   pub holder : (page : ℕ) → s.store.holder page ≡ t.store.holder page

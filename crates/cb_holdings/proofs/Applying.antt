@@ -1,5 +1,5 @@
 -- What a commit that is applied is to the protocol's server.
-use Rattle.std.proofs.Common.{◌≡◌, ℕ, ◌<◌, ◌≤◌, ◌+◌, ◌==◌, Bool, true, false, List, [], ◌∷◌, ◌++◌, Option, Some, None, length, refl, sym, ap, ◌∙◌, subst, arith, if◌then◌else◌}
+use Rattle.std.proofs.Common.{◌≡◌, ℕ, ◌≤◌, ◌+◌, ◌==◌, Bool, true, false, List, [], ◌∷◌, Option, Some, refl, sym, ap, ◌∙◌, subst, arith, if◌then◌else◌}
 use Rattle.std.specs.Prelude.{slice_set}
 use Rattle.std.proofs.lemmas.Bool.Decides.{nat_tests}
 use Rattle.std.proofs.Math.ListN.{length-set}
@@ -61,7 +61,7 @@ pub record EndsPermissions (v : HoldingsState) (c : ℕ) (d : DirectoryState) : 
   pub tags : (page : ℕ) → directory.tag d page ≡ directory.tag v.directory page
   pub next : d.next_grant ≡ v.directory.next_grant
 
-applies : (v : HoldingsState) (c i t : ℕ) (ws : List Write) (d : DirectoryState)
+pub applies : (v : HoldingsState) (c i t : ℕ) (ws : List Write) (d : DirectoryState)
     → AreHoldings v → MayApply v c i t ws → EndsPermissions v c d
     → Does v (ForgetTransaction c ∷ ChangeSession c (ApplyCommit t (page_writes ws)) ∷ [])
     (after_commit v c i t ws d)

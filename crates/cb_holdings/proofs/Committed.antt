@@ -1,12 +1,11 @@
 -- Commits and flushes, in the words of the commits' crate and of the protocol.
-use Rattle.std.proofs.Common.{◌≡◌, ℕ, ◌<◌, ◌≤◌, ◌+◌, ◌==◌, Bool, true, false, not, ◌&&◌, nat_lt, nat_le, List, [], ◌∷◌, ◌++◌, Option, Some, None, length, map, reverse, zero, suc, refl, sym, ap, ◌∙◌, subst, arith, if◌then◌else◌, inl, inr}
+use Rattle.std.proofs.Common.{◌≡◌, ℕ, ◌<◌, ◌+◌, ◌==◌, Bool, true, false, ◌&&◌, nat_lt, nat_le, List, [], ◌∷◌, ◌++◌, Option, Some, None, length, map, reverse, zero, suc, refl, sym, ap, ◌∙◌, arith, if◌then◌else◌, inl, inr}
 use Rattle.std.specs.List.{All}
 use Rattle.std.specs.Option.{option_map}
 use Rattle.std.specs.Prelude.{slice_index_or, slice_set}
 use Rattle.std.proofs.lemmas.Bool.{cases_eq}
 use Rattle.std.proofs.lemmas.Bool.Decides.{nat_tests}
 use Rattle.std.proofs.lemmas.List.{append-nil, append_assoc, get_or-set_other, get_or-set_same, length-set, map-append, map_push, reverse-append}
-use Rattle.cb_commit.specs.Batches as commits
 use Rattle.cb_commit.specs.Batches.{changed_below, taken}
 use Rattle.cb_commit.specs.History as commits_history
 use Rattle.cb_commit.specs.History.{CommitsState, FitsInto, WritesInto, done_of, rewritten}
@@ -16,16 +15,16 @@ use Rattle.cb_commit.specs.declared.store.StoredPage.{StoredPage}
 use Rattle.cb_frame_types.specs.Grammar.{page_of}
 use Rattle.cb_frame_types.specs.declared.frame.Frame.{Frame}
 use Rattle.cb_frame_types.specs.declared.writes.Write.{Write}
-use Rattle.cb_page.specs.Rising.{IsRising, RisesFrom}
+use Rattle.cb_page.specs.Rising.{RisesFrom}
 use Rattle.cb_protocol.specs.Flush as protocol
-use Rattle.cb_protocol.specs.Messages.{Done, Message, PageWrite, write_of_page}
+use Rattle.cb_protocol.specs.Messages.{Done, PageWrite, write_of_page}
 use Rattle.cb_protocol.specs.Server.{AppliedCommit, Send, Server, ServerStep, SetFlushed, after_server_step, server_after}
 use Rattle.cb_protocol.specs.Session.{new_bytes, new_version}
 use Rattle.cb_protocol.specs.World.{messages_sent}
 use Rattle.cb_protocol.proofs.Cases.{sent_append, server_after_append}
 use Rattle.cb_holdings.specs.Holdings.{Does, HoldingsState, newest_first, server_of}
 use Rattle.cb_holdings.specs.Commits.{applied_commit, batch_of, batch_page}
-use Rattle.cb_outbox.specs.Messages.{message_of, messages_of, page_write, page_writes}
+use Rattle.cb_outbox.specs.Messages.{message_of, messages_of, page_writes}
 
 -- the newest commit is first in the server's list
 pub newest : (cs : List Commit) (c : Commit)

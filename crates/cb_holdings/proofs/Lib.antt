@@ -3,3 +3,4 @@ pub mod Applying
 pub mod Committed
 pub mod Rows
 pub mod Steps
+pub mod Later

@@ -1,5 +1,5 @@
 -- The rows of a page, client by client, and the directory rule.
-use Rattle.std.proofs.Common.{◌≡◌, ◌≢◌, ℕ, ◌<◌, ◌≤◌, ◌+◌, ◌==◌, Bool, true, false, not, ◌&&◌, ◌||◌, Option, Some, None, length, zero, suc, refl, sym, ap, ◌∙◌, arith, if◌then◌else◌, inl, inr}
+use Rattle.std.proofs.Common.{◌≡◌, ℕ, ◌<◌, ◌≤◌, ◌==◌, Bool, true, false, not, ◌&&◌, ◌||◌, Option, Some, None, length, zero, suc, refl, sym, ap, arith, inl, inr}
 use Rattle.std.specs.Option.{is_some}
 use Rattle.std.specs.Prelude.{MatchOption}
 use Rattle.cb_clients.specs.Clients.{Clients, IsLeast, has, without}

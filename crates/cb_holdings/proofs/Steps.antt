@@ -1,6 +1,6 @@
 -- What each change of the parts is to the protocol's server.
-use Rattle.std.proofs.Common.{◌≡◌, ℕ, ◌<◌, ◌≤◌, ◌+◌, ◌-◌, ◌==◌, Bool, true, false, List, [], ◌∷◌, Option, Some, None, length, replicate, refl, sym, ap, ◌∙◌, subst, arith, if◌then◌else◌, nat_lt, inl, inr}
-use Rattle.std.specs.Prelude.{slice_set, slice_index_or}
+use Rattle.std.proofs.Common.{◌≡◌, ℕ, ◌<◌, ◌≤◌, ◌==◌, Bool, true, false, List, [], ◌∷◌, Option, Some, None, length, replicate, refl, sym, ap, ◌∙◌, arith, if◌then◌else◌, nat_lt, inl, inr}
+use Rattle.std.specs.Prelude.{slice_set}
 use Rattle.std.proofs.lemmas.Grind.{common_steps}
 use Rattle.std.proofs.lemmas.Bool.{cases_lt}
 use Rattle.std.proofs.lemmas.Bool.Decides.{nat_tests}
@@ -19,7 +19,7 @@ use Rattle.cb_links.specs.declared.sessions.Standing.TheVariants as standing
 use Rattle.cb_links.specs.declared.sessions.Transaction.{Transaction}
 use Rattle.cb_links.specs.declared.sessions.Transaction.TheVariants.{NotBegun, Live, Ended}
 use Rattle.cb_page.specs.Bounds.{Bounds}
-use Rattle.cb_protocol.specs.Server.{ChangeSession, ForgetTransaction, Server, ServerStep, new_server, server_after}
+use Rattle.cb_protocol.specs.Server.{ChangeSession, ForgetTransaction, ServerStep, new_server, server_after}
 use Rattle.cb_protocol.specs.Session as protocol
 use Rattle.cb_protocol.specs.Session.{Admit, BeginTransaction, DropTransaction, EndPermission, RemoveRow, has_live_txn}
 use Rattle.cb_protocol.specs.World.{opening_store}

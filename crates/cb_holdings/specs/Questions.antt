@@ -1,11 +1,12 @@
 -- What a message's incarnation and transaction are to the protocol's server.
-use Rattle.std.specs.Prelude.{◌≡◌, ℕ, true, nat_lt, ◌==◌, if◌then◌else◌}
+use Rattle.std.specs.Prelude.{◌≡◌, ℕ, true, nat_lt, ◌==◌, if◌then◌else◌, [], ◌∷◌}
 use Rattle.cb_links.specs.declared.sessions.Admission.{Admission}
 use Rattle.cb_links.specs.declared.sessions.Admission.TheVariants.{Stale, Current, Unknown}
 use Rattle.cb_links.specs.declared.sessions.Standing.{Standing}
 use Rattle.cb_links.specs.declared.sessions.Standing.TheVariants as standing
-use Rattle.cb_protocol.specs.Server.{Server, has_not_ended}
-use Rattle.cb_protocol.specs.Session.{has_live_txn}
+use Rattle.cb_protocol.specs.Server.{ChangeSession, ForgetTransaction, Server, has_not_ended}
+use Rattle.cb_protocol.specs.Server.{server_after}
+use Rattle.cb_protocol.specs.Session.{BeginTransaction, has_live_txn}
 
 -- greater than the current incarnation, equal to it or less (this project's rule)
 abbrev pub admission_in : Server → (client incarnation : ℕ) → Admission
@@ -32,3 +33,8 @@ abbrev pub IsLastIfLive : Standing → Server → (client txn : ℕ) → Type 0
 IsLastIfLive standing.Live server client txn = IsLast server client txn
 IsLastIfLive standing.Doomed server client txn = IsLast server client txn
 IsLastIfLive _ server client txn = Unit {0}
+
+-- the server once that transaction of the client has begun
+abbrev pub begun_server : Server → (client txn : ℕ) → Server
+begun_server server client txn = server_after server
+    (ForgetTransaction client ∷ ChangeSession client (BeginTransaction txn) ∷ [])

@@ -406,3 +406,13 @@ none_wait s (suc n) e = rw (none_wait s n e, e n) refl
 
 pub grants_left_at_first : (L : Limits) → GrantsLeftAtFirst L
 grants_left_at_first L o = let e = none_wait (new_server L.clients L.pages (opening_store L o)) L.pages (λ p. refl) in (omega arith, omega arith)
+
+-- in the middle of a step: once the transaction has begun, once it is answered, once a greater incarnation is admitted
+pub left_at_begin : (s : Server) (c t : ℕ) → HasGrantsLeft s → HasGrantsLeft (server_after s (begin_transaction s c t))
+left_at_begin s c t h = (lasts_begins s c t h).left
+
+pub left_at_answer : (cycle : DeadlockTest) (s : Server) (c : ℕ) (b : Body) → HasGrantsLeft s → lacks_number s c b ≡ false → HasGrantsLeft (server_after s (direct_answer cycle s c b))
+left_at_answer cycle s c b h l = (lasts_answer cycle s c b h l).left
+
+pub left_at_admission : (s : Server) (c i : ℕ) → HasGrantsLeft s → HasGrantsLeft (server_after s (ForgetTransaction c ∷ ChangeSession c (Admit i) ∷ Send c i Welcome ∷ []))
+left_at_admission s c i h = (lasts_nothing s (ForgetTransaction c ∷ ChangeSession c (Admit i) ∷ Send c i Welcome ∷ []) h tt).left

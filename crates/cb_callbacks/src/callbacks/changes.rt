@@ -87,6 +87,7 @@ impl Callbacks {
     pub fn reserve_ask(&mut self, page: PageNo) -> Result<(), AllocError>
         requires { HasPage self.old.tables page }
         ensures changes { Changes self.old.tables [] self.new.tables }
+        ensures holdings { self.new.tables.holdings ≡ self.old.tables.holdings }
         ensures ok { OnOk result (0 < room_at self.new.tables.asks page) }
     {
         self.tables.asks.reserve(page)

@@ -98,6 +98,41 @@ impl Callbacks {
         Ok(number)
     }
 
+    /// A later transaction of the client begins and ends by the next commit, whose number is
+    /// answered; the one before it, if it lives, ends as dropped. The commit keeps the pages that
+    /// are handed in.
+    ///
+    /// `AllocError` only where memory was refused; then no transaction begins.
+    pub fn commit_later(
+        &mut self,
+        client: ClientNo,
+        incarnation: Incarnation,
+        txn: TxnNo,
+        writes: Writes,
+    ) -> Result<CommitNo, AllocError>
+        requires client { HasClient self.old.tables client }
+        requires current { incarnation ≡ ((server_of self.old.tables).session client).current }
+        requires later { ((server_of self.old.tables).session client).txn < txn }
+        requires left { (server_of self.old.tables).store.last_commit < max_number }
+        requires fit { FitsInto self.old.tables.holdings.commits.store writes }
+        ensures number { IfOk result (λ number.
+            number ≡ (server_of self.old.tables).store.last_commit + 1) }
+        ensures ok { OnOk result (Changes self.old.tables
+            (ForgetTransaction client ∷ ChangeSession client (BeginTransaction txn)
+            ∷ ForgetTransaction client
+            ∷ ChangeSession client (ApplyCommit txn (page_writes writes)) ∷ [])
+            self.new.tables) }
+        ensures err { OnErr result (self.new ≡ self.old) }
+    {
+        let commit = self
+            .tables
+            .holdings
+            .commit_later(client, incarnation, txn, writes)?;
+        self.tables.forget(client);
+        follow_all(&mut self.view, &self.tables, client);
+        Ok(commit)
+    }
+
     /// The commits up to this number are on disk now: a Done for each that wasn't before, in order.
     ///
     /// `AllocError` only where memory was refused.

@@ -1,17 +1,19 @@
 //! Commits: which may be applied, applying one, and what reaches the disk.
-ghost use Rattle.std.specs.Prelude.{◌≡◌, ◌<◌, ◌+◌, ◌&&◌, true, [], ◌∷◌, IfOk, IfSome, OnOk, OnErr};
+ghost use Rattle.std.specs.Prelude.{◌≡◌, ℕ, ◌<◌, ◌+◌, ◌&&◌, true, [], ◌∷◌, IfOk, IfSome, OnOk};
+ghost use Rattle.std.specs.Prelude.{OnErr};
 ghost use Rattle.std.specs.List.{All};
 ghost use Rattle.std.specs.Option.{option_map};
 ghost use Rattle.cb_commit.specs.History.{AreCommits, CatchesUp, FitsInto};
 ghost use Rattle.cb_holdings.specs.Holdings.{Does, HasClient, HasPage, newest_first, server_of};
 ghost use Rattle.cb_holdings.specs.Commits.{batch_of};
+ghost use Rattle.cb_holdings.specs.Questions.{begun_server};
 ghost use Rattle.cb_outbox.specs.Messages.{messages_of, page_writes};
 ghost use Rattle.cb_protocol.specs.Basics.{max_number};
 ghost use Rattle.cb_protocol.specs.Flush.{can_flush, next_batch, server_flush};
 ghost use Rattle.cb_protocol.specs.Server.{ChangeSession, ForgetTransaction, has_row};
 ghost use Rattle.cb_protocol.specs.Server.{is_write_holder};
 ghost use Rattle.cb_protocol.specs.ServerMessages.{commit_allowed};
-ghost use Rattle.cb_protocol.specs.Session.{ApplyCommit, has_live_txn};
+ghost use Rattle.cb_protocol.specs.Session.{ApplyCommit, BeginTransaction, has_live_txn};
 ghost use Rattle.cb_protocol.specs.World.{messages_sent};
 
 use crate::Holdings;
@@ -34,6 +36,21 @@ impl Holdings {
             }
         }
         true
+    }
+
+    /// Whether the commit would be allowed once a later transaction of the client had begun: with
+    /// one that lives, its permissions go.
+    pub fn commit_allowed_later(&self, client: ClientNo, writes: &[Write]) -> bool
+        requires client { HasClient self.now client }
+        requires pages { All (λ write. HasPage self.now write.page) writes.now }
+        ensures { (txn : ℕ) → result ≡ commit_allowed (begun_server (server_of self.now) client txn)
+            client (page_writes writes.now) }
+    {
+        if self.sessions.session(client).transaction.is_live() {
+            writes.is_empty()
+        } else {
+            self.commit_allowed(client, writes)
+        }
     }
 
     /// Whether the client has the page's write permission, and the copy that the write names.
@@ -76,6 +93,41 @@ impl Holdings {
         }
         self.sessions.end(client, Some(number));
         Ok(number)
+    }
+
+    /// A later transaction of the client begins and ends by the next commit, whose number is
+    /// answered; the one before it, if it lives, ends as dropped. The commit keeps the pages that
+    /// are handed in.
+    ///
+    /// `AllocError` only where memory was refused; then no transaction begins.
+    pub fn commit_later(
+        &mut self,
+        client: ClientNo,
+        incarnation: Incarnation,
+        txn: TxnNo,
+        writes: Writes,
+    ) -> Result<CommitNo, AllocError>
+        requires client { HasClient self.old client }
+        requires current { incarnation ≡ ((server_of self.old).session client).current }
+        requires later { ((server_of self.old).session client).txn < txn }
+        requires left { (server_of self.old).store.last_commit < max_number }
+        requires fit { FitsInto self.old.commits.store writes }
+        ensures number { IfOk result (λ number.
+            number ≡ (server_of self.old).store.last_commit + 1) }
+        ensures ok { OnOk result (Does self.old
+            (ForgetTransaction client ∷ ChangeSession client (BeginTransaction txn)
+            ∷ ForgetTransaction client
+            ∷ ChangeSession client (ApplyCommit txn (page_writes writes)) ∷ []) self.new) }
+        ensures err { OnErr result (self.new ≡ self.old) }
+    {
+        let commit = self.commits.apply(client, incarnation, txn, writes)?;
+        let lives = self.sessions.session(client).transaction.is_live();
+        if lives || !self.keep_write {
+            self.directory.clear_writers(client);
+        }
+        self.sessions.begin(client, txn);
+        self.sessions.end(client, Some(commit));
+        Ok(commit)
     }
 
     /// What is to be written to disk next: each page that a commit changed which isn't on disk yet,

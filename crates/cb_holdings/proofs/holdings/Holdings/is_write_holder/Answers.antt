@@ -1,4 +1,4 @@
-use Rattle.std.proofs.Common.{◌≡◌, true, Some, length, rules, subst}
+use Rattle.std.proofs.Common.{◌≡◌, Some, length, rules, subst}
 use Rattle.cb_directory.specs.Directories.{IsSoleRow, holder}
 use Rattle.cb_holdings.specs.Holdings.{HoldingsState}
 use Rattle.cb_holdings.proofs.Rows.{sole_of}
