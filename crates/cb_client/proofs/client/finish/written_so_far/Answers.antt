@@ -19,9 +19,9 @@ push_reserved-requires g c =
     let below = flag_within c.args.copies.now.wrote c.in-Some.page c.in-Some.ensures.1 in
     let sized = c.in_ok-write.ensures.sound.sizes.wrote in
     let next : page_writes (c.loop-page.writes.items ++ c.in_ok-write.write ∷ []) ≡ written_pages (client_with c.args.copies.now new_client) (c.in-Some.page + 1) =
-        next_write (client_with c.args.copies.now new_client) c.loop-page.from c.in-Some.page _ _ (c.loop-page.invariant.said new_client) c.in-Some.ensures.0 c.in-Some.ensures.2 (c.in_ok-write.ensures.written new_client) in
+    next_write (client_with c.args.copies.now new_client) c.loop-page.from c.in-Some.page _ _ (c.loop-page.invariant.said new_client) c.in-Some.ensures.0 c.in-Some.ensures.2 (c.in_ok-write.ensures.written new_client) in
     let less : length c.loop-page.writes.items < vec_capacity c.loop-page.writes =
-        room_for_one (client_with c.args.copies.now new_client) c.in-Some.page c.args.copies.now.limits.pages (vec_capacity c.loop-page.writes) c.loop-page.writes.items c.in_ok-write.write next (omega (arith, below, sized)) (c.loop-page.invariant.room new_client) in
+    room_for_one (client_with c.args.copies.now new_client) c.in-Some.page c.args.copies.now.limits.pages (vec_capacity c.loop-page.writes) c.loop-page.writes.items c.in_ok-write.write next (omega (arith, below, sized)) (c.loop-page.invariant.room new_client) in
     let is = c.loop-page.writes.ok.0 in
     omega (arith, less, is)
 
