@@ -108,7 +108,7 @@ short_fits_in : (e : Engine) (b : Bounds) (s : ShortBody) → AreOf b e.callback
 short_fits_in e b s of h = go s (subst (λ (n : ℕ). Fitting n s) (sym of.store.count) (fitting s h))
   where
     -- all that a short body asks of the limits is how many pages there are
-    abbrev Fitting : ℕ → ShortBody → Type 0
+    Fitting : ℕ → ShortBody → Type 0
     Fitting n s = BodyFits (record { clients = 0; pages = n; page_size = 0; slots = 0; keep_write = false }) (short_of s)
 
     fitting : (s : ShortBody) → grammar.ShortFits b s → Fitting b.pages s

@@ -3,7 +3,6 @@ ghost use Rattle.std.specs.Prelude.{◌≡◌, ◌<◌, ◌∷◌, [], false, If
 ghost use Rattle.cb_callbacks.specs.Tables.{HasClient};
 ghost use Rattle.cb_outbox.specs.Messages.{body_of};
 ghost use Rattle.cb_protocol.specs.Messages.{Hello, Welcome};
-ghost use Rattle.cb_protocol.specs.Resend.{server_again};
 ghost use Rattle.cb_protocol.specs.Server.{Send};
 ghost use Rattle.cb_protocol.specs.ServerMessages.{admit_incarnation, is_exhausted};
 ghost use Rattle.cb_protocol.specs.ServerMessages.{server_take, take_current};
@@ -168,17 +167,6 @@ impl Engine {
         // The law of how much it sends.
         self.callbacks.settling_is_bounded();
         self.callbacks.settle(&mut self.outbox);
-    }
-
-    /// What may be lost is said again.
-    pub(crate) fn again(&mut self, alloc: Global) -> Result<(), AllocError>
-        requires ready { IsReady self.old }
-        ensures ok { OnOk result (Serves self.old server_again self.new) }
-        ensures callbacks { self.new.callbacks ≡ self.old.callbacks }
-        ensures left { IsLeft self.old self.new }
-    {
-        self.outbox.reserve(alloc, 1_056, 0)?;
-        Ok(())
     }
 }
 
