@@ -1,0 +1,66 @@
+-- Hello, by its incarnation, and every other message.
+use Rattle.std.proofs.Common.{◌≡◌, ◌≢◌, ℕ, ◌<◌, nat_lt, Bool, true, false, ◌==◌, if◌then◌else◌, [], ◌∷◌, refl, sym, ap, ◌∙◌, arith}
+use Rattle.std.proofs.lemmas.Bool.Decides.{nat_tests}
+use Rattle.cb_holdings.specs.Questions.{admission_in}
+use Rattle.cb_links.specs.declared.sessions.Admission.{Admission}
+use Rattle.cb_links.specs.declared.sessions.Admission.TheVariants as admission
+use Rattle.cb_protocol.proofs.Cases.{serves_current, serves_hello_again, serves_new_hello, serves_no_old_hello, serves_no_other_incarnation}
+use Rattle.cb_protocol.specs.Messages.{Body, Hello, Welcome}
+use Rattle.cb_protocol.specs.Server.{Send, Server}
+use Rattle.cb_protocol.specs.ServerMessages.{admit_incarnation, server_take, take_current}
+use Rattle.cb_protocol.specs.WaitsFor.{on_cycle}
+use Rattle.cb_server.specs.Answering.{is_hello}
+
+pub is_unknown : (s : Server) (c i : ℕ) → admission.Unknown ≡ admission_in s c i → (s.session c).current < i
+is_unknown s c i e = go (nat_lt (s.session c).current i) (i == (s.session c).current) refl e
+  where
+    go : (r u : Bool) → nat_lt (s.session c).current i ≡ r → admission.Unknown ≡ (if r then admission.Unknown else if u then admission.Current else admission.Stale) → (s.session c).current < i
+    go true u is e = grind (arith, nat_tests)
+    go false true is e = absurd cc
+    go false false is e = absurd cc
+
+pub is_current : (s : Server) (c i : ℕ) → admission.Current ≡ admission_in s c i → i ≡ (s.session c).current
+is_current s c i e = go (nat_lt (s.session c).current i) (i == (s.session c).current) refl e
+  where
+    go : (r u : Bool) → (i == (s.session c).current) ≡ u → admission.Current ≡ (if r then admission.Unknown else if u then admission.Current else admission.Stale) → i ≡ (s.session c).current
+    go true u is e = absurd cc
+    go false true is e = grind (arith, nat_tests)
+    go false false is e = absurd cc
+
+pub is_stale : (s : Server) (c i : ℕ) → admission.Stale ≡ admission_in s c i → i < (s.session c).current
+is_stale s c i e = go (nat_lt (s.session c).current i) (i == (s.session c).current) refl refl e
+  where
+    go : (r u : Bool) → nat_lt (s.session c).current i ≡ r → (i == (s.session c).current) ≡ u → admission.Stale ≡ (if r then admission.Unknown else if u then admission.Current else admission.Stale) → i < (s.session c).current
+    go true u is at e = absurd cc
+    go false true is at e = absurd cc
+    go false false is at e = grind (arith, nat_tests)
+
+pub is_other : (s : Server) (c i : ℕ) (a : Admission) → a ≡ admission_in s c i → a ≢ admission.Current → i ≢ (s.session c).current
+is_other s c i a e n is = n (e ∙ go (nat_lt (s.session c).current i) (i == (s.session c).current) refl refl)
+  where
+    go : (r u : Bool) → nat_lt (s.session c).current i ≡ r → (i == (s.session c).current) ≡ u → (if r then admission.Unknown else if u then admission.Current else admission.Stale) ≡ admission.Current
+    go true u lt at = absurd (grind (arith, nat_tests))
+    go false true lt at = refl
+    go false false lt at = absurd (grind (arith, nat_tests))
+
+pub hello_is : (b : Body) → is_hello b ≡ true → b ≡ Hello
+hello_is Hello e = refl
+hello_is _ e = absurd cc
+
+pub no_hello : (b : Body) → is_hello b ≡ false → b ≢ Hello
+no_hello b e is = absurd (let t : is_hello b ≡ true = ap is_hello is in cc)
+
+pub unknown_hello : (s : Server) (c i : ℕ) → admission.Unknown ≡ admission_in s c i → server_take on_cycle s c i Hello ≡ admit_incarnation on_cycle s c i
+unknown_hello s c i e = serves_new_hello on_cycle s c i (is_unknown s c i e)
+
+pub current_hello : (s : Server) (c i : ℕ) → admission.Current ≡ admission_in s c i → server_take on_cycle s c i Hello ≡ Send c i Welcome ∷ []
+current_hello s c i e = serves_hello_again on_cycle s c i (is_current s c i e)
+
+pub stale_hello : (s : Server) (c i : ℕ) → admission.Stale ≡ admission_in s c i → server_take on_cycle s c i Hello ≡ []
+stale_hello s c i e = serves_no_old_hello on_cycle s c i (is_stale s c i e)
+
+pub other_ignored : (s : Server) (c i : ℕ) (b : Body) → is_hello b ≡ false → i ≢ (s.session c).current → server_take on_cycle s c i b ≡ []
+other_ignored s c i b h n = serves_no_other_incarnation on_cycle s c i b (no_hello b h) n
+
+pub current_taken : (s : Server) (c i : ℕ) (b : Body) → is_hello b ≡ false → i ≡ (s.session c).current → server_take on_cycle s c i b ≡ take_current on_cycle s c b
+current_taken s c i b h e = serves_current on_cycle s c i b (no_hello b h) e

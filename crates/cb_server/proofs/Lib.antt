@@ -1,0 +1,10 @@
+pub mod Counting
+pub mod Making
+pub mod Beginning
+pub mod DirectAnswers
+pub mod Rooms
+pub mod Lacking
+pub mod Arising
+pub mod Greeting
+pub mod Committing
+pub mod Serving

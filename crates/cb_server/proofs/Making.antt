@@ -1,0 +1,141 @@
+-- Steps of the engine, one after another, and what one change of its tables is.
+use Rattle.std.proofs.Common.{◌≡◌, ◌≢◌, ℕ, ◌+◌, ◌<◌, ◌≤◌, nat_lt, Bool, true, false, not, ◌&&◌, ◌==◌, if◌then◌else◌, List, [], ◌∷◌, ◌++◌, length, Option, Some, None, Result, Ok, Err, OnOk, refl, sym, ap, ◌∙◌, subst, arith}
+use Rattle.std.proofs.lemmas.Bool.Decides.{nat_tests}
+use Rattle.std.proofs.lemmas.List.{append-nil, append_assoc, length-append}
+use Rattle.cb_callbacks.proofs.Settling.{stays_then}
+use Rattle.cb_callbacks.specs.Callbacks.{CallbacksState, Changes}
+use Rattle.cb_callbacks.specs.Tables.{server_of}
+use Rattle.cb_holdings.specs.Holdings.{HoldingsState, Stays}
+use Rattle.cb_outbox.proofs.Saying.{after_append, says_as, says_nothing, says_then}
+use Rattle.cb_outbox.specs.Saying.{OutboxState, Says}
+use Rattle.cb_protocol.specs.Basics.{max_number}
+use Rattle.cb_protocol.specs.Messages.{Body, Hello, Message, Welcome}
+use Rattle.cb_protocol.specs.Numbers.{HasGrantsLeft, copies_sent}
+use Rattle.cb_protocol.specs.Server.{ChangeSession, DeadlockTest, ForgetTransaction, Send, Server, ServerStep, server_after}
+use Rattle.cb_protocol.specs.Session.{Admit, BeginTransaction}
+use Rattle.cb_protocol.specs.ServerMessages.{and_then, begin_transaction, direct_answer, lacks_number, named_txn, take_current}
+use Rattle.cb_protocol.specs.Settling.{settle_pages}
+use Rattle.cb_protocol.specs.WaitsFor.{on_cycle}
+use Rattle.cb_protocol.specs.World.{messages_sent}
+use Rattle.cb_server.specs.Answering.{Begins, CanAnswer, CanSay, CanSettle, HasRoom, IsLeft, IsReady, LacksNumber, Makes, Serves, answer_to, server_in}
+use Rattle.cb_server.specs.declared.engine.Engine.{Engine}
+use Rattle.cb_server.proofs.Counting.{answer_costs, begins_quietly, begins_with_fewer, begins_with_no_copy, reads}
+
+pub stays_same : (h : HoldingsState) → Stays h h
+stays_same h = record { keep_write = refl; clients = refl; pages = refl; page_size = refl; opening = refl }
+
+pub makes_nothing : (e : Engine) → Makes e (λ s. []) e
+makes_nothing e = record { says = says_nothing (server_in e) e.outbox; stays = stays_same e.callbacks.tables.holdings }
+
+pub makes_then : (old mid new : Engine) (f g : Server → List ServerStep) → Makes old f mid → Makes mid g new → Makes old (λ s. and_then s (f s) g) new
+makes_then old mid new f g a b = record {
+  says = says_then (server_in old) (server_in mid) (server_in new) f g old.outbox mid.outbox new.outbox a.says b.says;
+  stays = stays_then old.callbacks.tables.holdings mid.callbacks.tables.holdings new.callbacks.tables.holdings a.stays b.stays;
+}
+
+pub makes_as : (old new : Engine) (f g : Server → List ServerStep) → f (server_in old) ≡ g (server_in old) → Makes old g new → Makes old f new
+makes_as old new f g e m = record { says = says_as (server_in old) (server_in new) f g old.outbox new.outbox e m.says; stays = m.stays }
+
+-- a change of the tables that sends nothing
+pub changes_make : (old new : Engine) (steps : List ServerStep) → Changes old.callbacks.tables steps new.callbacks.tables
+    → new.outbox ≡ old.outbox → messages_sent steps ≡ [] → copies_sent steps ≡ 0 → Makes old (λ s. steps) new
+changes_make old new steps c o m k = record {
+  says = record {
+    becomes = c.becomes;
+    sends = ap (λ (x : OutboxState). x.sent) o ∙ sym (ap (λ (l : List Message). old.outbox.sent ++ l) m ∙ append-nil old.outbox.sent);
+    room = ap (λ (x : OutboxState). x.room) o;
+    spare = let e = ap (λ (x : OutboxState). x.spare) o in omega (arith, e, k);
+    page_size = ap (λ (x : OutboxState). x.page_size) o;
+  };
+  stays = c.stays;
+}
+
+-- a message of no transaction begins none
+pub begins_none : (s : Server) (c : ℕ) → begin_transaction s c 0 ≡ []
+begins_none s c = go (nat_lt (s.session c).txn 0) refl
+  where
+    go : (r : Bool) → nat_lt (s.session c).txn 0 ≡ r → (if r then ForgetTransaction c ∷ ChangeSession c (BeginTransaction 0) ∷ [] else []) ≡ []
+    go true e = absurd (grind (arith, nat_tests))
+    go false e = refl
+
+pub alone : (cycle : DeadlockTest) (c : ℕ) (b : Body) (s : Server) → named_txn b ≡ 0 → answer_to cycle c b s ≡ direct_answer cycle s c b
+alone cycle c b s e = ap (λ (l : List ServerStep). l ++ direct_answer cycle (server_after s l) c b)
+    (ap (λ (t : ℕ). begin_transaction s c t) e ∙ begins_none s c)
+
+-- an answer by its two parts
+pub answers : (old mid new : Engine) (c t : ℕ) (b : Body) → named_txn b ≡ t → Begins old c t mid → Makes mid (λ s. direct_answer on_cycle s c b) new
+    → Makes old (answer_to on_cycle c b) new
+answers old mid new c t b e a m =
+    makes_as old new (answer_to on_cycle c b) (λ s. and_then s (begin_transaction s c t) (λ s. direct_answer on_cycle s c b))
+    (ap (λ (n : ℕ). and_then (server_in old) (begin_transaction (server_in old) c n) (λ s. direct_answer on_cycle s c b)) e)
+    (makes_then old mid new (λ s. begin_transaction s c t) (λ s. direct_answer on_cycle s c b) a.makes m)
+
+-- then all pages are settled
+pub takes : (old mid new : Engine) (c : ℕ) (b : Body) → Makes old (answer_to on_cycle c b) mid → Makes mid (λ s. settle_pages on_cycle s s.pages) new
+    → Makes old (λ s. take_current on_cycle s c b) new
+takes old mid new c b a m =
+    makes_as old new (λ s. take_current on_cycle s c b) (λ s. and_then s (answer_to on_cycle c b s) (λ s. settle_pages on_cycle s s.pages)) parts
+    (makes_then old mid new (answer_to on_cycle c b) (λ s. settle_pages on_cycle s s.pages) a m)
+  where
+    s : Server
+    s = server_in old
+
+    first : List ServerStep
+    first = begin_transaction s c (named_txn b)
+
+    next : List ServerStep
+    next = direct_answer on_cycle (server_after s first) c b
+
+    parts : first ++ (next ++ settle_pages on_cycle (server_after (server_after s first) next) (server_after (server_after s first) next).pages)
+        ≡ (first ++ next) ++ settle_pages on_cycle (server_after s (first ++ next)) (server_after s (first ++ next)).pages
+    parts = sym (append_assoc first next (settle_pages on_cycle (server_after (server_after s first) next) (server_after (server_after s first) next).pages))
+        ∙ ap (λ (t : Server). (first ++ next) ++ settle_pages on_cycle t t.pages) (sym (after_append s first next))
+
+-- where room was made before
+pub serves : (old mid new : Engine) (f : Server → List ServerStep) → IsLeft old mid → Makes mid f new → Serves old f new
+serves old mid new f l m = record {
+  becomes = m.says.becomes ∙ ap (λ (s : Server). server_after s (f s)) l.server;
+  sends = m.says.sends ∙ (ap (λ (x : List Message). x ++ messages_sent (f (server_in mid))) l.sent
+      ∙ ap (λ (s : Server). old.outbox.sent ++ messages_sent (f s)) l.server);
+  stays = subst (λ (h : HoldingsState). Stays h new.callbacks.tables.holdings) l.holdings m.stays;
+  page_size = m.says.page_size ∙ l.page_size;
+}
+
+pub serves_as : (old new : Engine) (f g : Server → List ServerStep) → f (server_in old) ≡ g (server_in old) → Serves old g new → Serves old f new
+serves_as old new f g e m = record {
+  becomes = m.becomes ∙ ap (λ (l : List ServerStep). server_after (server_in old) l) (sym e);
+  sends = m.sends ∙ ap (λ (l : List ServerStep). old.outbox.sent ++ messages_sent l) (sym e);
+  stays = m.stays;
+  page_size = m.page_size;
+}
+
+pub serves_nothing : (e : Engine) → Serves e (λ s. []) e
+serves_nothing e = record { becomes = refl; sends = sym (append-nil e.outbox.sent); stays = stays_same e.callbacks.tables.holdings; page_size = refl }
+
+-- room for an ask's place is made before
+pub reserved : (old res : Engine) → Changes old.callbacks.tables [] res.callbacks.tables → res.outbox ≡ old.outbox → Makes old (λ s. []) res
+reserved old res changes o = changes_make old res [] changes o refl refl
+
+pub answers_reserved : (old res mid new : Engine) (c t : ℕ) (b : Body) → named_txn b ≡ t → Makes old (λ s. []) res → Begins res c t mid → Makes mid (λ s. direct_answer on_cycle s c b) new
+    → Makes old (answer_to on_cycle c b) new
+answers_reserved old res mid new c t b e r a m = makes_then old res new (λ s. []) (answer_to on_cycle c b) r (answers res mid new c t b e a m)
+
+-- a greater incarnation is admitted and welcomed
+pub admits : (old new : Engine) (c i : ℕ) → Changes old.callbacks.tables (ForgetTransaction c ∷ ChangeSession c (Admit i) ∷ []) new.callbacks.tables
+    → new.outbox ≡ record old.outbox { sent = old.outbox.sent ++ record { client = c; incarnation = i; body = Welcome } ∷ [] }
+    → Makes old (λ s. ForgetTransaction c ∷ ChangeSession c (Admit i) ∷ Send c i Welcome ∷ []) new
+admits old new c i changes o = record {
+  says = record {
+    becomes = changes.becomes;
+    sends = ap (λ (x : OutboxState). x.sent) o;
+    room = ap (λ (x : OutboxState). x.room) o;
+    spare = let e = ap (λ (x : OutboxState). x.spare) o in omega (arith, e);
+    page_size = ap (λ (x : OutboxState). x.page_size) o;
+  };
+  stays = changes.stays;
+}
+
+-- what is passed on where nothing is refused
+pub on_ok : {X F : Type 0} (r : Result X F) {P Q : Type 0} → (P → Q) → OnOk r P → OnOk r Q
+on_ok (Ok x) f p = f p
+on_ok (Err x) f p = p

@@ -1,0 +1,21 @@
+use Rattle.std.proofs.Common.{◌≡◌, ◌∙◌, false, sym, subst}
+use Rattle.cb_outbox.specs.Messages.{body_of}
+use Rattle.cb_protocol.specs.Server.{Server, server_after}
+use Rattle.cb_protocol.specs.ServerMessages.{begin_transaction, lacks_number, named_txn, take_current}
+use Rattle.cb_protocol.specs.WaitsFor.{on_cycle}
+use Rattle.cb_server.specs.Answering.{LacksNumber, server_in}
+use Rattle.cb_server.proofs.Making.{serves, takes}
+use Rattle.cb_server.proofs.Rooms.{settles_after_answer}
+use Rattle.cb_server.proofs.engine.Engine.take_current.Goals as goal
+
+pub settle-requires : goal.settle-requires
+settle-requires c =
+    settles_after_answer c.reserve.new.self c.answer.new.self c.args.client (body_of c.args.body) c.in_ok-reserve.ensures.ok
+    (subst (λ (s : Server). lacks_number (server_after s (begin_transaction s c.args.client (named_txn (body_of c.args.body)))) c.args.client (body_of c.args.body) ≡ false)
+    (sym c.in_ok-reserve.ensures.left.server) (c.lacks_number.ensures ∙ c.if-lacks_number.false))
+    c.in_ok-answer.ensures.ok
+
+pub returns-clause-ok : goal.returns-clause-ok
+returns-clause-ok c =
+    serves c.args.self.now c.reserve.new.self c.settle.new.self (λ s. take_current on_cycle s c.args.client (body_of c.args.body)) c.in_ok-reserve.ensures.left
+    (takes c.reserve.new.self c.answer.new.self c.settle.new.self c.args.client (body_of c.args.body) c.in_ok-answer.ensures.ok c.settle.ensures)

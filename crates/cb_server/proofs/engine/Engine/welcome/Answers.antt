@@ -1,0 +1,13 @@
+use Rattle.std.proofs.Common.{◌≡◌, ◌++◌, ◌∷◌, [], ◌∙◌, ap, refl}
+use Rattle.cb_outbox.specs.Saying.{OutboxState}
+use Rattle.cb_protocol.specs.Messages.{Message, Welcome}
+use Rattle.cb_server.proofs.Making.{stays_same}
+use Rattle.cb_server.proofs.engine.Engine.welcome.Goals as goal
+
+pub returns-clause-ok : goal.returns-clause-ok
+returns-clause-ok c = record {
+  becomes = refl;
+  sends = ap (λ (x : OutboxState). x.sent) c.say.ensures ∙ ap (λ l. l ++ record { client = c.args.client; incarnation = c.args.incarnation; body = Welcome } ∷ []) c.in_ok-reserve.ensures.sent;
+  stays = stays_same c.args.self.now.callbacks.tables.holdings;
+  page_size = ap (λ (x : OutboxState). x.page_size) c.say.ensures ∙ c.in_ok-reserve.ensures.page_size;
+}

@@ -1,0 +1,149 @@
+-- What a server's engine does for a message, and the room that it has for it.
+use Rattle.std.specs.Prelude.{◌≡◌, ◌≤◌, ◌<◌, ◌+◌, ◌&&◌, ℕ, Bool, true, false, if◌then◌else◌, List}
+use Rattle.std.specs.Prelude.{[], ◌++◌}
+use Rattle.std.specs.Prelude.{length, Option, Some, None, ⊤}
+use Rattle.cb_asks.specs.Asks.{room_at}
+use Rattle.cb_callbacks.specs.Callbacks.{IsAsLarge}
+use Rattle.cb_callbacks.specs.Tables.{server_of}
+use Rattle.cb_commit.specs.History.{FitsInto}
+use Rattle.cb_callbacks.specs.declared.tables.Tables.{Tables}
+use Rattle.cb_frame_types.specs.declared.frame.Body.{Body}
+use Rattle.cb_frame_types.specs.declared.frame.Body.TheVariants as body
+use Rattle.cb_holdings.specs.Holdings.{Stays}
+use Rattle.cb_outbox.specs.Messages.{short_of}
+use Rattle.cb_outbox.specs.Saying.{OutboxState, Says}
+use Rattle.cb_protocol.specs.Basics.{Limits}
+use Rattle.cb_protocol.specs.Messages as protocol
+use Rattle.cb_protocol.specs.Numbers.{HasGrantsLeft}
+use Rattle.cb_protocol.specs.Ranges.{BodyFits}
+use Rattle.cb_protocol.specs.Server.{DeadlockTest, Server, ServerStep, has_not_ended, server_after}
+use Rattle.cb_protocol.specs.ServerMessages.{and_then, begin_transaction, commit_allowed}
+use Rattle.cb_protocol.specs.ServerMessages.{direct_answer, lacks_number, may_proceed, named_txn}
+use Rattle.cb_protocol.specs.ServerMessages.{read_asks_below}
+use Rattle.cb_protocol.specs.Session.{has_live_txn}
+use Rattle.cb_protocol.specs.World.{messages_sent}
+use Rattle.cb_server.specs.declared.engine.Engine.{Engine}
+use Rattle.cb_server.specs.declared.engine.answers.Begun.{Begun}
+use Rattle.cb_server.specs.declared.engine.answers.Begun.TheVariants as begun
+
+-- the protocol's server that the engine has
+abbrev pub server_in : Engine → Server
+server_in engine = server_of engine.callbacks.tables
+
+-- Room for so many messages and copies of pages, of the store's size; and every ask to read that
+-- waits can have a grant number.
+pub record HasRoom (engine : Engine) (messages copies : ℕ) : Type 0 where
+  pub frames : length engine.outbox.sent + messages ≤ engine.outbox.room
+  pub copies_of_pages : copies ≤ engine.outbox.spare
+  pub grants : HasGrantsLeft (server_in engine)
+  pub size : IsAsLarge engine.outbox engine.callbacks.tables
+
+-- how many asks to read wait
+abbrev pub read_asks_in_all : Engine → ℕ
+read_asks_in_all engine = read_asks_below (server_in engine) (server_in engine).pages
+
+-- Room for all that settling sends: at most a message to each of 32 clients and one for each of 32
+-- asks, and a copy for each ask to read (this project's rule).
+abbrev pub CanSettle : Engine → Type 0
+CanSettle engine = HasRoom engine 1056 (read_asks_in_all engine)
+
+-- So much, and one message and one copy more for an answer.
+abbrev pub CanAnswer : Engine → Type 0
+CanAnswer engine = HasRoom engine 1057 (read_asks_in_all engine + 1)
+
+-- Room for one answer, with a copy of a page.
+pub record CanSay (engine : Engine) : Type 0 where
+  pub frames : length engine.outbox.sent < engine.outbox.room
+  pub copy : 0 < engine.outbox.spare
+  pub size : IsAsLarge engine.outbox engine.callbacks.tables
+
+-- The engine does these steps of the protocol's server, and says what they send.
+pub record Makes (old : Engine) (steps : Server → List ServerStep) (new : Engine) : Type 0 where
+  pub says : Says (server_in old) steps (server_in new) old.outbox new.outbox
+  pub stays : Stays old.callbacks.tables.holdings new.callbacks.tables.holdings
+
+-- So it does, in whatever room.
+pub record Serves (old : Engine) (steps : Server → List ServerStep) (new : Engine) : Type 0 where
+  pub becomes : server_in new ≡ server_after (server_in old) (steps (server_in old))
+  pub sends : new.outbox.sent ≡ old.outbox.sent ++ messages_sent (steps (server_in old))
+  pub stays : Stays old.callbacks.tables.holdings new.callbacks.tables.holdings
+  pub page_size : new.outbox.page_size ≡ old.outbox.page_size
+
+-- a message's transaction begins, and it is answered; settling is still to come
+abbrev pub answer_to : DeadlockTest → ℕ → protocol.Body → Server → List ServerStep
+answer_to cycle client body server =
+    and_then server (begin_transaction server client (named_txn body))
+    (λ begun. direct_answer cycle begun client body)
+
+-- whether a number is lacking for it, once its transaction has begun
+abbrev pub LacksNumber : Engine → ℕ → protocol.Body → Bool → Type 0
+LacksNumber engine client body answer =
+    lacks_number (server_after (server_in engine)
+    (begin_transaction (server_in engine) client (named_txn body))) client body ≡ answer
+
+-- whether a commit would be applied, once its transaction has begun
+abbrev pub applies : Server → (client txn : ℕ) → List protocol.PageWrite → Bool
+applies server client txn writes =
+    let begun = server_after server (begin_transaction server client txn) in
+    may_proceed begun client txn && commit_allowed begun client writes
+
+-- Between two messages: nothing is to be sent yet, and each ask to read that waits can have a grant
+-- number.
+pub record IsReady (engine : Engine) : Type 0 where
+  pub sent : engine.outbox.sent ≡ []
+  pub grants : HasGrantsLeft (server_in engine)
+  pub size : IsAsLarge engine.outbox engine.callbacks.tables
+
+-- A transaction has begun where it is a later one; nothing is sent, and no room is used up.
+pub record Begins (old : Engine) (client txn : ℕ) (new : Engine) : Type 0 where
+  pub makes : Makes old (λ server. begin_transaction server client txn) new
+  pub outbox : new.outbox ≡ old.outbox
+  pub places : (page : ℕ)
+      → room_at old.callbacks.tables.asks page ≤ room_at new.callbacks.tables.asks page
+
+-- Nothing changes but room.
+pub record IsLeft (old new : Engine) : Type 0 where
+  pub server : server_in new ≡ server_in old
+  pub holdings : new.callbacks.tables.holdings ≡ old.callbacks.tables.holdings
+  pub sent : new.outbox.sent ≡ old.outbox.sent
+  pub page_size : new.outbox.page_size ≡ old.outbox.page_size
+
+-- the client's incarnation that is current
+abbrev pub IsCurrent : Engine → (client incarnation : ℕ) → Type 0
+IsCurrent engine client incarnation =
+    incarnation ≡ ((server_in engine).session client).current
+
+-- The transaction is the client's last one, which lives; doomed or not.
+pub record IsLiveOne (server : Server) (client txn : ℕ) (is_doomed : Bool) : Type 0 where
+  pub is : txn ≡ (server.session client).txn
+  pub lives : has_live_txn (server.session client) ≡ true
+  pub not_ended : has_not_ended server client txn ≡ true
+  pub doomed : server.doomed client ≡ is_doomed
+
+-- How a message's transaction stands once it has begun.
+abbrev pub Stands : Begun → Server → (client txn : ℕ) → Type 0
+Stands begun.Live server client txn = IsLiveOne server client txn false
+Stands begun.Doomed server client txn = IsLiveOne server client txn true
+Stands begun.Ended server client txn = has_not_ended server client txn ≡ false
+
+-- the protocol's limits that tables are of; a pool's size says nothing of a server
+abbrev pub limits_in : Engine → Limits
+limits_in engine = record {
+  clients = (server_in engine).clients;
+  pages = (server_in engine).pages;
+  page_size = engine.callbacks.tables.holdings.commits.store.page_size;
+  slots = 0;
+  keep_write = (server_in engine).store.keep_write;
+}
+
+-- The body's numbers fit the tables, and a commit's pages the store.
+abbrev pub FitsIn : Engine → Body → Type 0
+FitsIn engine (body.Short short) = BodyFits (limits_in engine) (short_of short)
+FitsIn engine (body.Commit txn writes) =
+    FitsInto engine.callbacks.tables.holdings.commits.store writes
+FitsIn engine (body.Granted page grant version bytes) = ⊤
+
+-- the message is a Hello
+abbrev pub is_hello : protocol.Body → Bool
+is_hello protocol.Hello = true
+is_hello _ = false

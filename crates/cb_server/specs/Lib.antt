@@ -1,0 +1,3 @@
+pub mod ServerState
+pub mod Taking
+pub mod Answering

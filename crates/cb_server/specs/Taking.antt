@@ -1,0 +1,75 @@
+-- What a server answers and does, by the protocol's tables.
+use Rattle.std.specs.Prelude.{◌≡◌, ◌≤◌, ℕ, Bool, true, false, List, length, take}
+use Rattle.cb_frame.specs.Checks.{causes, fault_in_bytes}
+use Rattle.cb_frame.specs.declared.fault.BytesFault.{BytesFault}
+use Rattle.cb_frame.specs.declared.fault.BytesFault.TheVariants as reading
+use Rattle.cb_frame_types.specs.Grammar.{IsFrameInSome}
+use Rattle.cb_frame_types.specs.declared.frame.Frame.{Frame}
+use Rattle.cb_outbox.specs.Messages.{body_of}
+use Rattle.cb_page.specs.Faults.{first_fault}
+use Rattle.cb_protocol.specs.AnyMessages.{Input, MessageComes, input_steps}
+use Rattle.cb_protocol.specs.Messages.{Message}
+use Rattle.cb_protocol.specs.Server.{Server, server_after}
+use Rattle.cb_protocol.specs.ServerMessages.{is_exhausted}
+use Rattle.cb_protocol.specs.WaitsFor.{on_cycle}
+use Rattle.cb_protocol.specs.World.{messages_sent}
+use Rattle.cb_server.specs.ServerState.{ServerState, commits_of, server_of}
+use Rattle.cb_server.specs.declared.server_fault.ServerFault.{ServerFault}
+use Rattle.cb_server.specs.declared.server_fault.ServerFault.TheVariants as fault
+
+-- It does what the protocol's server does at the input, and these messages are all that is sent, in
+-- order. Its limits and its opening store are as before.
+pub record Does (old : ServerState) (input : Input) (messages : List Message) (new : ServerState)
+    : Type 0 where
+  pub sends : messages ≡ messages_sent (input_steps on_cycle (server_of old) input)
+  pub becomes : server_of new
+      ≡ server_after (server_of old) (input_steps on_cycle (server_of old) input)
+  pub limits : new.limits ≡ old.limits
+  pub opening : (commits_of new).opening ≡ (commits_of old).opening
+
+-- what comes by a frame
+abbrev pub input_of : Frame → Input
+input_of frame = MessageComes frame.client frame.incarnation (body_of frame.body)
+
+-- no number is left for it
+abbrev pub lacks_number_for : ServerState → Frame → Bool
+lacks_number_for state frame =
+    is_exhausted (server_of state) frame.client frame.incarnation (body_of frame.body)
+
+-- The frame is taken as the protocol's table of messages says: no number is lacking for it.
+pub record Takes (old : ServerState) (frame : Frame) (messages : List Message)
+    (new : ServerState) : Type 0 where
+  pub taken : lacks_number_for old frame ≡ false
+  pub does : Does old (input_of frame) messages new
+
+-- the fault is want of a number, and not of memory
+abbrev pub is_exhaustion : ServerFault → Bool
+is_exhaustion fault.Exhausted = true
+is_exhaustion fault.Memory = false
+
+-- A frame is refused as exhausted exactly where a number is lacking for it.
+abbrev pub Refuses : ServerState → Frame → ServerFault → Type 0
+Refuses state frame refused = lacks_number_for state frame ≡ is_exhaustion refused
+
+-- The bytes begin with a frame, of that many bytes, which is taken.
+pub record TakesBytes (old : ServerState) (bytes : List ℕ) (used : ℕ) (messages : List Message)
+    (new : ServerState) : Type 0 where
+  pub frame : Frame
+  pub read : IsFrameInSome old.limits frame (take used bytes)
+  pub within : used ≤ length bytes
+  pub takes : Takes old frame messages new
+
+-- The bytes begin with a frame, which is refused.
+pub record RefusesBytes (state : ServerState) (bytes : List ℕ) (refused : ServerFault)
+    : Type 0 where
+  pub frame : Frame
+  pub used : ℕ
+  pub within : used ≤ length bytes
+  pub read : IsFrameInSome state.limits frame (take used bytes)
+  pub refuses : Refuses state frame refused
+
+-- the bytes begin with no frame, for that cause; or with one that is refused
+abbrev pub IsBytesFault : ServerState → List ℕ → BytesFault ServerFault → Type 0
+IsBytesFault state bytes (reading.Frame found) =
+    first_fault (causes state.limits bytes) ≡ fault_in_bytes found
+IsBytesFault state bytes (reading.Taker refused) = RefusesBytes state bytes refused

@@ -1,0 +1,179 @@
+//! The direct answers to messages, once their transactions have begun.
+ghost use Rattle.std.specs.Prelude.{◌≡◌, ◌==◌, ◌&&◌, ℕ, false, OnErr, OnOk};
+ghost use Rattle.cb_callbacks.specs.Tables.{HasClient, HasPage};
+ghost use Rattle.cb_outbox.specs.Messages.{body_of, short_of};
+ghost use Rattle.cb_protocol.specs.Messages.{Downgraded, Drop as DropBody, GiveBack, InUse};
+ghost use Rattle.cb_protocol.specs.Ranges.{BodyFits};
+ghost use Rattle.cb_protocol.specs.Server.{Server, has_not_ended, has_row, is_write_holder};
+ghost use Rattle.cb_protocol.specs.WaitsFor.{on_cycle};
+ghost use Rattle.cb_server.specs.Answering.{Begins, CanSay, FitsIn, IsCurrent, IsLeft};
+ghost use Rattle.cb_server.specs.Answering.{LacksNumber, Makes, Stands, answer_to, limits_in};
+ghost use Rattle.cb_server.specs.Answering.{server_in};
+
+use crate::engine::Engine;
+use cb_frame::{Body, ShortBody};
+use cb_links::Standing;
+use cb_page::{ClientNo, GrantNo, Incarnation, PageNo, TxnNo};
+use std::alloc::AllocError;
+
+/// How a message's transaction stands, once it has begun.
+#[derive(Clone, Copy, Debug, PartialEq, Eq)]
+pub(crate) enum Begun {
+    /// It is the current one.
+    Live,
+    /// It is the current one, and the victim of a deadlock.
+    Doomed,
+    /// It has ended, or a later one has begun.
+    Ended,
+}
+
+impl Begun {
+    /// Whether it has not ended.
+    pub(crate) fn lives(self) -> bool
+        ensures { (server : Server) (client txn : ℕ) → Stands self server client txn
+            → has_not_ended server client txn ≡ result }
+    {
+        match self {
+            Begun::Live => true,
+            Begun::Doomed => true,
+            Begun::Ended => false,
+        }
+    }
+}
+
+impl Engine {
+    /// The message's transaction begins where it is a later one, and the message is answered.
+    ///
+    /// `AllocError` only where memory was refused for an ask's place or for a commit; then nothing
+    /// has begun either.
+    pub(crate) fn answer(
+        &mut self,
+        client: ClientNo,
+        incarnation: Incarnation,
+        body: Body,
+    ) -> Result<(), AllocError>
+        requires client { HasClient self.old.callbacks.tables client }
+        requires current { IsCurrent self.old client incarnation }
+        requires fits { FitsIn self.old body }
+        requires room { CanSay self.old }
+        requires number { LacksNumber self.old client (body_of body) false }
+        ensures ok { OnOk result (Makes self.old (answer_to on_cycle client (body_of body))
+            self.new) }
+        ensures left { OnErr result (IsLeft self.old self.new) }
+    {
+        match body {
+            Body::Short(body) => self.answer_short(client, incarnation, body),
+            Body::Commit { txn, writes } => self.commit(client, incarnation, txn, writes),
+            Body::Granted { .. } => Ok(()),
+        }
+    }
+
+    /// A message without page bytes.
+    fn answer_short(
+        &mut self,
+        client: ClientNo,
+        incarnation: Incarnation,
+        body: ShortBody,
+    ) -> Result<(), AllocError>
+        requires client { HasClient self.old.callbacks.tables client }
+        requires current { IsCurrent self.old client incarnation }
+        requires fits { BodyFits (limits_in self.old) (short_of body) }
+        requires room { CanSay self.old }
+        ensures ok { OnOk result (Makes self.old (answer_to on_cycle client (short_of body))
+            self.new) }
+        ensures left { OnErr result (IsLeft self.old self.new) }
+    {
+        match body {
+            ShortBody::AskRead { txn, page } => self.ask_read(client, incarnation, txn, page),
+            ShortBody::AskWrite { txn, page, grant } => {
+                self.ask_write(client, incarnation, txn, page, grant)
+            }
+            ShortBody::GiveBack { page, grant } => Ok(self.give_back(client, page, grant)),
+            ShortBody::InUse { txn, page, grant } => Ok(self.in_use(client, txn, page, grant)),
+            ShortBody::Drop { txn } => Ok(self.drop_transaction(client, txn)),
+            ShortBody::Downgraded { page, grant, txn } => {
+                Ok(self.downgraded(client, page, grant, txn))
+            }
+            _ => Ok(()),
+        }
+    }
+
+    /// The transaction begins where it is a later one. How it stands then is answered.
+    pub(crate) fn begin(&mut self, client: ClientNo, txn: TxnNo) -> Begun
+        requires { HasClient self.old.callbacks.tables client }
+        ensures begins { Begins self.old client txn self.new }
+        ensures stands { Stands result (server_in self.new) client txn }
+    {
+        match self.callbacks.holdings().standing(client, txn) {
+            Standing::Later => {
+                self.callbacks.begin(client, txn);
+                Begun::Live
+            }
+            Standing::Live => Begun::Live,
+            Standing::Doomed => Begun::Doomed,
+            Standing::Ended => Begun::Ended,
+        }
+    }
+
+    /// GiveBack: the copy of that grant goes.
+    fn give_back(&mut self, client: ClientNo, page: PageNo, grant: GrantNo)
+        requires client { HasClient self.old.callbacks.tables client }
+        requires page { HasPage self.old.callbacks.tables page }
+        ensures { Makes self.old (answer_to on_cycle client (GiveBack page grant)) self.new }
+    {
+        if self.callbacks.holdings().has_row(client, page, grant) {
+            self.callbacks.remove_row(client, page);
+        }
+    }
+
+    /// InUse: the copy of that grant is marked as in use.
+    fn in_use(&mut self, client: ClientNo, txn: TxnNo, page: PageNo, grant: GrantNo)
+        requires client { HasClient self.old.callbacks.tables client }
+        requires page { HasPage self.old.callbacks.tables page }
+        ensures { Makes self.old (answer_to on_cycle client (InUse txn page grant)) self.new }
+    {
+        if !self.begin(client, txn).lives() {
+            return;
+        }
+        if self.callbacks.holdings().has_row(client, page, grant) {
+            self.callbacks.mark_in_use(client, page);
+        }
+    }
+
+    /// Drop: the transaction ends as dropped.
+    fn drop_transaction(&mut self, client: ClientNo, txn: TxnNo)
+        requires client { HasClient self.old.callbacks.tables client }
+        ensures { Makes self.old (answer_to on_cycle client (DropBody txn)) self.new }
+    {
+        if self.begin(client, txn).lives() {
+            self.callbacks.drop_transaction(client);
+        }
+    }
+
+    /// Downgraded: the write permission of that very grant and tag ends, where such are kept.
+    fn downgraded(&mut self, client: ClientNo, page: PageNo, grant: GrantNo, tag: TxnNo)
+        requires client { HasClient self.old.callbacks.tables client }
+        requires page { HasPage self.old.callbacks.tables page }
+        ensures { Makes self.old (answer_to on_cycle client (Downgraded page grant tag)) self.new }
+    {
+        if self.gives_up(client, page, grant, tag) {
+            self.callbacks.end_permission(client, page);
+        }
+    }
+
+    /// Whether permissions are kept and the client has this one: by that grant, of that tag.
+    fn gives_up(&self, client: ClientNo, page: PageNo, grant: GrantNo, tag: TxnNo) -> bool
+        requires client { HasClient self.now.callbacks.tables client }
+        requires page { HasPage self.now.callbacks.tables page }
+        ensures { result ≡ ((server_in self.now).store.keep_write
+            && has_row (server_in self.now) client page grant
+            && is_write_holder (server_in self.now) client page
+            && ((server_in self.now).store.tag page == tag)) }
+    {
+        let holdings = self.callbacks.holdings();
+        holdings.keep_write()
+            && holdings.has_row(client, page, grant)
+            && holdings.is_write_holder(client, page)
+            && holdings.tag(page) == Some(tag)
+    }
+}

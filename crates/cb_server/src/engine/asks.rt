@@ -1,0 +1,195 @@
+//! Asks to read and to write.
+ghost use Rattle.std.specs.Prelude.{◌≡◌, ◌<◌, ◌∷◌, [], if◌then◌else◌, true, OnErr, OnOk};
+ghost use Rattle.cb_asks.specs.Asks.{room_at};
+ghost use Rattle.cb_callbacks.specs.Tables.{HasClient, HasPage};
+ghost use Rattle.cb_protocol.specs.Messages.{AskRead, AskWrite};
+ghost use Rattle.cb_protocol.specs.Server.{is_write_holder};
+ghost use Rattle.cb_protocol.specs.ServerMessages.{enter_queue, has_waiting_ask, new_ask};
+ghost use Rattle.cb_protocol.specs.ServerMessages.{take_ask_read, take_ask_write};
+ghost use Rattle.cb_protocol.specs.Session.{has_live_txn};
+ghost use Rattle.cb_protocol.specs.Settling.{give_permission, send_granted, sole_row};
+ghost use Rattle.cb_protocol.specs.WaitsFor.{on_cycle};
+ghost use Rattle.cb_server.specs.Answering.{CanSay, IsCurrent, IsLeft, Makes};
+ghost use Rattle.cb_server.specs.Answering.{answer_to, server_in};
+
+use crate::engine::Engine;
+use crate::engine::answers::Begun;
+use cb_callbacks::an_ask_sends_at_most_one;
+use cb_frame::ShortBody;
+use cb_page::{ClientNo, GrantNo, Incarnation, PageNo, TxnNo};
+use std::alloc::AllocError;
+
+impl Engine {
+    /// AskRead.
+    pub(crate) fn ask_read(
+        &mut self,
+        client: ClientNo,
+        incarnation: Incarnation,
+        txn: TxnNo,
+        page: PageNo,
+    ) -> Result<(), AllocError>
+        requires client { HasClient self.old.callbacks.tables client }
+        requires page { HasPage self.old.callbacks.tables page }
+        requires current { IsCurrent self.old client incarnation }
+        requires room { CanSay self.old }
+        ensures ok { OnOk result (Makes self.old (answer_to on_cycle client (AskRead txn page))
+            self.new) }
+        ensures left { OnErr result (IsLeft self.old self.new) }
+    {
+        self.callbacks.reserve_ask(page)?;
+        match self.begin(client, txn) {
+            Begun::Live => self.ask_to_read(client, incarnation, page),
+            Begun::Doomed => self
+                .outbox
+                .say(client, incarnation, ShortBody::AbortNow { txn }),
+            Begun::Ended => {}
+        }
+        Ok(())
+    }
+
+    /// A live transaction asks to read: it gets its copy again where it has one, else its ask
+    /// waits.
+    fn ask_to_read(&mut self, client: ClientNo, incarnation: Incarnation, page: PageNo)
+        requires client { HasClient self.old.callbacks.tables client }
+        requires page { HasPage self.old.callbacks.tables page }
+        requires current { IsCurrent self.old client incarnation }
+        requires live { has_live_txn ((server_in self.old).session client) ≡ true }
+        requires place { 0 < room_at self.old.callbacks.tables.asks page }
+        requires room { CanSay self.old }
+        ensures { Makes self.old
+            (λ server. take_ask_read on_cycle server client page ((server.session client).row page))
+            self.new }
+    {
+        match self.callbacks.holdings().row(client, page) {
+            Some(grant) => self.grant_again(client, incarnation, page, grant),
+            None => self.enter(client, incarnation, page, None),
+        }
+    }
+
+    /// The client's copy is sent again, with the page's present bytes.
+    fn grant_again(
+        &mut self,
+        client: ClientNo,
+        incarnation: Incarnation,
+        page: PageNo,
+        grant: GrantNo,
+    )
+        requires page { HasPage self.old.callbacks.tables page }
+        requires current { IsCurrent self.old client incarnation }
+        requires room { CanSay self.old }
+        ensures { Makes self.old (λ server. send_granted server client page grant ∷ []) self.new }
+    {
+        let store = self.callbacks.holdings().store();
+        let version = store.version(page);
+        self.outbox.grant(client, incarnation, page, grant, version, store.bytes(page));
+    }
+
+    /// An ask waits, unless one of the client's does already.
+    fn enter(
+        &mut self,
+        client: ClientNo,
+        incarnation: Incarnation,
+        page: PageNo,
+        write_grant: Option<GrantNo>,
+    )
+        requires client { HasClient self.old.callbacks.tables client }
+        requires page { HasPage self.old.callbacks.tables page }
+        requires current { IsCurrent self.old client incarnation }
+        requires live { has_live_txn ((server_in self.old).session client) ≡ true }
+        requires place { 0 < room_at self.old.callbacks.tables.asks page }
+        requires room { CanSay self.old }
+        ensures { Makes self.old
+            (λ server. if has_waiting_ask server client server.pages then []
+            else enter_queue on_cycle server page (new_ask client write_grant)) self.new }
+    {
+        // It isn't 0, which stands for a client that never greeted.
+        let _least = incarnation.get();
+        if self.callbacks.waits(client) {
+            return;
+        }
+        // The law of how much it sends.
+        an_ask_sends_at_most_one();
+        self.callbacks
+            .enter(client, page, write_grant, &mut self.outbox);
+    }
+
+    /// AskWrite.
+    pub(crate) fn ask_write(
+        &mut self,
+        client: ClientNo,
+        incarnation: Incarnation,
+        txn: TxnNo,
+        page: PageNo,
+        grant: GrantNo,
+    ) -> Result<(), AllocError>
+        requires client { HasClient self.old.callbacks.tables client }
+        requires page { HasPage self.old.callbacks.tables page }
+        requires current { IsCurrent self.old client incarnation }
+        requires room { CanSay self.old }
+        ensures ok { OnOk result (Makes self.old
+            (answer_to on_cycle client (AskWrite txn page grant)) self.new) }
+        ensures left { OnErr result (IsLeft self.old self.new) }
+    {
+        self.callbacks.reserve_ask(page)?;
+        match self.begin(client, txn) {
+            Begun::Live => self.ask_to_write(client, incarnation, page, grant),
+            Begun::Doomed => self
+                .outbox
+                .say(client, incarnation, ShortBody::AbortNow { txn }),
+            Begun::Ended => {}
+        }
+        Ok(())
+    }
+
+    /// A live transaction asks to write its copy: the write holder is permitted again, else its ask
+    /// waits.
+    fn ask_to_write(
+        &mut self,
+        client: ClientNo,
+        incarnation: Incarnation,
+        page: PageNo,
+        grant: GrantNo,
+    )
+        requires client { HasClient self.old.callbacks.tables client }
+        requires page { HasPage self.old.callbacks.tables page }
+        requires current { IsCurrent self.old client incarnation }
+        requires live { has_live_txn ((server_in self.old).session client) ≡ true }
+        requires place { 0 < room_at self.old.callbacks.tables.asks page }
+        requires room { CanSay self.old }
+        ensures { Makes self.old
+            (λ server. take_ask_write on_cycle server client page grant) self.new }
+    {
+        if !self.callbacks.holdings().has_row(client, page, grant) {
+            return;
+        }
+        if self.callbacks.holdings().is_write_holder(client, page) {
+            self.permit_again(client, incarnation, page, grant);
+        } else {
+            self.enter(client, incarnation, page, Some(grant));
+        }
+    }
+
+    /// The write holder is permitted again, for its present transaction.
+    fn permit_again(
+        &mut self,
+        client: ClientNo,
+        incarnation: Incarnation,
+        page: PageNo,
+        grant: GrantNo,
+    )
+        requires client { HasClient self.old.callbacks.tables client }
+        requires page { HasPage self.old.callbacks.tables page }
+        requires current { IsCurrent self.old client incarnation }
+        requires live { has_live_txn ((server_in self.old).session client) ≡ true }
+        requires holder { is_write_holder (server_in self.old) client page ≡ true }
+        requires sole { sole_row (server_in self.old) page client (server_in self.old).clients
+            ≡ true }
+        requires room { CanSay self.old }
+        ensures { Makes self.old (λ server. give_permission server client page grant) self.new }
+    {
+        // It isn't 0, which stands for a client that never greeted.
+        let _least = incarnation.get();
+        self.callbacks
+            .permit_again(client, page, grant, &mut self.outbox);
+    }
+}

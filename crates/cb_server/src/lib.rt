@@ -1,0 +1,13 @@
+//! A page server with callback locking: it takes frames from anyone, and its directory, its commits
+//! and its deadlock test are right whatever comes.
+//!
+//! In contracts a [`Server`] is the protocol's server: each call answers and does what the
+//! protocol's tables say, of whatever list of calls went before.
+#![tactic(auto)]
+
+mod engine;
+mod server;
+mod server_fault;
+
+pub use server::Server;
+pub use server_fault::ServerFault;

@@ -1,0 +1,186 @@
+//! The type, its opening, what it takes, and what it shows.
+ghost use Rattle.std.specs.Prelude.{◌≡◌, [], ◌∷◌, IfErr, IfOk, IfSome, OnErr, true};
+ghost use Rattle.std.specs.List.{AllByRecursion};
+ghost use Rattle.std.specs.Option.{option_map};
+ghost use Rattle.cb_commit.specs.History.{CatchesUp};
+ghost use Rattle.cb_commit.specs.Stores.{IsOf};
+ghost use Rattle.cb_frame_types.specs.Grammar.{Fits};
+ghost use Rattle.cb_holdings.specs.Commits.{batch_of};
+ghost use Rattle.cb_holdings.specs.Holdings.{AreOf, newest_first};
+ghost use Rattle.cb_outbox.specs.Messages.{messages_of};
+ghost use Rattle.cb_protocol.specs.AnyMessages.{ReachesDisk};
+ghost use Rattle.cb_protocol.specs.Flush.{can_flush, next_batch};
+ghost use Rattle.cb_server.specs.ServerState.{IsNew, IsServer, IsUnchanged, commits_of, server_of};
+ghost use Rattle.cb_server.specs.Taking.{Does, IsBytesFault, Refuses, Takes, TakesBytes};
+ghost use Rattle.cb_waits.specs.Follows.{Follows};
+
+use crate::engine::Engine;
+use crate::server_fault::ServerFault;
+use cb_callbacks::Callbacks;
+use cb_commit::{Batch, Commit, Store};
+use cb_frame::{BytesFault, Frame, decode};
+use cb_holdings::Holdings;
+use cb_outbox::Outbox;
+use cb_page::{CommitNo, Limits};
+use cb_waits::View;
+use std::alloc::{AllocError, Global};
+use std::marker::Model;
+
+/// A page server over its store.
+///
+/// `new`, `take`, `take_bytes`, `batch` and `flushed` take memory; no other call does.
+#[derive(Debug, Drop)]
+pub struct Server {
+    limits: Limits,
+    /// Its outbox is empty between two calls.
+    engine: Engine,
+}
+
+impl Model for Server {
+    ghost use Rattle.cb_server.specs.ServerState.{IsAtRest, ServerState};
+
+    ghost Value = { ServerState };
+
+    ghost view = { λ server. record {
+      limits = server.limits;
+      tables = server.engine.callbacks.tables;
+    } };
+
+    ghost invariant = { λ server. IsAtRest (record {
+      limits = server.limits;
+      tables = server.engine.callbacks.tables;
+    }) server.engine.outbox };
+}
+
+impl Server {
+    /// A server over a store, all of which counts as on disk. No client is known.
+    ///
+    /// It copies the store. `AllocError` only where memory was refused.
+    pub fn new(alloc: Global, limits: &Limits, store: Store) -> Result<Server, AllocError>
+        requires { IsOf limits.now store }
+        ensures { IfOk result (IsNew limits.now store) }
+    {
+        // Its pages have its size, and no version is above its number: `number` says so.
+        let _sound = store.number();
+        Ok(Server {
+            limits: *limits,
+            engine: Engine {
+                callbacks: Callbacks::new(alloc, limits, store)?,
+                outbox: Outbox::new(alloc, limits),
+            },
+        })
+    }
+
+    /// The limits of its store and its clients. The server arose by the protocol's steps, whatever
+    /// was called before: so all that the protocol says of such servers holds of it.
+    pub fn limits(&self) -> &Limits
+        ensures value { result.now ≡ self.now.limits }
+        ensures arose { IsServer self.now }
+    {
+        &self.limits
+    }
+
+    /// Takes a frame, from an honest client or not, and answers what is said to it, in order: to
+    /// its client and to others.
+    ///
+    /// `Exhausted` exactly where no number is left for it: a grant number for an ask to read that
+    /// would enter a queue, beyond one for each that waits, or a commit number for a commit that
+    /// would be applied. `Memory` only where a growth was refused. Nothing changes then.
+    pub fn take(&mut self, alloc: Global, frame: Frame) -> Result<Vec<Frame>, ServerFault>
+        requires { Fits self.old.limits frame }
+        ensures ok { IfOk result (λ said. Takes self.old frame (messages_of said.items) self.new) }
+        ensures fits { IfOk result (λ said. AllByRecursion (Fits self.old.limits) said.items) }
+        ensures err { IfErr result (Refuses self.old frame) }
+        ensures unchanged { OnErr result (IsUnchanged self.old self.new) }
+    {
+        let Frame {
+            client,
+            incarnation,
+            body,
+        } = frame;
+        self.engine.take(alloc, client, incarnation, body)?;
+        Ok(self.engine.outbox.take(alloc))
+    }
+
+    /// Takes the frame that the bytes begin with, whatever follows it; answers what is said to it
+    /// and how many bytes the frame has.
+    ///
+    /// A fault of the taker is `take`'s, of that frame.
+    pub fn take_bytes(
+        &mut self,
+        alloc: Global,
+        bytes: &[u8],
+    ) -> Result<(Vec<Frame>, usize), BytesFault<ServerFault>>
+        ensures ok { IfOk result (λ answered. TakesBytes self.old bytes.now answered.1
+            (messages_of answered.0.items) self.new) }
+        ensures fits { IfOk result (λ answered.
+            AllByRecursion (Fits self.old.limits) answered.0.items) }
+        ensures err { IfErr result (IsBytesFault self.old bytes.now) }
+        ensures unchanged { OnErr result (IsUnchanged self.old self.new) }
+    {
+        match decode(alloc, &self.limits, bytes) {
+            Err(fault) => Err(BytesFault::Frame(fault)),
+            Ok((frame, used)) => match self.take(alloc, frame) {
+                Ok(said) => Ok((said, used)),
+                Err(fault) => Err(BytesFault::Taker(fault)),
+            },
+        }
+    }
+
+    /// What is to be written to disk next: each page that a commit changed which isn't on disk yet,
+    /// as it is now; `None` where every commit is on disk. It costs no more than those pages.
+    ///
+    /// `AllocError` only where memory was refused.
+    pub fn batch(&self, alloc: Global) -> Result<Option<Batch>, AllocError>
+        ensures batch { IfOk result (λ batch.
+            option_map batch_of batch ≡ next_batch (server_of self.now)) }
+        ensures catches_up { IfOk result (λ batch. IfSome batch (CatchesUp (commits_of self.now))) }
+        ensures can_flush { IfOk result (λ batch.
+            IfSome batch (λ b. can_flush (server_of self.now) b.number ≡ true)) }
+    {
+        self.engine.callbacks.holdings().batch(alloc)
+    }
+
+    /// Whether that commit was made and isn't on disk yet.
+    pub fn can_flush(&self, number: CommitNo) -> bool
+        ensures { result ≡ can_flush (server_of self.now) number }
+    {
+        self.engine.callbacks.holdings().can_flush(number)
+    }
+
+    /// The commits up to this number are on disk now: a Done for each that wasn't before, in order.
+    ///
+    /// `AllocError` only where memory was refused; nothing changes then.
+    pub fn flushed(&mut self, alloc: Global, number: CommitNo) -> Result<Vec<Frame>, AllocError>
+        requires { can_flush (server_of self.old) number ≡ true }
+        ensures ok { IfOk result (λ said. Does self.old (ReachesDisk number)
+            (messages_of said.items) self.new) }
+        ensures fits { IfOk result (λ said. AllByRecursion (Fits self.old.limits) said.items) }
+        ensures unchanged { OnErr result (IsUnchanged self.old self.new) }
+    {
+        let dones = self.engine.callbacks.flushed(alloc, number)?;
+        Ok(dones)
+    }
+
+    /// All commits, the first one first.
+    pub fn committed(&self) -> &[Commit]
+        ensures { newest_first result.now ≡ (server_of self.now).commits }
+    {
+        self.engine.callbacks.holdings().committed()
+    }
+
+    /// What it has of its clients and pages, but for who waits and which pages are in use.
+    pub fn holdings(&self) -> &Holdings
+        ensures value { result.now ≡ self.now.tables.holdings }
+        ensures of { AreOf self.now.limits result.now }
+    {
+        self.engine.callbacks.holdings()
+    }
+
+    /// Who waits for whom, as it is kept.
+    pub fn kept_view(&self) -> &View
+        ensures { Follows result.now (server_of self.now) }
+    {
+        self.engine.callbacks.kept_view()
+    }
+}
