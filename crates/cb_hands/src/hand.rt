@@ -162,8 +162,7 @@ impl Hand {
         ensures { self.new ≡ empty_hand self.old.client incarnation (length self.old.held) }
     {
         self.grants.clear();
-        self.writable.clear();
-        self.txn = None;
+        self.end_permissions();
         self.incarnation = incarnation;
     }
 

@@ -150,8 +150,7 @@ impl StoredHand {
         ensures { self.new ≡ empty_hand self.old.client incarnation (length self.old.held) }
     {
         self.held.clear();
-        self.writable.clear();
-        self.txn = None;
+        self.end_permissions();
         self.incarnation = incarnation;
     }
 }
