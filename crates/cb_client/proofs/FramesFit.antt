@@ -1,6 +1,6 @@
 -- Every message that a client says fits the limits, and so does its frame.
 use Rattle.std.proofs.lemmas.Bool.Decides.{nat_tests}
-use Rattle.std.proofs.Common.{◌==◌, true, Option, None, IfSome, option_to_list, unwrap_or, sym, ◌∙◌, ◌≡◌, ◌+◌, ℕ, List, [], ◌∷◌, map, Some, refl, subst, arith}
+use Rattle.std.proofs.Common.{◌==◌, ◌<◌, true, Option, None, IfSome, option_to_list, unwrap_or, sym, ◌∙◌, ◌≡◌, ◌+◌, ℕ, List, [], ◌∷◌, map, Some, refl, subst, arith}
 use Rattle.std.specs.List.{AllByRecursion}
 use Rattle.cb_page.specs.Bounds.{Bounds}
 use Rattle.cb_page.specs.Rising.{RisesFrom}
@@ -25,12 +25,13 @@ use Rattle.cb_client.specs.CallAnswers.{ShortFrameFits, short_message}
 use Rattle.cb_client.specs.declared.standing.Ask.{Ask}
 use Rattle.cb_client.specs.declared.standing.Ask.TheVariants as asks
 use Rattle.cb_protocol.specs.Client.{bodies_said, is_asking}
-use Rattle.cb_protocol.specs.ClientAlone.{ReceivesCall}
+use Rattle.cb_protocol.specs.ClientAlone.{ReceivesCall, ReceivesMessage}
 use Rattle.cb_protocol.specs.ClientCalls.{Call, CallWant, client_call, say_ask, say_ask_write}
+use Rattle.cb_protocol.specs.ClientMessages.{client_take}
 use Rattle.cb_protocol.specs.Messages as protocol
 use Rattle.cb_protocol.specs.Ranges.{Above, AllBodiesFit, AllMessagesFit, BodyFits, InputFits, MessageFits, WritesFit}
 use Rattle.cb_client.specs.ClientState.{ClientState, IsClient, ask_of, client_of}
-use Rattle.cb_client.specs.ByTable.{Calls, as_before, limits_at, messages_from}
+use Rattle.cb_client.specs.ByTable.{Calls, Takes, as_before, limits_at, messages_from}
 
 -- a body without page bytes
 short_fits : (b : Bounds) (s : ShortBody) → BodyFits (limits_of b) (short_of s) → grammar.ShortFits b s
@@ -81,6 +82,46 @@ calls_fit v w call {word} {said} {history} is c =
     (from_client v is (bodies_said (client_call (limits_at v) (client_of v ops) call).steps)
     (client_messages_in_range (limits_at v) (client_of v ops) (ReceivesCall call) is.reached.arises tt tt))
 
+-- a body that came, as the protocol says that it fits
+short_came : (b : Bounds) (s : ShortBody) → grammar.ShortFits b s → BodyFits (limits_of b) (short_of s)
+short_came b short.Hello h = h
+short_came b (short.AskRead txn page) h = h
+short_came b (short.AskWrite txn page grant) h = h
+short_came b (short.GiveBack page grant) h = h
+short_came b (short.InUse txn page grant) h = h
+short_came b (short.Drop txn) h = h
+short_came b short.Welcome h = h
+short_came b (short.MayWrite txn page grant) h = h
+short_came b (short.Callback page grant) h = h
+short_came b (short.Done txn number) h = h
+short_came b (short.AbortNow txn) h = h
+short_came b (short.Downgraded page grant txn) h = h
+short_came b (short.Downgrade page grant txn) h = h
+
+above : (page next : ℕ) (ws : List Write) → page < next → RisesFrom next (map grammar.page_of ws) → Above page (page_writes ws)
+above page next [] lt r = tt
+above page next (w ∷ ws) lt r =
+    let first = r.0 in
+    let more : page < w.page = omega (arith, lt, first) in
+    (more, above page (w.page + 1) ws (omega (arith, more)) r.1)
+
+writes_came : (b : Bounds) (next : ℕ) (ws : List Write) → AllByRecursion (grammar.WriteFits b) ws → RisesFrom next (map grammar.page_of ws) → WritesFit (limits_of b) (page_writes ws)
+writes_came b next [] h r = tt
+writes_came b next (w ∷ ws) h r = ((h.0.page, h.0.grant, h.0.bytes), above w.page (w.page + 1) ws (omega arith) r.1, writes_came b (w.page + 1) ws h.1 r.1)
+
+body_came : (b : Bounds) (x : Body) → grammar.BodyFits b x → BodyFits (limits_of b) (body_of x)
+body_came b (body.Short s) h = short_came b s h
+body_came b (body.Commit txn ws) h = (h.0, writes_came b 0 ws h.1 h.2)
+body_came b (body.Granted page grant version bytes) h = h
+
+-- what a client says to a message that fits
+takes_fit : (v w : ClientState) (message : protocol.Body) {said : List protocol.Message} → IsClient v → BodyFits (limits_at v) message → Takes v message said w → AllMessagesFit (limits_at v) said
+takes_fit v w message {said} is came t =
+    let ops = is.reached.operations in
+    subst (λ (messages : List protocol.Message). AllMessagesFit (limits_at v) messages) (t.makes.said ops)
+    (from_client v is (bodies_said (client_take (limits_at v) (client_of v ops) message t.let_go))
+    (client_messages_in_range (limits_at v) (client_of v ops) (ReceivesMessage message t.let_go) is.reached.arises (t.allowed ops) came))
+
 -- one frame said
 pub call_frame_fits : (v w : ClientState) (call : Call) {word : _} {history : _} (frame : Frame) → IsClient v → Calls v call word (message_of frame ∷ []) history w → grammar.Fits v.copies.limits frame
 call_frame_fits v w call {word} {history} frame is c = frame_fits v.copies.limits frame (calls_fit v w call is c).0
@@ -92,6 +133,10 @@ all_fit b (frame ∷ frames) h = (frame_fits b frame h.0, all_fit b frames h.1)
 
 pub call_frames_fit : (v w : ClientState) (call : Call) {word : _} {history : _} (frames : List Frame) → IsClient v → Calls v call word (messages_of frames) history w → AllByRecursion (grammar.Fits v.copies.limits) frames
 call_frames_fit v w call {word} {history} frames is c = all_fit v.copies.limits frames (calls_fit v w call is c)
+
+-- and the frames that it says to one
+pub body_frames_fit : (v w : ClientState) (came : Body) (said : List Frame) → IsClient v → grammar.BodyFits v.copies.limits came → Takes v (body_of came) (messages_of said) w → AllByRecursion (grammar.Fits v.copies.limits) said
+body_frames_fit v w came said is fits t = all_fit v.copies.limits said (takes_fit v w (body_of came) is (body_came v.copies.limits came fits) t)
 
 -- the transaction that waits has a number
 number : (v : ClientState) → IsClient v → is_asking (ask_of v.ask) ≡ true → IsNumber (unwrap_or v.txn 0)

@@ -1,5 +1,5 @@
 -- What a client does at a frame.
-use Rattle.std.specs.Prelude.{◌≡◌, ◌==◌, ℕ, Bool, true, false, ◌&&◌, List, [], take}
+use Rattle.std.specs.Prelude.{◌≡◌, ◌==◌, ◌≤◌, ℕ, Bool, true, false, ◌&&◌, List, [], length, take}
 use Rattle.cb_page.specs.Bounds.{Bounds}
 use Rattle.cb_page.specs.Faults.{first_fault}
 use Rattle.cb_frame.specs.Checks.{causes, fault_in_bytes}
@@ -25,15 +25,27 @@ pub record TakesFrame (old : ClientState) (frame : Frame) (messages : List Messa
   pub ignored : is_for old frame ≡ false → messages ≡ []
   pub unchanged : is_for old frame ≡ false → new ≡ old
 
+-- the first of the bytes, as many as that, are the frame as it is decoded
+pub record BeginWith (limits : Bounds) (bytes : List ℕ) (frame : Frame) (used : ℕ) : Type 0 where
+  pub within : used ≤ length bytes
+  pub read : IsFrameInSome limits frame (take used bytes)
+
 -- The bytes begin with a frame, of that many bytes, which is taken.
 pub record TakesBytes (old : ClientState) (bytes : List ℕ) (used : ℕ) (messages : List Message)
     (new : ClientState) : Type 0 where
   pub frame : Frame
-  pub read : IsFrameInSome old.copies.limits frame (take used bytes)
+  pub begin : BeginWith old.copies.limits bytes frame used
   pub takes : TakesFrame old frame messages new
 
--- the bytes begin with no frame, for that cause; or a growth was refused
+-- a growth was refused for the frame that the bytes begin with
+pub record LacksMemoryFor (limits : Bounds) (bytes : List ℕ) (found : ClientFault) : Type 0 where
+  pub memory : found ≡ faults.Memory
+  pub frame : Frame
+  pub used : ℕ
+  pub begin : BeginWith limits bytes frame used
+
+-- the bytes begin with no frame, for that cause; or a growth was refused for the frame
 abbrev pub IsBytesFault : Bounds → List ℕ → BytesFault ClientFault → Type 0
 IsBytesFault limits bytes (reading.Frame found) =
     first_fault (causes limits bytes) ≡ fault_in_bytes found
-IsBytesFault limits bytes (reading.Taker found) = found ≡ faults.Memory
+IsBytesFault limits bytes (reading.Taker found) = LacksMemoryFor limits bytes found

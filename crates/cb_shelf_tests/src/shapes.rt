@@ -1,9 +1,10 @@
 //! Which databases an open takes, and which it refuses.
 
-use crate::bench::holds;
+use crate::bench::{connect, empty_disks, files_of, holds};
 use cb_page::Limits;
 use cb_shelf::{Shelf, ShelfFault};
-use sqlite::{Connection, Error, MemStore};
+use sqlite::{Alter, Connection, Files};
+use sqlite_disk::{Memory, digest_of};
 use std::alloc::Global;
 use std::test::Fail;
 
@@ -53,66 +54,170 @@ static OLD_SPOILED: [&'static str; 6] = [
     "DELETE FROM mark; DELETE FROM page",
 ];
 
-fn made(alloc: Global, first: &str, second: &str) -> Result<Connection<MemStore>, Fail> {
-    let mut conn = Connection::open_in_memory(alloc)?;
-    conn.execute_batch(first)?;
-    conn.execute_batch(second)?;
-    Ok(conn)
+/// A table of a shelf with other columns.
+static NAMED: &'static str = "CREATE TABLE mark2(id INTEGER PRIMARY KEY) STRICT";
+
+/// Whether two texts run.
+fn runs<S: Alter>(conn: &mut Connection<S>, texts: (&str, &str)) -> bool {
+    let first = conn.execute_batch(texts.0).is_ok();
+    let second = conn.execute_batch(texts.1).is_ok();
+    first && second
 }
 
-fn count(conn: &mut Connection<MemStore>, text: &str) -> Result<i64, Error> {
-    conn.query_row(text, &[])?.get(0)
-}
-
-fn refusal(alloc: Global, limits: &Limits, conn: Connection<MemStore>) -> Option<ShelfFault> {
+/// Opens a shelf; answers why it is refused, and the connection.
+fn opened<S: Alter>(
+    alloc: Global,
+    limits: &Limits,
+    conn: Connection<S>,
+) -> (Option<ShelfFault>, Connection<S>) {
     match Shelf::open(alloc, conn, limits) {
-        Ok(_) => None,
-        Err((fault, _)) => Some(fault),
+        Ok(shelf) => (None, shelf.close()),
+        Err((fault, conn)) => (Some(fault), conn),
     }
 }
 
-fn is_shape(alloc: Global, limits: &Limits, first: &str, second: &str) -> Result<bool, Fail> {
-    let conn = made(alloc, first, second)?;
-    Ok(refusal(alloc, limits, conn) == Some(ShelfFault::Shape))
+/// The database that two texts make on new disks.
+fn made(alloc: Global, texts: (&str, &str)) -> Files<Memory> {
+    match connect(alloc, empty_disks(alloc)) {
+        Ok(mut conn) => {
+            let _ran = runs(&mut conn, texts);
+            files_of(conn)
+        }
+        Err(files) => files,
+    }
+}
+
+/// Why a shelf in these files is refused, and the files under it.
+fn refusal(
+    alloc: Global,
+    limits: &Limits,
+    files: Files<Memory>,
+) -> (Option<ShelfFault>, Files<Memory>) {
+    match connect(alloc, files) {
+        Ok(conn) => {
+            let (fault, conn) = opened(alloc, limits, conn);
+            (fault, files_of(conn))
+        }
+        Err(files) => (None, files),
+    }
+}
+
+/// What both files hold.
+fn contents(files: &Files<Memory>) -> (u64, u64) {
+    (
+        digest_of(0, files.log.bytes()),
+        digest_of(0, files.db.bytes()),
+    )
+}
+
+/// Whether the database that two texts make is refused with this fault, its files as they were.
+fn refuses(alloc: Global, limits: &Limits, texts: (&str, &str), wanted: ShelfFault) -> bool {
+    let files = made(alloc, texts);
+    let before = contents(&files);
+    let (fault, left) = refusal(alloc, limits, files);
+    let after = contents(&left);
+    fault == Some(wanted) && before == after
+}
+
+/// The first text after which the tables aren't refused as another shape.
+fn first_taken(
+    alloc: Global,
+    limits: &Limits,
+    tables: &str,
+    texts: &[&'static str],
+) -> Option<&'static str> {
+    for text in texts {
+        if !refuses(alloc, limits, (tables, text), ShelfFault::Shape) {
+            return Some(*text);
+        }
+    }
+    None
+}
+
+/// A number that a query of no parameters answers.
+fn number<S: Alter>(conn: &mut Connection<S>, text: &str) -> Option<i64> {
+    conn.query_row(text, &[]).ok()?.get(0).ok()
+}
+
+/// Whether the old tables are there and have no row.
+fn is_emptied<S: Alter>(conn: &mut Connection<S>) -> bool {
+    let pages = number(conn, "SELECT count(*) FROM page");
+    let marks = number(conn, "SELECT count(*) FROM mark");
+    pages == Some(0) && marks == Some(0)
+}
+
+/// Whether a shelf opens and holds the store of the old tables, which have no row then.
+fn is_copied<S: Alter>(
+    alloc: Global,
+    limits: &Limits,
+    conn: Connection<S>,
+) -> (bool, Connection<S>) {
+    match Shelf::open(alloc, conn, limits) {
+        Ok(mut shelf) => {
+            let held = holds(alloc, limits, &mut shelf, 3, &[(3, 7), (0, 0)]);
+            let mut conn = shelf.close();
+            let emptied = is_emptied(&mut conn);
+            (held && emptied, conn)
+        }
+        Err((_, conn)) => (false, conn),
+    }
+}
+
+/// Whether old tables are refused at another page size, copied, and opened again.
+fn copies<S: Alter>(
+    alloc: Global,
+    limits: &Limits,
+    greater: &Limits,
+    mut conn: Connection<S>,
+) -> (bool, Connection<S>) {
+    let ran = runs(&mut conn, (OLD, ""));
+    let (fault, conn) = opened(alloc, greater, conn);
+    let (first, conn) = is_copied(alloc, limits, conn);
+    let (again, conn) = is_copied(alloc, limits, conn);
+    let refused = fault == Some(ShelfFault::Shape);
+    (ran && refused && first && again, conn)
+}
+
+/// The same over a database in memory.
+fn copies_in_memory(alloc: Global, limits: &Limits, greater: &Limits) -> bool {
+    match Connection::open_in_memory(alloc) {
+        Ok(conn) => copies(alloc, limits, greater, conn).0,
+        Err(_) => false,
+    }
+}
+
+/// Why a shelf over a database in memory is refused after a text.
+fn refused_after(alloc: Global, limits: &Limits, text: &str) -> Option<ShelfFault> {
+    match Connection::open_in_memory(alloc) {
+        Ok(mut conn) => {
+            let _ran = runs(&mut conn, (text, ""));
+            opened(alloc, limits, conn).0
+        }
+        Err(_) => None,
+    }
 }
 
 #[test]
 fn old_tables_copied(rt: HostRuntime) -> Result<(), Fail> {
-    let alloc = rt.alloc();
     let limits = Limits::new(1, 2, 16, 2, 1, 1)?;
     let greater = Limits::new(1, 2, 32, 2, 1, 1)?;
-    let conn = made(alloc, OLD, "")?;
-    let Err((fault, conn)) = Shelf::open(alloc, conn, &greater) else {
-        return Err("opened at another page size".into());
-    };
-    assert!(rt; fault == ShelfFault::Shape);
-    let Ok(mut shelf) = Shelf::open(alloc, conn, &limits) else {
-        return Err("not opened".into());
-    };
-    assert!(rt; holds(alloc, &limits, &mut shelf, 3, &[(3, 7), (0, 0)])?);
-    let mut conn = shelf.close();
-    assert!(rt; count(&mut conn, "SELECT count(*) FROM page")? == 0);
-    assert!(rt; count(&mut conn, "SELECT count(*) FROM mark")? == 0);
-    let Ok(mut again) = Shelf::open(alloc, conn, &limits) else {
-        return Err("not opened again".into());
-    };
-    assert!(rt; holds(alloc, &limits, &mut again, 3, &[(3, 7), (0, 0)])?);
+    assert!(rt; copies_in_memory(rt.alloc(), &limits, &greater));
     Ok(())
 }
 
 #[test]
 fn other_shapes_are_refused(rt: HostRuntime) -> Result<(), Fail> {
+    let limits = Limits::new(1, 2, 16, 2, 1, 1)?;
+    assert!(rt; first_taken(rt.alloc(), &limits, NEW, &SPOILED) == None);
+    Ok(())
+}
+
+#[test]
+fn other_old_shapes_are_refused(rt: HostRuntime) -> Result<(), Fail> {
     let alloc = rt.alloc();
     let limits = Limits::new(1, 2, 16, 2, 1, 1)?;
-    let whole = made(alloc, NEW, "")?;
-    assert!(rt; refusal(alloc, &limits, whole) == None);
-    for (at, spoil) in SPOILED.iter().enumerate() {
-        assert!(rt; is_shape(alloc, &limits, NEW, spoil)?, "new {at}");
-    }
-    for (at, spoil) in OLD_SPOILED.iter().enumerate() {
-        assert!(rt; is_shape(alloc, &limits, OLD, spoil)?, "old {at}");
-    }
-    assert!(rt; is_shape(alloc, &limits, NEW, OLD)?);
+    assert!(rt; first_taken(alloc, &limits, OLD, &OLD_SPOILED) == None);
+    assert!(rt; refuses(alloc, &limits, (NEW, OLD), ShelfFault::Shape));
     Ok(())
 }
 
@@ -120,13 +225,9 @@ fn other_shapes_are_refused(rt: HostRuntime) -> Result<(), Fail> {
 fn other_refusals_are_of_the_store(rt: HostRuntime) -> Result<(), Fail> {
     let alloc = rt.alloc();
     let limits = Limits::new(1, 2, 16, 2, 1, 1)?;
-    let open = made(alloc, NEW, "BEGIN")?;
-    assert!(rt; refusal(alloc, &limits, open) == Some(ShelfFault::Store));
-    let named = made(
-        alloc,
-        "CREATE TABLE mark2(id INTEGER PRIMARY KEY) STRICT",
-        "",
-    )?;
-    assert!(rt; refusal(alloc, &limits, named) == Some(ShelfFault::Store));
+    let store = Some(ShelfFault::Store);
+    assert!(rt; refused_after(alloc, &limits, "BEGIN") == store);
+    assert!(rt; refused_after(alloc, &limits, NAMED) == store);
+    assert!(rt; refused_after(alloc, &limits, NEW) == None);
     Ok(())
 }

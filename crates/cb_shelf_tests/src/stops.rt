@@ -1,15 +1,12 @@
 //! Stops at each call of the disk in turn.
 
-use crate::bench::{commit, holds, no_commits};
+use crate::bench::{commit, connect, files_of, flushes, holds, no_commits};
 use cb_page::Limits;
-use cb_shelf::{Shelf, flush_once};
-use sqlite::{Connection, FileStore, Files, Options};
+use cb_shelf::Shelf;
+use sqlite::{Alter, Connection, Files};
 use sqlite_disk::{Crash, Fuse, Memory};
 use std::alloc::Global;
-use std::process::Abort;
 use std::test::Fail;
-
-type Disk = Fuse<Memory>;
 
 /// The store before the batch: its number, and the version and byte of page 0. Page 1 is zeros.
 type Old = (u64, u64, u8);
@@ -23,7 +20,7 @@ static OLD: &'static str =
      INSERT INTO mark VALUES (1, 3, 16); COMMIT";
 
 /// How far a run came before the disk stopped.
-#[derive(Clone, Copy, Debug, PartialEq, Eq)]
+#[derive(Clone, Copy, PartialEq, Eq)]
 enum Reached {
     Nothing,
     /// The database was opened.
@@ -36,66 +33,116 @@ enum Reached {
     Written,
 }
 
-fn disks(alloc: Global, calls: u64) -> Files<Disk> {
+/// How a sequence of runs ended.
+#[derive(Clone, Copy, PartialEq, Eq)]
+enum Ended {
+    /// A run had no stop, and every store before it was whole.
+    Whole,
+    /// After a stop the tables held another store.
+    Torn,
+    /// Every run had a stop.
+    Unfinished,
+}
+
+/// New disks in memory of which the log stops after so many calls.
+fn disks(alloc: Global, calls: u64) -> Files<Fuse<Memory>> {
     Files {
         log: Fuse::new(Memory::new(alloc), calls),
         db: Fuse::new(Memory::new(alloc), 100_000),
     }
 }
 
-/// Opens the database, or gives the files back.
-fn connect(alloc: Global, files: Files<Disk>) -> Result<Connection<FileStore<Disk>>, Files<Disk>> {
-    if !files.may_be_used() {
-        return Err(files);
+/// Whether a first commit is written.
+fn is_written<S: Alter>(alloc: Global, limits: &Limits, shelf: &mut Shelf<S>) -> bool {
+    let Ok(mut commits) = no_commits(alloc, limits) else {
+        return false;
+    };
+    match commit(alloc, limits, &mut commits, 1, &[(0, 9), (1, 9)]) {
+        Ok(true) => flushes(alloc, &mut commits, shelf, 1),
+        _ => false,
     }
-    match Connection::open_files(alloc, files, Options::new(1)) {
-        Ok(conn) => Ok(conn),
-        Err((_, left)) => Err(left.into_files()),
-    }
-}
-
-fn files_of(conn: Connection<FileStore<Disk>>) -> Files<Disk> {
-    conn.into_store().close()
 }
 
 /// Opens the shelf and writes a batch, until the disk stops.
-fn write(
+fn write<S: Alter>(
     alloc: Global,
     limits: &Limits,
-    conn: Connection<FileStore<Disk>>,
-    before: Reached,
-) -> Result<(Reached, Files<Disk>), Fail> {
-    let mut shelf = match Shelf::open(alloc, conn, limits) {
-        Ok(shelf) => shelf,
-        Err((_, conn)) => return Ok((before, files_of(conn))),
-    };
-    let mut commits = no_commits(alloc, limits)?;
-    if !commit(alloc, limits, &mut commits, 1, &[(0, 9), (1, 9)])? {
-        return Err("no commit".into());
+    conn: Connection<S>,
+) -> (Reached, Connection<S>) {
+    match Shelf::open(alloc, conn, limits) {
+        Ok(mut shelf) => {
+            let is_written = is_written(alloc, limits, &mut shelf);
+            (
+                if is_written {
+                    Reached::Written
+                } else {
+                    Reached::Shelf
+                },
+                shelf.close(),
+            )
+        }
+        Err((_, conn)) => (Reached::Old, conn),
     }
-    let mut held = None;
-    let reached = match flush_once(alloc, &mut commits, &mut shelf, &mut held) {
-        Ok(_) => Reached::Written,
-        Err(_) => Reached::Shelf,
-    };
-    Ok((reached, files_of(shelf.close())))
 }
 
-/// The run over a new disk that stops after so many calls; with tables to copy, where asked.
-fn run(
+/// Makes old tables, where asked, then the shelf.
+fn make<S: Alter>(
     alloc: Global,
     limits: &Limits,
-    calls: u64,
+    mut conn: Connection<S>,
     tables: &str,
-) -> Result<(Reached, Files<Disk>), Fail> {
-    let mut conn = match connect(alloc, disks(alloc, calls)) {
-        Ok(conn) => conn,
-        Err(files) => return Ok((Reached::Nothing, files)),
-    };
+) -> (Reached, Connection<S>) {
     if conn.execute_batch(tables).is_err() {
-        return Ok((Reached::Database, files_of(conn)));
+        return (Reached::Database, conn);
     }
-    write(alloc, limits, conn, Reached::Old)
+    write(alloc, limits, conn)
+}
+
+/// The run over new disks that stop after so many calls.
+fn run(alloc: Global, limits: &Limits, calls: u64, tables: &str) -> (Reached, Files<Fuse<Memory>>) {
+    match connect(alloc, disks(alloc, calls)) {
+        Ok(conn) => {
+            let (reached, conn) = make(alloc, limits, conn, tables);
+            (reached, files_of(conn))
+        }
+        Err(files) => (Reached::Nothing, files),
+    }
+}
+
+/// Whether the last store or the one before it is there.
+fn is_either<S: Alter>(
+    alloc: Global,
+    limits: &Limits,
+    shelf: &mut Shelf<S>,
+    reached: Reached,
+    old: Old,
+) -> bool {
+    let written = holds(alloc, limits, shelf, 1, &[(1, 9), (1, 9)]);
+    let before = holds(alloc, limits, shelf, old.0, &[(old.1, old.2), (0, 0)]);
+    let zeros = holds(alloc, limits, shelf, 0, &[(0, 0), (0, 0)]);
+    match reached {
+        Reached::Nothing | Reached::Database => before || zeros,
+        Reached::Old => before,
+        Reached::Shelf => before || written,
+        Reached::Written => written,
+    }
+}
+
+/// Whether a shelf opens, and the last store or the one before it is there.
+fn is_whole<S: Alter>(
+    alloc: Global,
+    limits: &Limits,
+    conn: Connection<S>,
+    reached: Reached,
+    old: Old,
+) -> (bool, Connection<S>) {
+    match Shelf::open(alloc, conn, limits) {
+        Ok(mut shelf) => {
+            let whole = is_either(alloc, limits, &mut shelf, reached, old);
+            (whole, shelf.close())
+        }
+        Err((_, conn)) => (false, conn),
+    }
 }
 
 /// Whether the last store or the one before it is there after a crash.
@@ -103,52 +150,49 @@ fn survives(
     alloc: Global,
     limits: &Limits,
     reached: Reached,
-    mut files: Files<Disk>,
+    mut files: Files<Fuse<Memory>>,
     old: Old,
-) -> Result<bool, Fail> {
+) -> bool {
     files.log.crash();
     files.db.crash();
-    let Ok(conn) = connect(alloc, files) else {
-        return Ok(false);
-    };
-    let Ok(mut shelf) = Shelf::open(alloc, conn, limits) else {
-        return Ok(false);
-    };
-    let written = holds(alloc, limits, &mut shelf, 1, &[(1, 9), (1, 9)])?;
-    let before = holds(alloc, limits, &mut shelf, old.0, &[(old.1, old.2), (0, 0)])?;
-    let zeros = holds(alloc, limits, &mut shelf, 0, &[(0, 0), (0, 0)])?;
-    Ok(match reached {
-        Reached::Nothing | Reached::Database => before || zeros,
-        Reached::Old => before,
-        Reached::Shelf => before || written,
-        Reached::Written => written,
-    })
+    match connect(alloc, files) {
+        Ok(conn) => is_whole(alloc, limits, conn, reached, old).0,
+        Err(_) => false,
+    }
+}
+
+/// How far a run comes that stops after so many calls, where its store is whole after a crash.
+fn stop(alloc: Global, limits: &Limits, calls: u64, tables: &str, old: Old) -> Option<Reached> {
+    let (reached, files) = run(alloc, limits, calls, tables);
+    if survives(alloc, limits, reached, files, old) {
+        Some(reached)
+    } else {
+        None
+    }
 }
 
 /// Stops at each call in turn until a run ends without a stop.
-fn stop_at_each_call(rt: &impl Abort, alloc: Global, tables: &str, old: Old) -> Result<bool, Fail> {
-    let limits = Limits::new(1, 2, 16, 2, 1, 1)?;
+fn stop_at_each_call(alloc: Global, limits: &Limits, tables: &str, old: Old) -> Ended {
     for calls in 0..100 {
-        let (reached, files) = run(alloc, &limits, calls, tables)?;
-        let is_whole = survives(alloc, &limits, reached, files, old)?;
-        assert!(rt; is_whole, "{calls}");
-        if reached == Reached::Written {
-            return Ok(true);
+        match stop(alloc, limits, calls, tables, old) {
+            Some(Reached::Written) => return Ended::Whole,
+            Some(_) => {}
+            None => return Ended::Torn,
         }
     }
-    Ok(false)
+    Ended::Unfinished
 }
 
 #[test]
 fn a_stop_leaves_the_batch_whole_or_not_there(rt: HostRuntime) -> Result<(), Fail> {
-    let done = stop_at_each_call(&rt, rt.alloc(), "", (0, 0, 0))?;
-    assert!(rt; done);
+    let limits = Limits::new(1, 2, 16, 2, 1, 1)?;
+    assert!(rt; stop_at_each_call(rt.alloc(), &limits, "", (0, 0, 0)) == Ended::Whole);
     Ok(())
 }
 
 #[test]
 fn a_stop_leaves_the_old_tables_or_the_copy(rt: HostRuntime) -> Result<(), Fail> {
-    let done = stop_at_each_call(&rt, rt.alloc(), OLD, (3, 3, 7))?;
-    assert!(rt; done);
+    let limits = Limits::new(1, 2, 16, 2, 1, 1)?;
+    assert!(rt; stop_at_each_call(rt.alloc(), &limits, OLD, (3, 3, 7)) == Ended::Whole);
     Ok(())
 }

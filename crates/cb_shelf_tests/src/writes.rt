@@ -2,45 +2,28 @@
 ghost use Rattle.std.specs.Prelude.{IfSome};
 ghost use Rattle.cb_commit.specs.History.{CanFlush};
 
-use crate::bench::{commit, holds, no_commits};
+use crate::bench::{Row, commit, flushes, holds, no_commits};
 use cb_commit::{Batch, Commits};
 use cb_page::Limits;
 use cb_shelf::{Shelf, ShelfFault, flush_once};
-use sqlite::{Alter, Connection, MemStore};
+use sqlite::{Alter, Connection};
 use std::alloc::Global;
 use std::test::Fail;
 
-/// A shelf in memory, over no tables.
-fn fresh(alloc: Global, limits: &Limits) -> Result<Shelf<MemStore>, Fail> {
-    let conn = Connection::open_in_memory(alloc)?;
-    reopened(alloc, limits, conn)
-}
-
-fn reopened(
-    alloc: Global,
-    limits: &Limits,
-    conn: Connection<MemStore>,
-) -> Result<Shelf<MemStore>, Fail> {
-    match Shelf::open(alloc, conn, limits) {
-        Ok(shelf) => Ok(shelf),
-        Err((fault, _)) => Err(fault.into()),
-    }
-}
-
 /// Writes a batch under ever greater limits on steps; answers how many were refused before.
-fn write_at_last<S: Alter>(shelf: &mut Shelf<S>, batch: &Batch) -> Result<u64, ShelfFault> {
+fn write_at_last<S: Alter>(shelf: &mut Shelf<S>, batch: &Batch) -> Option<u64> {
     for refused in 0..50 {
         shelf.limit_steps(refused + 1);
         match shelf.write(batch) {
             Err(ShelfFault::Store) => {}
-            Err(fault) => return Err(fault),
+            Err(_) => return None,
             Ok(()) => {
                 shelf.limit_steps(0);
-                return Ok(refused);
+                return Some(refused);
             }
         }
     }
-    Err(ShelfFault::Store)
+    None
 }
 
 /// The same by `flush_once`; a batch that was refused is held. It answers how many were refused and
@@ -49,68 +32,191 @@ fn flush_at_last<S: Alter>(
     alloc: Global,
     commits: &mut Commits,
     shelf: &mut Shelf<S>,
-) -> Result<(u64, usize), ShelfFault> {
+) -> Option<(u64, usize)> {
     let mut held = None;
     for refused in 0..50 {
         shelf.limit_steps(refused + 1);
         match flush_once(alloc, commits, shelf, &mut held) {
             Err(ShelfFault::Store) if held.is_some() => {}
-            Err(fault) => return Err(fault),
+            Err(_) => return None,
             Ok(frames) => {
                 shelf.limit_steps(0);
-                return Ok((refused, frames.len()));
+                return Some((refused, frames.len()));
             }
         }
     }
-    Err(ShelfFault::Store)
+    None
+}
+
+/// Whether a refused batch leaves zeros, and is written at last.
+fn writes_again<S: Alter>(
+    alloc: Global,
+    limits: &Limits,
+    shelf: &mut Shelf<S>,
+    batch: &Batch,
+) -> bool {
+    shelf.limit_steps(1);
+    let refused = shelf.write(batch) == Err(ShelfFault::Store);
+    shelf.limit_steps(0);
+    let zeros = holds(alloc, limits, shelf, 0, &[(0, 0), (0, 0)]);
+    match write_at_last(shelf, batch) {
+        Some(count) => refused && zeros && count > 0,
+        None => false,
+    }
+}
+
+/// Whether the one commit of these is refused, then written at last, by `write`.
+fn is_written_again<S: Alter>(
+    alloc: Global,
+    limits: &Limits,
+    shelf: &mut Shelf<S>,
+    commits: &Commits,
+) -> bool {
+    match commits.batch(alloc) {
+        Ok(Some(batch)) => writes_again(alloc, limits, shelf, &batch),
+        _ => false,
+    }
+}
+
+/// Whether the one commit of these is refused, then written at last, by `flush_once`.
+fn is_flushed_again<S: Alter>(
+    alloc: Global,
+    limits: &Limits,
+    shelf: &mut Shelf<S>,
+    commits: &mut Commits,
+) -> bool {
+    let first = match flush_at_last(alloc, commits, shelf) {
+        Some((refused, dones)) => refused > 0 && dones == 1,
+        None => false,
+    };
+    let flushed = commits.last_flushed() == 1;
+    let nothing = flushes(alloc, commits, shelf, 0);
+    first && flushed && nothing && holds(alloc, limits, shelf, 1, &[(1, 7), (0, 0)])
+}
+
+/// The commit of one page.
+fn first_commit(alloc: Global, limits: &Limits) -> Option<Commits> {
+    let Ok(mut commits) = no_commits(alloc, limits) else {
+        return None;
+    };
+    match commit(alloc, limits, &mut commits, 1, &[(0, 7)]) {
+        Ok(true) => Some(commits),
+        _ => None,
+    }
+}
+
+/// Whether a first commit that was refused is written again by `write`.
+fn write_is_made_again<S: Alter>(alloc: Global, limits: &Limits, shelf: &mut Shelf<S>) -> bool {
+    match first_commit(alloc, limits) {
+        Some(commits) => is_written_again(alloc, limits, shelf, &commits),
+        None => false,
+    }
+}
+
+/// Whether a first commit that was refused is written again by `flush_once`.
+fn flush_is_made_again<S: Alter>(alloc: Global, limits: &Limits, shelf: &mut Shelf<S>) -> bool {
+    match first_commit(alloc, limits) {
+        Some(mut commits) => is_flushed_again(alloc, limits, shelf, &mut commits),
+        None => false,
+    }
+}
+
+/// Whether two commits are flushed, each by itself.
+fn two_flushes<S: Alter>(alloc: Global, limits: &Limits, shelf: &mut Shelf<S>) -> bool {
+    let Ok(mut commits) = no_commits(alloc, limits) else {
+        return false;
+    };
+    let first = commit(alloc, limits, &mut commits, 1, &[(0, 7), (1, 8)]) == Ok(true);
+    let one = flushes(alloc, &mut commits, shelf, 1);
+    if !commits.store().is_of(limits) {
+        return false;
+    }
+    let second = commit(alloc, limits, &mut commits, 2, &[(1, 9)]) == Ok(true);
+    let two = flushes(alloc, &mut commits, shelf, 1);
+    first && one && second && two
+}
+
+/// What is done to a shelf.
+#[derive(Clone, Copy)]
+enum Deed {
+    WriteAgain,
+    FlushAgain,
+    TwoFlushes,
+}
+
+/// Whether it is done.
+fn is_done<S: Alter>(alloc: Global, limits: &Limits, shelf: &mut Shelf<S>, deed: Deed) -> bool {
+    match deed {
+        Deed::WriteAgain => write_is_made_again(alloc, limits, shelf),
+        Deed::FlushAgain => flush_is_made_again(alloc, limits, shelf),
+        Deed::TwoFlushes => two_flushes(alloc, limits, shelf),
+    }
+}
+
+/// Whether it is done to a shelf.
+fn done_over<S: Alter>(
+    alloc: Global,
+    limits: &Limits,
+    conn: Connection<S>,
+    deed: Deed,
+) -> (bool, Connection<S>) {
+    match Shelf::open(alloc, conn, limits) {
+        Ok(mut shelf) => {
+            let done = is_done(alloc, limits, &mut shelf, deed);
+            (done, shelf.close())
+        }
+        Err((_, conn)) => (false, conn),
+    }
+}
+
+/// Whether a shelf opens and holds a store.
+fn held_over<S: Alter>(
+    alloc: Global,
+    limits: &Limits,
+    conn: Connection<S>,
+    number: u64,
+    rows: &[Row],
+) -> (bool, Connection<S>) {
+    match Shelf::open(alloc, conn, limits) {
+        Ok(mut shelf) => {
+            let held = holds(alloc, limits, &mut shelf, number, rows);
+            (held, shelf.close())
+        }
+        Err((_, conn)) => (false, conn),
+    }
+}
+
+/// Whether it is done to a shelf in memory, and what it wrote is there after another open.
+fn keeps(alloc: Global, limits: &Limits, deed: Deed, number: u64, rows: &[Row]) -> bool {
+    match Connection::open_in_memory(alloc) {
+        Ok(conn) => {
+            let (done, conn) = done_over(alloc, limits, conn, deed);
+            let held = held_over(alloc, limits, conn, number, rows).0;
+            done && held
+        }
+        Err(_) => false,
+    }
 }
 
 #[test]
 fn refused_write_is_written_again(rt: HostRuntime) -> Result<(), Fail> {
-    let alloc = rt.alloc();
     let limits = Limits::new(1, 2, 16, 2, 1, 1)?;
-    let mut shelf = fresh(alloc, &limits)?;
-    let mut commits = no_commits(alloc, &limits)?;
-    assert!(rt; commit(alloc, &limits, &mut commits, 1, &[(0, 7)])?);
-    let batch = commits.batch(alloc)?.ok_or("a batch")?;
-    shelf.limit_steps(1);
-    assert!(rt; shelf.write(&batch) == Err(ShelfFault::Store));
-    shelf.limit_steps(0);
-    assert!(rt; holds(alloc, &limits, &mut shelf, 0, &[(0, 0), (0, 0)])?);
-    assert!(rt; write_at_last(&mut shelf, &batch)? > 0);
-    let mut shelf = reopened(alloc, &limits, shelf.close())?;
-    assert!(rt; holds(alloc, &limits, &mut shelf, 1, &[(1, 7), (0, 0)])?);
+    assert!(rt; keeps(rt.alloc(), &limits, Deed::WriteAgain, 1, &[(1, 7), (0, 0)]));
     Ok(())
 }
 
 #[test]
 fn refused_flush_is_made_again(rt: HostRuntime) -> Result<(), Fail> {
-    let alloc = rt.alloc();
     let limits = Limits::new(1, 2, 16, 2, 1, 1)?;
-    let mut shelf = fresh(alloc, &limits)?;
-    let mut commits = no_commits(alloc, &limits)?;
-    assert!(rt; commit(alloc, &limits, &mut commits, 1, &[(0, 7)])?);
-    let (refused, dones) = flush_at_last(alloc, &mut commits, &mut shelf)?;
-    assert!(rt; refused > 0 && dones == 1);
-    assert!(rt; commits.last_flushed() == 1);
-    assert!(rt; holds(alloc, &limits, &mut shelf, 1, &[(1, 7), (0, 0)])?);
-    let mut held = None;
-    assert!(rt; flush_once(alloc, &mut commits, &mut shelf, &mut held)?.is_empty());
+    assert!(rt; keeps(rt.alloc(), &limits, Deed::FlushAgain, 1, &[(1, 7), (0, 0)]));
     Ok(())
 }
 
 #[test]
 fn pages_of_many_parts(rt: HostRuntime) -> Result<(), Fail> {
-    let alloc = rt.alloc();
-    let limits = Limits::new(1, 2, 8208, 2, 1, 1)?;
-    let mut shelf = fresh(alloc, &limits)?;
-    let mut commits = no_commits(alloc, &limits)?;
-    let mut held = None;
-    assert!(rt; commit(alloc, &limits, &mut commits, 1, &[(0, 7), (1, 8)])?);
-    assert!(rt; flush_once(alloc, &mut commits, &mut shelf, &mut held)?.len() == 1);
-    assert!(rt; commit(alloc, &limits, &mut commits, 2, &[(1, 9)])?);
-    assert!(rt; flush_once(alloc, &mut commits, &mut shelf, &mut held)?.len() == 1);
-    let mut shelf = reopened(alloc, &limits, shelf.close())?;
-    assert!(rt; holds(alloc, &limits, &mut shelf, 2, &[(1, 7), (2, 9)])?);
+    for size in [4096u64, 8208, 65536] {
+        let limits = Limits::new(1, 2, size, 2, 1, 1)?;
+        assert!(rt; keeps(rt.alloc(), &limits, Deed::TwoFlushes, 2, &[(1, 7), (2, 9)]));
+    }
     Ok(())
 }

@@ -1,5 +1,5 @@
 //! How a transaction commits.
-ghost use Rattle.std.specs.Prelude.{◌≡◌, ◌≢◌, true, List, [], ◌∷◌, IfOk, IsOk};
+ghost use Rattle.std.specs.Prelude.{◌≡◌, ◌≢◌, true, List, [], ◌∷◌, length, IfOk, IsOk};
 ghost use Rattle.cb_page.specs.Flags.{has};
 ghost use Rattle.cb_client.specs.ByTable.{IsDecided, limits_at, messages_from};
 ghost use Rattle.cb_client.specs.ClientState.{client_of};
@@ -66,18 +66,36 @@ impl<Q: Chooser> Client<Q> {
     }
 }
 
-/// What a commit says of the pages that the transaction wrote, rising.
+/// What a commit says of the pages that the transaction wrote, rising. Room for all of them is made
+/// before the first is copied.
 fn written_so_far<Q: Chooser>(alloc: Global, copies: &Copies<Q>) -> Result<Writes, AllocError>
     ensures { IfOk result (λ writes. (client : TableClient) → page_writes writes
         ≡ written_pages (client_with copies.now client) copies.now.limits.pages) }
 {
-    let mut writes = Writes::from_vec(Vec::new(alloc));
+    let mut writes = Vec::with_capacity(alloc, count_written(copies))?;
     let mut from = 0;
     while let Some(page) = copies.next_written(from) {
-        writes.push(write_of(alloc, copies, page)?)?;
+        let write = write_of(alloc, copies, page)?;
+        writes.push_reserved(write);
         from = page.index() + 1;
     }
-    Ok(writes)
+    Ok(Writes::from_vec(writes))
+}
+
+/// How many pages it wrote.
+fn count_written<Q: Chooser>(copies: &Copies<Q>) -> usize
+    ensures { (client : TableClient) → result
+        ≡ length (written_pages (client_with copies.now client) copies.now.limits.pages) }
+{
+    // What holds of all copies, `limits` says: what was written is in the pool.
+    let _limits = copies.limits();
+    let mut count = 0;
+    let mut from = 0;
+    while let Some(page) = copies.next_written(from) {
+        count += 1;
+        from = page.index() + 1;
+    }
+    count
 }
 
 /// What it says of one of them.

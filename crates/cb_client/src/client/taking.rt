@@ -1,9 +1,11 @@
 //! Frames that come.
 ghost use Rattle.std.specs.Prelude.{◌≡◌, ◌==◌, ◌&&◌, true, IfErr, IfOk, OnErr};
+ghost use Rattle.std.specs.List.{AllByRecursion};
 ghost use Rattle.cb_frame_types.specs.Grammar.{BodyFits, Fits, ShortFits};
 ghost use Rattle.cb_client.specs.ByTable.{Takes, limits_at};
 ghost use Rattle.cb_protocol.specs.Messages.{Downgrade, Granted};
 ghost use Rattle.cb_protocol.specs.Ranges.{BodyFits as MessageFits};
+ghost use Rattle.cb_client.specs.ClientState.{IsClient};
 ghost use Rattle.cb_client.specs.FramesTaken.{IsBytesFault, TakesBytes, TakesFrame};
 ghost use Rattle.cb_client.specs.declared.client_fault.ClientFault.TheVariants.{Memory};
 ghost use Rattle.cb_outbox.specs.Messages.{body_of, messages_of, short_of};
@@ -26,6 +28,8 @@ impl<Q: Chooser> Client<Q> {
             self.new) }
         ensures err { IfErr result (λ fault. fault ≡ Memory) }
         ensures unchanged { OnErr result (self.new ≡ self.old) }
+        ensures fits { IfOk result (λ said.
+            AllByRecursion (Fits self.old.copies.limits) said.items) }
     {
         let Frame {
             client,
@@ -49,6 +53,8 @@ impl<Q: Chooser> Client<Q> {
             (messages_of answered.0.items) self.new) }
         ensures err { IfErr result (IsBytesFault self.old.copies.limits bytes.now) }
         ensures unchanged { OnErr result (self.new ≡ self.old) }
+        ensures fits { IfOk result (λ answered.
+            AllByRecursion (Fits self.old.copies.limits) answered.0.items) }
     {
         match decode(alloc, self.copies.limits(), bytes) {
             Err(fault) => Err(BytesFault::Frame(fault)),
@@ -61,7 +67,10 @@ impl<Q: Chooser> Client<Q> {
 
     /// Whether a frame for that incarnation of that client is for this one.
     fn is_addressed(&self, client: ClientNo, incarnation: Incarnation) -> bool
-        ensures { result ≡ ((client == self.now.no) && (incarnation == self.now.incarnation)) }
+        ensures own { result ≡ ((client == self.now.no)
+            && (incarnation == self.now.incarnation)) }
+        // What holds of every client, by which what it says fits.
+        ensures sound { IsClient self.now }
     {
         client == self.no && incarnation == self.incarnation
     }

@@ -1,0 +1,135 @@
+//! The type, how a frame is sent, and how it is found again.
+ghost use Rattle.std.specs.Prelude.{◌≡◌, ℕ, [], ◌∷◌, ◌++◌, length, map, take};
+ghost use Rattle.std.specs.Prelude.{option_copied, slice_get, IfOk, OnErr, OnOk};
+ghost use Rattle.std.specs.List.{AllByRecursion};
+ghost use Rattle.cb_frame_types.specs.Grammar.{Fits};
+ghost use Rattle.cb_frame_types.specs.Spelling.{spelling};
+ghost use Rattle.cb_packets.specs.Packets.{IsAt};
+
+use crate::packet::{Packet, frame_in};
+use cb_frame::{Frame, encode};
+use cb_page::Limits;
+use std::alloc::{AllocError, Global};
+use std::marker::Model;
+
+/// The bytes of every frame that was ever sent, numbered from 0.
+#[derive(Debug, Drop)]
+pub struct Packets {
+    limits: Limits,
+    sent: Vec<Packet>,
+}
+
+impl Model for Packets {
+    ghost use Rattle.cb_packets.specs.Packets.{ArePackets, PacketsState};
+
+    ghost Value = { PacketsState };
+
+    ghost view = { λ packets. record {
+      limits = packets.limits;
+      sent = packets.sent.items;
+    } };
+
+    ghost invariant = { λ packets. ArePackets (record {
+      limits = packets.limits;
+      sent = packets.sent.items;
+    }) };
+}
+
+impl Packets {
+    /// Nothing was sent. It takes no memory.
+    pub fn new(alloc: Global, limits: &Limits) -> Packets
+        ensures { result ≡ record { limits = limits.now; sent = [] } }
+    {
+        // The limits are in range by their type: each call on them says so.
+        let _in_range = limits.clients();
+        Packets {
+            limits: *limits,
+            sent: Vec::new(alloc),
+        }
+    }
+
+    /// How many packets were ever sent.
+    pub fn len(&self) -> usize
+        ensures { result ≡ length self.now.sent }
+    {
+        self.sent.len()
+    }
+
+    /// Sends a frame: its bytes are the last packet. `AllocError` only where memory was refused;
+    /// then nothing is sent.
+    pub fn send(&mut self, alloc: Global, frame: &Frame) -> Result<(), AllocError>
+        requires { Fits self.old.limits frame.now }
+        ensures ok { OnOk result (self.new
+            ≡ record self.old { sent = self.old.sent ++ spelling frame.now ∷ [] }) }
+        ensures err { OnErr result (self.new ≡ self.old) }
+    {
+        // The limits are in range by their type: each call on them says so.
+        let _in_range = self.limits.pages();
+        let bytes = encode(alloc, frame)?;
+        let packet = Packet::new(bytes);
+        self.sent.push(packet)?;
+        Ok(())
+    }
+
+    /// Sends frames, in order. `AllocError` only where memory was refused; then none is sent.
+    pub fn send_all(&mut self, alloc: Global, frames: &[Frame]) -> Result<(), AllocError>
+        requires { AllByRecursion (Fits self.old.limits) frames.now }
+        ensures ok { OnOk result (self.new
+            ≡ record self.old { sent = self.old.sent ++ map spelling frames.now }) }
+        ensures err { OnErr result (self.new ≡ self.old) }
+    {
+        let before = self.len();
+        let sent = self.send_each(alloc, frames);
+        if sent.is_err() {
+            self.keep(before);
+        }
+        sent
+    }
+
+    /// The same; where memory is refused the first of them may have been sent.
+    fn send_each(&mut self, alloc: Global, frames: &[Frame]) -> Result<(), AllocError>
+        requires { AllByRecursion (Fits self.old.limits) frames.now }
+        ensures ok { OnOk result (self.new
+            ≡ record self.old { sent = self.old.sent ++ map spelling frames.now }) }
+        ensures err { OnErr result ((n : ℕ) × (self.new
+            ≡ record self.old { sent = self.old.sent ++ map spelling (take n frames.now) })) }
+    {
+        for frame in frames {
+            self.send(alloc, frame)?;
+        }
+        Ok(())
+    }
+
+    /// Only the first packets stay, so many of them: what was sent last is taken back.
+    pub fn keep(&mut self, count: usize)
+        ensures { self.new ≡ record self.old { sent = take count self.old.sent } }
+    {
+        self.sent.truncate(count);
+    }
+
+    /// The bytes of the packet of that number; `None` where it was not sent yet.
+    pub fn bytes(&self, number: u64) -> Option<&[u8]>
+        ensures { option_copied result ≡ slice_get self.now.sent number }
+    {
+        match self.sent.get(number as usize) {
+            Some(packet) => Some(packet.as_slice()),
+            None => None,
+        }
+    }
+
+    /// The frame of the packet of that number; `None` where it was not sent yet. `AllocError` only
+    /// where memory for the bytes of its pages was refused.
+    pub fn frame(&self, alloc: Global, number: u64) -> Result<Option<Frame>, AllocError>
+        ensures { IfOk result (IsAt self.now number) }
+    {
+        // A look at a field tells the prover what holds of all packets.
+        let limits = &self.limits;
+        match self.bytes(number) {
+            Some(bytes) => {
+                let frame = frame_in(alloc, limits, bytes)?;
+                Ok(Some(frame))
+            }
+            None => Ok(None),
+        }
+    }
+}
