@@ -11,70 +11,85 @@ use cb_server::Server;
 use std::alloc::Global;
 
 /// What comes, and the two frames that are answered at most, in order.
-type Row = (Said, [Said; 2]);
+type Row = (Said, Said, Said);
 
 /// A page of two clients: a write waits until the other's copy is given back, and a new incarnation
 /// gives up what the old one had.
 static CALLBACKS_AT_THE_SERVER: [Row; 15] = [
     (
         (0, Hello, [1, 0, 0]),
-        [(0, Welcome, [1, 0, 0]), (0, Nothing, [0, 0, 0])],
+        (0, Welcome, [1, 0, 0]),
+        (0, Nothing, [0, 0, 0]),
     ),
     (
         (1, Hello, [1, 0, 0]),
-        [(1, Welcome, [1, 0, 0]), (0, Nothing, [0, 0, 0])],
+        (1, Welcome, [1, 0, 0]),
+        (0, Nothing, [0, 0, 0]),
     ),
     (
         (0, AskRead, [1, 0, 0]),
-        [(0, Granted, [0, 1, 0]), (0, Nothing, [0, 0, 0])],
+        (0, Granted, [0, 1, 0]),
+        (0, Nothing, [0, 0, 0]),
     ),
     (
         (1, AskRead, [1, 0, 0]),
-        [(1, Granted, [0, 2, 0]), (0, Nothing, [0, 0, 0])],
+        (1, Granted, [0, 2, 0]),
+        (0, Nothing, [0, 0, 0]),
     ),
     (
         (1, AskWrite, [1, 0, 2]),
-        [(0, Callback, [0, 1, 0]), (0, Nothing, [0, 0, 0])],
+        (0, Callback, [0, 1, 0]),
+        (0, Nothing, [0, 0, 0]),
     ),
     (
         (1, AskWrite, [1, 0, 2]),
-        [(0, Nothing, [0, 0, 0]), (0, Nothing, [0, 0, 0])],
+        (0, Nothing, [0, 0, 0]),
+        (0, Nothing, [0, 0, 0]),
     ),
     (
         (0, AskRead, [1, 0, 0]),
-        [(0, Granted, [0, 1, 0]), (0, Nothing, [0, 0, 0])],
+        (0, Granted, [0, 1, 0]),
+        (0, Nothing, [0, 0, 0]),
     ),
     (
         (0, Again, [0, 0, 0]),
-        [(0, Callback, [0, 1, 0]), (0, Nothing, [0, 0, 0])],
+        (0, Callback, [0, 1, 0]),
+        (0, Nothing, [0, 0, 0]),
     ),
     (
         (0, InUse, [1, 0, 1]),
-        [(0, Nothing, [0, 0, 0]), (0, Nothing, [0, 0, 0])],
+        (0, Nothing, [0, 0, 0]),
+        (0, Nothing, [0, 0, 0]),
     ),
     (
         (0, Again, [0, 0, 0]),
-        [(0, Nothing, [0, 0, 0]), (0, Nothing, [0, 0, 0])],
+        (0, Nothing, [0, 0, 0]),
+        (0, Nothing, [0, 0, 0]),
     ),
     (
         (0, GiveBack, [0, 1, 0]),
-        [(1, MayWrite, [1, 0, 2]), (0, Nothing, [0, 0, 0])],
+        (1, MayWrite, [1, 0, 2]),
+        (0, Nothing, [0, 0, 0]),
     ),
     (
         (0, AskRead, [1, 0, 0]),
-        [(0, Nothing, [0, 0, 0]), (0, Nothing, [0, 0, 0])],
+        (0, Nothing, [0, 0, 0]),
+        (0, Nothing, [0, 0, 0]),
     ),
     (
         (1, AskWrite, [1, 0, 2]),
-        [(1, MayWrite, [1, 0, 2]), (0, Nothing, [0, 0, 0])],
+        (1, MayWrite, [1, 0, 2]),
+        (0, Nothing, [0, 0, 0]),
     ),
     (
         (1, GiveBack, [0, 2, 0]),
-        [(0, Nothing, [0, 0, 0]), (0, Nothing, [0, 0, 0])],
+        (0, Nothing, [0, 0, 0]),
+        (0, Nothing, [0, 0, 0]),
     ),
     (
         (1, Hello, [2, 0, 0]),
-        [(1, Welcome, [2, 0, 0]), (0, Granted, [0, 3, 0])],
+        (1, Welcome, [2, 0, 0]),
+        (0, Granted, [0, 3, 0]),
     ),
 ];
 
@@ -82,67 +97,83 @@ static CALLBACKS_AT_THE_SERVER: [Row; 15] = [
 static COMMITS_AT_THE_SERVER: [Row; 16] = [
     (
         (0, Hello, [1, 0, 0]),
-        [(0, Welcome, [1, 0, 0]), (0, Nothing, [0, 0, 0])],
+        (0, Welcome, [1, 0, 0]),
+        (0, Nothing, [0, 0, 0]),
     ),
     (
         (0, AskRead, [1, 0, 0]),
-        [(0, Granted, [0, 1, 0]), (0, Nothing, [0, 0, 0])],
+        (0, Granted, [0, 1, 0]),
+        (0, Nothing, [0, 0, 0]),
     ),
     (
         (0, AskWrite, [1, 0, 1]),
-        [(0, MayWrite, [1, 0, 1]), (0, Nothing, [0, 0, 0])],
+        (0, MayWrite, [1, 0, 1]),
+        (0, Nothing, [0, 0, 0]),
     ),
     (
         (0, Commit, [1, 1, 1]),
-        [(0, Nothing, [0, 0, 0]), (0, Nothing, [0, 0, 0])],
+        (0, Nothing, [0, 0, 0]),
+        (0, Nothing, [0, 0, 0]),
     ),
     (
         (0, Batch, [1, 1, 0]),
-        [(0, Nothing, [0, 0, 0]), (0, Nothing, [0, 0, 0])],
+        (0, Nothing, [0, 0, 0]),
+        (0, Nothing, [0, 0, 0]),
     ),
     (
         (0, Flush, [1, 0, 0]),
-        [(0, Done, [1, 1, 0]), (0, Nothing, [0, 0, 0])],
+        (0, Done, [1, 1, 0]),
+        (0, Nothing, [0, 0, 0]),
     ),
     (
         (0, Commit, [1, 1, 1]),
-        [(0, Done, [1, 1, 0]), (0, Nothing, [0, 0, 0])],
+        (0, Done, [1, 1, 0]),
+        (0, Nothing, [0, 0, 0]),
     ),
     (
         (0, AskRead, [2, 0, 0]),
-        [(0, Granted, [0, 1, 1]), (0, Nothing, [0, 0, 0])],
+        (0, Granted, [0, 1, 1]),
+        (0, Nothing, [0, 0, 0]),
     ),
     (
         (0, Commit, [1, 1, 1]),
-        [(0, Nothing, [0, 0, 0]), (0, Nothing, [0, 0, 0])],
+        (0, Nothing, [0, 0, 0]),
+        (0, Nothing, [0, 0, 0]),
     ),
     (
         (0, Commit, [2, 1, 2]),
-        [(0, Nothing, [0, 0, 0]), (0, Nothing, [0, 0, 0])],
+        (0, Nothing, [0, 0, 0]),
+        (0, Nothing, [0, 0, 0]),
     ),
     (
         (0, Drop, [2, 0, 0]),
-        [(0, Nothing, [0, 0, 0]), (0, Nothing, [0, 0, 0])],
+        (0, Nothing, [0, 0, 0]),
+        (0, Nothing, [0, 0, 0]),
     ),
     (
         (0, Commit, [2, 0, 0]),
-        [(0, Nothing, [0, 0, 0]), (0, Nothing, [0, 0, 0])],
+        (0, Nothing, [0, 0, 0]),
+        (0, Nothing, [0, 0, 0]),
     ),
     (
         (0, Commit, [3, 0, 0]),
-        [(0, Nothing, [0, 0, 0]), (0, Nothing, [0, 0, 0])],
+        (0, Nothing, [0, 0, 0]),
+        (0, Nothing, [0, 0, 0]),
     ),
     (
         (0, Batch, [2, 0, 0]),
-        [(0, Nothing, [0, 0, 0]), (0, Nothing, [0, 0, 0])],
+        (0, Nothing, [0, 0, 0]),
+        (0, Nothing, [0, 0, 0]),
     ),
     (
         (0, Flush, [2, 0, 0]),
-        [(0, Done, [3, 2, 0]), (0, Nothing, [0, 0, 0])],
+        (0, Done, [3, 2, 0]),
+        (0, Nothing, [0, 0, 0]),
     ),
     (
         (0, Batch, [0, 0, 0]),
-        [(0, Nothing, [0, 0, 0]), (0, Nothing, [0, 0, 0])],
+        (0, Nothing, [0, 0, 0]),
+        (0, Nothing, [0, 0, 0]),
     ),
 ];
 
@@ -151,63 +182,78 @@ static COMMITS_AT_THE_SERVER: [Row; 16] = [
 static CYCLE_OF_THREE: [Row; 15] = [
     (
         (0, Hello, [1, 0, 0]),
-        [(0, Welcome, [1, 0, 0]), (0, Nothing, [0, 0, 0])],
+        (0, Welcome, [1, 0, 0]),
+        (0, Nothing, [0, 0, 0]),
     ),
     (
         (1, Hello, [1, 0, 0]),
-        [(1, Welcome, [1, 0, 0]), (0, Nothing, [0, 0, 0])],
+        (1, Welcome, [1, 0, 0]),
+        (0, Nothing, [0, 0, 0]),
     ),
     (
         (2, Hello, [1, 0, 0]),
-        [(2, Welcome, [1, 0, 0]), (0, Nothing, [0, 0, 0])],
+        (2, Welcome, [1, 0, 0]),
+        (0, Nothing, [0, 0, 0]),
     ),
     (
         (0, AskRead, [1, 0, 0]),
-        [(0, Granted, [0, 1, 0]), (0, Nothing, [0, 0, 0])],
+        (0, Granted, [0, 1, 0]),
+        (0, Nothing, [0, 0, 0]),
     ),
     (
         (1, AskRead, [1, 1, 0]),
-        [(1, Granted, [1, 2, 0]), (0, Nothing, [0, 0, 0])],
+        (1, Granted, [1, 2, 0]),
+        (0, Nothing, [0, 0, 0]),
     ),
     (
         (2, AskRead, [1, 2, 0]),
-        [(2, Granted, [2, 3, 0]), (0, Nothing, [0, 0, 0])],
+        (2, Granted, [2, 3, 0]),
+        (0, Nothing, [0, 0, 0]),
     ),
     (
         (0, AskWrite, [1, 0, 1]),
-        [(0, MayWrite, [1, 0, 1]), (0, Nothing, [0, 0, 0])],
+        (0, MayWrite, [1, 0, 1]),
+        (0, Nothing, [0, 0, 0]),
     ),
     (
         (1, AskWrite, [1, 1, 2]),
-        [(1, MayWrite, [1, 1, 2]), (0, Nothing, [0, 0, 0])],
+        (1, MayWrite, [1, 1, 2]),
+        (0, Nothing, [0, 0, 0]),
     ),
     (
         (2, AskWrite, [1, 2, 3]),
-        [(2, MayWrite, [1, 2, 3]), (0, Nothing, [0, 0, 0])],
+        (2, MayWrite, [1, 2, 3]),
+        (0, Nothing, [0, 0, 0]),
     ),
     (
         (0, AskRead, [1, 1, 0]),
-        [(0, Nothing, [0, 0, 0]), (0, Nothing, [0, 0, 0])],
+        (0, Nothing, [0, 0, 0]),
+        (0, Nothing, [0, 0, 0]),
     ),
     (
         (1, AskRead, [1, 2, 0]),
-        [(0, Nothing, [0, 0, 0]), (0, Nothing, [0, 0, 0])],
+        (0, Nothing, [0, 0, 0]),
+        (0, Nothing, [0, 0, 0]),
     ),
     (
         (2, AskRead, [1, 0, 0]),
-        [(2, AbortNow, [1, 0, 0]), (0, Nothing, [0, 0, 0])],
+        (2, AbortNow, [1, 0, 0]),
+        (0, Nothing, [0, 0, 0]),
     ),
     (
         (2, AskRead, [1, 0, 0]),
-        [(2, AbortNow, [1, 0, 0]), (0, Nothing, [0, 0, 0])],
+        (2, AbortNow, [1, 0, 0]),
+        (0, Nothing, [0, 0, 0]),
     ),
     (
         (0, Again, [0, 0, 0]),
-        [(2, AbortNow, [1, 0, 0]), (0, Nothing, [0, 0, 0])],
+        (2, AbortNow, [1, 0, 0]),
+        (0, Nothing, [0, 0, 0]),
     ),
     (
         (2, Drop, [1, 0, 0]),
-        [(1, Granted, [2, 4, 0]), (0, Nothing, [0, 0, 0])],
+        (1, Granted, [2, 4, 0]),
+        (0, Nothing, [0, 0, 0]),
     ),
 ];
 
@@ -216,51 +262,63 @@ static CYCLE_OF_THREE: [Row; 15] = [
 static CYCLE_IN_ANOTHER_ORDER: [Row; 12] = [
     (
         (0, Hello, [1, 0, 0]),
-        [(0, Welcome, [1, 0, 0]), (0, Nothing, [0, 0, 0])],
+        (0, Welcome, [1, 0, 0]),
+        (0, Nothing, [0, 0, 0]),
     ),
     (
         (1, Hello, [1, 0, 0]),
-        [(1, Welcome, [1, 0, 0]), (0, Nothing, [0, 0, 0])],
+        (1, Welcome, [1, 0, 0]),
+        (0, Nothing, [0, 0, 0]),
     ),
     (
         (2, Hello, [1, 0, 0]),
-        [(2, Welcome, [1, 0, 0]), (0, Nothing, [0, 0, 0])],
+        (2, Welcome, [1, 0, 0]),
+        (0, Nothing, [0, 0, 0]),
     ),
     (
         (0, AskRead, [1, 0, 0]),
-        [(0, Granted, [0, 1, 0]), (0, Nothing, [0, 0, 0])],
+        (0, Granted, [0, 1, 0]),
+        (0, Nothing, [0, 0, 0]),
     ),
     (
         (1, AskRead, [1, 1, 0]),
-        [(1, Granted, [1, 2, 0]), (0, Nothing, [0, 0, 0])],
+        (1, Granted, [1, 2, 0]),
+        (0, Nothing, [0, 0, 0]),
     ),
     (
         (2, AskRead, [1, 2, 0]),
-        [(2, Granted, [2, 3, 0]), (0, Nothing, [0, 0, 0])],
+        (2, Granted, [2, 3, 0]),
+        (0, Nothing, [0, 0, 0]),
     ),
     (
         (0, AskWrite, [1, 0, 1]),
-        [(0, MayWrite, [1, 0, 1]), (0, Nothing, [0, 0, 0])],
+        (0, MayWrite, [1, 0, 1]),
+        (0, Nothing, [0, 0, 0]),
     ),
     (
         (1, AskWrite, [1, 1, 2]),
-        [(1, MayWrite, [1, 1, 2]), (0, Nothing, [0, 0, 0])],
+        (1, MayWrite, [1, 1, 2]),
+        (0, Nothing, [0, 0, 0]),
     ),
     (
         (2, AskWrite, [1, 2, 3]),
-        [(2, MayWrite, [1, 2, 3]), (0, Nothing, [0, 0, 0])],
+        (2, MayWrite, [1, 2, 3]),
+        (0, Nothing, [0, 0, 0]),
     ),
     (
         (2, AskRead, [1, 0, 0]),
-        [(0, Nothing, [0, 0, 0]), (0, Nothing, [0, 0, 0])],
+        (0, Nothing, [0, 0, 0]),
+        (0, Nothing, [0, 0, 0]),
     ),
     (
         (0, AskRead, [1, 1, 0]),
-        [(0, Nothing, [0, 0, 0]), (0, Nothing, [0, 0, 0])],
+        (0, Nothing, [0, 0, 0]),
+        (0, Nothing, [0, 0, 0]),
     ),
     (
         (1, AskRead, [1, 2, 0]),
-        [(2, AbortNow, [1, 0, 0]), (0, Nothing, [0, 0, 0])],
+        (2, AbortNow, [1, 0, 0]),
+        (0, Nothing, [0, 0, 0]),
     ),
 ];
 
@@ -268,51 +326,63 @@ static CYCLE_IN_ANOTHER_ORDER: [Row; 12] = [
 static HOSTILE_FRAMES: [Row; 12] = [
     (
         (0, Hello, [1, 0, 0]),
-        [(0, Welcome, [1, 0, 0]), (0, Nothing, [0, 0, 0])],
+        (0, Welcome, [1, 0, 0]),
+        (0, Nothing, [0, 0, 0]),
     ),
     (
         (1, Hello, [1, 0, 0]),
-        [(1, Welcome, [1, 0, 0]), (0, Nothing, [0, 0, 0])],
+        (1, Welcome, [1, 0, 0]),
+        (0, Nothing, [0, 0, 0]),
     ),
     (
         (0, AskRead, [1, 0, 0]),
-        [(0, Granted, [0, 1, 0]), (0, Nothing, [0, 0, 0])],
+        (0, Granted, [0, 1, 0]),
+        (0, Nothing, [0, 0, 0]),
     ),
     (
         (0, AskWrite, [1, 0, 1]),
-        [(0, MayWrite, [1, 0, 1]), (0, Nothing, [0, 0, 0])],
+        (0, MayWrite, [1, 0, 1]),
+        (0, Nothing, [0, 0, 0]),
     ),
     (
         (0, Commit, [1, 2, 9]),
-        [(0, Nothing, [0, 0, 0]), (0, Nothing, [0, 0, 0])],
+        (0, Nothing, [0, 0, 0]),
+        (0, Nothing, [0, 0, 0]),
     ),
     (
         (1, GiveBack, [0, 1, 0]),
-        [(0, Nothing, [0, 0, 0]), (0, Nothing, [0, 0, 0])],
+        (0, Nothing, [0, 0, 0]),
+        (0, Nothing, [0, 0, 0]),
     ),
     (
         (1, InUse, [1, 0, 1]),
-        [(0, Nothing, [0, 0, 0]), (0, Nothing, [0, 0, 0])],
+        (0, Nothing, [0, 0, 0]),
+        (0, Nothing, [0, 0, 0]),
     ),
     (
         (0, GiveBack, [0, 1, 0]),
-        [(0, Nothing, [0, 0, 0]), (0, Nothing, [0, 0, 0])],
+        (0, Nothing, [0, 0, 0]),
+        (0, Nothing, [0, 0, 0]),
     ),
     (
         (0, Commit, [1, 1, 9]),
-        [(0, Nothing, [0, 0, 0]), (0, Nothing, [0, 0, 0])],
+        (0, Nothing, [0, 0, 0]),
+        (0, Nothing, [0, 0, 0]),
     ),
     (
         (1, AskRead, [1, 0, 0]),
-        [(0, Nothing, [0, 0, 0]), (0, Nothing, [0, 0, 0])],
+        (0, Nothing, [0, 0, 0]),
+        (0, Nothing, [0, 0, 0]),
     ),
     (
         (0, Welcome, [1, 0, 0]),
-        [(0, Nothing, [0, 0, 0]), (0, Nothing, [0, 0, 0])],
+        (0, Nothing, [0, 0, 0]),
+        (0, Nothing, [0, 0, 0]),
     ),
     (
         (0, Drop, [1, 0, 0]),
-        [(1, Granted, [0, 2, 0]), (0, Nothing, [0, 0, 0])],
+        (1, Granted, [0, 2, 0]),
+        (0, Nothing, [0, 0, 0]),
     ),
 ];
 
@@ -332,10 +402,10 @@ fn is(alloc: Global, limits: &Limits, frame: &Frame, said: Said) -> bool {
 
 /// Whether the frames are those, and no more.
 fn are(alloc: Global, limits: &Limits, frames: &[Frame], said: &[Said]) -> bool {
-    let mut count = 0;
+    let mut count = 0usize;
     for (at, one) in said.iter().enumerate() {
         if !matches!(one.1, Nothing) {
-            count += 1;
+            count = count.wrapping_add(1);
             match frames.get(at) {
                 Some(frame) => {
                     if !is(alloc, limits, frame, *one) {
@@ -399,15 +469,16 @@ fn answer_at_last(
 
 /// Whether the row goes right.
 fn goes_right(alloc: Global, limits: &Limits, server: &mut Server, row: &Row) -> bool {
-    let (said, answered) = row;
-    if let (_, Batch, [number, pages, _]) = *said {
+    let (said, first, second) = *row;
+    if let (_, Batch, [number, pages, _]) = said {
         let first = has_batch(alloc, server, number, pages);
         return first.or(has_batch(alloc, server, number, pages)) == Some(true);
     }
-    match answer_at_last(alloc, limits, server, *said) {
+    match answer_at_last(alloc, limits, server, said) {
         Some(frames) => {
-            let first = are(alloc, limits, &frames, answered.as_slice());
-            first || are(alloc, limits, &frames, answered.as_slice())
+            let answered = [first, second];
+            let is_right = are(alloc, limits, &frames, answered.as_slice());
+            is_right || are(alloc, limits, &frames, answered.as_slice())
         }
         None => false,
     }
