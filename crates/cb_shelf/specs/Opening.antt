@@ -12,7 +12,8 @@ use Rattle.cb_commit.specs.Stores.{StoreState, IsOf, zeros, version_at, bytes_at
 use Rattle.sqlite_schema.specs.declared.schema.Schema.{Schema}
 use Rattle.sqlite.specs.Listing.{understood}
 use Rattle.cb_shelf.specs.declared.opening.Tables.{Tables}
-use Rattle.cb_shelf.specs.declared.opening.Tables.TheVariants.{Nothing as none, Old as older, New as newer}
+use Rattle.cb_shelf.specs.declared.opening.Tables.TheVariants.{Nothing as none, Old as older}
+use Rattle.cb_shelf.specs.declared.opening.Tables.TheVariants.{New as newer}
 use Rattle.cb_shelf.specs.declared.opening.Found.{Found}
 use Rattle.cb_shelf.specs.declared.opening.Found.TheVariants.{Nothing, Old, New}
 use Rattle.cb_shelf.specs.Statements.{Statement, MakesAll, page_statements}
