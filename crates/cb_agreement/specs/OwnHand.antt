@@ -14,7 +14,8 @@ use Rattle.cb_protocol.specs.World.{Opening}
 -- what is held of each of these pages is of that version, one page after another
 abbrev pub all_restamped : HandState → List ℕ → (version : ℕ) → HandState
 all_restamped hand [] version = hand
-all_restamped hand (page ∷ pages) version = all_restamped (restamped hand page version) pages version
+all_restamped hand (page ∷ pages) version =
+    all_restamped (restamped hand page version) pages version
 
 -- the pages of these writes
 abbrev pub pages_written : List PageWrite → List ℕ
@@ -32,8 +33,8 @@ OwnMessage = (opening : Opening) (before after : Server) (hand : HandState) (bod
     → HasRows after hand
     × ((after.session hand.client).ended < (before.session hand.client).txn → Agrees after hand)
 
--- A commit of the hand's client: once the written pages are restamped and the permissions ended, the
--- hand agrees again.
+-- A commit of the hand's client: once the written pages are restamped and the permissions ended,
+-- the hand agrees again.
 abbrev pub OwnCommit : Type 0
 OwnCommit = (opening : Opening) (before after : Server) (hand : HandState) (body : Body)
     (incarnation txn : ℕ) (writes : List PageWrite)

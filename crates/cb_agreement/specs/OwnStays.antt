@@ -4,8 +4,8 @@ use Rattle.cb_protocol.specs.Messages.{Body, GiveBack, Hello}
 use Rattle.cb_protocol.specs.Server.{DeadlockTest, Server, server_after}
 use Rattle.cb_protocol.specs.ServerMessages.{server_take}
 
--- Each row stays, but one that is given back; each permission stays, unless the transaction that was
--- current has ended.
+-- Each row stays, but one that is given back; each permission stays, unless the transaction that
+-- was current has ended.
 pub record KeepsOwn (before after : Server) (client : ℕ) (body : Body) : Type 0 where
   pub row : (page grant : ℕ) → body ≢ GiveBack page grant
       → (before.session client).row page ≡ Some grant

@@ -24,17 +24,17 @@ pub fn own_stays()
     ensures law { OwnStays }
 {}
 
-/// A hand goes on agreeing by its own client's messages: by one that gives back nothing that it holds,
-/// while its transaction lasts, and by a commit, once its written pages are restamped and its
-/// permissions ended.
+/// A hand goes on agreeing by its own client's messages: by one that gives back nothing that it
+/// holds, while its transaction lasts, and by a commit, once its written pages are restamped and
+/// its permissions ended.
 pub fn own_hand_stays()
     ensures message { OwnMessage }
     ensures commit { OwnCommit }
 {}
 
 /// A hand agrees that holds nothing; that gets a copy of which the server has the row; that gives
-/// one back; that is told to write a page of which its client has the permission; and that loses all
-/// permissions.
+/// one back; that is told to write a page of which its client has the permission; and that loses
+/// all permissions.
 pub fn own_changes()
     ensures empty { EmptyHand }
     ensures comes { CopyComes }
