@@ -72,42 +72,6 @@ applies_doomed s c t ws is last = as_it_is s c t ws standing.Doomed doomed_later
 pub applies_ended : (s : Server) (c t : ℕ) (ws : List PageWrite) → standing.Ended ≡ standing_in s c t → applies s c t ws ≡ false
 applies_ended s c t ws is = as_it_is s c t ws standing.Ended ended_later is ∙ rw (ended_stands s c t is) refl
 
--- whether a number is lacking for it
-last_same : (s : Server) (c t : ℕ) → (server_after s (begin_transaction s c t)).store.last_commit ≡ s.store.last_commit
-last_same s c t = go (nat_lt (s.session c).txn t)
-  where
-    go : (b : Bool) → (server_after s (if b then ForgetTransaction c ∷ ChangeSession c (BeginTransaction t) ∷ [] else [])).store.last_commit ≡ s.store.last_commit
-    go true = refl
-    go false = refl
-
-full : (s : Server) (c t : ℕ) (b : Bool) → nat_le max_number s.store.last_commit ≡ b
-    → nat_le max_number (server_after s (begin_transaction s c t)).store.last_commit ≡ b
-full s c t b e = ap (nat_le max_number) (last_same s c t) ∙ e
-
-pub lacks_as_applied : (e : Engine) (c t : ℕ) (ws : List PageWrite) (b : Bool) → max_number ≤ (server_in e).store.last_commit → applies (server_in e) c t ws ≡ b
-    → LacksNumber e c (Commit t ws) b
-lacks_as_applied e c t ws b none a = join _ _ _ b (full (server_in e) c t true tested) a
-  where
-    tested : nat_le max_number (server_in e).store.last_commit ≡ true
-    tested = grind (arith, nat_tests, none)
-
-    join : (x y z r : Bool) → z ≡ true → (x && y) ≡ r → (x && y && z) ≡ r
-    join true true true r e f = f
-    join true false true r e f = f
-    join false y true r e f = f
-    join x y false r e f = absurd cc
-
-pub lacks_nothing : (e : Engine) (c t : ℕ) (ws : List PageWrite) → (server_in e).store.last_commit < max_number → LacksNumber e c (Commit t ws) false
-lacks_nothing e c t ws some = none _ _ _ (full (server_in e) c t false tested)
-  where
-    tested : nat_le max_number (server_in e).store.last_commit ≡ false
-    tested = grind (arith, nat_tests, some)
-
-    none : (x y z : Bool) → z ≡ false → (x && y && z) ≡ false
-    none true true z e = e
-    none true false z e = refl
-    none false y z e = refl
-
 -- it is not: its transaction has begun
 denied : (old mid : Engine) (c t : ℕ) (ws : List PageWrite) → Begins old c t mid → applies (server_in old) c t ws ≡ false → IsLiveOne (server_in mid) c t false
     → commit_allowed (server_in mid) c ws ≡ false
