@@ -3,7 +3,8 @@ use Rattle.std.proofs.Common.{ℕ, ◌+◌, ◌*◌, ◌≤◌, Bool, true, fals
 use Rattle.std.proofs.Common.{mul-le-mul_right}
 use Rattle.cb_callbacks.specs.Waits.{Waits}
 use Rattle.cb_outbox.specs.Saying.{HasRoomFor, OutboxState}
-use Rattle.cb_protocol.proofs.MessagesSent.{settling_by_clients, settling_sends_at_most}
+use Rattle.cb_protocol.proofs.MessagesSent.{resending_by_clients, resending_copies, settling_by_clients, settling_sends_at_most}
+use Rattle.cb_protocol.specs.Resend.{server_again}
 use Rattle.cb_protocol.specs.Server.{EnterQueue, Server, WaitingAsk, after_server_step}
 use Rattle.cb_protocol.specs.ServerMessages.{enter_queue, is_empty, read_asks_below}
 use Rattle.cb_protocol.specs.Settling.{doom_client, settle_pages}
@@ -27,3 +28,11 @@ settling_bounded server outbox w few room spare =
     let bound = most server.clients few in
     let copies = (settling_sends_at_most on_cycle server).all_copies server.pages in
     record { frames = omega (arith, room, sent, bound); copies = omega (arith, copies, spare) }
+
+pub resending_bounded : (server : Server) (outbox : OutboxState) → Waits server → server.clients ≤ 32 → length outbox.sent + 1088 ≤ outbox.room
+    → HasRoomFor (server_again server) outbox
+resending_bounded server outbox w few room =
+    let sent = resending_by_clients server w.one_ask w.in_range in
+    let bound = most server.clients few in
+    let copies = resending_copies server in
+    record { frames = omega (arith, room, sent, bound, few); copies = omega (arith, copies) }

@@ -1,5 +1,6 @@
 pub mod Anew
 pub mod Bounds
+pub mod Walks
 pub mod Calling
 pub mod Changes
 pub mod Deciding
@@ -14,3 +15,4 @@ pub mod Page
 pub mod Queues
 pub mod Rooms
 pub mod Settling
+pub mod Again

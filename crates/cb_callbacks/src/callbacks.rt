@@ -10,6 +10,7 @@ ghost use Rattle.cb_protocol.specs.WaitsFor.{on_cycle};
 ghost use Rattle.cb_protocol.specs.World.{opening_store};
 ghost use Rattle.cb_waits.specs.Follows.{Follows};
 
+mod again;
 mod anew;
 mod changes;
 mod deciding;

@@ -15,6 +15,7 @@ ghost use Rattle.cb_protocol.specs.Session.{has_live_txn};
 ghost use Rattle.cb_protocol.specs.Settling.{doom_client, give_permission, grant_row};
 ghost use Rattle.cb_protocol.specs.Settling.{no_other_holder, permit_write, sole_row};
 
+mod again;
 mod asking;
 mod holding_up;
 

@@ -6,6 +6,7 @@ use Rattle.cb_protocol.specs.Basics.{is_exactly, is_none, update}
 use Rattle.cb_protocol.specs.Deadlock.{InputInRange, OneAsk, ReachedServer, ask_count}
 use Rattle.cb_protocol.specs.Messages.{AbortNow, AskRead, AskWrite, Body, Commit, Done, Downgraded, Drop, GiveBack, Granted, Hello, InUse, MayWrite, Welcome}
 use Rattle.cb_protocol.specs.Numbers.{SettlingSendsAtMost, StepSendsAtMost, copies_sent, messages_for, messages_for_pages, messages_for_queue}
+use Rattle.cb_protocol.specs.Resend.{again_doomed, again_downgrade, again_page, again_pages, server_again, uses_page}
 use Rattle.cb_protocol.specs.Server.{DeadlockTest, ChangeSession, Doom, EnterQueue, ForgetTransaction, LeaveQueue, MarkCalledBack, MarkInUse, MarkDowngradeSent, RemoveAsk, Send, Server, ServerStep, SetFlushed, UnmarkInUse, WaitingAsk, after_first, after_server_step, server_after, without_client}
 use Rattle.cb_protocol.specs.ServerMessages.{begin_transaction, commit_allowed, direct_answer, enter_queue, has_waiting_ask, is_empty, named_txn, new_ask, read_asks_below, read_asks_in, repeat_done, server_take, take_ask_read, take_ask_write, take_current}
 use Rattle.cb_protocol.specs.Session.{Admit, ApplyCommit, BeginTransaction, DropTransaction, EndPermission, PermitWrite, RemoveRow}
@@ -632,3 +633,71 @@ step_sends_at_most s r (MessageComes c i b) f m = is_hello b refl
     is_hello _ e = few_message s r c i b f (λ z. absurd cc)
 step_sends_at_most s r SendsAgain f m = absurd m
 step_sends_at_most s r (ReachesDisk n) f m = absurd m
+
+-- what is sent again: Callbacks or a Downgrade for each page with asks, and AbortNow to each client at most
+again_page_sends : (s : Server) (p : ℕ) (q : List WaitingAsk) → sends (again_page s p q) ≤ length q * (s.clients + 1)
+again_page_sends s p [] = omega arith
+again_page_sends s p (a ∷ q) = go (is_none a.write_grant)
+  where
+    least : (x : ℕ) → x ≤ s.clients + 1 → x ≤ suc (length q) * (s.clients + 1)
+    least x l = let one : 1 ≤ suc (length q) = omega arith in let m = mul-le-mul_right (s.clients + 1) one in omega (arith, l, m)
+
+    down : (k : Bool) → sends (if k then send_downgrades s (uses_page s p) p a.client (s.store.holder p) else []) ≤ s.clients + 1
+    down true = let l = sends_downs s (uses_page s p) p a.client (s.store.holder p) in omega (arith, l)
+    down false = omega arith
+
+    go : (r : Bool) → sends (if r then again_downgrade s p a else send_callbacks s (uses_page s p) p a.client s.clients) ≤ suc (length q) * (s.clients + 1)
+    go true = least _ (down s.store.keep_write)
+    go false = least _ (let l = sends_calls s (uses_page s p) p a.client s.clients in omega (arith, l))
+
+again_pages_send : (s : Server) (n : ℕ) → sends (again_pages s n) ≤ asks_below s n * (s.clients + 1)
+again_pages_send s zero = omega arith
+again_pages_send s (suc n) = rw (sends_more (again_pages s n) (again_page s n (s.queue n)))
+    (more (asks_below s n) (length (s.queue n)) (s.clients + 1) _ _ (again_pages_send s n) (again_page_sends s n (s.queue n)))
+  where
+    more : (a b m x y : ℕ) → x ≤ a * m → y ≤ b * m → x + y ≤ (a + b) * m
+    more a b m x y k l = grind arith
+
+again_doomed_send : (s : Server) (n : ℕ) → sends (again_doomed s n) ≤ n
+again_doomed_send s zero = omega arith
+again_doomed_send s (suc n) = rw (sends_more (again_doomed s n) (if s.doomed n then send_to s n (AbortNow (s.session n).txn) ∷ [] else []))
+    (let l = again_doomed_send s n in let k = go (s.doomed n) in omega (arith, l, k))
+  where
+    go : (r : Bool) → sends (if r then send_to s n (AbortNow (s.session n).txn) ∷ [] else []) ≤ 1
+    go true = omega arith
+    go false = omega arith
+
+pub resending_by_clients : (s : Server) → OneAsk s.queue → AsksInRange s → sends (server_again s) ≤ s.clients * (s.clients + 1) + s.clients
+resending_by_clients s o k = rw (sends_more (again_pages s s.pages) (again_doomed s s.clients))
+    (let a = again_pages_send s s.pages in let b = mul-le-mul_right (s.clients + 1) (few_asks s s.pages o k) in let d = again_doomed_send s s.clients in omega (arith, a, b, d))
+
+no_copy_page : (s : Server) (p : ℕ) (q : List WaitingAsk) → copies_sent (again_page s p q) ≡ 0
+no_copy_page s p [] = refl
+no_copy_page s p (a ∷ q) = go (is_none a.write_grant)
+  where
+    down : (k : Bool) → copies_sent (if k then send_downgrades s (uses_page s p) p a.client (s.store.holder p) else []) ≡ 0
+    down true = no_copy_downs s (uses_page s p) p a.client (s.store.holder p)
+    down false = refl
+
+    go : (r : Bool) → copies_sent (if r then again_downgrade s p a else send_callbacks s (uses_page s p) p a.client s.clients) ≡ 0
+    go true = down s.store.keep_write
+    go false = no_copy_calls s (uses_page s p) p a.client s.clients
+
+no_copy_pages : (s : Server) (n : ℕ) → copies_sent (again_pages s n) ≡ 0
+no_copy_pages s zero = refl
+no_copy_pages s (suc n) = let e = copies_more (again_pages s n) (again_page s n (s.queue n)) in let a = no_copy_pages s n in let b = no_copy_page s n (s.queue n) in omega (arith, e, a, b)
+
+no_copy_doomed : (s : Server) (n : ℕ) → copies_sent (again_doomed s n) ≡ 0
+no_copy_doomed s zero = refl
+no_copy_doomed s (suc n) =
+    let e = copies_more (again_doomed s n) (if s.doomed n then send_to s n (AbortNow (s.session n).txn) ∷ [] else []) in
+    let a = no_copy_doomed s n in let b = go (s.doomed n) in omega (arith, e, a, b)
+  where
+    go : (r : Bool) → copies_sent (if r then send_to s n (AbortNow (s.session n).txn) ∷ [] else []) ≡ 0
+    go true = refl
+    go false = refl
+
+pub resending_copies : (s : Server) → copies_sent (server_again s) ≡ 0
+resending_copies s =
+    let e = copies_more (again_pages s s.pages) (again_doomed s s.clients) in
+    let a = no_copy_pages s s.pages in let b = no_copy_doomed s s.clients in omega (arith, e, a, b)

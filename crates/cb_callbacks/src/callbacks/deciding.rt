@@ -17,6 +17,7 @@ ghost use Rattle.cb_protocol.specs.WaitsFor.{on_cycle};
 
 use crate::{Callbacks, known};
 use cb_asks::Waiting;
+use cb_clients::ClientSet;
 use cb_outbox::Outbox;
 use cb_page::{ClientNo, GrantNo, PageNo};
 
@@ -138,7 +139,8 @@ impl Callbacks {
         ensures stays { Stays self.old.tables.holdings self.new.tables.holdings }
     {
         if !first.called_back {
-            self.tables.call_back(first.client, page, outbox);
+            let nobody = ClientSet::empty();
+            self.tables.call_back(first.client, page, nobody, outbox);
             self.tables.asks.mark_called_back(page);
         }
     }

@@ -3,46 +3,65 @@ ghost use Rattle.std.specs.Prelude.{◌≡◌, false, MatchOption, Some};
 ghost use Rattle.cb_callbacks.specs.Tables.{HasClient, HasPage, server_of};
 ghost use Rattle.cb_callbacks.specs.Waits.{Waits};
 ghost use Rattle.cb_callbacks.specs.Asking.{IsKeeper, callback_to};
+ghost use Rattle.cb_clients.specs.Clients.{has};
 ghost use Rattle.cb_outbox.specs.Saying.{HasRoomFor, Says};
-ghost use Rattle.cb_protocol.specs.Settling.{keeps_permission, nobody, send_callbacks};
+ghost use Rattle.cb_protocol.specs.Settling.{keeps_permission, send_callbacks};
 ghost use Rattle.cb_protocol.specs.Settling.{send_downgrade};
 
 use crate::known;
 use crate::tables::Tables;
+use cb_clients::ClientSet;
 use cb_frame::ShortBody;
 use cb_outbox::Outbox;
 use cb_page::{ClientNo, PageNo, TxnNo};
 
 impl Tables {
-    /// A Callback to each other client that has a copy of the page.
-    pub(crate) fn call_back(&self, asker: ClientNo, page: PageNo, outbox: &mut Outbox)
+    /// A Callback to each other client that has a copy of the page, save those left out.
+    pub(crate) fn call_back(
+        &self,
+        asker: ClientNo,
+        page: PageNo,
+        left_out: ClientSet,
+        outbox: &mut Outbox,
+    )
         requires page { HasPage self.now page }
         requires waits { Waits (server_of self.now) }
-        requires room { HasRoomFor
-            (send_callbacks (server_of self.now) nobody page asker (server_of self.now).clients)
-            outbox.old }
+        requires room { HasRoomFor (send_callbacks (server_of self.now) (has left_out) page asker
+            (server_of self.now).clients) outbox.old }
         ensures { Says (server_of self.now)
-            (λ server. send_callbacks server nobody page asker server.clients)
+            (λ server. send_callbacks server (has left_out) page asker server.clients)
             (server_of self.now) outbox.old outbox.new }
     {
         let rows = self.holdings.rows_of_page(page);
         let mut from = 0;
         while let Some(client) = rows.next(from) {
-            self.call_back_one(client, asker, page, outbox);
+            self.call_back_one(client, asker, page, left_out, outbox);
             from = client.index() + 1;
         }
     }
 
-    /// A Callback to a client, if it is another and has a copy.
-    fn call_back_one(&self, client: ClientNo, asker: ClientNo, page: PageNo, outbox: &mut Outbox)
+    /// A Callback to a client, if it is another, isn't left out and has a copy.
+    fn call_back_one(
+        &self,
+        client: ClientNo,
+        asker: ClientNo,
+        page: PageNo,
+        left_out: ClientSet,
+        outbox: &mut Outbox,
+    )
         requires client { HasClient self.now client }
         requires page { HasPage self.now page }
         requires waits { Waits (server_of self.now) }
-        requires room { HasRoomFor (callback_to (server_of self.now) page asker client) outbox.old }
-        ensures { Says (server_of self.now) (λ server. callback_to server page asker client)
+        requires room { HasRoomFor
+            (callback_to (server_of self.now) (has left_out) page asker client) outbox.old }
+        ensures { Says (server_of self.now)
+            (λ server. callback_to server (has left_out) page asker client)
             (server_of self.now) outbox.old outbox.new }
     {
         if client == asker {
+            return;
+        }
+        if left_out.contains(client) {
             return;
         }
         let Some(grant) = self.holdings.row(client, page) else {

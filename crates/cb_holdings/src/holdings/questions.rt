@@ -1,5 +1,6 @@
 //! What is asked before a step is made; each by the protocol's test.
-ghost use Rattle.std.specs.Prelude.{◌≡◌, ℕ, ◌<◌, ◌+◌, ◌≤◌, ◌↔◌, true, not, IfSome, IsSome};
+ghost use Rattle.std.specs.Prelude.{◌≡◌, ℕ, ◌<◌, ◌+◌, ◌≤◌, ◌↔◌, true, false, not, IfSome, IsSome};
+ghost use Rattle.std.specs.Prelude.{MatchOption};
 ghost use Rattle.cb_clients.specs.Clients.{has};
 ghost use Rattle.cb_holdings.specs.Holdings.{HasClient, HasPage, or_zero, server_of};
 ghost use Rattle.cb_holdings.specs.Questions.{IsLastIfLive, admission_in, standing_in};
@@ -49,6 +50,21 @@ impl Holdings {
         ensures { or_zero result ≡ ((server_of self.now).session client).txn }
     {
         self.sessions.session(client).transaction.txn()
+    }
+
+    /// The client's live transaction, where it is the victim of a deadlock.
+    pub fn victim(&self, client: ClientNo) -> Option<TxnNo>
+        requires { HasClient self.now client }
+        ensures { MatchOption result ((server_of self.now).doomed client ≡ false)
+            (λ txn. ((server_of self.now).doomed client ≡ true)
+            × (txn ≡ ((server_of self.now).session client).txn)) }
+    {
+        let sessions = &self.sessions;
+        let txn = sessions.session(client).transaction.txn()?;
+        match sessions.standing(client, txn) {
+            Standing::Doomed => Some(txn),
+            _ => None,
+        }
     }
 
     /// The commit by which the last transaction ended; `None` where it lives or was dropped.

@@ -1,25 +1,33 @@
-use Rattle.std.proofs.Common.{◌≡◌, ◌+◌, ◌<◌, ℕ, sym, subst, arith, ap}
+use Rattle.std.proofs.Common.{◌≡◌, ◌+◌, ◌<◌, ℕ, refl, sym, subst, arith, ap}
+use Rattle.cb_clients.specs.Clients.{has}
 use Rattle.cb_outbox.specs.Saying.{Says}
 use Rattle.cb_protocol.specs.Server.{Server}
+use Rattle.cb_protocol.specs.Settling.{send_callbacks}
+use Rattle.cb_callbacks.specs.Asking.{callback_to}
 use Rattle.cb_callbacks.specs.Tables.{server_of}
-use Rattle.cb_callbacks.proofs.Calling.{call_room, calls, calls_all, calls_more, no_row, some_row}
+use Rattle.cb_callbacks.proofs.Calling.{calls, no_row, none_to, some_row}
+use Rattle.cb_callbacks.proofs.Walks.{up_to, walk_room, walked, walked_all}
 use Rattle.cb_callbacks.proofs.tables.Tables.call_back.Goals as goal
 
 pub call_back_one-requires-clause-room : goal.call_back_one-requires-clause-room
 call_back_one-requires-clause-room c =
-    call_room (server_of c.args.self.now) c.args.page c.args.asker c.loop-client.from c.in-Some.client c.args.outbox.now c.loop-client.outbox
+    walk_room s (callback_to s (has c.args.left_out) c.args.page c.args.asker) (send_callbacks s (has c.args.left_out) c.args.page c.args.asker s.clients)
+    (callback_to s (has c.args.left_out) c.args.page c.args.asker c.in-Some.client) c.loop-client.from c.in-Some.client s.clients c.args.outbox.now c.loop-client.outbox
     c.in-Some.ensures.above
     (c.requires.waits.rows c.in-Some.client c.args.page (some_row _ _ (c.rows_of_page-rows.ensures c.in-Some.client) c.in-Some.ensures.here)).0
-    (λ other above lt. no_row _ _ (c.rows_of_page-rows.ensures other) (c.in-Some.ensures.none_between other above lt))
-    c.requires.room c.loop-client.invariant.says
+    (λ other above lt. none_to s (has c.args.left_out) c.args.page c.args.asker other (no_row _ _ (c.rows_of_page-rows.ensures other) (c.in-Some.ensures.none_between other above lt)))
+    (calls s (has c.args.left_out) c.args.page c.args.asker s.clients) refl c.requires.room c.loop-client.invariant.says
+  where
+    s : Server
+    s = server_of c.args.self.now
 
 pub loop-client-preserved : goal.loop-client-preserved
 loop-client-preserved c = record {
-  says = subst (λ (n : ℕ). Says s (λ server. calls server c.args.page c.args.asker n) s c.args.outbox.now c.call_back_one.new.outbox) next
-      (calls_more s c.args.page c.args.asker c.loop-client.from c.in-Some.client c.args.outbox.now c.loop-client.outbox c.call_back_one.new.outbox
-      c.in-Some.ensures.above
-      (λ other above lt. no_row _ _ (c.rows_of_page-rows.ensures other) (c.in-Some.ensures.none_between other above lt))
-      c.loop-client.invariant.says c.call_back_one.ensures);
+  says = subst (λ (n : ℕ). Says s (λ server. up_to (callback_to s (has c.args.left_out) c.args.page c.args.asker) n) s c.args.outbox.now c.call_back_one.new.outbox) next
+      (walked s (callback_to s (has c.args.left_out) c.args.page c.args.asker) (λ server. callback_to server (has c.args.left_out) c.args.page c.args.asker c.in-Some.client)
+      c.loop-client.from c.in-Some.client c.args.outbox.now c.loop-client.outbox c.call_back_one.new.outbox c.in-Some.ensures.above
+      (λ other above lt. none_to s (has c.args.left_out) c.args.page c.args.asker other (no_row _ _ (c.rows_of_page-rows.ensures other) (c.in-Some.ensures.none_between other above lt)))
+      refl c.loop-client.invariant.says c.call_back_one.ensures);
   within = let value = c.index-from.ensures.value in let lt = in_range in omega (arith, value, lt);
 }
   where
@@ -33,5 +41,10 @@ loop-client-preserved c = record {
     in_range = (c.requires.waits.rows c.in-Some.client c.args.page (some_row _ _ (c.rows_of_page-rows.ensures c.in-Some.client) c.in-Some.ensures.here)).0
 
 pub returns : goal.returns
-returns c = calls_all (server_of c.args.self.now) c.args.page c.args.asker c.loop-client.from c.args.outbox.now c.loop-client.outbox c.loop-client.invariant.within
-    (λ client above lt. no_row _ _ (c.rows_of_page-rows.ensures client) (c.in_default.ensures client above)) c.loop-client.invariant.says
+returns c = walked_all s (callback_to s (has c.args.left_out) c.args.page c.args.asker) (λ server. send_callbacks server (has c.args.left_out) c.args.page c.args.asker server.clients)
+    c.loop-client.from s.clients c.args.outbox.now c.loop-client.outbox c.loop-client.invariant.within
+    (λ client above lt. none_to s (has c.args.left_out) c.args.page c.args.asker client (no_row _ _ (c.rows_of_page-rows.ensures client) (c.in_default.ensures client above)))
+    (calls s (has c.args.left_out) c.args.page c.args.asker s.clients) c.loop-client.invariant.says
+  where
+    s : Server
+    s = server_of c.args.self.now

@@ -1,13 +1,15 @@
 use Rattle.std.proofs.Common.{◌≤◌, ◌-◌}
+use Rattle.cb_clients.specs.Clients.{has}
 use Rattle.cb_outbox.specs.Saying.{Says}
+use Rattle.cb_callbacks.specs.Asking.{callback_to}
 use Rattle.cb_callbacks.specs.Tables.{server_of}
-use Rattle.cb_callbacks.proofs.Calling.{calls}
+use Rattle.cb_callbacks.proofs.Walks.{up_to}
 use Rattle.cb_callbacks.proofs.tables.Tables.call_back.Given as goal
 
 -- those before `from` were called
 abbrev pub invariant-loop-client : goal.invariant-loop-client
 invariant-loop-client l = record {
-  says : Says (server_of l.self) (λ server. calls server l.page l.asker l.from) (server_of l.self) l.initial.outbox l.outbox;
+  says : Says (server_of l.self) (λ server. up_to (callback_to (server_of l.self) (has l.left_out) l.page l.asker) l.from) (server_of l.self) l.initial.outbox l.outbox;
   within : l.from ≤ (server_of l.self).clients;
 }
 
