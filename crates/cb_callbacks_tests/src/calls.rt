@@ -177,7 +177,7 @@ pub(crate) fn ask(
     client: ClientNo,
     page: PageNo,
     write_grant: Option<GrantNo>,
-) -> anyhow::Result<Vec<Frame>>
+) -> Result<Vec<Frame>, AllocError>
     requires client { client < limits.now.clients }
     requires page { page < limits.now.pages }
     requires of { AreOf limits.now callbacks.old.tables.holdings }
@@ -207,7 +207,7 @@ pub(crate) fn settle(
     alloc: Global,
     limits: &Limits,
     callbacks: &mut Callbacks,
-) -> anyhow::Result<Vec<Frame>>
+) -> Result<Vec<Frame>, AllocError>
     requires of { AreOf limits.now callbacks.old.tables.holdings }
     ensures { AreOf limits.now callbacks.new.tables.holdings }
 {

@@ -7,21 +7,38 @@ use crate::calls::{ask, commit, commit_of, flush, greet, settle};
 use cb_callbacks::Callbacks;
 use cb_commit::Store;
 use cb_page::{ClientNo, GrantNo, Limits, PageNo, TxnNo};
-use std::alloc::Global;
+use std::alloc::{AllocError, Global};
 
-/// The last client asks for the last page and gets it.
-#[test]
-fn callbacks_at_the_greatest_limits(rt: HostRuntime) -> anyhow::Result<()> {
-    let limits = Limits::new(32, 4096, 65_536, 1024, 1, 4096)?;
-    let store = Store::zeros(rt.alloc(), &limits)?;
-    let mut callbacks = Callbacks::new(rt.alloc(), &limits, store)?;
+/// Whether the last client asks for the last page and gets it.
+fn last_gets_last(
+    alloc: Global,
+    limits: &Limits,
+    callbacks: &mut Callbacks,
+) -> Result<bool, AllocError>
+    requires client { 31 < limits.now.clients }
+    requires page { 4095 < limits.now.pages }
+    requires of { AreOf limits.now callbacks.old.tables.holdings }
+    ensures { AreOf limits.now callbacks.new.tables.holdings }
+{
     let (client, page) = (ClientNo::new(31), PageNo::new(4095));
-    greet(&limits, &mut callbacks, client);
-    let entered = ask(rt.alloc(), &limits, &mut callbacks, client, page, None)?;
-    let settled = settle(rt.alloc(), &limits, &mut callbacks)?;
-    assert!(rt; entered.is_empty() && settled.len() == 1);
-    assert!(rt; settle(rt.alloc(), &limits, &mut callbacks)?.is_empty());
-    Ok(())
+    greet(limits, callbacks, client);
+    let entered = ask(alloc, limits, callbacks, client, page, None)?.len();
+    let settled = settle(alloc, limits, callbacks)?.len();
+    let again = settle(alloc, limits, callbacks)?.len();
+    Ok(entered == 0 && settled == 1 && again == 0)
+}
+
+/// Whether it does at the greatest limits, over a server of zeros.
+fn greatest_goes_right(alloc: Global) -> anyhow::Result<bool> {
+    let limits = Limits::new(32, 4096, 65_536, 1024, 1, 4096)?;
+    let store = Store::zeros(alloc, &limits)?;
+    let mut callbacks = Callbacks::new(alloc, &limits, store)?;
+    Ok(last_gets_last(alloc, &limits, &mut callbacks)?)
+}
+
+#[test]
+fn callbacks_at_the_greatest_limits(rt: HostRuntime) {
+    assert!(rt; matches!(greatest_goes_right(rt.alloc()), Ok(true)));
 }
 
 /// The client asks for the page, first to read, then to write; the grant of its copy.
@@ -31,7 +48,7 @@ fn take_page(
     callbacks: &mut Callbacks,
     client: ClientNo,
     page: PageNo,
-) -> anyhow::Result<Option<GrantNo>>
+) -> Result<Option<GrantNo>, AllocError>
     requires client { client < limits.now.clients }
     requires page { page < limits.now.pages }
     requires of { AreOf limits.now callbacks.old.tables.holdings }
@@ -53,7 +70,7 @@ fn take_pages(
     limits: &Limits,
     callbacks: &mut Callbacks,
     client: ClientNo,
-) -> anyhow::Result<Vec<(PageNo, GrantNo)>>
+) -> Result<Vec<(PageNo, GrantNo)>, AllocError>
     requires client { client < limits.now.clients }
     requires of { AreOf limits.now callbacks.old.tables.holdings }
     ensures { AreOf limits.now callbacks.new.tables.holdings }
@@ -75,7 +92,7 @@ fn others_ask(
     callbacks: &mut Callbacks,
     holder: ClientNo,
     page: PageNo,
-) -> anyhow::Result<()>
+) -> Result<(), AllocError>
     requires page { page < limits.now.pages }
     requires of { AreOf limits.now callbacks.old.tables.holdings }
     ensures { AreOf limits.now callbacks.new.tables.holdings }
@@ -90,24 +107,41 @@ fn others_ask(
     Ok(())
 }
 
-/// One client commits all 4,096 pages, while every other waits for the last.
-#[test]
-fn all_pages_and_all_clients(rt: HostRuntime) -> anyhow::Result<()> {
-    let limits = Limits::new(32, 4096, 4096, 1024, 1, 4096)?;
-    let store = Store::zeros(rt.alloc(), &limits)?;
-    let mut callbacks = Callbacks::new(rt.alloc(), &limits, store)?;
+/// Whether one client's commit of all pages goes through, while every other waits for the last.
+fn all_are_committed(
+    alloc: Global,
+    limits: &Limits,
+    callbacks: &mut Callbacks,
+) -> Result<bool, AllocError>
+    requires client { 31 < limits.now.clients }
+    requires page { 4095 < limits.now.pages }
+    requires of { AreOf limits.now callbacks.old.tables.holdings }
+    ensures { AreOf limits.now callbacks.new.tables.holdings }
+{
     let (client, txn, page) = (ClientNo::new(31), TxnNo::new(1), PageNo::new(4095));
-    greet(&limits, &mut callbacks, client);
-    let pages = take_pages(rt.alloc(), &limits, &mut callbacks, client)?;
-    others_ask(rt.alloc(), &limits, &mut callbacks, client, page)?;
-    assert!(rt; pages.len() == 4096 && callbacks.read_asks() == 31);
-    assert!(rt; settle(rt.alloc(), &limits, &mut callbacks)?.is_empty());
-    let frame = commit_of(rt.alloc(), &limits, client, txn, &pages)?;
-    let Some(number) = commit(&limits, &mut callbacks, frame)? else {
-        panic!(rt; "refused");
+    greet(limits, callbacks, client);
+    let pages = take_pages(alloc, limits, callbacks, client)?;
+    others_ask(alloc, limits, callbacks, client, page)?;
+    let held_up = settle(alloc, limits, callbacks)?.len();
+    let frame = commit_of(alloc, limits, client, txn, &pages)?;
+    let are_ready = pages.len() == 4096 && callbacks.read_asks() == 31 && held_up == 0;
+    let Some(number) = commit(limits, callbacks, frame)? else {
+        return Ok(false);
     };
-    let settled = settle(rt.alloc(), &limits, &mut callbacks)?;
-    let dones = flush(rt.alloc(), &limits, &mut callbacks, number)?;
-    assert!(rt; settled.len() == 31 && dones.len() == 1);
-    Ok(())
+    let settled = settle(alloc, limits, callbacks)?.len();
+    let dones = flush(alloc, limits, callbacks, number)?.len();
+    Ok(are_ready && settled == 31 && dones == 1)
+}
+
+/// Whether it does with all pages and clients, over a server of zeros.
+fn all_go_right(alloc: Global) -> anyhow::Result<bool> {
+    let limits = Limits::new(32, 4096, 4096, 1024, 1, 4096)?;
+    let store = Store::zeros(alloc, &limits)?;
+    let mut callbacks = Callbacks::new(alloc, &limits, store)?;
+    Ok(all_are_committed(alloc, &limits, &mut callbacks)?)
+}
+
+#[test]
+fn all_pages_and_all_clients(rt: HostRuntime) {
+    assert!(rt; matches!(all_go_right(rt.alloc()), Ok(true)));
 }

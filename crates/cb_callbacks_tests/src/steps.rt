@@ -14,7 +14,6 @@ use cb_commit::Store;
 use cb_frame::{Body, Frame, ShortBody};
 use cb_page::{ClientNo, CommitNo, GrantNo, Limits, PageNo, TxnNo};
 use std::alloc::{AllocError, Global};
-use std::process::Abort;
 
 /// A call about a client.
 #[derive(Clone, Copy)]
@@ -265,7 +264,7 @@ fn by_page(
     call: Call,
     client: ClientNo,
     page: PageNo,
-) -> anyhow::Result<Vec<Frame>>
+) -> Result<Vec<Frame>, AllocError>
     requires client { client < limits.now.clients }
     requires page { page < limits.now.pages }
     requires of { AreOf limits.now callbacks.old.tables.holdings }
@@ -321,7 +320,7 @@ fn act(
     limits: &Limits,
     callbacks: &mut Callbacks,
     row: Row,
-) -> anyhow::Result<Vec<Frame>>
+) -> Result<Vec<Frame>, AllocError>
     requires { AreOf limits.now callbacks.old.tables.holdings }
     ensures { AreOf limits.now callbacks.new.tables.holdings }
 {
@@ -336,7 +335,7 @@ fn act(
             Ok(Vec::new(alloc))
         }
         Flush => match CommitNo::checked(number) {
-            Some(number) => Ok(flush(alloc, limits, callbacks, number)?),
+            Some(number) => flush(alloc, limits, callbacks, number),
             None => Ok(Vec::new(alloc)),
         },
         AskRead | AskWrite | GiveBack | InUse | EndPermission | Commit => match PageNo::in_store(
@@ -348,9 +347,14 @@ fn act(
     }
 }
 
-/// Each step sends what it has to; one whose growth was refused is made again, as if nothing had
-/// been refused.
-fn play(rt: &impl Abort, alloc: Global, limits: &Limits, callbacks: &mut Callbacks, rows: &[Row])
+/// The first row, if any, by which something else is sent than it says; one whose growth was
+/// refused is made again, as if nothing had been refused.
+fn first_wrong(
+    alloc: Global,
+    limits: &Limits,
+    callbacks: &mut Callbacks,
+    rows: &[Row],
+) -> Option<usize>
     requires { AreOf limits.now callbacks.old.tables.holdings }
 {
     for (at, row) in rows.iter().enumerate() {
@@ -361,126 +365,76 @@ fn play(rt: &impl Abort, alloc: Global, limits: &Limits, callbacks: &mut Callbac
                 Err(_) => 999_999,
             },
         };
-        assert!(rt; sent == row.3, "step {at}");
+        if sent != row.3 {
+            return Some(at);
+        }
+    }
+    None
+}
+
+/// The first row that goes wrong over a new server of zeros.
+fn first_wrong_anew(
+    alloc: Global,
+    limits: &Limits,
+    rows: &[Row],
+) -> Result<Option<usize>, AllocError> {
+    let store = Store::zeros(alloc, limits)?;
+    let mut callbacks = Callbacks::new(alloc, limits, store)?;
+    Ok(first_wrong(alloc, limits, &mut callbacks, rows))
+}
+
+/// Whether all rows go right over a new server of zeros, of so many clients.
+fn plays(alloc: Global, clients: u64, rows: &[Row]) -> bool {
+    match Limits::new(clients, 8, 16, 4, 1, 2) {
+        Ok(limits) => matches!(first_wrong_anew(alloc, &limits, rows), Ok(None)),
+        Err(_) => false,
+    }
+}
+
+/// Whether they do where write permission is kept.
+fn plays_keeping(alloc: Global, clients: u64, rows: &[Row]) -> bool {
+    match Limits::new(clients, 8, 16, 4, 1, 2) {
+        Ok(limits) => matches!(first_wrong_anew(alloc, &limits.keeping(), rows), Ok(None)),
+        Err(_) => false,
     }
 }
 
 #[test]
-fn write_after_callback(rt: HostRuntime) -> anyhow::Result<()> {
-    let limits = Limits::new(2, 8, 16, 4, 1, 2)?;
-    let store = Store::zeros(rt.alloc(), &limits)?;
-    let mut callbacks = Callbacks::new(rt.alloc(), &limits, store)?;
-    play(
-        &rt,
-        rt.alloc(),
-        &limits,
-        &mut callbacks,
-        WRITE_AFTER_CALLBACK.as_slice(),
-    );
-    Ok(())
+fn write_after_callback(rt: HostRuntime) {
+    assert!(rt; plays(rt.alloc(), 2, WRITE_AFTER_CALLBACK.as_slice()));
 }
 
 #[test]
-fn write_after_the_readers_end(rt: HostRuntime) -> anyhow::Result<()> {
-    let limits = Limits::new(2, 8, 16, 4, 1, 2)?;
-    let store = Store::zeros(rt.alloc(), &limits)?;
-    let mut callbacks = Callbacks::new(rt.alloc(), &limits, store)?;
-    play(
-        &rt,
-        rt.alloc(),
-        &limits,
-        &mut callbacks,
-        WRITE_AFTER_THE_READERS_END.as_slice(),
-    );
-    Ok(())
+fn write_after_the_readers_end(rt: HostRuntime) {
+    assert!(rt; plays(rt.alloc(), 2, WRITE_AFTER_THE_READERS_END.as_slice()));
 }
 
 #[test]
-fn two_writers_deadlock(rt: HostRuntime) -> anyhow::Result<()> {
-    let limits = Limits::new(2, 8, 16, 4, 1, 2)?;
-    let store = Store::zeros(rt.alloc(), &limits)?;
-    let mut callbacks = Callbacks::new(rt.alloc(), &limits, store)?;
-    play(
-        &rt,
-        rt.alloc(),
-        &limits,
-        &mut callbacks,
-        TWO_WRITERS_DEADLOCK.as_slice(),
-    );
-    Ok(())
+fn two_writers_deadlock(rt: HostRuntime) {
+    assert!(rt; plays(rt.alloc(), 2, TWO_WRITERS_DEADLOCK.as_slice()));
 }
 
 #[test]
-fn cycle_of_two_pages(rt: HostRuntime) -> anyhow::Result<()> {
-    let limits = Limits::new(3, 8, 16, 4, 1, 2)?;
-    let store = Store::zeros(rt.alloc(), &limits)?;
-    let mut callbacks = Callbacks::new(rt.alloc(), &limits, store)?;
-    play(
-        &rt,
-        rt.alloc(),
-        &limits,
-        &mut callbacks,
-        CYCLE_OF_TWO_PAGES.as_slice(),
-    );
-    Ok(())
+fn cycle_of_two_pages(rt: HostRuntime) {
+    assert!(rt; plays(rt.alloc(), 3, CYCLE_OF_TWO_PAGES.as_slice()));
 }
 
 #[test]
-fn cycle_of_three(rt: HostRuntime) -> anyhow::Result<()> {
-    let limits = Limits::new(3, 8, 16, 4, 1, 2)?;
-    let store = Store::zeros(rt.alloc(), &limits)?;
-    let mut callbacks = Callbacks::new(rt.alloc(), &limits, store)?;
-    play(
-        &rt,
-        rt.alloc(),
-        &limits,
-        &mut callbacks,
-        CYCLE_OF_THREE.as_slice(),
-    );
-    Ok(())
+fn cycle_of_three(rt: HostRuntime) {
+    assert!(rt; plays(rt.alloc(), 3, CYCLE_OF_THREE.as_slice()));
 }
 
 #[test]
-fn doomed_as_it_enters(rt: HostRuntime) -> anyhow::Result<()> {
-    let limits = Limits::new(3, 8, 16, 4, 1, 2)?;
-    let store = Store::zeros(rt.alloc(), &limits)?;
-    let mut callbacks = Callbacks::new(rt.alloc(), &limits, store)?;
-    play(
-        &rt,
-        rt.alloc(),
-        &limits,
-        &mut callbacks,
-        DOOMED_AS_IT_ENTERS.as_slice(),
-    );
-    Ok(())
+fn doomed_as_it_enters(rt: HostRuntime) {
+    assert!(rt; plays(rt.alloc(), 3, DOOMED_AS_IT_ENTERS.as_slice()));
 }
 
 #[test]
-fn asks_in_order(rt: HostRuntime) -> anyhow::Result<()> {
-    let limits = Limits::new(3, 8, 16, 4, 1, 2)?;
-    let store = Store::zeros(rt.alloc(), &limits)?;
-    let mut callbacks = Callbacks::new(rt.alloc(), &limits, store)?;
-    play(
-        &rt,
-        rt.alloc(),
-        &limits,
-        &mut callbacks,
-        ASKS_IN_ORDER.as_slice(),
-    );
-    Ok(())
+fn asks_in_order(rt: HostRuntime) {
+    assert!(rt; plays(rt.alloc(), 3, ASKS_IN_ORDER.as_slice()));
 }
 
 #[test]
-fn writer_behind_a_reader(rt: HostRuntime) -> anyhow::Result<()> {
-    let limits = Limits::new(2, 8, 16, 4, 1, 2)?.keeping();
-    let store = Store::zeros(rt.alloc(), &limits)?;
-    let mut callbacks = Callbacks::new(rt.alloc(), &limits, store)?;
-    play(
-        &rt,
-        rt.alloc(),
-        &limits,
-        &mut callbacks,
-        WRITER_BEHIND_A_READER.as_slice(),
-    );
-    Ok(())
+fn writer_behind_a_reader(rt: HostRuntime) {
+    assert!(rt; plays_keeping(rt.alloc(), 2, WRITER_BEHIND_A_READER.as_slice()));
 }

@@ -45,6 +45,7 @@ pub mod NoCycles
 pub mod SettlingAgain
 pub mod LivePermissions
 pub mod DoomedAsks
+pub mod AsksAnswered
 pub mod NoneWaits
 -- one side alone
 pub mod ClientInvariant

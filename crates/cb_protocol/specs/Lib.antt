@@ -24,6 +24,7 @@ pub mod ClientAlone
 pub mod StepsKeep
 pub mod Ranges
 pub mod AskLaws
+pub mod LeavingLaws
 pub mod CommitLaws
 pub mod HelloLaws
 pub mod ClientLaws

@@ -5,6 +5,7 @@ ghost use Rattle.cb_protocol.specs.AskLaws.{AsksKeepTheirOrder, FirstAsksAreMet,
 ghost use Rattle.cb_protocol.specs.CommitLaws.{AppliedWhereItMay, DoneFromDiskAlone};
 ghost use Rattle.cb_protocol.specs.CommitLaws.{NoOtherApplies};
 ghost use Rattle.cb_protocol.specs.HelloLaws.{GreaterHelloStartsAnew};
+ghost use Rattle.cb_protocol.specs.LeavingLaws.{AsksAreAnswered};
 
 /// A Commit is applied exactly where it is of the current incarnation, of a transaction that
 /// neither ended nor is doomed, and of pages that this transaction may write. Nothing else applies
@@ -36,4 +37,10 @@ pub fn first_asks_are_met()
 /// those that stay keep their order.
 pub fn asks_keep_their_order()
     ensures law { AsksKeepTheirOrder }
+{}
+
+/// No ask is forgotten: at every input, one that waits stays in its queue, or is met by a message
+/// that says so, or its client is told that the transaction is aborted, or that transaction ends.
+pub fn no_ask_is_forgotten()
+    ensures law { AsksAreAnswered }
 {}

@@ -8,3 +8,5 @@ pub mod Arising
 pub mod Greeting
 pub mod Committing
 pub mod Serving
+pub mod LawsKept
+pub mod Resending

@@ -1,3 +1,4 @@
 pub mod ServerState
 pub mod Taking
 pub mod Answering
+pub mod ServerLaws

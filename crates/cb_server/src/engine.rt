@@ -3,14 +3,13 @@ ghost use Rattle.std.specs.Prelude.{◌≡◌, ◌<◌, ◌∷◌, [], false, If
 ghost use Rattle.cb_callbacks.specs.Tables.{HasClient};
 ghost use Rattle.cb_outbox.specs.Messages.{body_of};
 ghost use Rattle.cb_protocol.specs.Messages.{Hello, Welcome};
-ghost use Rattle.cb_protocol.specs.Resend.{server_again};
 ghost use Rattle.cb_protocol.specs.Server.{Send};
 ghost use Rattle.cb_protocol.specs.ServerMessages.{admit_incarnation, is_exhausted};
 ghost use Rattle.cb_protocol.specs.ServerMessages.{server_take, take_current};
 ghost use Rattle.cb_protocol.specs.Settling.{settle_pages};
 ghost use Rattle.cb_protocol.specs.WaitsFor.{on_cycle};
-ghost use Rattle.cb_server.specs.Answering.{CanAnswer, CanSettle, FitsIn, IsCurrent, IsLeft, IsReady};
-ghost use Rattle.cb_server.specs.Answering.{LacksNumber, Makes, Serves, is_hello, server_in};
+ghost use Rattle.cb_server.specs.Answering.{CanAnswer, CanSettle, FitsIn, IsCurrent, IsLeft};
+ghost use Rattle.cb_server.specs.Answering.{IsReady, LacksNumber, Makes, Serves, is_hello, server_in};
 ghost use Rattle.cb_server.specs.Taking.{is_exhaustion};
 
 mod answers;
@@ -168,17 +167,6 @@ impl Engine {
         // The law of how much it sends.
         self.callbacks.settling_is_bounded();
         self.callbacks.settle(&mut self.outbox);
-    }
-
-    /// What may be lost is said again.
-    pub(crate) fn again(&mut self, alloc: Global) -> Result<(), AllocError>
-        requires ready { IsReady self.old }
-        ensures ok { OnOk result (Serves self.old server_again self.new) }
-        ensures callbacks { self.new.callbacks ≡ self.old.callbacks }
-        ensures left { IsLeft self.old self.new }
-    {
-        self.outbox.reserve(alloc, 1_056, 0)?;
-        Ok(())
     }
 }
 

@@ -6,6 +6,7 @@
 #![tactic(auto)]
 
 mod engine;
+pub mod laws;
 mod server;
 mod server_fault;
 

@@ -1,0 +1,23 @@
+use Rattle.std.proofs.Common.{sym, subst}
+use Rattle.std.specs.List.{AllByRecursion}
+use Rattle.cb_frame_types.specs.Grammar.{Fits}
+use Rattle.cb_server.specs.ServerState.{ServerState}
+use Rattle.cb_server.specs.Taking.{input_of}
+use Rattle.cb_server.proofs.Serving.{fits_said, input_taken, ready, rests}
+use Rattle.cb_server.proofs.server.Server.take.Goals as goal
+
+pub take-requires-clause-ready : goal.take-requires-clause-ready
+take-requires-clause-ready c = ready c.self.inside.limits c.self.inside.engine c.self.invariant
+
+pub invariant_of-self-2 : goal.invariant_of-self-2
+invariant_of-self-2 c =
+    rests c.self.inside.limits c.self.inside.engine c.take.new.self c.take-2.new.self (input_of c.args.frame) c.self.invariant
+    (input_taken c.self.inside.limits c.self.inside.engine c.args.frame (subst (λ (v : ServerState). Fits v.limits c.args.frame) (sym c.self.view_is) c.requires) c.in_ok-take.ensures.taken)
+    c.in_ok-take.ensures.ok c.take-2.ensures.left c.take-2.ensures.page_size
+
+pub returns-clause-fits : goal.returns-clause-fits
+returns-clause-fits c =
+    subst (λ (v : ServerState). AllByRecursion (Fits v.limits) c.take-2.result.items) c.self.view_is
+    (fits_said c.self.inside.limits c.self.inside.engine c.take.new.self (input_of c.args.frame) c.take-2.result.items c.self.invariant
+    (input_taken c.self.inside.limits c.self.inside.engine c.args.frame (subst (λ (v : ServerState). Fits v.limits c.args.frame) (sym c.self.view_is) c.requires) c.in_ok-take.ensures.taken)
+    c.in_ok-take.ensures.ok c.take-2.ensures.frames)
