@@ -174,7 +174,6 @@ impl Engine {
 
     /// What may be lost is said again.
     pub(crate) fn again(&mut self, alloc: Global, limits: &Limits) -> Result<(), AllocError>
-        requires ready { IsReady self.old }
         requires of { AreOf limits.now self.old.callbacks.tables.holdings }
         requires greeted { (client : ℕ) → (server_in self.old).doomed client ≡ true
             → IsGreeted (server_in self.old) client }
