@@ -1,15 +1,18 @@
 //! What a server does for a message, step by step.
-ghost use Rattle.std.specs.Prelude.{◌≡◌, ◌<◌, ◌∷◌, [], false, IfErr, OnErr, OnOk};
+ghost use Rattle.std.specs.Prelude.{◌≡◌, ◌<◌, ◌∷◌, [], ℕ, false, true, IfErr, OnErr, OnOk};
 ghost use Rattle.cb_callbacks.specs.Tables.{HasClient};
+ghost use Rattle.cb_callbacks.specs.Waits.{IsGreeted};
+ghost use Rattle.cb_holdings.specs.Holdings.{AreOf};
 ghost use Rattle.cb_outbox.specs.Messages.{body_of};
 ghost use Rattle.cb_protocol.specs.Messages.{Hello, Welcome};
+ghost use Rattle.cb_protocol.specs.Resend.{server_again};
 ghost use Rattle.cb_protocol.specs.Server.{Send};
 ghost use Rattle.cb_protocol.specs.ServerMessages.{admit_incarnation, is_exhausted};
 ghost use Rattle.cb_protocol.specs.ServerMessages.{server_take, take_current};
 ghost use Rattle.cb_protocol.specs.Settling.{settle_pages};
 ghost use Rattle.cb_protocol.specs.WaitsFor.{on_cycle};
-ghost use Rattle.cb_server.specs.Answering.{CanAnswer, CanSettle, FitsIn, IsCurrent, IsLeft, IsReady};
-ghost use Rattle.cb_server.specs.Answering.{LacksNumber, Makes, Serves, is_hello, server_in};
+ghost use Rattle.cb_server.specs.Answering.{CanAnswer, CanSettle, FitsIn, IsCurrent, IsLeft};
+ghost use Rattle.cb_server.specs.Answering.{IsReady, LacksNumber, Makes, Serves, is_hello, server_in};
 ghost use Rattle.cb_server.specs.Taking.{is_exhaustion};
 
 mod answers;
@@ -22,7 +25,7 @@ use cb_callbacks::Callbacks;
 use cb_frame::{Body, ShortBody};
 use cb_links::Admission;
 use cb_outbox::Outbox;
-use cb_page::{ClientNo, Incarnation};
+use cb_page::{ClientNo, Incarnation, Limits};
 use std::alloc::{AllocError, Global};
 
 /// The tables, and what is said while a message is taken.
@@ -167,6 +170,22 @@ impl Engine {
         // The law of how much it sends.
         self.callbacks.settling_is_bounded();
         self.callbacks.settle(&mut self.outbox);
+    }
+
+    /// What may be lost is said again.
+    pub(crate) fn again(&mut self, alloc: Global, limits: &Limits) -> Result<(), AllocError>
+        requires of { AreOf limits.now self.old.callbacks.tables.holdings }
+        requires greeted { (client : ℕ) → (server_in self.old).doomed client ≡ true
+            → IsGreeted (server_in self.old) client }
+        ensures ok { OnOk result (Serves self.old server_again self.new) }
+        ensures callbacks { self.new.callbacks ≡ self.old.callbacks }
+        ensures left { OnErr result (IsLeft self.old self.new) }
+    {
+        self.outbox.reserve(alloc, 1_088, 0)?;
+        // The law of how much is said.
+        self.callbacks.resending_is_bounded();
+        self.callbacks.again(limits, &mut self.outbox);
+        Ok(())
     }
 }
 

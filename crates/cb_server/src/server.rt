@@ -8,7 +8,7 @@ ghost use Rattle.cb_frame_types.specs.Grammar.{Fits};
 ghost use Rattle.cb_holdings.specs.Commits.{batch_of};
 ghost use Rattle.cb_holdings.specs.Holdings.{AreOf, newest_first};
 ghost use Rattle.cb_outbox.specs.Messages.{messages_of};
-ghost use Rattle.cb_protocol.specs.AnyMessages.{ReachesDisk};
+ghost use Rattle.cb_protocol.specs.AnyMessages.{ReachesDisk, SendsAgain};
 ghost use Rattle.cb_protocol.specs.Flush.{can_flush, next_batch};
 ghost use Rattle.cb_server.specs.ServerState.{IsNew, IsServer, IsUnchanged, commits_of, server_of};
 ghost use Rattle.cb_server.specs.Taking.{Does, IsBytesFault, Refuses, Takes, TakesBytes};
@@ -28,7 +28,7 @@ use std::marker::Model;
 
 /// A page server over its store.
 ///
-/// `new`, `take`, `take_bytes`, `batch` and `flushed` take memory; no other call does.
+/// `new`, `take`, `take_bytes`, `again`, `batch` and `flushed` take memory; no other call does.
 #[derive(Debug, Drop)]
 pub struct Server {
     limits: Limits,
@@ -125,6 +125,20 @@ impl Server {
                 Err(fault) => Err(BytesFault::Taker(fault)),
             },
         }
+    }
+
+    /// What may be lost is said again: Callbacks for the first asks to write, Downgrades for the
+    /// first asks to read, AbortNow to the doomed. Nothing else changes.
+    ///
+    /// `AllocError` only where memory was refused.
+    pub fn again(&mut self, alloc: Global) -> Result<Vec<Frame>, AllocError>
+        ensures ok { IfOk result (λ said. Does self.old SendsAgain (messages_of said.items)
+            self.new) }
+        ensures fits { IfOk result (λ said. AllByRecursion (Fits self.old.limits) said.items) }
+        ensures unchanged { IsUnchanged self.old self.new }
+    {
+        self.engine.again(alloc, &self.limits)?;
+        Ok(self.engine.outbox.take(alloc))
     }
 
     /// What is to be written to disk next: each page that a commit changed which isn't on disk yet,
