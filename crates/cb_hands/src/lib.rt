@@ -5,8 +5,8 @@
 //! go, so each stands for one row of the server's directory. A [`StoredHand`] is what the owner of
 //! the server keeps of a hand: it tells whether a hand that it is lent is that one.
 //!
-//! Each change of a hand costs what it changes; clearing a hand and comparing it cost the pages that
-//! it holds, and what [`PageSet`](cb_page::PageSet) says of a walk.
+//! Each change of a hand costs what it changes; clearing a hand and comparing it cost the pages
+//! that it holds, and what [`PageSet`](cb_page::PageSet) says of a walk.
 #![tactic(auto)]
 
 mod copies;

@@ -1,10 +1,10 @@
 -- A server arises by frames that fit, and what it says fits.
-use Rattle.std.proofs.Common.{◌≡◌, ℕ, ◌+◌, ◌<◌, ◌≤◌, Bool, false, List, [], ◌∷◌, length, map, slice_index_or, refl, sym, ap, ◌∙◌, subst, arith}
+use Rattle.std.proofs.Common.{◌≡◌, ℕ, ◌+◌, ◌<◌, false, List, [], ◌∷◌, map, slice_index_or, sym, ◌∙◌, subst, arith}
 use Rattle.std.proofs.lemmas.List.Elements.{All-from_recursion}
-use Rattle.std.specs.List.{All, AllByRecursion}
+use Rattle.std.specs.List.{AllByRecursion}
 use Rattle.cb_callbacks.specs.Tables.{server_of}
 use Rattle.cb_callbacks.specs.declared.tables.Tables.{Tables}
-use Rattle.cb_commit.specs.History.{FitsInto, WritesInto}
+use Rattle.cb_commit.specs.History.{WritesInto}
 use Rattle.cb_commit.specs.Stores.{IsOf, IsSound, IsStored, StoreState, no_page}
 use Rattle.cb_frame_types.specs.Grammar as grammar
 use Rattle.cb_frame_types.specs.declared.frame.Body.{Body}
@@ -28,7 +28,7 @@ use Rattle.cb_protocol.specs.Server.{Server, server_after}
 use Rattle.cb_protocol.specs.WaitsFor.{on_cycle}
 use Rattle.cb_protocol.specs.World.{Opening, messages_sent}
 use Rattle.cb_server.specs.Answering.{FitsIn, limits_in, server_in}
-use Rattle.cb_server.specs.ServerState.{IsServer, ServerState}
+use Rattle.cb_server.specs.ServerState.{IsServer}
 use Rattle.cb_server.specs.declared.engine.Engine.{Engine}
 
 -- grant numbers never run out

@@ -1,7 +1,7 @@
 -- A message's transaction begins, and how it stands then.
-use Rattle.std.proofs.Common.{◌≡◌, ◌≢◌, ℕ, ◌+◌, ◌-◌, ◌<◌, ◌≤◌, nat_lt, Bool, true, false, not, ◌&&◌, ◌==◌, if◌then◌else◌, List, [], ◌∷◌, length, refl, sym, ap, ◌∙◌, subst, arith}
+use Rattle.std.proofs.Common.{◌≡◌, ◌≢◌, ℕ, ◌-◌, ◌<◌, nat_lt, Bool, true, false, ◌==◌, if◌then◌else◌, List, [], ◌∷◌, length, refl, sym, ap, ◌∙◌, subst, arith}
 use Rattle.std.proofs.lemmas.Bool.Decides.{nat_tests}
-use Rattle.cb_callbacks.specs.Callbacks.{CallbacksState, Changes, IsAsLarge}
+use Rattle.cb_callbacks.specs.Callbacks.{Changes}
 use Rattle.cb_holdings.specs.Questions.{IsLast, standing_in}
 use Rattle.cb_links.specs.declared.sessions.Standing.{Standing}
 use Rattle.cb_links.specs.declared.sessions.Standing.TheVariants as standing
@@ -9,7 +9,7 @@ use Rattle.cb_outbox.specs.Saying.{OutboxState}
 use Rattle.cb_protocol.specs.Server.{ChangeSession, ForgetTransaction, Server, ServerStep, has_not_ended, server_after}
 use Rattle.cb_protocol.specs.ServerMessages.{begin_transaction}
 use Rattle.cb_protocol.specs.Session.{BeginTransaction, Session, has_live_txn}
-use Rattle.cb_server.specs.Answering.{Begins, CanAnswer, CanSay, IsCurrent, IsLiveOne, Makes, server_in}
+use Rattle.cb_server.specs.Answering.{Begins, CanAnswer, CanSay, IsCurrent, IsLiveOne, server_in}
 use Rattle.cb_server.specs.declared.engine.Engine.{Engine}
 use Rattle.cb_server.proofs.Making.{changes_make, makes_as, makes_nothing}
 

@@ -1,30 +1,18 @@
 -- Whether a commit is applied, and what is done.
-use Rattle.std.proofs.Common.{◌≡◌, ◌≢◌, ℕ, ◌+◌, ◌-◌, ◌<◌, ◌≤◌, nat_le, nat_lt, Bool, true, false, not, ◌&&◌, ◌==◌, if◌then◌else◌, List, [], ◌∷◌, ◌++◌, Option, Some, None, refl, sym, ap, ◌∙◌, subst, arith}
-use Rattle.std.proofs.lemmas.Bool.Decides.{nat_tests}
-use Rattle.std.specs.List.{All}
-use Rattle.cb_callbacks.specs.Callbacks.{Changes}
-use Rattle.cb_callbacks.specs.Tables.{server_of, with_waits}
-use Rattle.cb_commit.specs.History.{FitsInto}
-use Rattle.cb_frame_types.specs.declared.writes.Write.{Write}
-use Rattle.cb_holdings.specs.Holdings as holdings
-use Rattle.cb_holdings.specs.Holdings.{HoldingsState, client_session, transaction_of}
-use Rattle.cb_holdings.specs.Questions.{IsLast, IsLastIfLive, begun_server, standing_in}
-use Rattle.cb_links.specs.Changes.{commit_of}
+use Rattle.std.proofs.Common.{◌≡◌, ◌≢◌, ℕ, Bool, true, false, ◌&&◌, List, [], ◌∷◌, refl, sym, ap, ◌∙◌, subst}
+use Rattle.cb_callbacks.specs.Tables.{with_waits}
+use Rattle.cb_holdings.specs.Questions.{IsLast, begun_server, standing_in}
 use Rattle.cb_links.specs.declared.sessions.Standing.{Standing}
 use Rattle.cb_links.specs.declared.sessions.Standing.TheVariants as standing
-use Rattle.cb_links.specs.declared.sessions.Transaction.{Transaction}
-use Rattle.cb_links.specs.declared.sessions.Transaction.TheVariants.{NotBegun, Live, Ended}
-use Rattle.cb_protocol.specs.Basics.{max_number}
-use Rattle.cb_protocol.specs.Messages.{AbortNow, Commit, Done, PageWrite}
-use Rattle.cb_protocol.specs.Server.{ChangeSession, ForgetTransaction, Server, ServerStep, WaitingAsk, has_not_ended, has_row, is_write_holder, server_after}
-use Rattle.cb_protocol.specs.ServerMessages.{begin_transaction, commit_allowed, direct_answer, lacks_number, may_proceed, repeat_done, take_commit}
-use Rattle.cb_protocol.specs.Session.{ApplyCommit, BeginTransaction}
+use Rattle.cb_protocol.specs.Messages.{AbortNow, Commit, PageWrite}
+use Rattle.cb_protocol.specs.Server.{Server, ServerStep, WaitingAsk, has_row, is_write_holder, server_after}
+use Rattle.cb_protocol.specs.ServerMessages.{commit_allowed, direct_answer, may_proceed, take_commit}
 use Rattle.cb_protocol.specs.Settling.{send_to}
 use Rattle.cb_protocol.specs.WaitsFor.{on_cycle}
-use Rattle.cb_server.specs.Answering.{Begins, IsLiveOne, LacksNumber, Makes, answer_to, applies, server_in}
+use Rattle.cb_server.specs.Answering.{Begins, IsLiveOne, Makes, answer_to, applies, server_in}
 use Rattle.cb_server.specs.declared.engine.Engine.{Engine}
 use Rattle.cb_server.proofs.Beginning.{doomed_stands, ended_stands, is_later, later_begins, later_lives, live_stands, not_later_begins}
-use Rattle.cb_server.proofs.Making.{answers, changes_make, makes_as, makes_nothing}
+use Rattle.cb_server.proofs.Making.{answers, makes_as, makes_nothing}
 
 -- who waits and which pages are in use is nothing to a commit
 pub allowed_waits : (s : Server) (queue : ℕ → List WaitingAsk) (in_use : ℕ → ℕ → Bool) (c : ℕ) (ws : List PageWrite)

@@ -1,17 +1,16 @@
 -- The direct answers, kind by kind, as the table has them.
-use Rattle.std.proofs.Common.{◌≡◌, ◌≢◌, ℕ, ◌+◌, ◌-◌, ◌<◌, ◌≤◌, Bool, true, false, not, ◌&&◌, ◌==◌, if◌then◌else◌, List, [], ◌∷◌, ◌++◌, length, Option, Some, None, refl, sym, ap, ◌∙◌, subst, arith}
+use Rattle.std.proofs.Common.{◌≡◌, ℕ, ◌-◌, ◌<◌, Bool, true, false, ◌&&◌, ◌==◌, if◌then◌else◌, List, [], ◌∷◌, ◌++◌, refl, sym, ap, ◌∙◌, subst, arith}
 use Rattle.cb_callbacks.specs.Callbacks.{CallbacksState, Changes}
 use Rattle.cb_callbacks.specs.Tables.{server_of}
 use Rattle.cb_holdings.specs.Holdings.{Stays}
-use Rattle.cb_outbox.specs.Saying.{OutboxState, Says}
-use Rattle.cb_protocol.specs.Messages.{AbortNow, AskRead, AskWrite, Body, Downgraded, Drop, GiveBack, Granted, InUse, Message}
+use Rattle.cb_outbox.specs.Saying.{OutboxState}
+use Rattle.cb_protocol.specs.Messages.{AbortNow, Body, Downgraded, Drop, GiveBack, Granted, InUse}
 use Rattle.cb_protocol.specs.Numbers.{copies_sent}
 use Rattle.cb_protocol.specs.Server.{ChangeSession, ForgetTransaction, MarkInUse, Send, Server, ServerStep, UnmarkInUse, has_not_ended, has_row, is_write_holder}
-use Rattle.cb_protocol.specs.ServerMessages.{direct_answer, if_live, take_ask_read, take_ask_write}
+use Rattle.cb_protocol.specs.ServerMessages.{direct_answer, if_live}
 use Rattle.cb_protocol.specs.Session.{DropTransaction, EndPermission, RemoveRow, has_live_txn}
 use Rattle.cb_protocol.specs.Settling.{send_granted, send_to}
 use Rattle.cb_protocol.specs.WaitsFor.{on_cycle}
-use Rattle.cb_protocol.specs.World.{messages_sent}
 use Rattle.cb_server.specs.Answering.{Begins, IsCurrent, IsLiveOne, Makes, Stands, answer_to, server_in}
 use Rattle.cb_server.specs.declared.engine.Engine.{Engine}
 use Rattle.cb_server.specs.declared.engine.answers.Begun.{Begun}

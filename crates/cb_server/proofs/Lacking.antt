@@ -1,15 +1,14 @@
 -- Whether a number is lacking for a message once its transaction has begun.
-use Rattle.std.proofs.Common.{◌≡◌, ◌≢◌, ℕ, ◌+◌, ◌-◌, ◌<◌, ◌≤◌, nat_lt, Bool, true, false, not, ◌&&◌, ◌||◌, ◌==◌, if◌then◌else◌, List, [], ◌∷◌, Option, Some, None, zero, suc, refl, sym, ap, ◌∙◌, subst, arith}
-use Rattle.std.proofs.lemmas.Bool.Decides.{nat_tests}
+use Rattle.std.proofs.Common.{◌≡◌, ◌≢◌, ℕ, ◌+◌, ◌-◌, nat_lt, Bool, true, false, not, ◌&&◌, ◌||◌, if◌then◌else◌, List, [], ◌∷◌, zero, suc, refl, sym, ap, ◌∙◌}
 use Rattle.cb_callbacks.proofs.Queues.{without_gone}
 use Rattle.cb_holdings.specs.Questions.{IsLast, standing_in}
 use Rattle.cb_links.specs.declared.sessions.Standing.TheVariants as standing
 use Rattle.cb_protocol.proofs.ReadAsksWaiting.{reads_same}
 use Rattle.cb_protocol.specs.Basics.{is_none, max_number}
-use Rattle.cb_protocol.specs.Messages.{AskRead, Body, Hello}
-use Rattle.cb_protocol.specs.Server.{ChangeSession, ForgetTransaction, Server, ServerStep, after_server_step, has_ask, has_not_ended, server_after}
-use Rattle.cb_protocol.specs.ServerMessages.{begin_transaction, has_waiting_ask, is_exhausted, lacks_number, may_proceed, named_txn, read_asks_below}
-use Rattle.cb_protocol.specs.Session.{BeginTransaction, Session}
+use Rattle.cb_protocol.specs.Messages.{AskRead}
+use Rattle.cb_protocol.specs.Server.{ChangeSession, ForgetTransaction, Server, ServerStep, after_server_step, has_ask, server_after}
+use Rattle.cb_protocol.specs.ServerMessages.{begin_transaction, has_waiting_ask, lacks_number, may_proceed, read_asks_below}
+use Rattle.cb_protocol.specs.Session.{BeginTransaction}
 use Rattle.cb_server.specs.Answering.{IsLiveOne, LacksNumber, server_in}
 use Rattle.cb_server.specs.declared.engine.Engine.{Engine}
 use Rattle.cb_server.proofs.Beginning.{doomed_stands, ended_stands, is_later, later_begins, later_lives, live_stands, not_later_begins, same_is}

@@ -1,25 +1,22 @@
 -- Steps of the engine, one after another, and what one change of its tables is.
-use Rattle.std.proofs.Common.{◌≡◌, ◌≢◌, ℕ, ◌+◌, ◌<◌, ◌≤◌, nat_lt, Bool, true, false, not, ◌&&◌, ◌==◌, if◌then◌else◌, List, [], ◌∷◌, ◌++◌, length, Option, Some, None, Result, Ok, Err, OnOk, refl, sym, ap, ◌∙◌, subst, arith}
+use Rattle.std.proofs.Common.{◌≡◌, ℕ, nat_lt, Bool, true, false, if◌then◌else◌, List, [], ◌∷◌, ◌++◌, Result, Ok, Err, OnOk, refl, sym, ap, ◌∙◌, subst, arith}
 use Rattle.std.proofs.lemmas.Bool.Decides.{nat_tests}
-use Rattle.std.proofs.lemmas.List.{append-nil, append_assoc, length-append}
+use Rattle.std.proofs.lemmas.List.{append-nil, append_assoc}
 use Rattle.cb_callbacks.proofs.Settling.{stays_then}
-use Rattle.cb_callbacks.specs.Callbacks.{CallbacksState, Changes}
-use Rattle.cb_callbacks.specs.Tables.{server_of}
+use Rattle.cb_callbacks.specs.Callbacks.{Changes}
 use Rattle.cb_holdings.specs.Holdings.{HoldingsState, Stays}
 use Rattle.cb_outbox.proofs.Saying.{after_append, says_as, says_nothing, says_then}
-use Rattle.cb_outbox.specs.Saying.{OutboxState, Says}
-use Rattle.cb_protocol.specs.Basics.{max_number}
-use Rattle.cb_protocol.specs.Messages.{Body, Hello, Message, Welcome}
-use Rattle.cb_protocol.specs.Numbers.{HasGrantsLeft, copies_sent}
+use Rattle.cb_outbox.specs.Saying.{OutboxState}
+use Rattle.cb_protocol.specs.Messages.{Body, Message, Welcome}
+use Rattle.cb_protocol.specs.Numbers.{copies_sent}
 use Rattle.cb_protocol.specs.Server.{ChangeSession, DeadlockTest, ForgetTransaction, Send, Server, ServerStep, server_after}
 use Rattle.cb_protocol.specs.Session.{Admit, BeginTransaction}
-use Rattle.cb_protocol.specs.ServerMessages.{and_then, begin_transaction, direct_answer, lacks_number, named_txn, take_current}
+use Rattle.cb_protocol.specs.ServerMessages.{and_then, begin_transaction, direct_answer, named_txn, take_current}
 use Rattle.cb_protocol.specs.Settling.{settle_pages}
 use Rattle.cb_protocol.specs.WaitsFor.{on_cycle}
 use Rattle.cb_protocol.specs.World.{messages_sent}
-use Rattle.cb_server.specs.Answering.{Begins, CanAnswer, CanSay, CanSettle, HasRoom, IsLeft, IsReady, LacksNumber, Makes, Serves, answer_to, server_in}
+use Rattle.cb_server.specs.Answering.{Begins, IsLeft, Makes, Serves, answer_to, server_in}
 use Rattle.cb_server.specs.declared.engine.Engine.{Engine}
-use Rattle.cb_server.proofs.Counting.{answer_costs, begins_quietly, begins_with_fewer, begins_with_no_copy, reads}
 
 pub stays_same : (h : HoldingsState) → Stays h h
 stays_same h = record { keep_write = refl; clients = refl; pages = refl; page_size = refl; opening = refl }

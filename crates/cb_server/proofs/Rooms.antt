@@ -1,9 +1,7 @@
 -- Room for settling, once a message is answered.
-use Rattle.std.proofs.Common.{◌≡◌, ℕ, ◌+◌, ◌<◌, ◌≤◌, Bool, false, List, [], ◌∷◌, ◌++◌, length, refl, sym, ap, ◌∙◌, subst, arith}
+use Rattle.std.proofs.Common.{◌≡◌, ℕ, ◌+◌, ◌≤◌, false, List, [], ◌∷◌, ◌++◌, length, sym, ap, ◌∙◌, subst, arith}
 use Rattle.std.proofs.lemmas.List.{length-append}
-use Rattle.cb_callbacks.specs.Tables.{server_of}
 use Rattle.cb_outbox.proofs.Saying.{after_append, copies_append, sent_append}
-use Rattle.cb_outbox.specs.Saying.{OutboxState, Says}
 use Rattle.cb_protocol.proofs.GrantNumbers.{left_at_admission, left_at_answer, left_at_begin}
 use Rattle.cb_protocol.proofs.ReadAsksWaiting.{count_without, reads_fewer}
 use Rattle.cb_protocol.specs.Messages.{Body, Message, Welcome}

@@ -1,5 +1,5 @@
 -- The server between two calls, and after each.
-use Rattle.std.proofs.Common.{◌≡◌, ℕ, ◌+◌, ◌<◌, ◌≤◌, Bool, false, List, [], ◌∷◌, ◌++◌, refl, sym, ap, ◌∙◌, subst, arith}
+use Rattle.std.proofs.Common.{◌≡◌, ℕ, ◌<◌, false, List, [], ◌++◌, refl, sym, ap, ◌∙◌, subst}
 use Rattle.std.specs.List.{AllByRecursion}
 use Rattle.cb_callbacks.specs.Tables as tables
 use Rattle.cb_callbacks.specs.declared.tables.Tables.{Tables}
@@ -7,19 +7,19 @@ use Rattle.cb_commit.specs.History.{CommitsState, begun}
 use Rattle.cb_commit.specs.Stores.{IsOf, IsSound, StoreState}
 use Rattle.cb_frame_types.specs.Grammar as grammar
 use Rattle.cb_frame_types.specs.declared.frame.Frame.{Frame}
-use Rattle.cb_holdings.specs.Holdings.{AreOf, HoldingsState, Stays, limits_of, opening_of}
+use Rattle.cb_holdings.specs.Holdings.{AreOf, HoldingsState, limits_of, opening_of}
 use Rattle.cb_outbox.specs.Messages.{body_of, messages_of}
 use Rattle.cb_outbox.specs.Saying.{OutboxState}
 use Rattle.cb_page.specs.Bounds.{Bounds}
-use Rattle.cb_protocol.specs.AnyMessages.{Input, MessageComes, Opened, ReachedBy, input_steps}
+use Rattle.cb_protocol.specs.AnyMessages.{Input, Opened, ReachedBy, input_steps}
 use Rattle.cb_protocol.specs.Messages.{Message}
 use Rattle.cb_protocol.specs.Ranges.{InputTaken, StoreFits}
-use Rattle.cb_protocol.specs.Server.{Server, new_server, server_after}
+use Rattle.cb_protocol.specs.Server.{Server, new_server}
 use Rattle.cb_protocol.specs.ServerMessages.{is_exhausted}
 use Rattle.cb_protocol.specs.WaitsFor.{on_cycle}
 use Rattle.cb_protocol.specs.World.{messages_sent, opening_store}
 use Rattle.cb_server.specs.Answering.{FitsIn, IsLeft, IsReady, Serves, server_in}
-use Rattle.cb_server.specs.ServerState.{IsAtRest, IsServer, IsUnchanged, ServerState, server_of}
+use Rattle.cb_server.specs.ServerState.{IsAtRest, IsUnchanged, ServerState}
 use Rattle.cb_server.specs.Taking.{Does, Takes, input_of}
 use Rattle.cb_server.specs.declared.engine.Engine.{Engine}
 use Rattle.cb_server.proofs.Arising.{arises, body_fits_in, frame_comes, has_grants, said_fits, store_fits}

@@ -1,17 +1,16 @@
 -- What a server's engine does for a message, and the room that it has for it.
-use Rattle.std.specs.Prelude.{◌≡◌, ◌≤◌, ◌<◌, ◌+◌, ◌&&◌, ℕ, Bool, true, false, if◌then◌else◌, List}
+use Rattle.std.specs.Prelude.{◌≡◌, ◌≤◌, ◌<◌, ◌+◌, ◌&&◌, ℕ, Bool, true, false, List}
 use Rattle.std.specs.Prelude.{[], ◌++◌}
-use Rattle.std.specs.Prelude.{length, Option, Some, None, ⊤}
+use Rattle.std.specs.Prelude.{length, ⊤}
 use Rattle.cb_asks.specs.Asks.{room_at}
 use Rattle.cb_callbacks.specs.Callbacks.{IsAsLarge}
 use Rattle.cb_callbacks.specs.Tables.{server_of}
 use Rattle.cb_commit.specs.History.{FitsInto}
-use Rattle.cb_callbacks.specs.declared.tables.Tables.{Tables}
 use Rattle.cb_frame_types.specs.declared.frame.Body.{Body}
 use Rattle.cb_frame_types.specs.declared.frame.Body.TheVariants as body
 use Rattle.cb_holdings.specs.Holdings.{Stays}
 use Rattle.cb_outbox.specs.Messages.{short_of}
-use Rattle.cb_outbox.specs.Saying.{OutboxState, Says}
+use Rattle.cb_outbox.specs.Saying.{Says}
 use Rattle.cb_protocol.specs.Basics.{Limits}
 use Rattle.cb_protocol.specs.Messages as protocol
 use Rattle.cb_protocol.specs.Numbers.{HasGrantsLeft}

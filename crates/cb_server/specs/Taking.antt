@@ -9,7 +9,7 @@ use Rattle.cb_outbox.specs.Messages.{body_of}
 use Rattle.cb_page.specs.Faults.{first_fault}
 use Rattle.cb_protocol.specs.AnyMessages.{Input, MessageComes, input_steps}
 use Rattle.cb_protocol.specs.Messages.{Message}
-use Rattle.cb_protocol.specs.Server.{Server, server_after}
+use Rattle.cb_protocol.specs.Server.{server_after}
 use Rattle.cb_protocol.specs.ServerMessages.{is_exhausted}
 use Rattle.cb_protocol.specs.WaitsFor.{on_cycle}
 use Rattle.cb_protocol.specs.World.{messages_sent}

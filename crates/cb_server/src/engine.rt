@@ -11,8 +11,9 @@ ghost use Rattle.cb_protocol.specs.ServerMessages.{admit_incarnation, is_exhaust
 ghost use Rattle.cb_protocol.specs.ServerMessages.{server_take, take_current};
 ghost use Rattle.cb_protocol.specs.Settling.{settle_pages};
 ghost use Rattle.cb_protocol.specs.WaitsFor.{on_cycle};
-ghost use Rattle.cb_server.specs.Answering.{CanAnswer, CanSettle, FitsIn, IsCurrent, IsLeft, IsReady};
-ghost use Rattle.cb_server.specs.Answering.{LacksNumber, Makes, Serves, is_hello, server_in};
+ghost use Rattle.cb_server.specs.Answering.{CanAnswer, CanSettle, FitsIn, IsCurrent, IsLeft};
+ghost use Rattle.cb_server.specs.Answering.{IsReady, LacksNumber, Makes, Serves, is_hello};
+ghost use Rattle.cb_server.specs.Answering.{server_in};
 ghost use Rattle.cb_server.specs.Taking.{is_exhaustion};
 
 mod answers;
@@ -174,7 +175,6 @@ impl Engine {
 
     /// What may be lost is said again.
     pub(crate) fn again(&mut self, alloc: Global, limits: &Limits) -> Result<(), AllocError>
-        requires ready { IsReady self.old }
         requires of { AreOf limits.now self.old.callbacks.tables.holdings }
         requires greeted { (client : ℕ) → (server_in self.old).doomed client ≡ true
             → IsGreeted (server_in self.old) client }

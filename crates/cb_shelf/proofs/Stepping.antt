@@ -1,5 +1,5 @@
 -- Steps in a transaction, and what follows from several in a row.
-use Rattle.std.proofs.Common.{◌≡◌, ◌⊎◌, inl, inr, ℕ, ◌+◌, List, [], ◌∷◌, ◌++◌, false, cond, Option, Some, None, Result, Ok, Err, IsTrue, IsErrAnd, OnOk, refl, sym, ap, subst, ◌∙◌, arith}
+use Rattle.std.proofs.Common.{◌≡◌, ◌⊎◌, inl, inr, ℕ, ◌+◌, List, [], ◌∷◌, ◌++◌, Bool, true, false, cond, is_ok, IfOk, Option, Some, None, Result, Ok, Err, IsTrue, IsErrAnd, OnOk, refl, sym, ap, subst, ◌∙◌, arith}
 use Rattle.sqlite_schema.specs.declared.command.Returning.{Returning}
 use Rattle.sqlite_resolve.specs.declared.compiled.Compiled.{Compiled}
 use Rattle.std.specs.List.{flat_map, range_with_len}
@@ -13,12 +13,20 @@ use Rattle.sqlite_trees.specs.declared.error.StoreError.{StoreError}
 use Rattle.sqlite_trees.specs.declared.error.StoreError.TheVariants.{OutOfMemory, Io, Corrupt, Full, Broken, Unstorable}
 use Rattle.sqlite.specs.declared.error.Error.{Error}
 use Rattle.sqlite.specs.Effect.{Database}
-use Rattle.sqlite.specs.State.{State, HasCleanDisk, IsUnchanged, IsRolledBack, KeepsCommit, Survives, ExecutesInside, IsNotRun, Shown, ShowsRows, FailsToQuery, FailsToShow, IsTooLate, store_error}
+use Rattle.sqlite.specs.State.{State, HasCleanDisk, IsUnchanged, IsRolledBack, KeepsCommit, Survives, ExecutesInside, IsNotRun, IsNoStatement, Shown, ShowsRows, FailsToQuery, FailsToShow, IsTooLate, store_error}
 use Rattle.sqlite.specs.Held.{Held, state}
 use Rattle.sqlite.proofs.InsideLemmas.{unchanged_keeps, inside_keeps, keeps_then}
 use Rattle.sqlite.proofs.StateLemmas.{survives_then}
 use Rattle.cb_shelf.specs.Statements.{Statement, MakesAll}
-use Rattle.cb_shelf.specs.Inside.{Inside, IsAny, IsOfText}
+use Rattle.sqlite_resolve.specs.declared.error.CompileError.{CompileError}
+use Rattle.sqlite.specs.Steps.{Outlines}
+use Rattle.sqlite.specs.Outline.{Outline}
+use Rattle.sqlite.specs.Listing.{understood}
+use Rattle.sqlite_schema.specs.declared.schema.Schema.{Schema}
+use Rattle.cb_shelf.specs.Inside.{Inside, IsAny, IsOfText, Tells}
+use Rattle.cb_shelf.specs.Opening.{can_answer, HasOld, HasNew, Has, tables_of}
+use Rattle.cb_shelf.specs.declared.opening.Tables.{Tables}
+use Rattle.cb_shelf.specs.declared.opening.Found.{Found}
 
 module _ (old new : State) where
   shows_kept : (sql : List ℕ) (c : Compiled) (params : Row) (rows : List Row) (o : Option Returning) → ShowsRows old new sql c params rows o → IsTrue old.in_transaction
@@ -176,6 +184,117 @@ module _ {S : Type 0} (g : Ghosts S) where
   pub stops_then : {X Y Z E : Type 0} (P Q R : Database → Database → Type 0) (W : E → Type 0) (a b c : Held S) (x : X) (e : E) (r : Result Z E)
       → Inside {E = E} g P a b (Ok x) → Inside {X = Y} g Q b c (Err e) → IsErrAnd r W → Inside g R a c r
   stops_then {Y = Y} P Q R W a b c x e r one two wrong = inside_refused {X = Y} IsAny R W a c e r (inside_then P Q IsAny a b c x (Err e) (λ _ _ _ _ _. tt) one two) wrong
+
+module _ {S : Type 0} (g : Ghosts S) (a b c : Held S) where
+  -- a disk that is clean at the end was clean before
+  pub was_clean : Survives (state g b) (state g c) (λ _. ⊥) → HasCleanDisk (state g c) → HasCleanDisk (state g b)
+  was_clean survives clean = omega (arith, survives.clean)
+
+  -- one question after another
+  pub tells_then : {X Y Z E : Type 0} (P : Schema → X → Type 0) (Q : Schema → Y → Type 0) (R : Schema → Z → Type 0) (x : X) (y : Y) (r : Result Z E)
+      → ((s : Schema) → P s x → Q s y → IfOk r (R s))
+      → Tells {E = E} g P a b (Ok x) → Tells {E = E} g Q b c (Ok y) → Survives (state g b) (state g c) (λ _. ⊥) → Tells g R a c r
+  tells_then P Q R x y (Ok z) f one two survives = record {
+    told = λ clean. let early = was_clean survives clean in f a.schema (one.told early) (subst (λ (s : Schema). Q s y) (one.schema early) (two.told clean));
+    schema = λ clean. two.schema clean ∙ one.schema (was_clean survives clean);
+  }
+  tells_then P Q R x y (Err e) f one two survives = record { told = λ _. tt; schema = λ _. tt }
+
+-- a refusal tells nothing
+pub tells_nothing : {S X E : Type 0} {g : Ghosts S} (P : Schema → X → Type 0) (W : E → Type 0) (a b : Held S) (r : Result X E) → IsErrAnd r W → Tells g P a b r
+tells_nothing P W a b (Ok x) wrong = absurd wrong
+tells_nothing P W a b (Err e) wrong = record { told = λ _. tt; schema = λ _. tt }
+
+-- what two questions told of one schema, and three
+pub both_told : {E : Type 0} (r : Result Bool E) (x y p q : Bool) → IfOk r (λ both. (x ≡ both) × (y ≡ both)) → x ≡ p → y ≡ q → IfOk r (λ both. (p ≡ both) × (q ≡ both))
+both_told (Ok both) x y p q h first second = (sym first ∙ h.0, sym second ∙ h.1)
+both_told (Err e) x y p q h first second = tt
+
+pub all_told : {E : Type 0} (r : Result Bool E) (x y z p q s : Bool) → IfOk r (λ all. (x ≡ all) × (y ≡ all) × (z ≡ all)) → x ≡ p → y ≡ q → z ≡ s
+    → IfOk r (λ all. (p ≡ all) × (q ≡ all) × (s ≡ all))
+all_told (Ok all) x y z p q s h first second third = (sym first ∙ h.0, sym second ∙ h.1, sym third ∙ h.2)
+all_told (Err e) x y z p q s h first second third = tt
+
+-- which tables there are, by what was told of both generations
+pub has_told : {E : Type 0} (r : Result Tables E) (old new : Bool) (schema : Schema)
+    → IfOk r (λ tables. (s : Schema) → HasOld s old → HasNew s new → Has s tables) → HasOld schema old → HasNew schema new → IfOk r (Has schema)
+has_told (Ok tables) old new schema h first second = h schema first second
+has_told (Err e) old new schema h first second = tt
+
+-- a find is of the tables that there are
+pub found_told : {E : Type 0} (r : Result Found E) (tables : Tables) (schema : Schema) → IfOk r (λ found. tables_of found ≡ tables) → Has schema tables
+    → IfOk r (λ found. Has schema (tables_of found))
+found_told (Ok found) tables schema is has = subst (Has schema) (sym is) has
+found_told (Err e) tables schema is has = tt
+
+-- what three questions tell
+pub three_tell : {S E : Type 0} (g : Ghosts S) (a b c d : Held S) (p q s : List ℕ) (x y z : Bool) (r : Result Bool E)
+    → IfOk r (λ all. (x ≡ all) × (y ≡ all) × (z ≡ all))
+    → Tells {E = E} g (λ schema there. there ≡ can_answer schema p) a b (Ok x)
+    → Tells {E = E} g (λ schema there. there ≡ can_answer schema q) b c (Ok y) → Survives (state g b) (state g c) (λ _. ⊥)
+    → Tells {E = E} g (λ schema there. there ≡ can_answer schema s) c d (Ok z) → Survives (state g c) (state g d) (λ _. ⊥)
+    → Tells g (λ schema all. (can_answer schema p ≡ all) × (can_answer schema q ≡ all) × (can_answer schema s ≡ all)) a d r
+three_tell g a b c d p q s x y z (Err e) h one two second three third = record { told = λ _. tt; schema = λ _. tt }
+three_tell {E = E} g a b c d p q s x y z (Ok all) h one two second three third = record {
+  told = λ clean.
+      let mid = was_clean g b c d third clean in
+      let early = was_clean g a b c second mid in
+      let then = two.schema mid ∙ one.schema early in
+      all_told {E = E} (Ok all) x y z _ _ _ h (one.told early) (subst (λ (i : Schema). y ≡ can_answer i q) (one.schema early) (two.told mid)) (subst (λ (i : Schema). z ≡ can_answer i s) then (three.told clean));
+  schema = λ clean. let mid = was_clean g b c d third clean in three.schema clean ∙ two.schema mid ∙ one.schema (was_clean g a b c second mid);
+}
+
+-- which tables there are, by the questions about both generations
+pub tables_tell : {S E : Type 0} (g : Ghosts S) (a b c d : Held S) (old new : Bool) (r : Result Tables E)
+    → IfOk r (λ tables. (s : Schema) → HasOld s old → HasNew s new → Has s tables)
+    → Tells {E = E} g HasOld a b (Ok old)
+    → Tells {E = E} g HasNew b c (Ok new) → Survives (state g b) (state g c) (λ _. ⊥)
+    → Survives (state g c) (state g d) (λ _. ⊥) → HasCleanDisk (state g d) → IfOk r (Has a.schema)
+tables_tell g a b c d old new r h one two second third clean =
+    let mid = was_clean g b c d third clean in
+    let early = was_clean g a b c second mid in
+    has_told r old new a.schema h (one.told early) (subst (λ (i : Schema). HasNew i new) (one.schema early) (two.told mid))
+
+-- a text that is prepared can be answered
+can_be : (r : Result Compiled CompileError) (outline : Outline) → Outlines r outline → true ≡ is_ok r
+can_be (Ok c) outline h = refl
+can_be (Err e) outline h = absurd h
+
+pub prepared_tells : {S E : Type 0} (g : Ghosts S) (text : List ℕ) (a b : Held S) (outline : Outline)
+    → (HasCleanDisk (state g b) → IsUnchanged (state g a) (state g b))
+    → (HasCleanDisk (state g b) → Outlines (understood a.schema text) outline)
+    → Tells {X = Bool} {E = E} g (λ schema there. there ≡ can_answer schema text) a b (Ok true)
+prepared_tells g text a b outline same shape = record {
+  told = λ clean. can_be (understood a.schema text) outline (shape clean);
+  schema = λ clean. ap (λ (d : Database). d.schema) (same clean).0.now_is;
+}
+
+not_answered : (s : State) (text : List ℕ) (params : Row) (e : Error) → IsNoStatement s text params e → IsOfText e → false ≡ is_ok (understood s.now.schema text)
+not_answered s text params e (inl h) is = ap is_ok (sym h.1)
+not_answered s text params e (inr (h)) is = elim h.2 [
+  | inl more ↦ absurd (subst IsOfText more.1 is)
+  | inr (inl count) ↦ absurd (subst IsOfText count.1 is)
+  | inr (inr clock) ↦ absurd (subst IsOfText clock.1 is)
+]
+
+module _ (old new : State) where
+  text_unanswered : (text : List ℕ) (e : Error) → IsNotRun old new text [] e → IsOfText e → false ≡ is_ok (understood old.now.schema text)
+  unfolding IsNotRun
+  text_unanswered text e (inl h) is = not_answered old text [] e h.0 is
+  text_unanswered text e (inr h) is = absurd (no_text old new h.0 (subst IsOfText h.1 is))
+
+  text_same : (text : List ℕ) (e : Error) → IsNotRun old new text [] e → IsOfText e → new.now ≡ old.now
+  text_same text e h is = (text_refused old new text [] e h is).0.now_is
+
+pub refused_tells : {S E : Type 0} (g : Ghosts S) (text : List ℕ) (a b : Held S) (e : Error) (r : Result Bool E)
+    → (HasCleanDisk (state g b) → IsNotRun (state g a) (state g b) text [] e)
+    → OnOk r (IsOfText e) → IfOk r (λ there. there ≡ false)
+    → Tells g (λ schema there. there ≡ can_answer schema text) a b r
+refused_tells g text a b e (Ok there) refused of_text absent = record {
+  told = λ clean. absent ∙ text_unanswered (state g a) (state g b) text e (refused clean) of_text;
+  schema = λ clean. ap (λ (d : Database). d.schema) (text_same (state g a) (state g b) text e (refused clean) of_text);
+}
+refused_tells g text a b e (Err fault) refused of_text absent = record { told = λ _. tt; schema = λ _. tt }
 
 pub two_bound : {v w x y : Value} → v ≡ x → w ≡ y → bound_value v ∷ bound_value w ∷ [] ≡ bound_value x ∷ bound_value y ∷ []
 two_bound is also = rw (is, also)

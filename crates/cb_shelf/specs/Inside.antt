@@ -1,5 +1,6 @@
 -- What a step inside a transaction does, and what a connection keeps.
-use Rattle.std.specs.Prelude.{◌≡◌, IsTrue, OnOk, Result}
+use Rattle.std.specs.Prelude.{◌≡◌, IsTrue, IfOk, OnOk, Result}
+use Rattle.sqlite_schema.specs.declared.schema.Schema.{Schema}
 use Rattle.sqlite.specs.Store.{Ghosts}
 use Rattle.sqlite.specs.declared.error.Error.{Error}
 use Rattle.sqlite.specs.declared.error.Error.TheVariants.{SqlInputError}
@@ -16,6 +17,12 @@ pub record Inside {S X E : Type 0} (g : Ghosts S) (Becomes : Database → Databa
   pub kept : HasCleanDisk (state g after) → IsTrue before.in_transaction
       → KeepsCommit (state g before) (state g after)
   pub survives : Survives (state g before) (state g after) (λ _. ⊥)
+
+-- A question about the schema: where it is answered the answer is so of it, and it is as it was.
+pub record Tells {S X E : Type 0} (g : Ghosts S) (Told : Schema → X → Type 0)
+    (before after : Held S) (result : Result X E) : Type 0 where
+  pub told : HasCleanDisk (state g after) → IfOk result (Told before.schema)
+  pub schema : HasCleanDisk (state g after) → OnOk result (after.schema ≡ before.schema)
 
 -- whatever the database becomes
 abbrev pub IsAny : Database → Database → Type 0

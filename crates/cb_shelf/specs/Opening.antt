@@ -1,6 +1,6 @@
 -- What an open may do to a database.
 use Rattle.std.specs.Prelude.{◌≡◌, ◌⊎◌, ℕ, pos, Bool, true, false, if◌then◌else◌, List, [], ◌∷◌}
-use Rattle.std.specs.Prelude.{◌++◌, length, IsTrue, codes}
+use Rattle.std.specs.Prelude.{◌++◌, length, is_ok, IsTrue, codes}
 use Rattle.std.specs.List.{range_with_len, flat_map}
 use Rattle.sqlite.specs.declared.types.Value.TheVariants.{Int}
 use Rattle.sqlite.specs.Store.{Ghosts}
@@ -9,6 +9,11 @@ use Rattle.sqlite.specs.Tree.{Trees}
 use Rattle.sqlite.specs.Held.{Held, state}
 use Rattle.cb_page.specs.Bounds.{Bounds}
 use Rattle.cb_commit.specs.Stores.{StoreState, IsOf, zeros, version_at, bytes_at}
+use Rattle.sqlite_schema.specs.declared.schema.Schema.{Schema}
+use Rattle.sqlite.specs.Listing.{understood}
+use Rattle.cb_shelf.specs.declared.opening.Tables.{Tables}
+use Rattle.cb_shelf.specs.declared.opening.Tables.TheVariants.{Nothing as none, Old as older}
+use Rattle.cb_shelf.specs.declared.opening.Tables.TheVariants.{New as newer}
 use Rattle.cb_shelf.specs.declared.opening.Found.{Found}
 use Rattle.cb_shelf.specs.declared.opening.Found.TheVariants.{Nothing, Old, New}
 use Rattle.cb_shelf.specs.Statements.{Statement, MakesAll, page_statements}
@@ -68,13 +73,42 @@ IsFound limits Nothing = Unit {0}
 IsFound limits (Old store) = IsOf limits store
 IsFound limits New = Unit {0}
 
--- The tables are there already; or there were none, and they are made with zeros; or a store was
--- copied out of the old ones, which are emptied.
+-- whether the tables of a schema can answer a query
+abbrev pub can_answer : Schema → List ℕ → Bool
+can_answer schema query = is_ok (understood schema query)
+
+-- the tables of the older generation are all there, or none is
+abbrev pub HasOld : Schema → Bool → Type 0
+HasOld schema there = (can_answer schema (codes "SELECT no, version, body FROM page") ≡ there)
+    × (can_answer schema (codes "SELECT id, commits, page_size FROM mark") ≡ there)
+
+-- the tables that a shelf writes are all there, or none is
+abbrev pub HasNew : Schema → Bool → Type 0
+HasNew schema there =
+    (can_answer schema (codes "SELECT id, commits, page_size, pages FROM mark2") ≡ there)
+    × (can_answer schema (codes "SELECT no, version FROM page2") ≡ there)
+    × (can_answer schema (codes "SELECT no, place, body FROM part") ≡ there)
+
+-- which tables a schema has
+abbrev pub Has : Schema → Tables → Type 0
+Has schema none = HasOld schema false × HasNew schema false
+Has schema older = HasOld schema true × HasNew schema false
+Has schema newer = HasNew schema true
+
+-- the tables that a find is of
+abbrev pub tables_of : Found → Tables
+tables_of Nothing = none
+tables_of (Old store) = older
+tables_of New = newer
+
+-- The tables are there already; or there were none, and they are made with zeros; or only those of
+-- the older generation were, and the store in them is copied, and they are emptied.
 abbrev pub LaysOut : {S : Type 0} → Ghosts S → Bounds → Database → Database → Type 0
 LaysOut g limits before after =
-    (before ≡ after)
-    ⊎ (MakesAll g (laid (zeros limits) false) before after
-    ⊎ ((store : StoreState) × IsOf limits store × MakesAll g (laid store true) before after))
+    (Has before.schema newer × (before ≡ after))
+    ⊎ ((Has before.schema none × MakesAll g (laid (zeros limits) false) before after)
+    ⊎ (Has before.schema older
+    × (store : StoreState) × IsOf limits store × MakesAll g (laid store true) before after))
 
 -- a database that an open may make of the one which a connection sees
 abbrev pub Opened : {S : Type 0} → Ghosts S → Bounds → Held S → Trees → Type 0

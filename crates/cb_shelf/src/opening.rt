@@ -1,12 +1,14 @@
 //! Which tables there are, and making those that aren't.
 ghost use Rattle.std.specs.Prelude.{◌≡◌, ◌≤◌, [], ◌∷◌, false, if◌then◌else◌, length, IsTrue, IfOk};
-ghost use Rattle.std.specs.Prelude.{OnOk, OnErr};
+ghost use Rattle.std.specs.Prelude.{◌≢◌, IsErr, OnOk, OnErr};
 ghost use Rattle.sqlite.specs.State.{HasCleanDisk, Survives};
 ghost use Rattle.sqlite.specs.Held.{state};
 ghost use Rattle.cb_commit.specs.Stores.{IsOf, zeros};
 ghost use Rattle.cb_shelf.specs.Statements.{MakesAll};
-ghost use Rattle.cb_shelf.specs.Inside.{Inside, IsAny, IsSame};
+ghost use Rattle.sqlite_schema.specs.declared.schema.Schema.{Schema};
+ghost use Rattle.cb_shelf.specs.Inside.{Inside, IsAny, IsSame, Tells};
 ghost use Rattle.cb_shelf.specs.Opening.{LaysOut, LaidBy, Opened, IsFound, table_statements};
+ghost use Rattle.cb_shelf.specs.Opening.{Has, HasOld, HasNew, tables_of};
 ghost use Rattle.cb_shelf.specs.Opening.{clear_statements, first_pages, laid, mark_row};
 
 use crate::ShelfFault;
@@ -35,37 +37,47 @@ pub(crate) enum Found {
     New,
 }
 
-/// Whether all of these are there; it is refused where only some are.
-fn all_or_none(there: &[bool]) -> Result<bool, ShelfFault> {
-    let count = there.iter().filter(|is| **is).count();
-    if count == there.len() {
-        Ok(true)
-    } else if count == 0 {
-        Ok(false)
+/// Whether both are there; it is refused where only one is.
+fn both_or_none(first: bool, second: bool) -> Result<bool, ShelfFault>
+    ensures ok { IfOk result (λ both. (first ≡ both) × (second ≡ both)) }
+    ensures err { IsErr result → first ≢ second }
+{
+    if first == second {
+        Ok(first)
     } else {
         Err(ShelfFault::Shape)
     }
+}
+
+/// Whether all three are there; it is refused where only some are.
+fn all_or_none(first: bool, second: bool, third: bool) -> Result<bool, ShelfFault>
+    ensures ok { IfOk result (λ all. (first ≡ all) × (second ≡ all) × (third ≡ all)) }
+{
+    let both = both_or_none(first, second)?;
+    both_or_none(both, third)
 }
 
 /// Whether the tables of the older generation are there.
 fn old_there<S: Alter>(tx: &mut Transaction<'_, S>) -> Result<bool, ShelfFault>
     ensures same_reference { tx.new.conn.ghost_name ≡ tx.old.conn.ghost_name }
     ensures inside { Inside S.Store IsAny tx.old.conn.now tx.new.conn.now result }
+    ensures tells { Tells S.Store HasOld tx.old.conn.now tx.new.conn.now result }
 {
     let page = is_there(tx, "SELECT no, version, body FROM page")?;
     let mark = is_there(tx, "SELECT id, commits, page_size FROM mark")?;
-    all_or_none(&[page, mark])
+    both_or_none(page, mark)
 }
 
 /// Whether the tables that a shelf writes are there.
 fn new_there<S: Alter>(tx: &mut Transaction<'_, S>) -> Result<bool, ShelfFault>
     ensures same_reference { tx.new.conn.ghost_name ≡ tx.old.conn.ghost_name }
     ensures inside { Inside S.Store IsAny tx.old.conn.now tx.new.conn.now result }
+    ensures tells { Tells S.Store HasNew tx.old.conn.now tx.new.conn.now result }
 {
     let mark = is_there(tx, "SELECT id, commits, page_size, pages FROM mark2")?;
     let page = is_there(tx, "SELECT no, version FROM page2")?;
     let part = is_there(tx, "SELECT no, place, body FROM part")?;
-    all_or_none(&[mark, page, part])
+    all_or_none(mark, page, part)
 }
 
 /// Whether the old tables have a row.
@@ -82,7 +94,10 @@ fn old_rows<S: Alter>(tx: &mut Transaction<'_, S>, there: bool) -> Result<bool, 
 }
 
 /// Which of the three cases it is, if any.
-fn judged(old: bool, rows: bool, new: bool) -> Result<Tables, ShelfFault> {
+fn judged(old: bool, rows: bool, new: bool) -> Result<Tables, ShelfFault>
+    ensures { IfOk result (λ tables. (schema : Schema) → HasOld schema old → HasNew schema new
+        → Has schema tables) }
+{
     match (old, rows, new) {
         (false, _, false) => Ok(Tables::Nothing),
         (true, true, false) => Ok(Tables::Old),
@@ -95,6 +110,8 @@ fn judged(old: bool, rows: bool, new: bool) -> Result<Tables, ShelfFault> {
 fn find_tables<S: Alter>(tx: &mut Transaction<'_, S>) -> Result<Tables, ShelfFault>
     ensures same_reference { tx.new.conn.ghost_name ≡ tx.old.conn.ghost_name }
     ensures inside { Inside S.Store IsAny tx.old.conn.now tx.new.conn.now result }
+    ensures told { HasCleanDisk (state S.Store tx.new.conn.now)
+        → IfOk result (Has tx.old.conn.now.schema) }
 {
     let old = old_there(tx)?;
     let new = new_there(tx)?;
@@ -112,6 +129,7 @@ fn find_store<S: Alter>(
     ensures same_reference { tx.new.conn.ghost_name ≡ tx.old.conn.ghost_name }
     ensures inside { Inside S.Store IsAny tx.old.conn.now tx.new.conn.now result }
     ensures of { IfOk result (IsFound limits.now) }
+    ensures tables { IfOk result (λ found. tables_of found ≡ tables) }
 {
     match tables {
         Tables::Nothing => Ok(Found::Nothing),
@@ -135,6 +153,8 @@ fn find<S: Alter>(
     ensures same_reference { tx.new.conn.ghost_name ≡ tx.old.conn.ghost_name }
     ensures inside { Inside S.Store IsAny tx.old.conn.now tx.new.conn.now result }
     ensures of { IfOk result (IsFound limits.now) }
+    ensures told { HasCleanDisk (state S.Store tx.new.conn.now)
+        → IfOk result (λ found. Has tx.old.conn.now.schema (tables_of found)) }
 {
     let tables = find_tables(tx)?;
     find_store(alloc, tx, limits, tables)
@@ -147,6 +167,8 @@ fn look<S: Alter>(
     limits: &Limits,
 ) -> Result<Found, ShelfFault>
     ensures of { IfOk result (IsFound limits.now) }
+    ensures told { HasCleanDisk (state S.Store conn.new)
+        → IfOk result (λ found. Has conn.old.schema (tables_of found)) }
     ensures same { HasCleanDisk (state S.Store conn.new)
         → IsSame (state S.Store conn.old) (state S.Store conn.new) }
     ensures settled { HasCleanDisk (state S.Store conn.new)

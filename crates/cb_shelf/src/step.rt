@@ -1,10 +1,11 @@
 //! One statement inside a transaction.
-ghost use Rattle.std.specs.Prelude.{◌≡◌, [], ◌∷◌, IsTrue, OnOk};
+ghost use Rattle.std.specs.Prelude.{◌≡◌, [], ◌∷◌, false, IsTrue, IfOk, OnOk};
 ghost use Rattle.sqlite.specs.Values.{bound};
 ghost use Rattle.sqlite.specs.State.{HasCleanDisk};
 ghost use Rattle.sqlite.specs.Held.{state};
 ghost use Rattle.cb_shelf.specs.Statements.{MakesAll};
-ghost use Rattle.cb_shelf.specs.Inside.{Inside, IsAny, IsOfText};
+ghost use Rattle.cb_shelf.specs.Inside.{Inside, IsAny, IsOfText, Tells};
+ghost use Rattle.cb_shelf.specs.Opening.{can_answer};
 
 use crate::ShelfFault;
 use sqlite::types::ValueRef;
@@ -48,6 +49,8 @@ pub(crate) fn is_there<S: Alter>(
 ) -> Result<bool, ShelfFault>
     ensures same_reference { tx.new.conn.ghost_name ≡ tx.old.conn.ghost_name }
     ensures inside { Inside S.Store IsAny tx.old.conn.now tx.new.conn.now result }
+    ensures tells { Tells S.Store (λ schema there. there ≡ can_answer schema text.now)
+        tx.old.conn.now tx.new.conn.now result }
 {
     let Err(error) = tx.prepare(text) else {
         return Ok(true);
@@ -57,7 +60,8 @@ pub(crate) fn is_there<S: Alter>(
 
 /// Tells a text that the tables can't answer from another refusal.
 fn absent(error: Error) -> Result<bool, ShelfFault>
-    ensures { OnOk result (IsOfText error) }
+    ensures text { OnOk result (IsOfText error) }
+    ensures absent { IfOk result (λ there. there ≡ false) }
 {
     match error {
         Error::SqlInputError(_) => Ok(false),

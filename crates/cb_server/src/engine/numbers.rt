@@ -25,8 +25,8 @@ impl Engine {
         }
     }
 
-    /// Whether an ask to read would enter a queue, and no grant number is left for it beyond one for
-    /// each that waits.
+    /// Whether an ask to read would enter a queue, and no grant number is left for it beyond one
+    /// for each that waits.
     fn lacks_grant(&self, client: ClientNo, txn: TxnNo, page: PageNo) -> bool
         requires client { HasClient self.now.callbacks.tables client }
         requires page { HasPage self.now.callbacks.tables page }
@@ -38,8 +38,7 @@ impl Engine {
         match self.callbacks.holdings().standing(client, txn) {
             Standing::Later => self.lacks_grant_after(self.callbacks.read_asks_of_others(client)),
             Standing::Live => {
-                !self.callbacks.waits(client)
-                    && self.lacks_grant_after(self.callbacks.read_asks())
+                !self.callbacks.waits(client) && self.lacks_grant_after(self.callbacks.read_asks())
             }
             Standing::Doomed => false,
             Standing::Ended => false,

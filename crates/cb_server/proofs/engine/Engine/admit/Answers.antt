@@ -1,5 +1,3 @@
-use Rattle.std.proofs.Common.{◌≡◌, refl}
-use Rattle.cb_protocol.specs.Server.{Server}
 use Rattle.cb_protocol.specs.ServerMessages.{admit_incarnation}
 use Rattle.cb_protocol.specs.Settling.{settle_pages}
 use Rattle.cb_protocol.specs.WaitsFor.{on_cycle}

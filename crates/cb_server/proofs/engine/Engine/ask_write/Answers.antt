@@ -1,6 +1,5 @@
-use Rattle.std.proofs.Common.{◌≡◌, ◌∷◌, [], ◌∙◌, ap, refl}
+use Rattle.std.proofs.Common.{◌∷◌, [], refl}
 use Rattle.cb_protocol.specs.Messages.{AbortNow, AskWrite}
-use Rattle.cb_protocol.specs.Server.{Server}
 use Rattle.cb_protocol.specs.ServerMessages.{direct_answer, take_ask_write}
 use Rattle.cb_protocol.specs.Settling.{send_to}
 use Rattle.cb_protocol.specs.WaitsFor.{on_cycle}

@@ -1,4 +1,4 @@
-use Rattle.std.proofs.Common.{rules, ◌≡◌, ◌∙◌, true, refl}
+use Rattle.std.proofs.Common.{◌≡◌, ◌∙◌, true, refl}
 use Rattle.cb_protocol.specs.Server.{has_not_ended}
 use Rattle.cb_server.specs.Answering.{server_in}
 use Rattle.cb_server.proofs.DirectAnswers.{drops, lives_or_not}

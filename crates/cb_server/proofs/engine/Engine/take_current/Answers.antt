@@ -3,7 +3,6 @@ use Rattle.cb_outbox.specs.Messages.{body_of}
 use Rattle.cb_protocol.specs.Server.{Server, server_after}
 use Rattle.cb_protocol.specs.ServerMessages.{begin_transaction, lacks_number, named_txn, take_current}
 use Rattle.cb_protocol.specs.WaitsFor.{on_cycle}
-use Rattle.cb_server.specs.Answering.{LacksNumber, server_in}
 use Rattle.cb_server.proofs.Making.{serves, takes}
 use Rattle.cb_server.proofs.Rooms.{settles_after_answer}
 use Rattle.cb_server.proofs.engine.Engine.take_current.Goals as goal

@@ -1,6 +1,6 @@
-use Rattle.std.proofs.Common.{◌≡◌, ◌++◌, ◌∷◌, [], ◌∙◌, ap, refl}
+use Rattle.std.proofs.Common.{◌++◌, ◌∷◌, [], ◌∙◌, ap, refl}
 use Rattle.cb_outbox.specs.Saying.{OutboxState}
-use Rattle.cb_protocol.specs.Messages.{Message, Welcome}
+use Rattle.cb_protocol.specs.Messages.{Welcome}
 use Rattle.cb_server.proofs.Making.{stays_same}
 use Rattle.cb_server.proofs.engine.Engine.welcome.Goals as goal
 

@@ -1,20 +1,22 @@
-use Rattle.std.proofs.Common.{◌≡◌, subst}
+use Rattle.std.proofs.Common.{subst}
 use Rattle.std.specs.List.{AllByRecursion}
 use Rattle.cb_frame_types.specs.Grammar.{Fits}
 use Rattle.cb_protocol.specs.AnyMessages.{SendsAgain}
 use Rattle.cb_server.specs.ServerState.{ServerState}
 use Rattle.cb_server.proofs.Resending.{doomed_greeted}
-use Rattle.cb_server.proofs.Serving.{fits_said, ready}
+use Rattle.cb_server.proofs.Serving.{fits_said, rests, state}
 use Rattle.cb_server.proofs.server.Server.again.Goals as goal
 
-pub again-requires-clause-ready : goal.again-requires-clause-ready
-again-requires-clause-ready c = ready c.self.inside.limits c.self.inside.engine c.self.invariant
-
 pub again-requires-clause-greeted : goal.again-requires-clause-greeted
-again-requires-clause-greeted c = doomed_greeted _ c.self.invariant.is
+again-requires-clause-greeted c = doomed_greeted (state c.self.inside.limits c.self.inside.engine) c.self.invariant.is
+
+pub invariant_of-self-2 : goal.invariant_of-self-2
+invariant_of-self-2 c =
+    rests c.self.inside.limits c.self.inside.engine c.again.new.self c.take.new.self SendsAgain c.self.invariant tt
+    c.in_ok-again.ensures.ok c.take.ensures.left c.take.ensures.page_size
 
 pub returns-clause-fits : goal.returns-clause-fits
 returns-clause-fits c =
     subst (λ (v : ServerState). AllByRecursion (Fits v.limits) c.take.result.items) c.self.view_is
-    (fits_said c.self.inside.limits c.self.inside.engine c.again.new.self SendsAgain c.take.result.items c.self.invariant
-    tt c.in_ok-again.ensures.ok c.take.ensures.frames)
+    (fits_said c.self.inside.limits c.self.inside.engine c.again.new.self SendsAgain c.take.result.items c.self.invariant tt
+    c.in_ok-again.ensures.ok c.take.ensures.frames)

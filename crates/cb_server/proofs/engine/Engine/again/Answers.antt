@@ -1,0 +1,19 @@
+use Rattle.std.proofs.Common.{◌≡◌, ◌+◌, ◌≤◌, length, refl, subst, sym, ap, arith}
+use Rattle.cb_protocol.specs.Resend.{server_again}
+use Rattle.cb_server.specs.declared.engine.Engine.{Engine}
+use Rattle.cb_server.proofs.Making.{serves, stays_same}
+use Rattle.cb_server.proofs.engine.Engine.again.Goals as goal
+
+pub again-requires-clause-room : goal.again-requires-clause-room
+again-requires-clause-room c =
+    let more = c.in_ok-reserve.ensures.room in let same = ap length c.reserve.ensures.sent in
+    c.resending_is_bounded.ensures c.reserve.new.self (omega (arith, more, same))
+
+pub returns-clause-ok : goal.returns-clause-ok
+returns-clause-ok c =
+    serves c.args.self.now middle (record { callbacks = c.args.self.now.callbacks; outbox = c.again.new.outbox }) server_again
+    (record { server = refl; holdings = refl; sent = c.reserve.ensures.sent; page_size = c.reserve.ensures.page_size })
+    (record { says = c.again.ensures; stays = stays_same c.args.self.now.callbacks.tables.holdings })
+  where
+    middle : Engine
+    middle = record { callbacks = c.args.self.now.callbacks; outbox = c.reserve.new.self }
