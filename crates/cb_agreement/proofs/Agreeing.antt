@@ -46,10 +46,11 @@ pub hands_meet : HandsMeet
 hands_meet server one other rule agrees others apart page x y e f =
     let a = shown_is (held_at one.held page) (has one.writable page) x e in
     let b = shown_is (held_at other.held page) (has other.writable page) y f in
-    let same : a.0.version ≡ b.0.version = sym (agrees.rows page a.0 a.1).version ∙ (others.rows page b.0 b.1).version in
-    (a.2 ∙ same ∙ sym b.2,
-        a.3 ∙ may_not server one other rule agrees others apart page b.0 a.0 a.1 b.1 (has one.writable page) refl,
-        b.3 ∙ may_not server other one rule others agrees (λ z. apart (sym z)) page a.0 b.0 b.1 a.1 (has other.writable page) refl)
+    let same : a.0.version ≡ b.0.version = sym (agrees.rows page a.0 a.1).version ∙ (others.rows page b.0 b.1).version in (
+      a.2 ∙ same ∙ sym b.2,
+      a.3 ∙ may_not server one other rule agrees others apart page b.0 a.0 a.1 b.1 (has one.writable page) refl,
+      b.3 ∙ may_not server other one rule others agrees (λ z. apart (sym z)) page a.0 b.0 b.1 a.1 (has other.writable page) refl,
+    )
 
 -- a hand agrees where its client is kept as it was, and each page that it holds keeps its version
 stays : (before after : Server) (hand : HandState) → KeepsClient before after hand.client
@@ -78,10 +79,10 @@ not_written (write ∷ writes) page number old none = by (write.page == page) re
 pub commit_leaves_others : CommitLeavesOthers
 commit_leaves_others opening before after hand client incarnation txn writes was is rule applied permitted apart keeps agrees =
     stays before after hand keeps (λ page held here.
-        is.version page ∙ ap (λ commits. version_after opening.version commits page) applied.listed
-        ∙ not_written writes page (before.store.last_commit + 1) (version_after opening.version before.commits page)
-        (λ write inside same. apart (rule.sole page client hand.client held.grant (ap before.store.holder (sym same) ∙ permitted write inside) (agrees.rows page held here).grant))
-        ∙ sym (was.version page)) agrees
+    is.version page ∙ ap (λ commits. version_after opening.version commits page) applied.listed
+    ∙ not_written writes page (before.store.last_commit + 1) (version_after opening.version before.commits page)
+    (λ write inside same. apart (rule.sole page client hand.client held.grant (ap before.store.holder (sym same) ∙ permitted write inside) (agrees.rows page held here).grant))
+    ∙ sym (was.version page)) agrees
 
 -- nothing is held of an empty table, and it has no flag
 nothing_held : (pages page : ℕ) (held : Held) → get_or (replicate pages None) page None ≡ Some held → ⊥

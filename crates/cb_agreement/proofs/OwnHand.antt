@@ -19,13 +19,16 @@ use Rattle.cb_protocol.specs.Session.{new_version}
 use Rattle.cb_protocol.specs.World.{Opening}
 
 pub own_message : OwnMessage
-own_message opening before after hand body was is same keeps stays agrees = (rows, λ lasts. record {
-  rows = rows;
-  permission = λ page held here told. elim (keeps.permission page (agrees.permission page held here told)) [
-    | inl holder ↦ holder
-    | inr over ↦ absurd (omega (arith, lasts, over))
-  ];
-})
+own_message opening before after hand body was is same keeps stays agrees = (
+  rows,
+  λ lasts. record {
+    rows = rows;
+    permission = λ page held here told. elim (keeps.permission page (agrees.permission page held here told)) [
+      | inl holder ↦ holder
+      | inr over ↦ absurd (omega (arith, lasts, over))
+    ];
+  },
+)
   where
     rows : HasRows after hand
     rows page held here = record {
@@ -79,8 +82,8 @@ restamps : (writes : List PageWrite) (hand : HandState) (number page old : ℕ) 
 restamps [] hand number page old held within e = record { before = held; here = e; grant = refl; version = λ v. sym v }
 restamps (write ∷ writes) hand number page old held within e =
     let first : Restamped (restamped hand write.page number).held writes number page (if write.page == page then number else old) held =
-        restamps writes (restamped hand write.page number) number page (if write.page == page then number else old) held
-        (λ w i. let l = within w (inr i) in let s = length-set hand.held write.page (at_version number (get_or hand.held write.page None)) in omega (arith, l, s)) e in
+    restamps writes (restamped hand write.page number) number page (if write.page == page then number else old) held
+    (λ w i. let l = within w (inr i) in let s = length-set hand.held write.page (at_version number (get_or hand.held write.page None)) in omega (arith, l, s)) e in
     elim (cases_eq page write.page) [
       | inl is ↦ here_first first is
       | inr apart ↦ elsewhere first apart
@@ -89,11 +92,11 @@ restamps (write ∷ writes) hand number page old held within e =
     here_first : Restamped (restamped hand write.page number).held writes number page (if write.page == page then number else old) held → page ≡ write.page → Restamped hand.held (write ∷ writes) number page old held
     here_first first is =
         let at : at_version number (get_or hand.held write.page None) ≡ Some first.before =
-            sym (get_or-set_same hand.held write.page (at_version number (get_or hand.held write.page None)) None (within write (inl refl))) ∙ ap (λ k. get_or (restamped hand write.page number).held k None) (sym is) ∙ first.here in
+        sym (get_or-set_same hand.held write.page (at_version number (get_or hand.held write.page None)) None (within write (inl refl))) ∙ ap (λ k. get_or (restamped hand write.page number).held k None) (sym is) ∙ first.here in
         let copy = stamped (get_or hand.held write.page None) number first.before at in
         let chosen : (if write.page == page then number else old) ≡ number = by (write.page == page) refl (sym is) in
         let later : new_version (write_of_page writes page) number number ≡ held.version =
-            ap (λ n. new_version (write_of_page writes page) number n) (sym chosen) ∙ first.version (sym copy.3 ∙ sym chosen) in
+        ap (λ n. new_version (write_of_page writes page) number n) (sym chosen) ∙ first.version (sym copy.3 ∙ sym chosen) in
         record {
           before = copy.0;
           here = ap (λ k. get_or hand.held k None) is ∙ copy.1;

@@ -82,8 +82,8 @@ pub cleared_all : (first now : List (Option Held)) (from : ℕ) → Cleared firs
 cleared_all first now from cleared rest =
     let none : Option Held = None in
     ext_get_or none now (replicate (length first) none) (cleared.size ∙ sym (length-replicate (length first) none))
-        (λ k lt. elim (cases_lt k from) [ inl early ↦ cleared.none k early | inr late ↦ rest k late ]
-        ∙ sym (get_or-replicate (length first) k none none (let s = cleared.size in omega (arith, s, lt))))
+    (λ k lt. elim (cases_lt k from) [ inl early ↦ cleared.none k early | inr late ↦ rest k late ]
+    ∙ sym (get_or-replicate (length first) k none none (let s = cleared.size in omega (arith, s, lt))))
 
 -- two tables are the same before a place
 abbrev pub SameBefore : List (Option Held) → List (Option Held) → ℕ → Type 0
@@ -107,7 +107,7 @@ pub same_all : (held other : List (Option Held)) (from : ℕ) → map is_some he
     → ((k : ℕ) → from ≤ k → get_or held k None ≡ None) → held ≡ other
 same_all held other from flags same rest =
     ext_get_or None held other (sym (length-flags held) ∙ ap length flags ∙ length-flags other)
-        (λ k lt. elim (cases_lt k from) [ inl early ↦ same k early | inr late ↦ none_in held other k flags (rest k late) ])
+    (λ k lt. elim (cases_lt k from) [ inl early ↦ same k early | inr late ↦ none_in held other k flags (rest k late) ])
 
 -- two sets are the same where neither has a page from a place on, and before it they are
 pub same_sets : (flags other : List Bool) (from : ℕ) (found : Option ℕ) → length flags ≡ length other

@@ -53,15 +53,17 @@ no_other_changes opening before after entries was is same replays = record {
 pub noted_commit_follows : NotedCommit
 noted_commit_follows opening before after client incarnation txn writes entry entries was is applied names replays legal reads =
     let many : length entries ≡ length before.commits =
-        sym (length-noted entries) ∙ ap length replays.commits ∙ length-noted_commit before.commits in
+    sym (length-noted entries) ∙ ap length replays.commits ∙ length-noted_commit before.commits in
     let last : before.store.last_commit ≡ opening.number + length before.commits =
-        counted opening.number before.commits before.store.last_commit was.numbered in
+    counted opening.number before.commits before.store.last_commit was.numbered in
     let number : before.store.last_commit + 1 ≡ opening.number + length entries + 1 = omega (arith, many, last) in
-    let pages : pages_of writes ≡ entry.writes.items = ap (λ (n : Noted). n.writes) (sym names) in
-    (record {
-      commits = (λ i. names i ∷ replays.commits i) ∙ sym (ap (λ commits. map noted_commit commits) applied.listed);
-      version = λ page. is.version page ∙ ap (λ commits. version_after opening.version commits page) applied.listed
-          ∙ new_version_of writes page (before.store.last_commit + 1) (version_after opening.version before.commits page)
-          ∙ (λ i. cond (is_among page (pages i)) (number i) ((sym (was.version page) ∙ replays.version page) i));
-      bytes = is.bytes;
-    }, (λ read here. reads read here ∙ replays.version read.page, legal))
+    let pages : pages_of writes ≡ entry.writes.items = ap (λ (n : Noted). n.writes) (sym names) in (
+      record {
+        commits = (λ i. names i ∷ replays.commits i) ∙ sym (ap (λ commits. map noted_commit commits) applied.listed);
+        version = λ page. is.version page ∙ ap (λ commits. version_after opening.version commits page) applied.listed
+            ∙ new_version_of writes page (before.store.last_commit + 1) (version_after opening.version before.commits page)
+            ∙ (λ i. cond (is_among page (pages i)) (number i) ((sym (was.version page) ∙ replays.version page) i));
+        bytes = is.bytes;
+      },
+      (λ read here. reads read here ∙ replays.version read.page, legal),
+    )
