@@ -25,7 +25,8 @@ build() {
   done
   echo "cb_shelf_files: cb_page cb_frame_types cb_frame cb_commit cb_shelf sqlite sqlite_disk sqlite_store anyhow" \
     >>"$at/crates.txt"
-  cp "$top/scripts/shelf_files/main.rt" "$top/crates/cb_shelf_tests/src/bench.rt" "$at/crates/cb_shelf_files/src/"
+  cp "$top/crates/cb_shelf_tests/src/bench.rt" "$at/crates/cb_shelf_files/src/"
+  cp "$top/scripts/shelf_files/main.txt" "$at/crates/cb_shelf_files/src/main.rt"
   cp -r "$top/crates/cb_shelf_tests/proofs/bench/apply" "$at/crates/cb_shelf_files/proofs/bench/"
   sed -i 's/cb_shelf_tests/cb_shelf_files/g' "$at"/crates/cb_shelf_files/proofs/bench/apply/*
   (cd "$at/crates/cb_shelf_files" && "${RT:-rt}" run -- none none >"$room/build" 2>&1)
