@@ -1,25 +1,22 @@
 -- What the protocol's table says of each call.
-use Rattle.std.proofs.Common.{◌≡◌, ◌≢◌, ◌+◌, ◌<◌, ℕ, true, List, [], ◌∷◌, length, Option, Some, None, unwrap_or, refl, sym, ◌∙◌, ap, arith}
-use Rattle.std.specs.Option.{is_some, option_map}
+use Rattle.std.proofs.Common.{◌≡◌, ◌≢◌, ◌+◌, ◌<◌, ℕ, List, [], ◌∷◌, Option, Some, None, unwrap_or, refl, sym, ◌∙◌, ap, arith}
+use Rattle.std.specs.Option.{option_map}
 use Rattle.cb_protocol.proofs.Cases.{call_accepted, fault_of_hello, fault_of_peek}
 use Rattle.cb_protocol.specs.Answers as table
 use Rattle.cb_protocol.specs.Basics.{Bytes}
 use Rattle.cb_protocol.specs.Cache.{Begin, Idle}
-use Rattle.cb_protocol.specs.Client.{ChangeCache, Client, ClientStep, Say, bodies_said, client_after}
+use Rattle.cb_protocol.specs.Client.{ChangeCache, ClientStep, Say, bodies_said, client_after}
 use Rattle.cb_protocol.specs.ClientCalls.{Call, CallBegin, CallHello, CallPeek, Reply, accept_call, call_fault, client_call, peek_word, reply_with}
 use Rattle.cb_protocol.specs.Messages.{Hello, Message}
 use Rattle.cb_protocol.specs.Ranges.{InputFits}
 use Rattle.cb_protocol.specs.Serial.{Operation}
-use Rattle.cb_page.specs.Bounds.{Bounds}
 use Rattle.cb_page.specs.Flags.{has}
-use Rattle.cb_copies.specs.CopiesState.{client_with, content_at, copy_at, limits_of}
-use Rattle.cb_locks.specs.Dues.{is_due}
-use Rattle.cb_client.specs.declared.standing.Ask.TheVariants as asks
-use Rattle.cb_locks.specs.Locks.{due_at}
-use Rattle.cb_client.specs.ClientState.{ClientState, HasRoomLeft, IsClient, IsReached, client_of, stage_of}
-use Rattle.cb_client.specs.declared.standing.Stage.{Stage}
-use Rattle.cb_client.specs.declared.standing.Stage.TheVariants as stages
-use Rattle.cb_client.proofs.Reaching.{calls_reach}
+use Rattle.cb_copies.specs.CopiesState.{content_at}
+use Rattle.cb_client_engine.specs.ClientState.{ClientState, IsClient, client_of, stage_of}
+use Rattle.cb_client_engine.specs.declared.standing.Stage.{Stage}
+use Rattle.cb_client_engine.specs.declared.standing.Stage.TheVariants as stages
+use Rattle.cb_client_engine.proofs.Reaching.{calls_reach}
+use Rattle.cb_client_engine.proofs.Keeping.{keeps}
 use Rattle.cb_protocol.proofs.ClientInvariant.{tidy}
 use Rattle.cb_client.specs.ByTable.{Calls, IsRefusal, IsRefused, as_before, limits_at, messages_from, refusal}
 use Rattle.cb_client.specs.declared.client_fault.ClientFault.{ClientFault}
@@ -112,31 +109,6 @@ has_begun v is n e = none_begun v.txn e ((tidy (limits_at v) (InputFits (limits_
     not_idle stages.Idle n z = n refl
     not_idle stages.Open n z = absurd cc
     not_idle stages.Committing n z = absurd cc
-
--- the pool has room while an ask to read is out
-abbrev pub HasRoomToRead : ClientState → Type 0
-HasRoomToRead v = (page : ℕ) → v.ask ≡ asks.Read page → (other : Client) → HasRoomLeft (limits_of v.copies.limits) (client_with v.copies other)
-
--- what holds of every client still holds, where its parts have the same sizes and names
-pub keeps : (v w : ClientState) → IsClient v → w.copies.limits ≡ v.copies.limits → w.no ≡ v.no → w.incarnation ≡ v.incarnation → length w.locks.locked ≡ length v.locks.locked
-    → length w.locks.dues ≡ length v.locks.dues → w.locks.client ≡ v.locks.client → w.locks.incarnation ≡ v.locks.incarnation → w.locks.txn ≡ w.txn
-    → ((page : ℕ) → due_at w.locks page ≡ due_at v.locks page) → ((page : ℕ) → (copy_at w.copies page).held ≡ (copy_at v.copies page).held)
-    → ((page : ℕ) → has v.locks.locked page ≡ true → has w.locks.locked page ≡ true) → ((page : ℕ) → content_at w.copies page ≡ None → content_at v.copies page ≡ None)
-    → HasRoomToRead w → IsReached w → IsClient w
-keeps v w is limits number own locked dues client incarnation txn due held stays here room r = record {
-  no = rw (limits, number) is.no;
-  incarnation = rw own is.incarnation;
-  locked = locked ∙ is.locked ∙ ap (λ (b : Bounds). b.pages) (sym limits);
-  dues = dues ∙ is.dues ∙ ap (λ (b : Bounds). b.pages) (sym limits);
-  same_client = client ∙ is.same_client ∙ sym number;
-  same_incarnation = incarnation ∙ is.same_incarnation ∙ sym own;
-  same_txn = txn;
-  due_held = λ q. rw (due q, held q) (is.due_held q);
-  due_locked = λ q e. stays q (is.due_locked q (sym (ap is_due (due q)) ∙ e));
-  bare_locked = λ q e n. stays q (is.bare_locked q (sym (ap is_some (held q)) ∙ e) (here q n));
-  room = room;
-  reached = r;
-}
 
 pub begins : (v : ClientState) (txn : ℕ) → FindsNone v CallBegin → txn ≡ unwrap_or v.txn 0 + 1
     → Calls v CallBegin table.AnsweredOk [] as_before (record v { txn = Some txn; stage = stages.Open; locks = record v.locks { txn = Some txn } })

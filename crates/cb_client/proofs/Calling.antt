@@ -1,5 +1,5 @@
 -- What the table says of reading, wanting and writing a page.
-use Rattle.std.proofs.Common.{◌≡◌, ◌<◌, ◌==◌, ℕ, Bool, true, false, if◌then◌else◌, List, [], ◌∷◌, length, slice_set, Option, Some, None, unwrap_or, refl, sym, ◌∙◌, ap}
+use Rattle.std.proofs.Common.{if◌then◌else◌, ◌≡◌, ◌<◌, ◌==◌, ℕ, Bool, true, false, List, [], ◌∷◌, length, slice_set, Option, Some, None, unwrap_or, refl, sym, ◌∙◌, ap}
 use Rattle.std.proofs.Math.ListN.{length-set}
 use Rattle.std.specs.Borrow.{Bor}
 use Rattle.std.specs.Option.{is_some, option_copied}
@@ -15,13 +15,14 @@ use Rattle.cb_protocol.specs.Serial.{Operation, Saw}
 use Rattle.cb_copies.specs.CopiesState.{CopiesState, client_with, content_at, copy_at}
 use Rattle.cb_copies.specs.ByTable.{Does}
 use Rattle.cb_copies.proofs.Changing.{put_entry}
-use Rattle.cb_client.specs.ClientState.{ClientState, HasRoomLeft, IsClient, base_of, client_of, locks_with}
+use Rattle.cb_client_engine.specs.ClientState.{ClientState, HasRoomLeft, IsClient, base_of, client_of, locks_with}
 use Rattle.cb_client.specs.ByTable.{Called, Calls, IsRefusal, IsRefused, as_before, limits_at, messages_from}
 use Rattle.cb_client.specs.CallAnswers.{Answers, after_read, bytes_at, page_asked, page_read, puts, read_ask, sees}
-use Rattle.cb_client.specs.declared.standing.Ask.TheVariants as asks
+use Rattle.cb_client_engine.specs.declared.standing.Ask.TheVariants as asks
 use Rattle.cb_client.specs.declared.client_fault.ClientFault.{ClientFault}
-use Rattle.cb_client.proofs.CallSteps.{FindsNone, accepted, accepts, keeps}
-use Rattle.cb_client.proofs.Reaching.{calls_reach}
+use Rattle.cb_client.proofs.CallSteps.{FindsNone, accepted, accepts}
+use Rattle.cb_client_engine.proofs.Keeping.{keeps}
+use Rattle.cb_client_engine.proofs.Reaching.{calls_reach}
 
 -- a refused call answers so, and changes nothing
 pub refuses : (v : ClientState) (call : Call) (reason : table.ClientFault) → IsRefusal v call (Some reason) → Calls v call (table.Refused reason) [] as_before v

@@ -22,15 +22,15 @@ use Rattle.std.specs.Option.{option_map}
 use Rattle.cb_page.specs.Numbers.{IsNumber}
 use Rattle.cb_frame_types.specs.declared.frame.ShortFrame.{ShortFrame}
 use Rattle.cb_client.specs.CallAnswers.{ShortFrameFits, short_message}
-use Rattle.cb_client.specs.declared.standing.Ask.{Ask}
-use Rattle.cb_client.specs.declared.standing.Ask.TheVariants as asks
+use Rattle.cb_client_engine.specs.declared.standing.Ask.{Ask}
+use Rattle.cb_client_engine.specs.declared.standing.Ask.TheVariants as asks
 use Rattle.cb_protocol.specs.Client.{bodies_said, is_asking}
 use Rattle.cb_protocol.specs.ClientAlone.{ReceivesCall, ReceivesMessage}
 use Rattle.cb_protocol.specs.ClientCalls.{Call, CallWant, client_call, say_ask, say_ask_write}
 use Rattle.cb_protocol.specs.ClientMessages.{client_take}
 use Rattle.cb_protocol.specs.Messages as protocol
 use Rattle.cb_protocol.specs.Ranges.{Above, AllBodiesFit, AllMessagesFit, BodyFits, InputFits, MessageFits, WritesFit}
-use Rattle.cb_client.specs.ClientState.{ClientState, IsClient, ask_of, client_of}
+use Rattle.cb_client_engine.specs.ClientState.{ClientState, IsClient, ask_of, client_of}
 use Rattle.cb_client.specs.ByTable.{Calls, Takes, as_before, limits_at, messages_from}
 
 -- a body without page bytes

@@ -1,4 +1,4 @@
-pub mod Reaching
+pub use Rattle.cb_client_engine.proofs.Reaching
 pub mod Refusals
 pub mod CallSteps
 pub mod Calling
@@ -6,8 +6,4 @@ pub mod Writing
 pub mod FramesFit
 pub mod Answering
 pub mod SayingAgain
-pub mod Taking
-pub mod RoomLeft
 pub mod Ending
-pub mod Granting
-pub mod Frames

@@ -1,5 +1,5 @@
 -- The first fault of a call's causes, test by test.
-use Rattle.std.proofs.Common.{◌≡◌, ℕ, nat_le, Bool, true, false, not, ◌&&◌, ◌==◌, length, if◌then◌else◌, List, [], ◌∷◌, ◌++◌, Option, Some, None, refl, sym, ◌∙◌, ap}
+use Rattle.std.proofs.Common.{if◌then◌else◌, ◌≡◌, ℕ, nat_le, Bool, true, false, not, ◌&&◌, ◌==◌, length, List, [], ◌∷◌, ◌++◌, Option, Some, None, refl, sym, ◌∙◌, ap}
 use Rattle.std.specs.Option.{is_some, option_map}
 use Rattle.cb_protocol.proofs.Cases.{fault_of_finish, fault_of_read, fault_of_want, fault_of_write}
 use Rattle.cb_protocol.specs.Answers as table
@@ -8,7 +8,7 @@ use Rattle.cb_protocol.specs.Client.{Client, has_room, is_asking}
 use Rattle.cb_protocol.specs.Serial.{Operation}
 use Rattle.cb_page.specs.Flags.{has}
 use Rattle.cb_copies.specs.CopiesState.{client_with, content_at}
-use Rattle.cb_client.specs.ClientState.{ClientState, ask_of, base_of, client_of, locks_with}
+use Rattle.cb_client_engine.specs.ClientState.{ClientState, ask_of, base_of, client_of, locks_with}
 use Rattle.cb_client.specs.ByTable.{limits_at}
 use Rattle.cb_protocol.specs.ClientCalls.{CallFinish, CallRead, CallWant, CallWrite, Cause, call_fault, cause_of, first_refusal, open_causes, page_causes, read_causes}
 

@@ -1,6 +1,6 @@
 -- What each call of an application answers, by the protocol's table.
-use Rattle.std.specs.Prelude.{◌≡◌, ℕ, List, [], ◌∷◌, Some, Result, Ok, Err, ⊤}
-use Rattle.std.specs.Prelude.{true, if◌then◌else◌, slice_set, unwrap_or}
+use Rattle.std.specs.Prelude.{if◌then◌else◌, ◌≡◌, ℕ, List, [], ◌∷◌, Some, Result, Ok, Err, ⊤}
+use Rattle.std.specs.Prelude.{true, slice_set, unwrap_or}
 use Rattle.std.specs.Option.{is_some}
 use Rattle.cb_copies.specs.CopiesState.{content_at}
 use Rattle.cb_frame_types.specs.Grammar.{Fits}
@@ -16,10 +16,10 @@ use Rattle.cb_protocol.specs.ClientCalls.{Call, CallBegin, CallFinish, CallRead,
 use Rattle.cb_protocol.specs.ClientCalls.{CallWrite, call_fault, client_call}
 use Rattle.cb_protocol.specs.Messages.{AskRead, Message}
 use Rattle.cb_protocol.specs.Serial.{Operation, Put, Saw}
-use Rattle.cb_client.specs.ClientState.{ClientState, client_of}
+use Rattle.cb_client_engine.specs.ClientState.{ClientState, client_of}
 use Rattle.cb_client.specs.ByTable.{Calls, IsRefused, Refuses, RefusesOrLacks}
 use Rattle.cb_client.specs.ByTable.{as_before, limits_at, messages_from}
-use Rattle.cb_client.specs.declared.standing.Ask.TheVariants as asks
+use Rattle.cb_client_engine.specs.declared.standing.Ask.TheVariants as asks
 use Rattle.cb_client.specs.declared.answers.ReadAnswer.{ReadAnswer}
 use Rattle.cb_client.specs.declared.answers.ReadAnswer.TheVariants as read
 use Rattle.cb_client.specs.declared.answers.WantAnswer.{WantAnswer}

@@ -10,7 +10,7 @@ use Rattle.cb_frame_types.specs.declared.frame.Frame.{Frame}
 use Rattle.cb_outbox.specs.Messages.{body_of}
 use Rattle.cb_protocol.specs.Messages.{Message}
 use Rattle.cb_client.specs.ByTable.{Takes}
-use Rattle.cb_client.specs.ClientState.{ClientState}
+use Rattle.cb_client_engine.specs.ClientState.{ClientState}
 use Rattle.cb_client.specs.declared.client_fault.ClientFault.{ClientFault}
 use Rattle.cb_client.specs.declared.client_fault.ClientFault.TheVariants as faults
 

@@ -1,8 +1,8 @@
 pub use Rattle.cb_outbox.specs.Messages
-pub mod ClientState
+pub use Rattle.cb_client_engine.specs.ClientState
+pub use Rattle.cb_client_engine.specs.Parts
 pub mod ByTable
 pub mod CallAnswers
 pub mod Lending
-pub mod GrantCases
 pub mod Laws
 pub mod FramesTaken

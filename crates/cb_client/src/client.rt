@@ -7,20 +7,18 @@ ghost use Rattle.cb_protocol.specs.Client.{client_status, new_client};
 ghost use Rattle.cb_copies.specs.CopiesState.{content_at, copy_at};
 ghost use Rattle.cb_twoq.specs.Pages.{has as on};
 ghost use Rattle.cb_protocol.specs.Serial.{Operation};
-ghost use Rattle.cb_client.specs.ClientState.{client_of, new_state, outcome_of, status_of};
+ghost use Rattle.cb_client_engine.specs.ClientState.{client_of, new_state, outcome_of, status_of};
 
 mod again;
 mod calls;
 mod ends;
 mod finish;
-mod granted;
-mod messages;
 mod taking;
 
-use crate::standing::{Ask, ClientStatus, Outcome, Stage};
+use cb_client_engine::{Ask, ClientStatus, Engine, Outcome, Stage};
 use cb_copies::Copies;
 use cb_locks::ReadLocks;
-use cb_page::{ClientNo, Incarnation, Limits, PageNo, PageSet, TxnNo};
+use cb_page::{ClientNo, Incarnation, Limits, PageNo, PageSet};
 use cb_twoq::Chooser;
 use std::alloc::{AllocError, Global};
 use std::marker::Model;
@@ -30,52 +28,18 @@ use std::marker::Model;
 /// `new`, `finish`, `drop_txn`, `take`, `take_bytes` and `again` take memory; no other call does.
 #[derive(Drop)]
 pub struct Client<Q: Chooser> {
-    no: ClientNo,
-    incarnation: Incarnation,
-    /// Whether the server's Welcome came.
-    welcomed: bool,
-    /// The transaction that began last.
-    txn: Option<TxnNo>,
-    stage: Stage,
-    ask: Ask,
-    /// The last transaction that was dropped or aborted.
-    dropped: Option<TxnNo>,
-    /// How the last transaction ended.
-    last: Option<Outcome>,
-    copies: Copies<Q>,
-    locks: ReadLocks,
+    engine: Engine<Q>,
 }
 
 impl<Q: Chooser> Model for Client<Q> {
-    ghost use Rattle.cb_client.specs.ClientState.{ClientState, IsClient};
+    ghost use Rattle.cb_client_engine.specs.ClientState.{ClientState, IsClient};
+    ghost use Rattle.cb_client_engine.specs.Parts.{client_in};
 
     ghost Value = { ClientState };
 
-    ghost view = { λ client. record {
-      no = client.no;
-      incarnation = client.incarnation;
-      welcomed = client.welcomed;
-      txn = client.txn;
-      stage = client.stage;
-      ask = client.ask;
-      dropped = client.dropped;
-      last = client.last;
-      copies = client.copies;
-      locks = client.locks;
-    } };
+    ghost view = { λ client. client_in client.engine };
 
-    ghost invariant = { λ client. IsClient (record {
-      no = client.no;
-      incarnation = client.incarnation;
-      welcomed = client.welcomed;
-      txn = client.txn;
-      stage = client.stage;
-      ask = client.ask;
-      dropped = client.dropped;
-      last = client.last;
-      copies = client.copies;
-      locks = client.locks;
-    }) };
+    ghost invariant = { λ client. IsClient (client_in client.engine) };
 }
 
 impl<Q: Chooser> Client<Q> {
@@ -96,25 +60,36 @@ impl<Q: Chooser> Client<Q> {
     {
         // In range by its type: `get` says so.
         let _in_range = incarnation.get();
+        let copies = Copies::new(alloc, chooser, limits)?;
+        let locks = ReadLocks::new(alloc, no, incarnation, limits)?;
         Ok(Client {
-            no,
-            incarnation,
-            welcomed: false,
-            txn: None,
-            stage: Stage::Idle,
-            ask: Ask::Nothing,
-            dropped: None,
-            last: None,
-            copies: Copies::new(alloc, chooser, limits)?,
-            locks: ReadLocks::new(alloc, no, incarnation, limits)?,
+            engine: Engine {
+                no,
+                incarnation,
+                welcomed: false,
+                txn: None,
+                stage: Stage::Idle,
+                ask: Ask::Nothing,
+                dropped: None,
+                last: None,
+                copies,
+                locks,
+            },
         })
+    }
+
+    /// Which of its number's incarnations it is.
+    pub fn incarnation(&self) -> Incarnation
+        ensures { result ≡ self.now.incarnation }
+    {
+        self.engine.incarnation
     }
 
     /// The limits of its store and its pool.
     pub fn limits(&self) -> &Limits
         ensures { result.now ≡ self.now.copies.limits }
     {
-        self.copies.limits()
+        self.engine.copies.limits()
     }
 
     /// Lends the pool's chooser, whose members are the pages of which `peek` has the bytes.
@@ -122,7 +97,7 @@ impl<Q: Chooser> Client<Q> {
         ensures { (page : ℕ) → on (Q.members result.now) page
             ≡ is_some (content_at self.now.copies page) }
     {
-        self.copies.chooser()
+        self.engine.copies.chooser()
     }
 
     /// Whether the client may write the page in the transaction that is open.
@@ -133,8 +108,8 @@ impl<Q: Chooser> Client<Q> {
         ensures held { IsTrue result → IsTrue (is_some (copy_at self.now.copies page).held) }
     {
         // What holds of all copies, `limits` says: a permission is of a copy that is held.
-        let _limits = self.copies.limits();
-        self.stage.is_open() && self.copies.may_write(page)
+        let _limits = self.engine.copies.limits();
+        self.engine.stage.is_open() && self.engine.copies.may_write(page)
     }
 
     /// What the client says of itself.
@@ -142,10 +117,10 @@ impl<Q: Chooser> Client<Q> {
         ensures { (operations : List Operation)
             → status_of result ≡ client_status (client_of self.now operations) }
     {
-        if !self.welcomed {
+        if !self.engine.welcomed {
             return ClientStatus::NotWelcome;
         }
-        match (self.stage, self.ask) {
+        match (self.engine.stage, self.engine.ask) {
             (Stage::Idle, _) => ClientStatus::Idle,
             (Stage::Committing, _) => ClientStatus::Committing,
             (Stage::Open, Ask::Nothing) => ClientStatus::Open,
@@ -158,7 +133,7 @@ impl<Q: Chooser> Client<Q> {
         ensures { (operations : List Operation)
             → outcome_of result ≡ (client_of self.now operations).last_outcome }
     {
-        self.last
+        self.engine.last
     }
 
     /// The pages that the open or committing transaction has read.
@@ -166,6 +141,6 @@ impl<Q: Chooser> Client<Q> {
         ensures { (operations : List Operation) (page : ℕ)
             → has result.now page ≡ (client_of self.now operations).cache.locked page }
     {
-        self.locks.locked()
+        self.engine.locks.locked()
     }
 }

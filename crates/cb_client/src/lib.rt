@@ -10,10 +10,9 @@ mod answers;
 mod client;
 mod client_fault;
 mod laws;
-mod standing;
 
 pub use answers::{ReadAnswer, WantAnswer};
 pub use client::Client;
 pub use client_fault::ClientFault;
 pub use laws::{callbacks_are_answered, downgrades_are_answered, in_use_is_given_back};
-pub use standing::{Ask, ClientStatus, Outcome, Stage};
+pub use cb_client_engine::{Ask, ClientStatus, Outcome, Stage};

@@ -8,7 +8,7 @@ use cb_twoq::{Chooser, TwoQ};
 use std::alloc::Global;
 
 /// A frame for client 0 at incarnation 1.
-fn frame(body: Body) -> Frame {
+pub(crate) fn frame(body: Body) -> Frame {
     Frame {
         client: ClientNo::new(0),
         incarnation: Incarnation::new(1),

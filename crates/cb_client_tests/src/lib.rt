@@ -6,4 +6,6 @@ mod client;
 #[cfg(test)]
 mod copies;
 #[cfg(test)]
+mod growths;
+#[cfg(test)]
 mod locks;

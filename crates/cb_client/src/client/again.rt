@@ -1,13 +1,12 @@
 //! What may be lost is said again.
 ghost use Rattle.std.specs.Prelude.{◌≡◌, ◌+◌, ◌<◌, ◌≤◌, ◌++◌, List, option_to_list, IfErr, IfOk};
 ghost use Rattle.std.specs.Prelude.{true, unwrap_or};
-ghost use Rattle.std.specs.List.{All};
 ghost use Rattle.std.specs.List.{AllByRecursion};
 ghost use Rattle.std.specs.Option.{option_map};
 ghost use Rattle.std.specs.Vec.{vec_capacity, vec_len};
 ghost use Rattle.cb_client.specs.ByTable.{Calls, as_before, limits_at, messages_from};
 ghost use Rattle.cb_client.specs.CallAnswers.{short_message};
-ghost use Rattle.cb_client.specs.ClientState.{client_of, is_gone};
+ghost use Rattle.cb_client_engine.specs.ClientState.{client_of, is_gone};
 ghost use Rattle.cb_protocol.specs.Messages.{Drop as DropBody};
 ghost use Rattle.cb_client.specs.declared.client_fault.ClientFault.TheVariants.{Memory};
 ghost use Rattle.cb_frame_types.specs.Grammar.{Fits};
@@ -19,7 +18,7 @@ ghost use Rattle.cb_protocol.specs.Serial.{Operation};
 
 use crate::client::Client;
 use crate::client_fault::ClientFault;
-use crate::standing::{Outcome, Stage};
+use cb_client_engine::{Outcome, Stage};
 use cb_frame::{Frame, ShortBody, ShortFrame};
 use cb_twoq::Chooser;
 use std::alloc::{AllocError, Global};
@@ -37,7 +36,7 @@ impl<Q: Chooser> Client<Q> {
             AllByRecursion (Fits self.now.copies.limits) frames.items) }
     {
         let mut frames = Vec::with_capacity(alloc, 3)?;
-        if !self.welcomed {
+        if !self.engine.welcomed {
             frames.push_reserved(self.hello());
             return Ok(frames);
         }
@@ -55,7 +54,7 @@ impl<Q: Chooser> Client<Q> {
             (client_of self.now operations).last_outcome))
             ≡ option_to_list (option_map short_message result) }
     {
-        match self.last {
+        match self.engine.last {
             None => None,
             Some(last) => match last {
                 Outcome::Committed(_) => None,
@@ -74,10 +73,10 @@ impl<Q: Chooser> Client<Q> {
           body = DropBody (unwrap_or self.now.dropped 0);
         } }
     {
-        let Some(txn) = self.dropped else {
+        let Some(txn) = self.engine.dropped else {
             unreachable!()
         };
-        self.say(ShortBody::Drop { txn })
+        self.engine.say(ShortBody::Drop { txn })
     }
 
     /// The Commit of the transaction that is committing, if one is.
@@ -87,7 +86,7 @@ impl<Q: Chooser> Client<Q> {
             (bodies_said (commit_again (limits_at self.now) (client_of self.now operations)))
             ≡ option_to_list (option_map message_of commit)) }
     {
-        match self.stage {
+        match self.engine.stage {
             Stage::Idle | Stage::Open => Ok(None),
             Stage::Committing => Ok(Some(self.commit_frame(alloc)?)),
         }

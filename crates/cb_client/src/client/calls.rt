@@ -1,5 +1,5 @@
 //! The calls of an application: what each is refused for, and what it does.
-ghost use Rattle.std.specs.Prelude.{◌≡◌, ◌≢◌, ℕ, ◌+◌, ◌<◌, List, ◌∷◌, ◌++◌, [], Ok, Some, None};
+ghost use Rattle.std.specs.Prelude.{◌≡◌, ◌≢◌, ◌+◌, ◌<◌, List, ◌∷◌, ◌++◌, [], Ok, Some, None};
 ghost use Rattle.std.specs.Prelude.{IfOk, IfSome, IsOk, option_to_list, length, false, true};
 ghost use Rattle.std.specs.Prelude.{unwrap_or};
 ghost use Rattle.std.specs.Borrow.{sem};
@@ -9,10 +9,10 @@ ghost use Rattle.cb_client.specs.CallAnswers.{AnswersRead, Begins, after_read};
 ghost use Rattle.cb_client.specs.CallAnswers.{ShortFrameFits, WantFits, Wants, Writes};
 ghost use Rattle.cb_frame_types.specs.Grammar.{Fits};
 ghost use Rattle.cb_client.specs.Lending.{client_ends_as};
-ghost use Rattle.cb_client.specs.declared.standing.Ask.TheVariants.{Nothing};
-ghost use Rattle.cb_client.specs.declared.standing.Stage.TheVariants.{Idle, Open};
+ghost use Rattle.cb_client_engine.specs.declared.standing.Ask.TheVariants.{Nothing};
+ghost use Rattle.cb_client_engine.specs.declared.standing.Stage.TheVariants.{Idle, Open};
 ghost use Rattle.cb_copies.specs.CopiesState.{client_with, content_at, copy_at};
-ghost use Rattle.cb_client.specs.ClientState.{HasRoomLeft};
+ghost use Rattle.cb_client_engine.specs.ClientState.{HasRoomLeft};
 ghost use Rattle.cb_protocol.specs.Client.{Client as TableClient};
 ghost use Rattle.cb_outbox.specs.Messages.{message_of};
 ghost use Rattle.cb_protocol.specs.Answers.{AnsweredOk};
@@ -21,40 +21,25 @@ ghost use Rattle.cb_protocol.specs.ClientCalls.{CallRead, CallWrite, open_causes
 ghost use Rattle.cb_protocol.specs.ClientCalls.{page_causes, peek_word, read_causes, say_ask};
 ghost use Rattle.cb_protocol.specs.Client.{bodies_said};
 ghost use Rattle.cb_protocol.specs.Serial.{Operation};
-ghost use Rattle.cb_client.specs.ClientState.{client_of};
+ghost use Rattle.cb_client_engine.specs.ClientState.{client_of};
 ghost use Rattle.cb_client.specs.ByTable.{messages_from};
 ghost use Rattle.cb_client.specs.CallAnswers.{short_message};
 
 use crate::answers::{ReadAnswer, WantAnswer};
 use crate::client::Client;
 use crate::client_fault::ClientFault;
-use crate::standing::{Ask, Stage};
+use cb_client_engine::{Ask, Stage};
 use cb_frame::{Frame, ShortBody, ShortFrame};
 use cb_page::{GrantNo, PageNo, TxnNo};
 use cb_twoq::Chooser;
 
 impl<Q: Chooser> Client<Q> {
-    /// The frame of this client with that body.
-    pub(super) fn say(&self, body: ShortBody) -> ShortFrame
-        ensures { result ≡ record {
-          client = self.now.no;
-          incarnation = self.now.incarnation;
-          body = body;
-        } }
-    {
-        ShortFrame {
-            client: self.no,
-            incarnation: self.incarnation,
-            body,
-        }
-    }
-
     /// The transaction that has begun and not ended.
     pub(super) fn present_txn(&self) -> TxnNo
         requires { self.now.stage ≢ Idle }
         ensures { self.now.txn ≡ Some result }
     {
-        let Some(txn) = self.txn else { unreachable!() };
+        let Some(txn) = self.engine.txn else { unreachable!() };
         txn
     }
 
@@ -66,8 +51,8 @@ impl<Q: Chooser> Client<Q> {
         ensures fits { Fits self.now.copies.limits result }
     {
         // A look at a field tells the prover what holds of every client.
-        let _no = &self.no;
-        Frame::from(self.say(ShortBody::Hello))
+        let _no = &self.engine.no;
+        Frame::from(self.engine.say(ShortBody::Hello))
     }
 
     /// The bytes of the client's copy of a page, also while there is no transaction. `None` where
@@ -76,7 +61,7 @@ impl<Q: Chooser> Client<Q> {
         ensures { Calls self.now (CallPeek page) (peek_word (option_copied result)) [] as_before
             self.now }
     {
-        self.copies.peek(page)
+        self.engine.copies.peek(page)
     }
 
     /// The number of the next transaction, where none is under way and one is left.
@@ -85,13 +70,13 @@ impl<Q: Chooser> Client<Q> {
         ensures decided { IsDecided self.now CallBegin result }
         ensures next { IfOk result (λ next. next ≡ unwrap_or self.now.txn 0 + 1) }
     {
-        if !self.welcomed {
+        if !self.engine.welcomed {
             return Err(ClientFault::NotWelcome);
         }
-        if self.stage != Stage::Idle {
+        if self.engine.stage != Stage::Idle {
             return Err(ClientFault::TransactionOpen);
         }
-        let next = match self.txn {
+        let next = match self.engine.txn {
             None => Some(TxnNo::new(1)),
             Some(txn) => txn.next(),
         };
@@ -103,9 +88,9 @@ impl<Q: Chooser> Client<Q> {
         ensures { Begins self.old result self.new }
     {
         let txn = self.next_txn()?;
-        self.txn = Some(txn);
-        self.stage = Stage::Open;
-        self.locks.begin(txn);
+        self.engine.txn = Some(txn);
+        self.engine.stage = Stage::Open;
+        self.engine.locks.begin(txn);
         Ok(txn)
     }
 
@@ -114,10 +99,10 @@ impl<Q: Chooser> Client<Q> {
         ensures causes { IsFirst self.now (λ client. open_causes client) result }
         ensures open { IsOk result → self.now.stage ≡ Open }
     {
-        if !self.welcomed {
+        if !self.engine.welcomed {
             return Err(ClientFault::NotWelcome);
         }
-        match self.stage {
+        match self.engine.stage {
             Stage::Idle => Err(ClientFault::NoTransaction),
             Stage::Committing => Err(ClientFault::Committing),
             Stage::Open => Ok(()),
@@ -133,7 +118,7 @@ impl<Q: Chooser> Client<Q> {
         ensures page { IsOk result → page < self.now.copies.limits.pages }
     {
         self.check_open()?;
-        if self.ask.is_out() {
+        if self.engine.ask.is_out() {
             return Err(ClientFault::Waiting);
         }
         if !self.limits().has_page(page.get()) {
@@ -146,7 +131,7 @@ impl<Q: Chooser> Client<Q> {
     fn is_here(&self, page: PageNo) -> bool
         ensures { result ≡ is_some (content_at self.now.copies page) }
     {
-        self.copies.peek(page).is_some()
+        self.engine.copies.peek(page).is_some()
     }
 
     /// That besides the transaction has read the page, and its bytes are in the pool: what `want`
@@ -161,7 +146,7 @@ impl<Q: Chooser> Client<Q> {
         ensures here { IsOk result → is_some (content_at self.now.copies page) ≡ true }
     {
         self.check_page(page)?;
-        if !self.locks.is_locked(page) {
+        if !self.engine.locks.is_locked(page) {
             return Err(ClientFault::NotRead);
         }
         if !self.is_here(page) {
@@ -178,7 +163,7 @@ impl<Q: Chooser> Client<Q> {
         ensures size { IsOk result → length bytes.now ≡ self.now.copies.limits.page_size }
     {
         self.check_read(page)?;
-        if !self.copies.may_write(page) {
+        if !self.engine.copies.may_write(page) {
             return Err(ClientFault::NotWritable);
         }
         if bytes.len() != self.limits().page_size() {
@@ -199,7 +184,7 @@ impl<Q: Chooser> Client<Q> {
         if self.is_here(page) {
             return Ok(());
         }
-        if !self.copies.has_room() {
+        if !self.engine.copies.has_room() {
             return Err(ClientFault::PoolFull);
         }
         Ok(())
@@ -213,10 +198,10 @@ impl<Q: Chooser> Client<Q> {
         ensures page { IsOk result → page < length self.old.locks.locked }
     {
         self.check_fetch(page)?;
-        if self.copies.read(page).is_some() {
-            self.locks.lock(page);
+        if self.engine.copies.read(page).is_some() {
+            self.engine.locks.lock(page);
         } else {
-            self.ask = Ask::Read(page);
+            self.engine.ask = Ask::Read(page);
         }
         Ok(())
     }
@@ -230,7 +215,7 @@ impl<Q: Chooser> Client<Q> {
         ensures answer { AnswersRead self.old page result }
     {
         self.read_or_ask(page)?;
-        match self.copies.peek(page) {
+        match self.engine.copies.peek(page) {
             Some(bytes) => Ok(ReadAnswer::Bytes(bytes)),
             None => Ok(ReadAnswer::Asked),
         }
@@ -242,7 +227,7 @@ impl<Q: Chooser> Client<Q> {
         requires page { page < self.now.copies.limits.pages }
         ensures { (copy_at self.now.copies page).held ≡ Some result }
     {
-        let Some(grant) = self.copies.at(page).held else {
+        let Some(grant) = self.engine.copies.at(page).held else {
             unreachable!()
         };
         grant
@@ -254,15 +239,15 @@ impl<Q: Chooser> Client<Q> {
         ensures fits { IfOk result (WantFits self.old.copies.limits) }
     {
         self.check_read(page)?;
-        if self.copies.may_write(page) {
-            self.copies.want(page);
+        if self.engine.copies.may_write(page) {
+            self.engine.copies.want(page);
             return Ok(WantAnswer::Permitted);
         }
         let txn = self.present_txn();
         let grant = self.grant_of(page);
-        let ask = self.say(ShortBody::AskWrite { txn, page, grant });
-        self.copies.want(page);
-        self.ask = Ask::Write(page);
+        let ask = self.engine.say(ShortBody::AskWrite { txn, page, grant });
+        self.engine.copies.want(page);
+        self.engine.ask = Ask::Write(page);
         Ok(WantAnswer::Asked(ask))
     }
 
@@ -271,7 +256,7 @@ impl<Q: Chooser> Client<Q> {
         ensures { Writes self.old page bytes.now result self.new }
     {
         self.check_write(page, bytes)?;
-        self.copies.write(page, bytes);
+        self.engine.copies.write(page, bytes);
         Ok(())
     }
 
@@ -283,16 +268,16 @@ impl<Q: Chooser> Client<Q> {
             ≡ option_to_list (option_map short_message result) }
         ensures fits { IfSome result (ShortFrameFits self.now.copies.limits) }
     {
-        match self.ask {
+        match self.engine.ask {
             Ask::Nothing => None,
             Ask::Read(page) => {
                 let txn = self.present_txn();
-                Some(self.say(ShortBody::AskRead { txn, page }))
+                Some(self.engine.say(ShortBody::AskRead { txn, page }))
             }
             Ask::Write(page) => {
                 let txn = self.present_txn();
-                let grant = self.copies.at(page).held?;
-                Some(self.say(ShortBody::AskWrite { txn, page, grant }))
+                let grant = self.engine.copies.at(page).held?;
+                Some(self.engine.say(ShortBody::AskWrite { txn, page, grant }))
             }
         }
     }

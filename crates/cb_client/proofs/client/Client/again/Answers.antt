@@ -4,7 +4,7 @@ use Rattle.cb_outbox.specs.Messages.{message_of, messages_of}
 use Rattle.cb_protocol.specs.Messages.{Message}
 use Rattle.cb_client.specs.CallAnswers.{short_message}
 use Rattle.cb_protocol.specs.ClientCalls.{CallAgain}
-use Rattle.cb_client.specs.ClientState.{IsClient}
+use Rattle.cb_client_engine.specs.ClientState.{IsClient}
 use Rattle.cb_client.proofs.FramesFit.{call_frames_fit}
 use Rattle.cb_client.proofs.SayingAgain.{all_again, greets_again}
 use Rattle.cb_client.proofs.client.Client.again.Goals as goal

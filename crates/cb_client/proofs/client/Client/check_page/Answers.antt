@@ -1,7 +1,7 @@
 use Rattle.std.proofs.Common.{◌≡◌, nat_le, true, false, Err, sym, rules, arith}
 use Rattle.std.proofs.lemmas.Bool.Decides.{nat_tests}
 use Rattle.cb_protocol.specs.Client.{is_asking}
-use Rattle.cb_client.specs.ClientState.{ask_of}
+use Rattle.cb_client_engine.specs.ClientState.{ask_of}
 use Rattle.cb_client.proofs.Refusals.{page_free, page_past, page_shut, page_waits}
 use Rattle.cb_client.proofs.client.Client.check_page.Goals as goal
 

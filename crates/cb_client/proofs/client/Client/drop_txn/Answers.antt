@@ -1,6 +1,7 @@
 use Rattle.std.proofs.Common.{◌≡◌, Err, rules}
 use Rattle.cb_client.proofs.CallSteps.{refused}
-use Rattle.cb_client.proofs.Ending.{drop_keeps, drops, owes, refuses_or_lacks}
+use Rattle.cb_client_engine.proofs.Ending.{owes}
+use Rattle.cb_client.proofs.Ending.{drop_keeps, drops, refuses_or_lacks}
 use Rattle.cb_client.proofs.FramesFit.{call_frames_fit}
 use Rattle.cb_protocol.specs.ClientCalls.{CallDrop}
 use Rattle.cb_protocol.specs.Client as protocol

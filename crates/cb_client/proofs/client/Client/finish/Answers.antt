@@ -1,6 +1,6 @@
 use Rattle.std.proofs.Common.{◌≡◌, Err, rules}
 use Rattle.cb_protocol.specs.ClientCalls.{CallFinish}
-use Rattle.cb_client.specs.ClientState.{IsClient}
+use Rattle.cb_client_engine.specs.ClientState.{IsClient}
 use Rattle.cb_client.proofs.CallSteps.{refused}
 use Rattle.cb_client.proofs.FramesFit.{call_frame_fits}
 use Rattle.cb_client.proofs.Writing.{finish_keeps, finishes, refuses_finish}

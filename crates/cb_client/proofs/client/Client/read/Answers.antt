@@ -1,5 +1,5 @@
 use Rattle.cb_copies.specs.CopiesState.{content_at}
-use Rattle.cb_client.specs.ClientState.{ClientState}
+use Rattle.cb_client_engine.specs.ClientState.{ClientState}
 use Rattle.std.specs.Option.{option_copied}
 use Rattle.cb_client.specs.CallAnswers.{after_read}
 use Rattle.std.proofs.Common.{ap, ◌≡◌, Some, None, Err, refl, sym, ◌∙◌, rules}

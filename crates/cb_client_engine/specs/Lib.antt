@@ -1,0 +1,5 @@
+pub use Rattle.cb_outbox.specs.Messages
+pub mod ClientState
+pub mod Parts
+pub mod ByTable
+pub mod GrantCases

@@ -1,0 +1,79 @@
+//! How a transaction ends by the server's word.
+ghost use Rattle.std.specs.Prelude.{◌≡◌, [], true, IfOk, OnErr};
+ghost use Rattle.cb_page.specs.Numbers.{IsNumber};
+ghost use Rattle.cb_client_engine.specs.ByTable.{Takes, limits_at};
+ghost use Rattle.cb_client_engine.specs.ClientState.{IsClient, client_of};
+ghost use Rattle.cb_client_engine.specs.Parts.{client_in};
+ghost use Rattle.cb_outbox.specs.Messages.{messages_of};
+ghost use Rattle.cb_protocol.specs.ClientMessages.{of_committing_txn};
+ghost use Rattle.cb_protocol.specs.Messages.{AbortNow, Done};
+ghost use Rattle.cb_protocol.specs.Ranges.{BodyFits};
+
+use crate::engine::Engine;
+use crate::standing::{Ask, Outcome, Stage};
+use cb_ending::{commit_ends, drop_ends};
+use cb_frame::{Frame, ShortBody};
+use cb_page::{CommitNo, TxnNo};
+use cb_twoq::Chooser;
+use std::alloc::{AllocError, Global};
+
+impl<Q: Chooser> Engine<Q> {
+    /// Whether the committing transaction is that one.
+    fn is_committing_txn(&self, txn: TxnNo) -> bool
+        requires { IsNumber txn }
+        ensures { result ≡ of_committing_txn (client_of (client_in self.now) []) txn }
+    {
+        let same = match self.txn {
+            Some(last) => last == txn,
+            None => false,
+        };
+        self.stage == Stage::Committing && same
+    }
+
+    /// The commit is on disk. Answers what the end of the transaction says.
+    pub(super) fn take_done(
+        &mut self,
+        alloc: Global,
+        txn: TxnNo,
+        number: CommitNo,
+    ) -> Result<Vec<Frame>, AllocError>
+        requires sound { IsClient (client_in self.old) }
+        requires welcomed { self.old.welcomed ≡ true }
+        requires fits { BodyFits (limits_at (client_in self.old)) (Done txn number) }
+        ensures ok { IfOk result (λ frames. Takes (client_in self.old) (Done txn number)
+            (messages_of frames.items) (client_in self.new)) }
+        ensures err { OnErr result (self.new ≡ self.old) }
+        ensures sound { IsClient (client_in self.new) }
+    {
+        if !self.is_committing_txn(txn) {
+            return Ok(Vec::new(alloc));
+        }
+        let frames = commit_ends(alloc, &mut self.copies, &mut self.locks, number)?;
+        self.stage = Stage::Idle;
+        self.ask = Ask::Nothing;
+        self.last = Some(Outcome::Committed(number));
+        Ok(frames)
+    }
+
+    /// The transaction is to be aborted, where it is open. Answers what its end says.
+    pub(super) fn take_abort(&mut self, alloc: Global, txn: TxnNo) -> Result<Vec<Frame>, AllocError>
+        requires sound { IsClient (client_in self.old) }
+        requires welcomed { self.old.welcomed ≡ true }
+        requires fits { BodyFits (limits_at (client_in self.old)) (AbortNow txn) }
+        ensures ok { IfOk result (λ frames. Takes (client_in self.old) (AbortNow txn)
+            (messages_of frames.items) (client_in self.new)) }
+        ensures err { OnErr result (self.new ≡ self.old) }
+        ensures sound { IsClient (client_in self.new) }
+    {
+        if !self.is_open_txn(txn) {
+            return Ok(Vec::new(alloc));
+        }
+        let said = self.say(ShortBody::Drop { txn });
+        let frames = drop_ends(alloc, &mut self.copies, &mut self.locks, said)?;
+        self.stage = Stage::Idle;
+        self.ask = Ask::Nothing;
+        self.dropped = Some(txn);
+        self.last = Some(Outcome::Aborted);
+        Ok(frames)
+    }
+}

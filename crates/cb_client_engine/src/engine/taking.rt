@@ -1,0 +1,127 @@
+//! What a frame of its server's makes of a client, by the frame's kind.
+ghost use Rattle.std.specs.Prelude.{◌≡◌, true, IfOk, OnErr};
+ghost use Rattle.cb_client_engine.specs.ByTable.{Takes, limits_at};
+ghost use Rattle.cb_client_engine.specs.ClientState.{IsClient};
+ghost use Rattle.cb_client_engine.specs.Parts.{client_in};
+ghost use Rattle.cb_frame_types.specs.Grammar.{BodyFits, ShortFits};
+ghost use Rattle.cb_outbox.specs.Messages.{body_of, messages_of, short_of};
+ghost use Rattle.cb_protocol.specs.Messages.{Downgrade, Granted};
+ghost use Rattle.cb_protocol.specs.Ranges.{BodyFits as MessageFits};
+
+use crate::engine::Engine;
+use cb_frame::{Body, Frame, ShortBody};
+use cb_page::{GrantNo, Page, PageNo, TxnNo, Version};
+use cb_twoq::Chooser;
+use std::alloc::{AllocError, Global};
+
+impl<Q: Chooser> Engine<Q> {
+    /// Takes the body of a frame of its own number and incarnation, and answers what the client
+    /// says to it. One for the server is ignored and, before the Welcome, all others.
+    ///
+    /// `AllocError` only where a growth was refused; nothing changes then.
+    pub fn take_body(&mut self, alloc: Global, body: Body) -> Result<Vec<Frame>, AllocError>
+        requires sound { IsClient (client_in self.old) }
+        requires body { BodyFits self.old.copies.limits body }
+        ensures ok { IfOk result (λ said. Takes (client_in self.old) (body_of body)
+            (messages_of said.items) (client_in self.new)) }
+        ensures err { OnErr result (self.new ≡ self.old) }
+        ensures sound { IsClient (client_in self.new) }
+    {
+        match body {
+            Body::Short(body) => self.take_short(alloc, body),
+            Body::Commit { .. } => Ok(Vec::new(alloc)),
+            Body::Granted {
+                page,
+                grant,
+                version,
+                bytes,
+            } => self.say_granted(alloc, page, grant, version, bytes),
+        }
+    }
+
+    /// Takes a body without page bytes.
+    fn take_short(&mut self, alloc: Global, body: ShortBody) -> Result<Vec<Frame>, AllocError>
+        requires sound { IsClient (client_in self.old) }
+        requires body { ShortFits self.old.copies.limits body }
+        ensures ok { IfOk result (λ said. Takes (client_in self.old) (short_of body)
+            (messages_of said.items) (client_in self.new)) }
+        ensures err { OnErr result (self.new ≡ self.old) }
+        ensures sound { IsClient (client_in self.new) }
+    {
+        if let ShortBody::Welcome = body {
+            self.take_welcome();
+            return Ok(Vec::new(alloc));
+        }
+        if !self.welcomed {
+            return Ok(Vec::new(alloc));
+        }
+        match body {
+            ShortBody::Callback { page, grant } => {
+                let mut frames = Vec::with_capacity(alloc, 1)?;
+                frames.push_reserved(self.take_callback(page, grant));
+                Ok(frames)
+            }
+            ShortBody::Downgrade { page, grant, txn } => self.say_downgrade(
+                alloc, page, grant, txn,
+            ),
+            ShortBody::MayWrite { txn, page, grant } => {
+                self.take_may_write(txn, page, grant);
+                Ok(Vec::new(alloc))
+            }
+            ShortBody::Done { txn, number } => self.take_done(alloc, txn, number),
+            ShortBody::AbortNow { txn } => self.take_abort(alloc, txn),
+            _ => Ok(Vec::new(alloc)),
+        }
+    }
+
+    /// Takes a Downgrade.
+    fn say_downgrade(
+        &mut self,
+        alloc: Global,
+        page: PageNo,
+        grant: GrantNo,
+        tag: TxnNo,
+    ) -> Result<Vec<Frame>, AllocError>
+        requires sound { IsClient (client_in self.old) }
+        requires welcomed { self.old.welcomed ≡ true }
+        requires fits { MessageFits (limits_at (client_in self.old)) (Downgrade page grant tag) }
+        ensures ok { IfOk result (λ said. Takes (client_in self.old) (Downgrade page grant tag)
+            (messages_of said.items) (client_in self.new)) }
+        ensures err { OnErr result (self.new ≡ self.old) }
+        ensures sound { IsClient (client_in self.new) }
+    {
+        let mut frames = Vec::with_capacity(alloc, 1)?;
+        if let Some(frame) = self.take_downgrade(page, grant, tag) {
+            frames.push_reserved(frame);
+        }
+        Ok(frames)
+    }
+
+    /// Takes a Granted, where the client is welcomed.
+    fn say_granted(
+        &mut self,
+        alloc: Global,
+        page: PageNo,
+        grant: GrantNo,
+        version: Version,
+        bytes: Page,
+    ) -> Result<Vec<Frame>, AllocError>
+        requires sound { IsClient (client_in self.old) }
+        requires fits { MessageFits (limits_at (client_in self.old))
+            (Granted page grant version bytes) }
+        ensures ok { IfOk result (λ said. Takes (client_in self.old)
+            (Granted page grant version bytes)
+            (messages_of said.items) (client_in self.new)) }
+        ensures err { OnErr result (self.new ≡ self.old) }
+        ensures sound { IsClient (client_in self.new) }
+    {
+        if !self.welcomed {
+            return Ok(Vec::new(alloc));
+        }
+        let mut frames = Vec::with_capacity(alloc, 1)?;
+        if let Some(frame) = self.take_granted(page, grant, version, bytes)? {
+            frames.push_reserved(frame);
+        }
+        Ok(frames)
+    }
+}
