@@ -1,5 +1,5 @@
 -- A page changes, and no ask leaves.
-use Rattle.std.proofs.Common.{◌≡◌, ◌≢◌, ℕ, ◌<◌, ◌≤◌, Bool, true, false, ◌==◌, if◌then◌else◌, List, [], ◌∷◌, length, Option, Some, None, refl, sym, ap, ◌∙◌, subst, arith, inl, inr}
+use Rattle.std.proofs.Common.{◌≡◌, ◌≢◌, ℕ, ◌<◌, ◌≤◌, Bool, true, false, ◌==◌, if◌then◌else◌, List, [], ◌∷◌, Option, Some, None, refl, sym, ap, ◌∙◌, subst, arith, inl, inr}
 use Rattle.std.proofs.lemmas.Bool.{cases_eq}
 use Rattle.std.proofs.lemmas.Bool.Decides.{nat_tests}
 use Rattle.cb_asks.specs.Asks.{AsksState, Has, queue_at}
@@ -9,11 +9,11 @@ use Rattle.cb_callbacks.specs.Following.{FollowsPage}
 use Rattle.cb_tables.specs.Tables.{AreTables, server_of, with_waits}
 use Rattle.cb_tables.specs.Waits.{HasBegun, IsGreeted, Waits}
 use Rattle.cb_tables.specs.declared.tables.Tables.{Tables}
-use Rattle.cb_tables.proofs.Changes.{are_stays, changed, queued}
+use Rattle.cb_tables.proofs.Changes.{changed, queued}
 use Rattle.cb_callbacks.proofs.Left.{Elsewhere, edges_same, field_same}
 use Rattle.cb_callbacks.proofs.Queues.{Placed, each_place, placed}
 use Rattle.cb_holdings.specs.Holdings as holdings
-use Rattle.cb_holdings.specs.Holdings.{Does, HoldingsState, Stays}
+use Rattle.cb_holdings.specs.Holdings.{Does, HoldingsState}
 use Rattle.cb_protocol.proofs.SettlingClears.{put_other, put_there}
 use Rattle.cb_protocol.specs.Basics.{is_none, update}
 use Rattle.cb_protocol.specs.Server.{ChangeSession, MarkInUse, Server, ServerStep, UnmarkInUse, WaitingAsk, has_ask, server_after, set_in_use}

@@ -1,4 +1,4 @@
-use Rattle.std.proofs.Common.{◌≡◌, ◌<◌, ◌≤◌, ℕ, rules, sym, ap, arith}
+use Rattle.std.proofs.Common.{◌<◌, ◌≤◌, rules, sym, ap, arith}
 use Rattle.cb_protocol.specs.Resend.{again_doomed}
 use Rattle.cb_protocol.specs.Server.{Server}
 use Rattle.cb_tables.specs.Asking.{abort_to}

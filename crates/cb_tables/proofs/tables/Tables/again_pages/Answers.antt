@@ -1,4 +1,4 @@
-use Rattle.std.proofs.Common.{◌≡◌, ◌+◌, ◌<◌, ◌≤◌, [], ℕ, refl, sym, subst, arith, ap}
+use Rattle.std.proofs.Common.{◌≡◌, ◌+◌, ◌<◌, ℕ, refl, sym, subst, arith, ap}
 use Rattle.cb_outbox.specs.Saying.{Says}
 use Rattle.cb_protocol.specs.Resend.{again_page, again_pages}
 use Rattle.cb_protocol.specs.Server.{Server}
