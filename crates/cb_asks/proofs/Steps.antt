@@ -8,7 +8,7 @@ use Rattle.cb_protocol.specs.Basics.{is_exactly, update}
 use Rattle.cb_protocol.specs.Deadlock.{OneAsk, ask_count}
 use Rattle.cb_protocol.specs.Server.{Server, WaitingAsk, has_ask}
 use Rattle.cb_protocol.specs.ServerMessages.{has_waiting_ask, read_asks_below, read_asks_in}
-use Rattle.cb_asks.specs.Asks.{AsksState, HasPage, HasQueues, IsAsks, queue_at, room_at}
+use Rattle.cb_asks.specs.Asks.{AsksState, asks_below, HasPage, HasQueues, IsAsks, queue_at, room_at}
 use Rattle.cb_asks.specs.Places.{IsUpTo, PlacesState, Puts, place_of}
 use Rattle.cb_asks.specs.Queues.{QueueState, no_queue}
 use Rattle.cb_asks.specs.Sums.{one_if, sum_below}
@@ -193,6 +193,10 @@ one_ask state is = record {
 
 -- the protocol's server with these queues
 module _ (server : Server) (state : AsksState) (h : HasQueues server state) where
+  pub asks_summed : (end : ℕ) → asks_below server end ≡ sum_below (λ page. length (queue_at state page)) end
+  asks_summed zero = refl
+  asks_summed (suc end) = let e = asks_summed end in let f = ap (λ (q : List WaitingAsk). length q) (h.queues end) in omega (arith, e, f)
+
   pub reads_below : (end : ℕ) → read_asks_below server end ≡ sum_below (λ page. read_asks_in (queue_at state page)) end
   reads_below zero = refl
   reads_below (suc end) = let e = reads_below end in let f = ap read_asks_in (h.queues end) in omega arith

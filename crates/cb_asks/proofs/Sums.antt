@@ -1,6 +1,6 @@
 -- Sums over numbered things.
-use Rattle.std.proofs.Common.{◌≡◌, ◌≢◌, ℕ, ◌+◌, ◌<◌, ◌≤◌, Bool, true, false, zero, suc, refl, arith, inl, inr}
-use Rattle.std.proofs.lemmas.Bool.{cases_eq}
+use Rattle.std.proofs.Common.{◌≡◌, ◌≢◌, ℕ, ◌+◌, ◌<◌, ◌≤◌, Bool, true, false, zero, suc, refl, ap, arith, inl, inr}
+use Rattle.std.proofs.lemmas.Bool.{cases_eq, cases_lt}
 use Rattle.cb_asks.specs.Sums.{one_if, sum_below}
 
 -- as many are counted where each is the same
@@ -34,3 +34,17 @@ sum_ones test (suc end) = go (sum_ones test end) (test end)
     go : sum_below (λ number. one_if (test number)) end ≤ end → (b : Bool) → sum_below (λ number. one_if (test number)) end + one_if b ≤ suc end
     go e true = omega arith
     go e false = omega arith
+
+-- numbers that aren't counted are passed over
+pub sum_past : (test : ℕ → Bool) (from end : ℕ) → from ≤ end → ((number : ℕ) → from ≤ number → number < end → test number ≡ false)
+    → sum_below (λ number. one_if (test number)) end ≡ sum_below (λ number. one_if (test number)) from
+sum_past test from zero le none = ap (sum_below (λ number. one_if (test number))) (let e : zero ≡ from = omega (arith, le) in e)
+sum_past test from (suc end) le none = elim (cases_lt end from) [
+  | inl below ↦ ap (sum_below (λ number. one_if (test number))) (let e : suc end ≡ from = omega (arith, le, below) in e)
+  | inr past ↦ (let e = sum_past test from end past (λ number above within. none number above (omega (arith, within))) in let f = ap one_if (none end past (omega arith)) in omega (arith, e, f))
+]
+
+-- and the next one that is
+pub sum_next : (test : ℕ → Bool) (from next : ℕ) → from ≤ next → ((number : ℕ) → from ≤ number → number < next → test number ≡ false) → test next ≡ true
+    → sum_below (λ number. one_if (test number)) (suc next) ≡ sum_below (λ number. one_if (test number)) from + 1
+sum_next test from next le none here = let e = sum_past test from next le none in let f = ap one_if here in omega (arith, e, f)

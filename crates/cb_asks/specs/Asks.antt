@@ -34,6 +34,10 @@ reads_of_others state client =
     sum_below (λ page. read_asks_in (without_client client (queue_at state page)))
     (length state.queues)
 
+-- how many asks wait at the pages before `end`
+abbrev pub asks_below : Server → (end : ℕ) → ℕ
+asks_below server end = sum_below (λ page. length (server.queue page)) end
+
 -- there is such a page
 abbrev pub HasPage : AsksState → ℕ → Type 0
 HasPage state page = page < length state.queues

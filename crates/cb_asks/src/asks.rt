@@ -9,7 +9,7 @@ ghost use Rattle.cb_protocol.specs.Server.{ForgetTransaction, Server, after_serv
 ghost use Rattle.cb_protocol.specs.ServerMessages.{has_waiting_ask, read_asks_below};
 ghost use Rattle.cb_asks.specs.Asks.{CallsBack, Enters, HasPage, HasQueues, Leaves, Removes};
 ghost use Rattle.cb_asks.specs.Asks.{Reserves, SendsDowngrade, queue_at, queue_of, reads_of_others};
-ghost use Rattle.cb_asks.specs.Asks.{room_at};
+ghost use Rattle.cb_asks.specs.Asks.{asks_below, room_at};
 ghost use Rattle.cb_asks.specs.Places.{IsUpTo};
 ghost use Rattle.cb_asks.specs.Queues.{ask_by, asked, no_queue};
 ghost use Rattle.cb_asks.specs.Sums.{one_if};
@@ -89,6 +89,22 @@ impl Asks {
             next = nearer(from, self.places.get(client), next);
         }
         next
+    }
+
+    /// How many asks wait. It costs as many steps.
+    pub fn waiting_asks(&self) -> usize
+        ensures asks { (server : Server) → HasQueues server self.now
+            → asks_below server server.pages ≡ result }
+        ensures few { result ≤ 32 }
+    {
+        let waiting = self.places.waiting();
+        let mut asks = 0;
+        let mut from = 0;
+        while let Some(client) = waiting.next(from) {
+            asks += 1;
+            from = client.index() + 1;
+        }
+        asks
     }
 
     /// How many asks to read wait.

@@ -5,10 +5,10 @@ use Rattle.cb_asks.specs.Asks.{AsksState, Removes, queue_at}
 use Rattle.cb_asks.specs.Marks.{HasMarks, MarksState, is_in_use}
 use Rattle.cb_callbacks.specs.Callbacks.{AreCallbacks, Changes}
 use Rattle.cb_callbacks.specs.Following.{FollowsAll, FollowsPage, FollowsPages}
-use Rattle.cb_callbacks.specs.Tables.{AreTables, server_of, with_waits}
-use Rattle.cb_callbacks.specs.Waits.{Waits}
-use Rattle.cb_callbacks.specs.declared.tables.Tables.{Tables}
-use Rattle.cb_callbacks.proofs.Changes.{queued}
+use Rattle.cb_tables.specs.Tables.{AreTables, server_of, with_waits}
+use Rattle.cb_tables.specs.Waits.{Waits}
+use Rattle.cb_tables.specs.declared.tables.Tables.{Tables}
+use Rattle.cb_tables.proofs.Changes.{queued}
 use Rattle.cb_callbacks.proofs.Page.{marked, none_left}
 use Rattle.cb_callbacks.proofs.Queues.{Placed, each_place, none_counted, placed, some_counted, without_gone, without_has, without_other}
 use Rattle.cb_holdings.specs.Holdings as holdings

@@ -3,10 +3,10 @@ use Rattle.std.proofs.Common.{◌≡◌, ◌⊎◌, ℕ, ◌<◌, Bool, true, fa
 use Rattle.std.proofs.lemmas.Bool.Decides.{nat_tests}
 use Rattle.cb_asks.specs.Asks.{AsksState, Enters, queue_at}
 use Rattle.cb_asks.specs.Marks.{is_in_use}
-use Rattle.cb_callbacks.specs.Tables.{server_of}
-use Rattle.cb_callbacks.specs.Waits.{IsGreeted, Waits}
-use Rattle.cb_callbacks.specs.declared.tables.Tables.{Tables}
-use Rattle.cb_callbacks.proofs.Changes.{queued}
+use Rattle.cb_tables.specs.Tables.{server_of}
+use Rattle.cb_tables.specs.Waits.{IsGreeted, Waits}
+use Rattle.cb_tables.specs.declared.tables.Tables.{Tables}
+use Rattle.cb_tables.proofs.Changes.{queued}
 use Rattle.cb_callbacks.proofs.Page.{AtPage}
 use Rattle.cb_callbacks.proofs.Queues.{each_place}
 use Rattle.cb_holdings.specs.Holdings as holdings

@@ -3,10 +3,10 @@ use Rattle.std.proofs.Common.{◌≡◌, ℕ, ◌≤◌, refl, sym, ap, ◌∙�
 use Rattle.cb_asks.specs.Asks.{queue_at}
 use Rattle.cb_asks.specs.Marks.{is_in_use}
 use Rattle.cb_callbacks.specs.Callbacks.{AreCallbacks, Changes}
-use Rattle.cb_callbacks.specs.Tables.{server_of, with_waits}
-use Rattle.cb_callbacks.specs.Waits.{Waits}
-use Rattle.cb_callbacks.specs.declared.tables.Tables.{Tables}
-use Rattle.cb_callbacks.proofs.Page.{are_stays}
+use Rattle.cb_tables.specs.Tables.{server_of, with_waits}
+use Rattle.cb_tables.specs.Waits.{Waits}
+use Rattle.cb_tables.specs.declared.tables.Tables.{Tables}
+use Rattle.cb_tables.proofs.Changes.{are_stays}
 use Rattle.cb_holdings.specs.Holdings as holdings
 use Rattle.cb_holdings.specs.Holdings.{Does, HoldingsState}
 use Rattle.cb_protocol.proofs.NoCycles.{sends_dones}

@@ -3,9 +3,9 @@ use Rattle.std.proofs.Common.{◌≡◌, ℕ, ◌<◌, ◌≤◌, true, List, sy
 use Rattle.std.proofs.lemmas.Bool.Decides.{nat_tests}
 use Rattle.cb_callbacks.specs.Callbacks.{AreCallbacks}
 use Rattle.cb_callbacks.specs.Leaving.{FollowsLeft}
-use Rattle.cb_callbacks.specs.Tables.{AreTables, HasClient, server_of}
-use Rattle.cb_callbacks.specs.Waits.{HasBegun, Waits}
-use Rattle.cb_callbacks.specs.declared.tables.Tables.{Tables}
+use Rattle.cb_tables.specs.Tables.{AreTables, HasClient, server_of}
+use Rattle.cb_tables.specs.Waits.{HasBegun, Waits}
+use Rattle.cb_tables.specs.declared.tables.Tables.{Tables}
 use Rattle.cb_callbacks.proofs.Left.{Left, follows_left, waits_left}
 use Rattle.cb_callbacks.proofs.Queues.{finds, listed_first}
 use Rattle.cb_asks.specs.Asks.{queue_at}

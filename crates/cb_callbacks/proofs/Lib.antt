@@ -1,8 +1,5 @@
 pub mod Anew
 pub mod Bounds
-pub mod Walks
-pub mod Calling
-pub mod Changes
 pub mod Deciding
 pub mod Ending
 pub mod Entering
@@ -13,6 +10,6 @@ pub mod Noted
 pub mod Opening
 pub mod Page
 pub mod Queues
-pub mod Rooms
 pub mod Settling
-pub mod Again
+pub mod Standing
+pub mod Lacking

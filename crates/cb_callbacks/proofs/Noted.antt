@@ -3,15 +3,15 @@ use Rattle.std.proofs.Common.{◌≡◌, ℕ, ◌≤◌, true, false, not, ◌&&
 use Rattle.cb_asks.specs.Asks.{AsksState, Has, queue_at}
 use Rattle.cb_asks.specs.Marks.{is_in_use}
 use Rattle.cb_callbacks.specs.Callbacks.{AreCallbacks}
-use Rattle.cb_callbacks.specs.Tables.{server_of}
-use Rattle.cb_callbacks.specs.Waits.{Waits}
-use Rattle.cb_callbacks.specs.declared.tables.Tables.{Tables}
-use Rattle.cb_callbacks.proofs.Changes.{queued}
+use Rattle.cb_tables.specs.Tables.{server_of}
+use Rattle.cb_tables.specs.Waits.{Waits}
+use Rattle.cb_tables.specs.declared.tables.Tables.{Tables}
+use Rattle.cb_tables.proofs.Changes.{queued}
 use Rattle.cb_callbacks.proofs.Queues.{by_place}
 use Rattle.cb_holdings.specs.Holdings as holdings
 use Rattle.cb_outbox.specs.Saying.{HasRoomFor, OutboxState, Says}
 use Rattle.cb_outbox.proofs.Saying.{room_first, says_as, says_then}
-use Rattle.cb_callbacks.proofs.Rooms.{room_by}
+use Rattle.cb_tables.proofs.Rooms.{room_by}
 use Rattle.std.proofs.lemmas.List.{append-nil}
 use Rattle.cb_protocol.proofs.SettlingClears.{SoundAsks, fewer_put, sound_fewer}
 use Rattle.cb_protocol.specs.Basics.{update}

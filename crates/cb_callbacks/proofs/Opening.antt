@@ -2,8 +2,8 @@
 use Rattle.std.proofs.Common.{◌≡◌, ℕ, false, [], refl, sym, ◌∙◌, arith}
 use Rattle.cb_asks.specs.Asks.{AsksState, queue_at}
 use Rattle.cb_asks.specs.Marks.{MarksState, is_in_use}
-use Rattle.cb_callbacks.specs.Tables.{server_of, with_waits}
-use Rattle.cb_callbacks.specs.Waits.{Waits}
+use Rattle.cb_tables.specs.Tables.{server_of, with_waits}
+use Rattle.cb_tables.specs.Waits.{Waits}
 use Rattle.cb_holdings.specs.Holdings as holdings
 use Rattle.cb_holdings.specs.Holdings.{HoldingsState}
 use Rattle.cb_protocol.specs.Basics.{Limits}

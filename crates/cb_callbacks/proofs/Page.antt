@@ -1,19 +1,19 @@
 -- A page changes, and no ask leaves.
-use Rattle.std.proofs.Common.{◌≡◌, ◌≢◌, ℕ, ◌<◌, ◌≤◌, Bool, true, false, ◌==◌, if◌then◌else◌, List, [], ◌∷◌, length, Option, Some, None, refl, sym, ap, ◌∙◌, subst, arith, inl, inr}
+use Rattle.std.proofs.Common.{◌≡◌, ◌≢◌, ℕ, ◌<◌, ◌≤◌, Bool, true, false, ◌==◌, if◌then◌else◌, List, [], ◌∷◌, Option, Some, None, refl, sym, ap, ◌∙◌, subst, arith, inl, inr}
 use Rattle.std.proofs.lemmas.Bool.{cases_eq}
 use Rattle.std.proofs.lemmas.Bool.Decides.{nat_tests}
 use Rattle.cb_asks.specs.Asks.{AsksState, Has, queue_at}
 use Rattle.cb_asks.specs.Marks.{HasMarks, MarksState, is_in_use}
 use Rattle.cb_callbacks.specs.Callbacks.{AreCallbacks}
 use Rattle.cb_callbacks.specs.Following.{FollowsPage}
-use Rattle.cb_callbacks.specs.Tables.{AreTables, server_of, with_waits}
-use Rattle.cb_callbacks.specs.Waits.{HasBegun, IsGreeted, Waits}
-use Rattle.cb_callbacks.specs.declared.tables.Tables.{Tables}
-use Rattle.cb_callbacks.proofs.Changes.{changed, queued}
+use Rattle.cb_tables.specs.Tables.{AreTables, server_of, with_waits}
+use Rattle.cb_tables.specs.Waits.{HasBegun, IsGreeted, Waits}
+use Rattle.cb_tables.specs.declared.tables.Tables.{Tables}
+use Rattle.cb_tables.proofs.Changes.{changed, queued}
 use Rattle.cb_callbacks.proofs.Left.{Elsewhere, edges_same, field_same}
 use Rattle.cb_callbacks.proofs.Queues.{Placed, each_place, placed}
 use Rattle.cb_holdings.specs.Holdings as holdings
-use Rattle.cb_holdings.specs.Holdings.{Does, HoldingsState, Stays}
+use Rattle.cb_holdings.specs.Holdings.{Does, HoldingsState}
 use Rattle.cb_protocol.proofs.SettlingClears.{put_other, put_there}
 use Rattle.cb_protocol.specs.Basics.{is_none, update}
 use Rattle.cb_protocol.specs.Server.{ChangeSession, MarkInUse, Server, ServerStep, UnmarkInUse, WaitingAsk, has_ask, server_after, set_in_use}
@@ -161,16 +161,7 @@ removes_at client page grant s w = let removed : Session = record (s.session cli
     kept_some true at e = none_left_at s.store.holder client page at e
     kept_some false at e = e
 
--- the tables agree as before
-pub are_stays : (t : Tables) (h : HoldingsState) (m : MarksState) → AreTables t → Stays t.holdings h → length m.by_client ≡ length t.marks.by_client
-    → length m.by_page ≡ length t.marks.by_page → AreTables (record t { holdings = h; marks = m })
-are_stays t h m are stays clients pages = record {
-  queues = are.queues ∙ sym stays.pages;
-  marked_clients = clients ∙ are.marked_clients ∙ sym stays.clients;
-  marked_pages = pages ∙ are.marked_pages ∙ sym stays.pages;
-}
-
--- and other marks
+-- other marks
 pub marked : (server : Server) (queue : ℕ → List WaitingAsk) (in_use other : ℕ → ℕ → Bool) → ((client page : ℕ) → in_use client page ≡ other client page)
     → with_waits server queue in_use ≡ with_waits server queue other
 marked server queue in_use other same = λ i. with_waits server queue (λ client page. same client page i)

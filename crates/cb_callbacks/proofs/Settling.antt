@@ -2,8 +2,8 @@
 use Rattle.std.proofs.Common.{◌≡◌, ℕ, ◌+◌, ◌<◌, ◌≤◌, Bool, true, if◌then◌else◌, List, [], ◌++◌, length, zero, suc, refl, sym, ap, ◌∙◌, subst, arith, add-one, inl, inr}
 use Rattle.std.proofs.lemmas.Bool.{cases_lt}
 use Rattle.std.proofs.lemmas.List.{append-nil, append_assoc}
-use Rattle.cb_callbacks.proofs.Rooms.{room_by, room_next}
-use Rattle.cb_callbacks.specs.Waits.{Waits}
+use Rattle.cb_tables.proofs.Rooms.{room_by, room_next}
+use Rattle.cb_tables.specs.Waits.{Waits}
 use Rattle.cb_holdings.specs.Holdings.{HoldingsState, Stays}
 use Rattle.cb_outbox.specs.Saying.{Decides, HasRoomFor, OutboxState, Says, goes_on}
 use Rattle.cb_outbox.proofs.Saying.{room_after, room_first, says_as, says_nothing, says_then, settle_more}

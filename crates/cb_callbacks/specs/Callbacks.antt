@@ -1,11 +1,10 @@
 -- The tables and the view of who waits for whom.
 use Rattle.std.specs.Prelude.{◌≡◌, ◌≤◌, ℕ, List}
 use Rattle.cb_asks.specs.Asks.{room_at}
-use Rattle.cb_callbacks.specs.declared.tables.Tables.{Tables}
-use Rattle.cb_callbacks.specs.Tables.{AreTables, server_of}
-use Rattle.cb_callbacks.specs.Waits.{Waits}
+use Rattle.cb_tables.specs.declared.tables.Tables.{Tables}
+use Rattle.cb_tables.specs.Tables.{AreTables, server_of}
+use Rattle.cb_tables.specs.Waits.{Waits}
 use Rattle.cb_holdings.specs.Holdings.{Stays}
-use Rattle.cb_outbox.specs.Saying.{OutboxState}
 use Rattle.cb_protocol.specs.Server.{ServerStep, server_after}
 use Rattle.cb_waits.specs.Follows.{Follows}
 use Rattle.cb_waits.specs.Graph.{Edges}
@@ -21,10 +20,6 @@ pub record AreCallbacks (callbacks : CallbacksState) : Type 0 where
   pub waits : Waits (server_of callbacks.tables)
   pub follows : Follows callbacks.view (server_of callbacks.tables)
   pub few : (server_of callbacks.tables).clients ≤ 32
-
--- copies that are sent are as large as the store's pages
-abbrev pub IsAsLarge : OutboxState → Tables → Type 0
-IsAsLarge outbox tables = outbox.page_size ≡ tables.holdings.commits.store.page_size
 
 -- They become what the protocol's server becomes by these steps, with no less room for asks.
 pub record Changes (before : Tables) (steps : List ServerStep) (after : Tables) : Type 0 where

@@ -1,7 +1,7 @@
 -- The first ask of a page.
 use Rattle.std.specs.Prelude.{◌≡◌, ℕ, List, [], ◌∷◌}
 use Rattle.cb_asks.specs.Asks.{queue_at}
-use Rattle.cb_callbacks.specs.declared.tables.Tables.{Tables}
+use Rattle.cb_tables.specs.declared.tables.Tables.{Tables}
 use Rattle.cb_protocol.specs.Server.{WaitingAsk, after_first}
 
 -- the ask is the first for the page

@@ -1,6 +1,7 @@
 //! The tables with the view of who waits for whom.
-ghost use Rattle.std.specs.Prelude.{◌≡◌, IfOk};
-ghost use Rattle.cb_callbacks.specs.Tables.{server_of};
+ghost use Rattle.std.specs.Prelude.{◌≡◌, ◌≤◌, IfOk};
+ghost use Rattle.cb_asks.specs.Asks.{asks_below};
+ghost use Rattle.cb_tables.specs.Tables.{server_of};
 ghost use Rattle.cb_commit.specs.History.{begun};
 ghost use Rattle.cb_commit.specs.Stores.{IsOf};
 ghost use Rattle.cb_holdings.specs.Holdings.{AreOf, limits_of, opening_of};
@@ -15,13 +16,14 @@ mod anew;
 mod changes;
 mod deciding;
 mod ends;
+mod numbers;
 mod settling;
 
-use crate::tables::Tables;
 use cb_asks::{Asks, Marks};
 use cb_commit::Store;
 use cb_holdings::Holdings;
 use cb_page::{ClientNo, Limits};
+use cb_tables::Tables;
 use cb_waits::{View, waits_by_place};
 use std::alloc::{AllocError, Global};
 use std::marker::Model;
@@ -111,6 +113,15 @@ impl Callbacks {
             (server_of self.now.tables).pages }
     {
         self.tables.asks.waits_at(client).is_some()
+    }
+
+    /// How many asks wait.
+    pub fn waiting_asks(&self) -> usize
+        ensures asks { result ≡ asks_below (server_of self.now.tables)
+            (server_of self.now.tables).pages }
+        ensures few { result ≤ 32 }
+    {
+        self.tables.asks.waiting_asks()
     }
 
     /// How many asks to read wait.

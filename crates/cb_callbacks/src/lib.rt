@@ -9,9 +9,7 @@
 #![tactic(auto)]
 
 mod callbacks;
-mod known;
 mod laws;
-mod tables;
 
 pub use callbacks::Callbacks;
 pub use laws::{an_ask_sends_at_most_one, grants_are_left};

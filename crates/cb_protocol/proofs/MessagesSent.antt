@@ -635,7 +635,7 @@ step_sends_at_most s r SendsAgain f m = absurd m
 step_sends_at_most s r (ReachesDisk n) f m = absurd m
 
 -- what is sent again: Callbacks or a Downgrade for each page with asks, and AbortNow to each client at most
-again_page_sends : (s : Server) (p : ℕ) (q : List WaitingAsk) → sends (again_page s p q) ≤ length q * (s.clients + 1)
+pub again_page_sends : (s : Server) (p : ℕ) (q : List WaitingAsk) → sends (again_page s p q) ≤ length q * (s.clients + 1)
 again_page_sends s p [] = omega arith
 again_page_sends s p (a ∷ q) = go (is_none a.write_grant)
   where
@@ -658,7 +658,7 @@ again_pages_send s (suc n) = rw (sends_more (again_pages s n) (again_page s n (s
     more : (a b m x y : ℕ) → x ≤ a * m → y ≤ b * m → x + y ≤ (a + b) * m
     more a b m x y k l = grind arith
 
-again_doomed_send : (s : Server) (n : ℕ) → sends (again_doomed s n) ≤ n
+pub again_doomed_send : (s : Server) (n : ℕ) → sends (again_doomed s n) ≤ n
 again_doomed_send s zero = omega arith
 again_doomed_send s (suc n) = rw (sends_more (again_doomed s n) (if s.doomed n then send_to s n (AbortNow (s.session n).txn) ∷ [] else []))
     (let l = again_doomed_send s n in let k = go (s.doomed n) in omega (arith, l, k))

@@ -2,8 +2,8 @@
 use Rattle.std.proofs.Common.{◌≡◌, ℕ, ◌+◌, ◌<◌, false, List, [], ◌∷◌, map, slice_index_or, sym, ◌∙◌, subst, arith}
 use Rattle.std.proofs.lemmas.List.Elements.{All-from_recursion}
 use Rattle.std.specs.List.{AllByRecursion}
-use Rattle.cb_callbacks.specs.Tables.{server_of}
-use Rattle.cb_callbacks.specs.declared.tables.Tables.{Tables}
+use Rattle.cb_tables.specs.Tables.{server_of}
+use Rattle.cb_tables.specs.declared.tables.Tables.{Tables}
 use Rattle.cb_commit.specs.History.{WritesInto}
 use Rattle.cb_commit.specs.Stores.{IsOf, IsSound, IsStored, StoreState, no_page}
 use Rattle.cb_frame_types.specs.Grammar as grammar

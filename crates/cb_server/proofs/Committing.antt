@@ -1,6 +1,6 @@
 -- Whether a commit is applied, and what is done.
 use Rattle.std.proofs.Common.{◌≡◌, ◌≢◌, ℕ, Bool, true, false, ◌&&◌, List, [], ◌∷◌, refl, sym, ap, ◌∙◌, subst}
-use Rattle.cb_callbacks.specs.Tables.{with_waits}
+use Rattle.cb_tables.specs.Tables.{with_waits}
 use Rattle.cb_holdings.specs.Questions.{IsLast, begun_server, standing_in}
 use Rattle.cb_links.specs.declared.sessions.Standing.{Standing}
 use Rattle.cb_links.specs.declared.sessions.Standing.TheVariants as standing
@@ -9,9 +9,10 @@ use Rattle.cb_protocol.specs.Server.{Server, ServerStep, WaitingAsk, has_row, is
 use Rattle.cb_protocol.specs.ServerMessages.{commit_allowed, direct_answer, may_proceed, take_commit}
 use Rattle.cb_protocol.specs.Settling.{send_to}
 use Rattle.cb_protocol.specs.WaitsFor.{on_cycle}
-use Rattle.cb_server.specs.Answering.{Begins, IsLiveOne, Makes, answer_to, applies, server_in}
+use Rattle.cb_callbacks.specs.Numbers.{IsLiveOne}
+use Rattle.cb_server.specs.Answering.{Begins, Makes, answer_to, applies, server_in}
 use Rattle.cb_server.specs.declared.engine.Engine.{Engine}
-use Rattle.cb_server.proofs.Beginning.{doomed_stands, ended_stands, is_later, later_begins, later_lives, live_stands, not_later_begins}
+use Rattle.cb_callbacks.proofs.Standing.{doomed_stands, ended_stands, is_later, later_begins, later_lives, live_stands, not_later_begins}
 use Rattle.cb_server.proofs.Making.{answers, makes_as, makes_nothing}
 
 -- who waits and which pages are in use is nothing to a commit

@@ -1,7 +1,7 @@
 -- The direct answers, kind by kind, as the table has them.
 use Rattle.std.proofs.Common.{◌≡◌, ℕ, ◌-◌, ◌<◌, Bool, true, false, ◌&&◌, ◌==◌, if◌then◌else◌, List, [], ◌∷◌, ◌++◌, refl, sym, ap, ◌∙◌, subst, arith}
 use Rattle.cb_callbacks.specs.Callbacks.{CallbacksState, Changes}
-use Rattle.cb_callbacks.specs.Tables.{server_of}
+use Rattle.cb_tables.specs.Tables.{server_of}
 use Rattle.cb_holdings.specs.Holdings.{Stays}
 use Rattle.cb_outbox.specs.Saying.{OutboxState}
 use Rattle.cb_protocol.specs.Messages.{AbortNow, Body, Downgraded, Drop, GiveBack, Granted, InUse}
@@ -11,7 +11,8 @@ use Rattle.cb_protocol.specs.ServerMessages.{direct_answer, if_live}
 use Rattle.cb_protocol.specs.Session.{DropTransaction, EndPermission, RemoveRow, has_live_txn}
 use Rattle.cb_protocol.specs.Settling.{send_granted, send_to}
 use Rattle.cb_protocol.specs.WaitsFor.{on_cycle}
-use Rattle.cb_server.specs.Answering.{Begins, IsCurrent, IsLiveOne, Makes, Stands, answer_to, server_in}
+use Rattle.cb_callbacks.specs.Numbers.{IsLiveOne}
+use Rattle.cb_server.specs.Answering.{Begins, IsCurrent, Makes, Stands, answer_to, server_in}
 use Rattle.cb_server.specs.declared.engine.Engine.{Engine}
 use Rattle.cb_server.specs.declared.engine.answers.Begun.{Begun}
 use Rattle.cb_server.specs.declared.engine.answers.Begun.TheVariants as begun

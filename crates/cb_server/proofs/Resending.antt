@@ -1,6 +1,6 @@
 -- Whoever is doomed has greeted the server, so it can be told again.
 use Rattle.std.proofs.Common.{◌≡◌, ℕ, true}
-use Rattle.cb_callbacks.specs.Waits.{IsGreeted}
+use Rattle.cb_tables.specs.Waits.{IsGreeted}
 use Rattle.cb_protocol.proofs.ServerRangesKept.{steady}
 use Rattle.cb_protocol.specs.WaitsFor.{on_cycle}
 use Rattle.cb_server.specs.ServerState.{IsServer, ServerState, limits_at, opening_at, server_of}

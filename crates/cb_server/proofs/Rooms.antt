@@ -13,11 +13,11 @@ use Rattle.cb_protocol.specs.WaitsFor.{on_cycle}
 use Rattle.cb_protocol.specs.World.{messages_sent}
 use Rattle.cb_server.specs.Answering.{CanAnswer, CanSettle, LacksNumber, Makes, answer_to, server_in}
 use Rattle.cb_server.specs.declared.engine.Engine.{Engine}
-use Rattle.cb_server.proofs.Counting.{Costs, answer_costs, begins_quietly, begins_with_fewer, begins_with_no_copy, reads}
+use Rattle.cb_server.proofs.Counting.{Costs, answer_costs, begins_quietly, begins_with_fewer, begins_with_fewer_asks, begins_with_no_copy, reads, waiting, waits_fewer, without}
 
--- steps that send one message at most, and leave at most one copy more to send
+-- steps that send one message at most, and leave at most one copy more to send, and one more ask
 abbrev Leaves : Server → List ServerStep → Type 0
-Leaves s ds = (length (messages_sent ds) ≤ 1) × (copies_sent ds + reads (server_after s ds) ≤ reads s + 1)
+Leaves s ds = (length (messages_sent ds) ≤ 1) × (copies_sent ds + reads (server_after s ds) ≤ reads s + 1) × (waiting (server_after s ds) ≤ waiting s + 1)
 
 settles_by : (old new : Engine) (f : Server → List ServerStep) → CanAnswer old → Makes old f new → Leaves (server_in old) (f (server_in old))
     → HasGrantsLeft (server_after (server_in old) (f (server_in old))) → CanSettle new
@@ -25,7 +25,8 @@ settles_by old new f room m l grants = record {
   frames =
       let more = ap (λ (x : List Message). length x) m.says.sends ∙ length-append old.outbox.sent (messages_sent (f (server_in old))) in
       let one = l.0 in let same = m.says.room in let had = room.frames in
-      omega (arith, more, one, same, had);
+      let now = ap waiting m.says.becomes in let asks = l.2 in
+      omega (arith, more, one, same, had, now, asks);
   copies_of_pages =
       let now = ap reads m.says.becomes in
       let cost = l.1 in let spare = m.says.spare in let had = room.copies_of_pages in
@@ -35,7 +36,7 @@ settles_by old new f room m l grants = record {
 }
 
 answer_leaves : (s : Server) (c : ℕ) (b : Body) → Leaves s (answer_to on_cycle c b s)
-answer_leaves s c b = (few, kept)
+answer_leaves s c b = (few, kept, asks)
   where
     first : List ServerStep
     first = begin_transaction s c (named_txn b)
@@ -58,8 +59,15 @@ answer_leaves s c b = (few, kept)
         let none = begins_with_no_copy s c (named_txn b) in
         let fewer = begins_with_fewer s c (named_txn b) in
         let after = ap reads (after_append s first next) in
-        let costs = cost.reads in
+        let costs = cost.copies in
         omega (arith, all, none, fewer, after, costs)
+
+    asks : waiting (server_after s (first ++ next)) ≤ waiting s + 1
+    asks =
+        let fewer = begins_with_fewer_asks s c (named_txn b) in
+        let after = ap waiting (after_append s first next) in
+        let costs = cost.asks in
+        omega (arith, fewer, after, costs)
 
 pub settles_after_answer : (old new : Engine) (c : ℕ) (b : Body) → CanAnswer old → LacksNumber old c b false → Makes old (answer_to on_cycle c b) new → CanSettle new
 settles_after_answer old new c b room left m =
@@ -75,7 +83,11 @@ abbrev pub admission : ℕ → ℕ → List ServerStep
 admission c i = ForgetTransaction c ∷ ChangeSession c (Admit i) ∷ Send c i Welcome ∷ []
 
 admission_leaves : (s : Server) (c i : ℕ) → Leaves s (admission c i)
-admission_leaves s c i = (omega arith, let fewer = reads_fewer s (server_after s (admission c i)) s.pages (λ p. count_without c (s.queue p)) in omega (arith, fewer))
+admission_leaves s c i = (
+  omega arith,
+  (let fewer = reads_fewer s (server_after s (admission c i)) s.pages (λ p. count_without c (s.queue p)) in omega (arith, fewer)),
+  (let fewer = waits_fewer s (server_after s (admission c i)) s.pages (λ p. without c (s.queue p)) in omega (arith, fewer)),
+)
 
 pub settles_after_admission : (old new : Engine) (c i : ℕ) → CanAnswer old → Makes old (λ s. admission c i) new → CanSettle new
 settles_after_admission old new c i room m =

@@ -1,8 +1,8 @@
 -- The server between two calls, and after each.
 use Rattle.std.proofs.Common.{◌≡◌, ℕ, ◌<◌, false, List, [], ◌++◌, refl, sym, ap, ◌∙◌, subst}
 use Rattle.std.specs.List.{AllByRecursion}
-use Rattle.cb_callbacks.specs.Tables as tables
-use Rattle.cb_callbacks.specs.declared.tables.Tables.{Tables}
+use Rattle.cb_tables.specs.Tables as tables
+use Rattle.cb_tables.specs.declared.tables.Tables.{Tables}
 use Rattle.cb_commit.specs.History.{CommitsState, begun}
 use Rattle.cb_commit.specs.Stores.{IsOf, IsSound, StoreState}
 use Rattle.cb_frame_types.specs.Grammar as grammar

@@ -1,10 +1,11 @@
 -- What a server's engine does for a message, and the room that it has for it.
-use Rattle.std.specs.Prelude.{◌≡◌, ◌≤◌, ◌<◌, ◌+◌, ◌&&◌, ℕ, Bool, true, false, List}
+use Rattle.std.specs.Prelude.{◌≡◌, ◌≤◌, ◌<◌, ◌+◌, ◌*◌, ◌&&◌, ℕ, Bool, true, false, List}
 use Rattle.std.specs.Prelude.{[], ◌++◌}
 use Rattle.std.specs.Prelude.{length, ⊤}
-use Rattle.cb_asks.specs.Asks.{room_at}
-use Rattle.cb_callbacks.specs.Callbacks.{IsAsLarge}
-use Rattle.cb_callbacks.specs.Tables.{server_of}
+use Rattle.cb_asks.specs.Asks.{asks_below, room_at}
+use Rattle.cb_callbacks.specs.Numbers as numbers
+use Rattle.cb_callbacks.specs.Numbers.{IsLiveOne}
+use Rattle.cb_tables.specs.Tables.{IsAsLarge, server_of}
 use Rattle.cb_commit.specs.History.{FitsInto}
 use Rattle.cb_frame_types.specs.declared.frame.Body.{Body}
 use Rattle.cb_frame_types.specs.declared.frame.Body.TheVariants as body
@@ -17,9 +18,8 @@ use Rattle.cb_protocol.specs.Numbers.{HasGrantsLeft}
 use Rattle.cb_protocol.specs.Ranges.{BodyFits}
 use Rattle.cb_protocol.specs.Server.{DeadlockTest, Server, ServerStep, has_not_ended, server_after}
 use Rattle.cb_protocol.specs.ServerMessages.{and_then, begin_transaction, commit_allowed}
-use Rattle.cb_protocol.specs.ServerMessages.{direct_answer, lacks_number, may_proceed, named_txn}
+use Rattle.cb_protocol.specs.ServerMessages.{direct_answer, may_proceed, named_txn}
 use Rattle.cb_protocol.specs.ServerMessages.{read_asks_below}
-use Rattle.cb_protocol.specs.Session.{has_live_txn}
 use Rattle.cb_protocol.specs.World.{messages_sent}
 use Rattle.cb_server.specs.declared.engine.Engine.{Engine}
 use Rattle.cb_server.specs.declared.engine.answers.Begun.{Begun}
@@ -41,14 +41,18 @@ pub record HasRoom (engine : Engine) (messages copies : ℕ) : Type 0 where
 abbrev pub read_asks_in_all : Engine → ℕ
 read_asks_in_all engine = read_asks_below (server_in engine) (server_in engine).pages
 
--- Room for all that settling sends: at most a message to each of 32 clients and one for each of 32
--- asks, and a copy for each ask to read (this project's rule).
-abbrev pub CanSettle : Engine → Type 0
-CanSettle engine = HasRoom engine 1056 (read_asks_in_all engine)
+-- how many asks wait
+abbrev pub asks_in_all : Engine → ℕ
+asks_in_all engine = asks_below (server_in engine) (server_in engine).pages
 
--- So much, and one message and one copy more for an answer.
+-- Room for all that settling sends: for each ask that waits at most a message to each of 32 clients
+-- and one more to its own, and a copy for each ask to read (this project's rule).
+abbrev pub CanSettle : Engine → Type 0
+CanSettle engine = HasRoom engine (33 * asks_in_all engine) (read_asks_in_all engine)
+
+-- So much with one ask more, and one message and one copy for an answer.
 abbrev pub CanAnswer : Engine → Type 0
-CanAnswer engine = HasRoom engine 1057 (read_asks_in_all engine + 1)
+CanAnswer engine = HasRoom engine (33 * (asks_in_all engine + 1) + 1) (read_asks_in_all engine + 1)
 
 -- Room for one answer, with a copy of a page.
 pub record CanSay (engine : Engine) : Type 0 where
@@ -76,9 +80,7 @@ answer_to cycle client body server =
 
 -- whether a number is lacking for it, once its transaction has begun
 abbrev pub LacksNumber : Engine → ℕ → protocol.Body → Bool → Type 0
-LacksNumber engine client body answer =
-    lacks_number (server_after (server_in engine)
-    (begin_transaction (server_in engine) client (named_txn body))) client body ≡ answer
+LacksNumber engine client body answer = numbers.LacksNumber (server_in engine) client body answer
 
 -- whether a commit would be applied, once its transaction has begun
 abbrev pub applies : Server → (client txn : ℕ) → List protocol.PageWrite → Bool
@@ -111,13 +113,6 @@ pub record IsLeft (old new : Engine) : Type 0 where
 abbrev pub IsCurrent : Engine → (client incarnation : ℕ) → Type 0
 IsCurrent engine client incarnation =
     incarnation ≡ ((server_in engine).session client).current
-
--- The transaction is the client's last one, which lives; doomed or not.
-pub record IsLiveOne (server : Server) (client txn : ℕ) (is_doomed : Bool) : Type 0 where
-  pub is : txn ≡ (server.session client).txn
-  pub lives : has_live_txn (server.session client) ≡ true
-  pub not_ended : has_not_ended server client txn ≡ true
-  pub doomed : server.doomed client ≡ is_doomed
 
 -- How a message's transaction stands once it has begun.
 abbrev pub Stands : Begun → Server → (client txn : ℕ) → Type 0

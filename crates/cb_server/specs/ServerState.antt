@@ -1,7 +1,7 @@
 -- A server as its callers see it: the protocol's server, and how it arose.
 use Rattle.std.specs.Prelude.{◌≡◌, []}
-use Rattle.cb_callbacks.specs.Tables as tables
-use Rattle.cb_callbacks.specs.declared.tables.Tables.{Tables}
+use Rattle.cb_tables.specs.Tables as tables
+use Rattle.cb_tables.specs.declared.tables.Tables.{Tables}
 use Rattle.cb_commit.specs.History.{CommitsState, begun}
 use Rattle.cb_commit.specs.Stores.{StoreState}
 use Rattle.cb_holdings.specs.Holdings.{AreOf, limits_of, opening_of}

@@ -1,7 +1,7 @@
 //! What a server does for a message, step by step.
 ghost use Rattle.std.specs.Prelude.{◌≡◌, ◌<◌, ◌∷◌, [], ℕ, false, true, IfErr, OnErr, OnOk};
-ghost use Rattle.cb_callbacks.specs.Tables.{HasClient};
-ghost use Rattle.cb_callbacks.specs.Waits.{IsGreeted};
+ghost use Rattle.cb_tables.specs.Tables.{HasClient};
+ghost use Rattle.cb_tables.specs.Waits.{IsGreeted};
 ghost use Rattle.cb_holdings.specs.Holdings.{AreOf};
 ghost use Rattle.cb_outbox.specs.Messages.{body_of};
 ghost use Rattle.cb_protocol.specs.Messages.{Hello, Welcome};
@@ -19,7 +19,6 @@ ghost use Rattle.cb_server.specs.Taking.{is_exhaustion};
 mod answers;
 mod asks;
 mod commit;
-mod numbers;
 
 use crate::server_fault::ServerFault;
 use cb_callbacks::Callbacks;
@@ -95,6 +94,21 @@ impl Engine {
         Ok(())
     }
 
+    /// Whether no number would be left for the message, once its transaction has begun.
+    fn lacks_number(&self, client: ClientNo, body: &Body) -> bool
+        requires client { HasClient self.now.callbacks.tables client }
+        requires fits { FitsIn self.now body.now }
+        ensures { LacksNumber self.now client (body_of body.now) result }
+    {
+        match body {
+            Body::Short(ShortBody::AskRead { txn, page }) => {
+                self.callbacks.lacks_grant(client, *txn, *page)
+            }
+            Body::Commit { txn, writes } => self.lacks_commit(client, *txn, writes),
+            _ => false,
+        }
+    }
+
     /// Takes a Hello: of a greater incarnation, which becomes current, or of the current one again.
     fn hello(
         &mut self,
@@ -159,8 +173,9 @@ impl Engine {
         ensures callbacks { self.new.callbacks ≡ self.old.callbacks }
         ensures left { IsLeft self.old self.new }
     {
+        let messages = 33 * (self.callbacks.waiting_asks() + 1) + 1;
         let copies = self.callbacks.read_asks() + 1;
-        self.outbox.reserve(alloc, 1_057, copies)
+        self.outbox.reserve(alloc, messages, copies)
     }
 
     /// Every page with asks is settled.
@@ -182,7 +197,8 @@ impl Engine {
         ensures callbacks { self.new.callbacks ≡ self.old.callbacks }
         ensures left { OnErr result (IsLeft self.old self.new) }
     {
-        self.outbox.reserve(alloc, 1_088, 0)?;
+        let messages = 33 * self.callbacks.waiting_asks() + limits.clients() as usize;
+        self.outbox.reserve(alloc, messages, 0)?;
         // The law of how much is said.
         self.callbacks.resending_is_bounded();
         self.callbacks.again(limits, &mut self.outbox);

@@ -1,7 +1,8 @@
 //! What may be lost is sent again.
-ghost use Rattle.std.specs.Prelude.{◌≡◌, ◌≤◌, ◌+◌, ℕ, true, length};
-ghost use Rattle.cb_callbacks.specs.Tables.{server_of};
-ghost use Rattle.cb_callbacks.specs.Waits.{IsGreeted};
+ghost use Rattle.std.specs.Prelude.{◌≡◌, ◌≤◌, ◌+◌, ◌*◌, ℕ, true, length};
+ghost use Rattle.cb_asks.specs.Asks.{asks_below};
+ghost use Rattle.cb_tables.specs.Tables.{server_of};
+ghost use Rattle.cb_tables.specs.Waits.{IsGreeted};
 ghost use Rattle.cb_holdings.specs.Holdings.{AreOf};
 ghost use Rattle.cb_outbox.specs.Saying.{HasRoomFor, OutboxState, Says};
 ghost use Rattle.cb_protocol.specs.Resend.{server_again};
@@ -25,11 +26,14 @@ impl Callbacks {
         self.tables.again_doomed(limits.clients(), outbox);
     }
 
-    /// It sends at most 33 messages for each of 32 clients' asks, an AbortNow to each, and no copy.
+    /// It sends at most 33 messages for each ask that waits, an AbortNow to each client, and no
+    /// copy.
     ///
     /// It does nothing: who is to send again cites it for the room that is needed.
     pub fn resending_is_bounded(&self)
-        ensures { (outbox : OutboxState) → length outbox.sent + 1088 ≤ outbox.room
+        ensures { (outbox : OutboxState) → length outbox.sent
+            + (33 * asks_below (server_of self.now.tables) (server_of self.now.tables).pages
+            + (server_of self.now.tables).clients) ≤ outbox.room
             → HasRoomFor (server_again (server_of self.now.tables)) outbox }
     {
         // To look at a field shows the invariant.

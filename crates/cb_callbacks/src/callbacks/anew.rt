@@ -1,5 +1,5 @@
 //! Who waits for whom, built anew.
-ghost use Rattle.cb_callbacks.specs.Tables.{server_of};
+ghost use Rattle.cb_tables.specs.Tables.{server_of};
 ghost use Rattle.cb_waits.specs.Follows.{Follows};
 
 use crate::Callbacks;

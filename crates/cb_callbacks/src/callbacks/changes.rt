@@ -3,8 +3,8 @@ ghost use Rattle.std.specs.Prelude.{◌≡◌, ◌∷◌, ◌<◌, [], ℕ, true
 ghost use Rattle.cb_asks.specs.Asks.{room_at};
 ghost use Rattle.cb_callbacks.specs.Callbacks.{Changes};
 ghost use Rattle.cb_callbacks.specs.Following.{FollowsPage};
-ghost use Rattle.cb_callbacks.specs.Tables.{AreTables, HasClient, HasPage, server_of};
-ghost use Rattle.cb_callbacks.specs.Waits.{HasBegun, IsGreeted};
+ghost use Rattle.cb_tables.specs.Tables.{AreTables, HasClient, HasPage, server_of};
+ghost use Rattle.cb_tables.specs.Waits.{HasBegun, IsGreeted};
 ghost use Rattle.cb_holdings.specs.Holdings.{Stays};
 ghost use Rattle.cb_outbox.specs.Saying.{HasRoomFor, Says};
 ghost use Rattle.cb_protocol.specs.Server.{ChangeSession, EnterQueue, MarkInUse, UnmarkInUse};
@@ -15,9 +15,9 @@ ghost use Rattle.cb_protocol.specs.Settling.{give_permission, no_other_holder, s
 ghost use Rattle.cb_protocol.specs.WaitsFor.{on_cycle};
 
 use crate::Callbacks;
-use crate::tables::Tables;
 use cb_outbox::Outbox;
 use cb_page::{ClientNo, GrantNo, PageNo};
+use cb_tables::Tables;
 use cb_waits::View;
 use std::alloc::AllocError;
 

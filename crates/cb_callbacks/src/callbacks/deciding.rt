@@ -1,9 +1,9 @@
 //! What is done about the first ask of a page.
 ghost use Rattle.std.specs.Prelude.{◌≡◌, ◌≤◌, ◌+◌, [], true, None, Some};
 ghost use Rattle.cb_asks.specs.Queues.{waiting_ask};
-ghost use Rattle.cb_callbacks.specs.Callbacks.{IsAsLarge};
+ghost use Rattle.cb_tables.specs.Tables.{IsAsLarge};
 ghost use Rattle.cb_callbacks.specs.Deciding.{IsFirst};
-ghost use Rattle.cb_callbacks.specs.Tables.{HasPage, server_of};
+ghost use Rattle.cb_tables.specs.Tables.{HasPage, server_of};
 ghost use Rattle.cb_holdings.specs.Holdings.{Stays};
 ghost use Rattle.cb_outbox.specs.Saying.{Decides, HasRoomFor, Says};
 ghost use Rattle.cb_protocol.specs.Basics.{is_none, max_number};
@@ -15,7 +15,7 @@ ghost use Rattle.cb_protocol.specs.Settling.{no_other_holder, sole_row};
 ghost use Rattle.cb_protocol.specs.Settling.{wait_or_doom};
 ghost use Rattle.cb_protocol.specs.WaitsFor.{on_cycle};
 
-use crate::{Callbacks, known};
+use crate::Callbacks;
 use cb_asks::Waiting;
 use cb_clients::ClientSet;
 use cb_outbox::Outbox;
@@ -163,7 +163,7 @@ impl Callbacks {
         let Some(keeper) = self.tables.keeper(page, first.client) else {
             return;
         };
-        let tag = known::tag(&self.tables.holdings, page);
+        let tag = self.tables.tag(page);
         if first.downgrade_sent == Some(tag) {
             return;
         }

@@ -2,8 +2,8 @@
 ghost use Rattle.std.specs.Prelude.{◌≡◌, ◌∷◌, ◌<◌, ◌+◌, [], true, IfOk, OnOk, OnErr};
 ghost use Rattle.cb_callbacks.specs.Callbacks.{Changes};
 ghost use Rattle.cb_callbacks.specs.Following.{FollowsAll, FollowsPages};
-ghost use Rattle.cb_callbacks.specs.Tables.{AreTables, HasClient, server_of};
-ghost use Rattle.cb_callbacks.specs.Waits.{Waits};
+ghost use Rattle.cb_tables.specs.Tables.{AreTables, HasClient, server_of};
+ghost use Rattle.cb_tables.specs.Waits.{Waits};
 ghost use Rattle.cb_commit.specs.History.{FitsInto};
 ghost use Rattle.cb_outbox.specs.Messages.{messages_of, page_writes};
 ghost use Rattle.cb_protocol.specs.Basics.{max_number};
@@ -15,10 +15,10 @@ ghost use Rattle.cb_protocol.specs.World.{messages_sent};
 
 use crate::Callbacks;
 use crate::callbacks::changes::follow_page;
-use crate::tables::Tables;
 use cb_clients::ClientSet;
 use cb_frame::{Frame, Writes};
 use cb_page::{ClientNo, CommitNo, Incarnation, TxnNo};
+use cb_tables::Tables;
 use cb_waits::View;
 use std::alloc::{AllocError, Global};
 

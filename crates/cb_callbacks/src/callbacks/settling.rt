@@ -1,9 +1,10 @@
 //! Asks leave their queues, and pages are settled.
-ghost use Rattle.std.specs.Prelude.{◌≡◌, ◌≤◌, ◌+◌, true, length};
-ghost use Rattle.cb_callbacks.specs.Callbacks.{IsAsLarge};
+ghost use Rattle.std.specs.Prelude.{◌≡◌, ◌≤◌, ◌+◌, ◌*◌, true, length};
+ghost use Rattle.cb_asks.specs.Asks.{asks_below};
+ghost use Rattle.cb_tables.specs.Tables.{IsAsLarge};
 ghost use Rattle.cb_callbacks.specs.Deciding.{StartsWith};
 ghost use Rattle.cb_callbacks.specs.Leaving.{FollowsLeft};
-ghost use Rattle.cb_callbacks.specs.Tables.{AreTables, HasPage, server_of};
+ghost use Rattle.cb_tables.specs.Tables.{AreTables, HasPage, server_of};
 ghost use Rattle.cb_holdings.specs.Holdings.{Stays};
 ghost use Rattle.cb_outbox.specs.Saying.{HasRoomFor, OutboxState, Says};
 ghost use Rattle.cb_protocol.specs.Basics.{is_none, max_number};
@@ -15,10 +16,10 @@ ghost use Rattle.cb_protocol.specs.Settling.{permit_write, settle_page, settle_p
 ghost use Rattle.cb_protocol.specs.WaitsFor.{on_cycle};
 
 use crate::Callbacks;
-use crate::tables::Tables;
 use cb_clients::ClientSet;
 use cb_outbox::Outbox;
 use cb_page::{ClientNo, GrantNo, PageNo};
+use cb_tables::Tables;
 use cb_waits::View;
 
 impl Callbacks {
@@ -43,11 +44,14 @@ impl Callbacks {
         }
     }
 
-    /// Settling sends at most 33 messages for each of 32 clients, and a copy for each ask to read.
+    /// Settling sends at most 33 messages for each ask that waits (to each of 32 clients, and one
+    /// more to its own), and a copy for each ask to read.
     ///
     /// It does nothing: who is to settle cites it for the room that is needed.
     pub fn settling_is_bounded(&self)
-        ensures { (outbox : OutboxState) → length outbox.sent + 1056 ≤ outbox.room
+        ensures { (outbox : OutboxState) → length outbox.sent
+            + 33 * asks_below (server_of self.now.tables) (server_of self.now.tables).pages
+            ≤ outbox.room
             → read_asks_below (server_of self.now.tables) (server_of self.now.tables).pages
             ≤ outbox.spare
             → HasRoomFor (settle_pages on_cycle (server_of self.now.tables)

@@ -1,10 +1,10 @@
 //! The direct answers to messages, once their transactions have begun.
-ghost use Rattle.std.specs.Prelude.{◌≡◌, ◌==◌, ◌&&◌, ℕ, false, OnErr, OnOk};
-ghost use Rattle.cb_callbacks.specs.Tables.{HasClient, HasPage};
+ghost use Rattle.std.specs.Prelude.{◌≡◌, ℕ, false, OnErr, OnOk};
+ghost use Rattle.cb_tables.specs.Tables.{HasClient, HasPage};
 ghost use Rattle.cb_outbox.specs.Messages.{body_of, short_of};
 ghost use Rattle.cb_protocol.specs.Messages.{Downgraded, Drop as DropBody, GiveBack, InUse};
 ghost use Rattle.cb_protocol.specs.Ranges.{BodyFits};
-ghost use Rattle.cb_protocol.specs.Server.{Server, has_not_ended, has_row, is_write_holder};
+ghost use Rattle.cb_protocol.specs.Server.{Server, has_not_ended};
 ghost use Rattle.cb_protocol.specs.WaitsFor.{on_cycle};
 ghost use Rattle.cb_server.specs.Answering.{Begins, CanSay, FitsIn, IsCurrent, IsLeft};
 ghost use Rattle.cb_server.specs.Answering.{LacksNumber, Makes, Stands, answer_to, limits_in};
@@ -156,24 +156,8 @@ impl Engine {
         requires page { HasPage self.old.callbacks.tables page }
         ensures { Makes self.old (answer_to on_cycle client (Downgraded page grant tag)) self.new }
     {
-        if self.gives_up(client, page, grant, tag) {
+        if self.callbacks.has_kept_permission(client, page, grant, tag) {
             self.callbacks.end_permission(client, page);
         }
-    }
-
-    /// Whether permissions are kept and the client has this one: by that grant, of that tag.
-    fn gives_up(&self, client: ClientNo, page: PageNo, grant: GrantNo, tag: TxnNo) -> bool
-        requires client { HasClient self.now.callbacks.tables client }
-        requires page { HasPage self.now.callbacks.tables page }
-        ensures { result ≡ ((server_in self.now).store.keep_write
-            && has_row (server_in self.now) client page grant
-            && is_write_holder (server_in self.now) client page
-            && ((server_in self.now).store.tag page == tag)) }
-    {
-        let holdings = self.callbacks.holdings();
-        holdings.keep_write()
-            && holdings.has_row(client, page, grant)
-            && holdings.is_write_holder(client, page)
-            && holdings.tag(page) == Some(tag)
     }
 }

@@ -1,7 +1,7 @@
 //! Asks to read and to write.
 ghost use Rattle.std.specs.Prelude.{◌≡◌, ◌<◌, ◌∷◌, [], if◌then◌else◌, true, OnErr, OnOk};
 ghost use Rattle.cb_asks.specs.Asks.{room_at};
-ghost use Rattle.cb_callbacks.specs.Tables.{HasClient, HasPage};
+ghost use Rattle.cb_tables.specs.Tables.{HasClient, HasPage};
 ghost use Rattle.cb_protocol.specs.Messages.{AskRead, AskWrite};
 ghost use Rattle.cb_protocol.specs.Server.{is_write_holder};
 ghost use Rattle.cb_protocol.specs.ServerMessages.{enter_queue, has_waiting_ask, new_ask};

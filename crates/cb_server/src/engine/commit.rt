@@ -1,6 +1,6 @@
 //! Commits.
 ghost use Rattle.std.specs.Prelude.{◌≡◌, false, true, List, OnErr, OnOk};
-ghost use Rattle.cb_callbacks.specs.Tables.{HasClient};
+ghost use Rattle.cb_tables.specs.Tables.{HasClient};
 ghost use Rattle.cb_commit.specs.History.{FitsInto};
 ghost use Rattle.cb_outbox.specs.Messages.{page_writes};
 ghost use Rattle.cb_protocol.specs.Messages.{Commit, PageWrite};

@@ -2,7 +2,7 @@ use Rattle.std.proofs.Common.{◌≡◌, ◌∙◌, ◌+◌, ◌-◌, ◌<◌, �
 use Rattle.cb_outbox.specs.Saying.{HasRoomFor, Says}
 use Rattle.cb_protocol.specs.Settling.{settle_page}
 use Rattle.cb_protocol.specs.WaitsFor.{on_cycle}
-use Rattle.cb_callbacks.specs.Tables.{server_of}
+use Rattle.cb_tables.specs.Tables.{server_of}
 use Rattle.cb_callbacks.proofs.Settling.{left_decided, room_decided, room_others, settles_last}
 use Rattle.cb_outbox.proofs.Saying.{settle_more, settle_stop}
 use Rattle.cb_callbacks.proofs.callbacks.Callbacks.+settle_page.Goals as goal

@@ -2,9 +2,7 @@ use Rattle.std.proofs.Common.{◌≡◌, ◌∙◌, ◌++◌, ℕ, subst, sym}
 use Rattle.cb_outbox.proofs.Saying.{room_after, room_first, says_as, says_then}
 use Rattle.cb_outbox.specs.Saying.{HasRoomFor, Says}
 use Rattle.cb_callbacks.specs.Callbacks.{CallbacksState}
-use Rattle.cb_callbacks.specs.Tables.{server_of}
-use Rattle.cb_callbacks.specs.Waits.{IsGreeted}
-use Rattle.cb_holdings.specs.Holdings.{AreOf}
+use Rattle.cb_tables.specs.Tables.{server_of}
 use Rattle.cb_protocol.specs.Resend.{again_doomed, again_pages, server_again}
 use Rattle.cb_protocol.specs.ServerMessages.{and_then}
 use Rattle.cb_protocol.specs.Server.{Server}

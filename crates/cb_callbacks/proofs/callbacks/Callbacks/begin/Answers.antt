@@ -1,4 +1,4 @@
-use Rattle.cb_callbacks.specs.Tables.{server_of}
+use Rattle.cb_tables.specs.Tables.{server_of}
 use Rattle.cb_callbacks.proofs.Ending.{begins_ends, forgot, kept_ended, waits_forgot}
 use Rattle.cb_protocol.specs.Session.{BeginTransaction}
 use Rattle.cb_callbacks.proofs.callbacks.Callbacks.begin.Goals as goal

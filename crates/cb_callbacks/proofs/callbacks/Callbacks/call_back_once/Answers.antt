@@ -5,7 +5,7 @@ use Rattle.cb_outbox.specs.Saying.{HasRoomFor, Says}
 use Rattle.cb_protocol.specs.Server.{set_called_back}
 use Rattle.cb_protocol.specs.Settling.{call_back_once, nobody, send_callbacks}
 use Rattle.cb_callbacks.specs.Callbacks.{CallbacksState}
-use Rattle.cb_callbacks.specs.Tables.{server_of}
+use Rattle.cb_tables.specs.Tables.{server_of}
 use Rattle.cb_callbacks.proofs.Noted.{called_back, kept_noted, notes_called, room_called}
 use Rattle.cb_callbacks.proofs.callbacks.Callbacks.call_back_once.Goals as goal
 

@@ -1,6 +1,6 @@
 use Rattle.std.proofs.Common.{subst}
 use Rattle.cb_callbacks.specs.Callbacks.{CallbacksState, Changes}
-use Rattle.cb_callbacks.specs.Tables.{server_of}
+use Rattle.cb_tables.specs.Tables.{server_of}
 use Rattle.cb_callbacks.proofs.Ending.{begins_ends, changes_twice, commits_ends, ended, ended_twice, forgot_twice, kept_twice, waits_forgot_twice}
 use Rattle.cb_outbox.specs.Messages.{page_writes}
 use Rattle.cb_protocol.specs.Server.{server_after}

@@ -5,7 +5,7 @@ use Rattle.cb_protocol.specs.Settling.{no_other_holder}
 use Rattle.cb_protocol.specs.WaitsFor.{on_cycle}
 use Rattle.cb_callbacks.specs.Callbacks.{CallbacksState}
 use Rattle.cb_callbacks.specs.Deciding.{IsFirst}
-use Rattle.cb_callbacks.specs.Tables.{server_of}
+use Rattle.cb_tables.specs.Tables.{server_of}
 use Rattle.cb_callbacks.proofs.Deciding.{may_read, reads_wait}
 use Rattle.cb_callbacks.proofs.Kept.{first_known}
 use Rattle.cb_callbacks.proofs.Queues.{left_for}

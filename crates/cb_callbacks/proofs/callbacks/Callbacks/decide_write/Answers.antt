@@ -5,7 +5,7 @@ use Rattle.cb_protocol.specs.Settling.{call_back_once, no_other_holder, sole_row
 use Rattle.cb_protocol.specs.WaitsFor.{on_cycle}
 use Rattle.cb_callbacks.specs.Callbacks.{CallbacksState}
 use Rattle.cb_callbacks.specs.Deciding.{IsFirst}
-use Rattle.cb_callbacks.specs.Tables.{server_of}
+use Rattle.cb_tables.specs.Tables.{server_of}
 use Rattle.cb_callbacks.proofs.Deciding.{may_write, room_permitted, room_tested, room_told, room_write_waits, writes_permitted, writes_wait}
 use Rattle.cb_callbacks.proofs.Kept.{first_known}
 use Rattle.cb_callbacks.proofs.callbacks.Callbacks.decide_write.Goals as goal

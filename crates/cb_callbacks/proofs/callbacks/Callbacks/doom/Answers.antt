@@ -2,7 +2,7 @@ use Rattle.std.proofs.Common.{◌≡◌, sym, subst, true}
 use Rattle.cb_protocol.specs.Server.{has_ask}
 use Rattle.cb_protocol.specs.Settling.{doom_client}
 use Rattle.cb_callbacks.specs.Callbacks.{CallbacksState}
-use Rattle.cb_callbacks.specs.Tables.{server_of}
+use Rattle.cb_tables.specs.Tables.{server_of}
 use Rattle.cb_callbacks.proofs.Left.{dooms_left}
 use Rattle.cb_callbacks.proofs.Kept.{kept_left}
 use Rattle.cb_callbacks.proofs.callbacks.Callbacks.doom.Goals as goal

@@ -1,6 +1,6 @@
 use Rattle.std.proofs.Common.{subst}
 use Rattle.cb_callbacks.specs.Callbacks.{CallbacksState, Changes}
-use Rattle.cb_callbacks.specs.Tables.{server_of}
+use Rattle.cb_tables.specs.Tables.{server_of}
 use Rattle.cb_callbacks.proofs.Ending.{drops_ends, changes_forgot, ended, forgot, kept_ended, waits_forgot}
 use Rattle.cb_protocol.specs.Session.{DropTransaction}
 use Rattle.cb_callbacks.proofs.callbacks.Callbacks.drop_transaction.Goals as goal

@@ -2,9 +2,9 @@ use Rattle.std.proofs.Common.{◌<◌, [], ◌∷◌, ℕ, refl, sym, subst, ari
 use Rattle.cb_asks.specs.Asks.{queue_at}
 use Rattle.cb_asks.specs.Marks.{is_in_use}
 use Rattle.cb_callbacks.specs.Callbacks.{CallbacksState, Changes}
-use Rattle.cb_callbacks.specs.Tables.{HasPage, server_of}
-use Rattle.cb_callbacks.proofs.Changes.{changed}
-use Rattle.cb_callbacks.proofs.Page.{are_stays, ends_at, kept_page}
+use Rattle.cb_tables.specs.Tables.{HasPage, server_of}
+use Rattle.cb_tables.proofs.Changes.{are_stays, changed}
+use Rattle.cb_callbacks.proofs.Page.{ends_at, kept_page}
 use Rattle.cb_protocol.specs.Server.{ChangeSession}
 use Rattle.cb_protocol.specs.Session.{EndPermission}
 use Rattle.cb_callbacks.proofs.callbacks.Callbacks.end_permission.Goals as goal

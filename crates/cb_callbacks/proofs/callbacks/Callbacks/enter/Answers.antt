@@ -1,4 +1,4 @@
-use Rattle.cb_callbacks.specs.Tables.{server_of}
+use Rattle.cb_tables.specs.Tables.{server_of}
 use Rattle.cb_callbacks.proofs.Entering.{entered_has}
 use Rattle.cb_protocol.specs.ServerMessages.{new_ask}
 use Rattle.cb_callbacks.proofs.callbacks.Callbacks.enter.Goals as goal

@@ -1,7 +1,7 @@
 use Rattle.std.proofs.Common.{◌≡◌, ◌∙◌, ◌∷◌, [], sym, subst, true, false}
 use Rattle.cb_callbacks.specs.Callbacks.{CallbacksState}
-use Rattle.cb_callbacks.specs.Tables.{HasClient, HasPage, server_of}
-use Rattle.cb_callbacks.specs.Waits.{IsGreeted}
+use Rattle.cb_tables.specs.Tables.{HasClient, HasPage, server_of}
+use Rattle.cb_tables.specs.Waits.{IsGreeted}
 use Rattle.cb_callbacks.proofs.Entering.{enters_at, enters_becomes, none_asks}
 use Rattle.cb_callbacks.proofs.Page.{kept_page}
 use Rattle.cb_protocol.specs.Server.{EnterQueue}

@@ -1,6 +1,6 @@
 use Rattle.std.proofs.Common.{subst, rules}
 use Rattle.cb_callbacks.specs.Callbacks.{CallbacksState, Changes}
-use Rattle.cb_callbacks.specs.Tables.{server_of}
+use Rattle.cb_tables.specs.Tables.{server_of}
 use Rattle.cb_callbacks.proofs.Flushing.{flushes_changes, kept_flushed}
 use Rattle.cb_protocol.specs.Flush.{server_flush}
 use Rattle.cb_callbacks.proofs.callbacks.Callbacks.flushed.Goals as goal

@@ -2,7 +2,7 @@ use Rattle.std.proofs.Common.{sym, subst}
 use Rattle.cb_protocol.specs.Settling.{grant_row}
 use Rattle.cb_callbacks.specs.Callbacks.{CallbacksState}
 use Rattle.cb_callbacks.specs.Deciding.{StartsWith}
-use Rattle.cb_callbacks.specs.Tables.{server_of}
+use Rattle.cb_tables.specs.Tables.{server_of}
 use Rattle.cb_callbacks.proofs.Kept.{kept_left, known}
 use Rattle.cb_callbacks.proofs.Left.{grants_left}
 use Rattle.cb_callbacks.proofs.Queues.{first_has}

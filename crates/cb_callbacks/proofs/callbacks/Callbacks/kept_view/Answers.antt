@@ -1,6 +1,6 @@
 use Rattle.std.proofs.Common.{subst}
 use Rattle.cb_callbacks.specs.Callbacks.{CallbacksState}
-use Rattle.cb_callbacks.specs.Tables.{server_of}
+use Rattle.cb_tables.specs.Tables.{server_of}
 use Rattle.cb_waits.specs.Follows.{Follows}
 use Rattle.cb_callbacks.proofs.callbacks.Callbacks.kept_view.Goals as goal
 

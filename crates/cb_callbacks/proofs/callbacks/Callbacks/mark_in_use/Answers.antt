@@ -2,7 +2,7 @@ use Rattle.std.proofs.Common.{◌∙◌, [], ◌∷◌, sym, subst}
 use Rattle.cb_asks.specs.Asks.{queue_at}
 use Rattle.cb_asks.specs.Marks.{is_in_use}
 use Rattle.cb_callbacks.specs.Callbacks.{CallbacksState}
-use Rattle.cb_callbacks.specs.Tables.{HasPage, server_of}
+use Rattle.cb_tables.specs.Tables.{HasPage, server_of}
 use Rattle.cb_callbacks.proofs.Page.{kept_page, marked, marks_at}
 use Rattle.cb_holdings.specs.Holdings as holdings
 use Rattle.cb_protocol.specs.Server.{MarkInUse}

@@ -3,7 +3,7 @@ use Rattle.cb_holdings.specs.Holdings.{limits_of, opening_of}
 use Rattle.cb_protocol.specs.Server.{new_server}
 use Rattle.cb_protocol.specs.World.{opening_store}
 use Rattle.cb_waits.specs.Follows.{Follows}
-use Rattle.cb_callbacks.specs.Waits.{Waits}
+use Rattle.cb_tables.specs.Waits.{Waits}
 use Rattle.cb_callbacks.proofs.Opening.{follows_new, nobody_waits, waits_new}
 use Rattle.cb_callbacks.proofs.callbacks.Callbacks.new.Goals as goal
 

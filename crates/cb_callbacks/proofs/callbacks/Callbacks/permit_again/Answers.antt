@@ -1,7 +1,7 @@
 use Rattle.std.proofs.Common.{sym, subst}
 use Rattle.cb_callbacks.specs.Callbacks.{CallbacksState}
-use Rattle.cb_callbacks.specs.Tables.{HasPage, server_of}
-use Rattle.cb_callbacks.specs.Waits.{HasBegun}
+use Rattle.cb_tables.specs.Tables.{HasPage, server_of}
+use Rattle.cb_tables.specs.Waits.{HasBegun}
 use Rattle.cb_callbacks.proofs.Page.{kept_page, permits_at}
 use Rattle.cb_protocol.specs.Settling.{give_permission}
 use Rattle.cb_callbacks.proofs.callbacks.Callbacks.permit_again.Goals as goal

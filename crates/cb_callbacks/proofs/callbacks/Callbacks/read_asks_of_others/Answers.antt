@@ -1,6 +1,6 @@
 use Rattle.std.proofs.Common.{◌≡◌, refl, subst, sym}
 use Rattle.cb_callbacks.specs.Callbacks.{CallbacksState}
-use Rattle.cb_callbacks.specs.Tables.{server_of}
+use Rattle.cb_tables.specs.Tables.{server_of}
 use Rattle.cb_protocol.specs.Server.{ForgetTransaction, after_server_step}
 use Rattle.cb_protocol.specs.ServerMessages.{read_asks_below}
 use Rattle.cb_callbacks.proofs.callbacks.Callbacks.read_asks_of_others.Goals as goal

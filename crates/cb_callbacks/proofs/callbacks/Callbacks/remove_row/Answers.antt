@@ -1,7 +1,8 @@
 use Rattle.std.proofs.Common.{◌<◌, [], ◌∷◌, ℕ, sym, subst, arith}
 use Rattle.cb_callbacks.specs.Callbacks.{CallbacksState, Changes}
-use Rattle.cb_callbacks.specs.Tables.{HasPage, server_of}
-use Rattle.cb_callbacks.proofs.Page.{are_stays, kept_page, removes_at, removes_becomes}
+use Rattle.cb_tables.specs.Tables.{HasPage, server_of}
+use Rattle.cb_callbacks.proofs.Page.{kept_page, removes_at, removes_becomes}
+use Rattle.cb_tables.proofs.Changes.{are_stays}
 use Rattle.cb_protocol.specs.Server.{ChangeSession, UnmarkInUse}
 use Rattle.cb_protocol.specs.Session.{RemoveRow}
 use Rattle.cb_callbacks.proofs.callbacks.Callbacks.remove_row.Goals as goal

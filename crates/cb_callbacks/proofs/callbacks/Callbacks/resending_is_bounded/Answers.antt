@@ -1,11 +1,13 @@
-use Rattle.std.proofs.Common.{◌≤◌, ◌+◌, length, subst}
+use Rattle.std.proofs.Common.{◌≤◌, ◌+◌, ◌*◌, length, subst}
+use Rattle.cb_asks.specs.Asks.{asks_below}
 use Rattle.cb_outbox.specs.Saying.{HasRoomFor, OutboxState}
 use Rattle.cb_callbacks.specs.Callbacks.{CallbacksState}
-use Rattle.cb_callbacks.specs.Tables.{server_of}
+use Rattle.cb_tables.specs.Tables.{server_of}
 use Rattle.cb_callbacks.proofs.Bounds.{resending_bounded}
 use Rattle.cb_protocol.specs.Resend.{server_again}
 use Rattle.cb_callbacks.proofs.callbacks.Callbacks.resending_is_bounded.Goals as goal
 
 pub returns : goal.returns
-returns c = subst (λ (v : CallbacksState). (outbox : OutboxState) → length outbox.sent + 1088 ≤ outbox.room → HasRoomFor (server_again (server_of v.tables)) outbox) c.self.view_is
-    (λ outbox room. resending_bounded (server_of c.self.inside.tables) outbox c.self.invariant.waits c.self.invariant.few room)
+returns c = subst (λ (v : CallbacksState). (outbox : OutboxState) → length outbox.sent + (33 * asks_below (server_of v.tables) (server_of v.tables).pages + (server_of v.tables).clients) ≤ outbox.room
+    → HasRoomFor (server_again (server_of v.tables)) outbox) c.self.view_is
+    (λ outbox room. resending_bounded (server_of c.self.inside.tables) outbox c.self.invariant.few room)

@@ -5,7 +5,7 @@ use Rattle.cb_outbox.specs.Saying.{Says}
 use Rattle.cb_protocol.specs.Settling.{settle_pages}
 use Rattle.cb_protocol.specs.WaitsFor.{on_cycle}
 use Rattle.cb_callbacks.specs.Callbacks.{CallbacksState}
-use Rattle.cb_callbacks.specs.Tables.{server_of}
+use Rattle.cb_tables.specs.Tables.{server_of}
 use Rattle.cb_callbacks.proofs.Settling.{left_settled, page_room, pages_all, pages_more, stays_then}
 use Rattle.cb_callbacks.proofs.callbacks.Callbacks.settle.Goals as goal
 

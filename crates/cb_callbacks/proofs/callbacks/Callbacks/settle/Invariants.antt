@@ -1,6 +1,6 @@
 use Rattle.std.proofs.Common.{◌≤◌, ◌-◌, ◌+◌}
-use Rattle.cb_callbacks.specs.Tables.{server_of}
-use Rattle.cb_callbacks.specs.Waits.{Waits}
+use Rattle.cb_tables.specs.Tables.{server_of}
+use Rattle.cb_tables.specs.Waits.{Waits}
 use Rattle.cb_holdings.specs.Holdings.{Stays}
 use Rattle.cb_outbox.specs.Saying.{Says}
 use Rattle.cb_protocol.specs.Basics.{max_number}

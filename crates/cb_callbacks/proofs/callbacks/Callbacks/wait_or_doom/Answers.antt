@@ -1,6 +1,6 @@
 use Rattle.std.proofs.Common.{◌∙◌, sym}
 use Rattle.cb_protocol.specs.WaitsFor.{on_cycle}
-use Rattle.cb_callbacks.specs.Tables.{server_of}
+use Rattle.cb_tables.specs.Tables.{server_of}
 use Rattle.cb_callbacks.proofs.Deciding.{room_doomed, waits_doomed, waits_on}
 use Rattle.cb_callbacks.proofs.callbacks.Callbacks.wait_or_doom.Goals as goal
 

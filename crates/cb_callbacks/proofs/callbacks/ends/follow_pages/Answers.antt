@@ -1,6 +1,6 @@
 use Rattle.std.proofs.Common.{◌+◌, ◌<◌, ℕ, sym, subst, ap, arith}
 use Rattle.cb_callbacks.specs.Following.{FollowsPages}
-use Rattle.cb_callbacks.specs.Tables.{server_of}
+use Rattle.cb_tables.specs.Tables.{server_of}
 use Rattle.cb_callbacks.proofs.Ending.{pages_follow}
 use Rattle.cb_callbacks.proofs.callbacks.ends.follow_pages.Goals as goal
 

@@ -2,8 +2,9 @@ use Rattle.std.proofs.Common.{rules, ◌≡◌, false, sym, subst}
 use Rattle.cb_holdings.specs.Questions.{standing_in}
 use Rattle.cb_links.specs.declared.sessions.Standing.TheVariants as standing
 use Rattle.cb_protocol.specs.Server.{Server}
-use Rattle.cb_server.specs.Answering.{IsLiveOne, server_in}
-use Rattle.cb_server.proofs.Beginning.{is_later, later_lives}
+use Rattle.cb_callbacks.specs.Numbers.{IsLiveOne}
+use Rattle.cb_callbacks.proofs.Standing.{is_later, later_lives}
+use Rattle.cb_server.specs.Answering.{server_in}
 use Rattle.cb_server.proofs.engine.Engine.begin.Goals as goal
 
 pub returns-in-Later-clause-stands : goal.returns-in-Later-clause-stands

@@ -1,0 +1,35 @@
+-- Callbacks to those with a copy, client by client.
+use Rattle.std.proofs.Common.{◌≡◌, ℕ, Bool, true, false, not, ◌||◌, ◌==◌, if◌then◌else◌, List, [], ◌++◌, Option, Some, None, zero, suc, refl, ap}
+use Rattle.cb_tables.specs.Asking.{callback_to}
+use Rattle.cb_tables.proofs.Walks.{up_to}
+use Rattle.cb_protocol.specs.Basics.{is_none}
+use Rattle.cb_protocol.specs.Server.{Server, ServerStep}
+use Rattle.cb_protocol.specs.Settling.{send_callback, send_callbacks}
+
+-- to the clients before a number
+pub calls : (s : Server) (left_out : ℕ → Bool) (page asker end : ℕ)
+    → send_callbacks s left_out page asker end ≡ up_to (callback_to s left_out page asker) end
+calls s left_out page asker zero = refl
+calls s left_out page asker (suc client) = ap (λ (l : List ServerStep). l ++ callback_to s left_out page asker client) (calls s left_out page asker client)
+
+none_is : (row : Option ℕ) → is_none row ≡ true → row ≡ None
+none_is None e = refl
+none_is (Some grant) e = absurd cc
+
+-- to a client without a copy nothing is sent
+pub none_to : (s : Server) (left_out : ℕ → Bool) (page asker client : ℕ) → is_none ((s.session client).row page) ≡ true
+    → callback_to s left_out page asker client ≡ []
+none_to s left_out page asker client e = go ((client == asker) || left_out client)
+  where
+    go : (b : Bool) → (if b then [] else send_callback s client page ((s.session client).row page)) ≡ []
+    go true = refl
+    go false = ap (send_callback s client page) (none_is ((s.session client).row page) e)
+
+-- a client that isn't among those with a copy has none
+pub no_row : (test there : Bool) → there ≡ not test → there ≡ false → test ≡ true
+no_row true there e f = refl
+no_row false there e f = cc
+
+pub some_row : (test there : Bool) → there ≡ not test → there ≡ true → test ≡ false
+some_row true there e f = cc
+some_row false there e f = refl

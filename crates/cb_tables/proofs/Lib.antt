@@ -1,0 +1,5 @@
+pub mod Rooms
+pub mod Walks
+pub mod Changes
+pub mod Calling
+pub mod Again

@@ -1,0 +1,9 @@
+use Rattle.cb_outbox.specs.Saying.{Says}
+use Rattle.cb_tables.specs.Asking.{abort_to}
+use Rattle.cb_tables.specs.Tables.{server_of}
+use Rattle.cb_tables.proofs.Walks.{up_to}
+use Rattle.cb_tables.proofs.tables.Tables.again_doomed.Given as goal
+
+-- it was sent to the doomed before the client
+abbrev pub invariant-loop-client : goal.invariant-loop-client
+invariant-loop-client l = Says (server_of l.self) (λ server. up_to (abort_to (server_of l.self)) l.client) (server_of l.self) l.initial.outbox l.outbox

@@ -1,0 +1,17 @@
+use Rattle.std.proofs.Common.{◌≤◌, ◌-◌}
+use Rattle.cb_clients.specs.Clients.{has}
+use Rattle.cb_outbox.specs.Saying.{Says}
+use Rattle.cb_tables.specs.Asking.{callback_to}
+use Rattle.cb_tables.specs.Tables.{server_of}
+use Rattle.cb_tables.proofs.Walks.{up_to}
+use Rattle.cb_tables.proofs.tables.Tables.call_back.Given as goal
+
+-- those before `from` were called
+abbrev pub invariant-loop-client : goal.invariant-loop-client
+invariant-loop-client l = record {
+  says : Says (server_of l.self) (λ server. up_to (callback_to (server_of l.self) (has l.left_out) l.page l.asker) l.from) (server_of l.self) l.initial.outbox l.outbox;
+  within : l.from ≤ (server_of l.self).clients;
+}
+
+abbrev pub decreases-loop-client : goal.decreases-loop-client
+decreases-loop-client l = 32 - l.from

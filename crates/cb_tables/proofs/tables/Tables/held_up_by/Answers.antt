@@ -1,0 +1,5 @@
+use Rattle.std.proofs.Common.{rules}
+use Rattle.cb_tables.proofs.tables.Tables.held_up_by.Goals as goal
+
+pub returns-in-Some-holder_in_use : goal.returns-in-Some-holder_in_use
+returns-in-Some-holder_in_use c = search rules
