@@ -110,6 +110,13 @@ impl<Q: Chooser> Client<Q> {
         })
     }
 
+    /// Its incarnation.
+    pub fn incarnation(&self) -> Incarnation
+        ensures { result ≡ self.now.incarnation }
+    {
+        self.incarnation
+    }
+
     /// The limits of its store and its pool.
     pub fn limits(&self) -> &Limits
         ensures { result.now ≡ self.now.copies.limits }
