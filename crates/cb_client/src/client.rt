@@ -78,7 +78,7 @@ impl<Q: Chooser> Client<Q> {
         })
     }
 
-    /// Which of its number's incarnations it is.
+    /// Its incarnation.
     pub fn incarnation(&self) -> Incarnation
         ensures { result ≡ self.now.incarnation }
     {

@@ -101,6 +101,13 @@ impl SentPackets {
         Ok(SentPackets { list })
     }
 
+    /// These packets, in order.
+    pub fn from_vec(list: Vec<SentPacket>) -> SentPackets
+        ensures { result ≡ list.items }
+    {
+        SentPackets { list }
+    }
+
     pub fn as_slice(&self) -> &[SentPacket]
         ensures { result.now ≡ self.now }
     {

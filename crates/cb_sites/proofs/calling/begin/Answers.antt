@@ -1,0 +1,15 @@
+use Rattle.std.proofs.Common.{[], ap}
+use Rattle.cb_client.specs.ByTable.{as_before}
+use Rattle.cb_protocol.specs.Answers.{AnsweredOk}
+use Rattle.cb_protocol.specs.ClientCalls.{CallBegin}
+use Rattle.cb_transcript.specs.ProtocolEvents.{word_of}
+use Rattle.cb_sites.proofs.Replying.{refusal_reply, replies_by}
+use Rattle.cb_sites.proofs.calling.begin.Goals as goal
+
+pub returns-in-Ok-clause-ok : goal.returns-in-Ok-clause-ok
+returns-in-Ok-clause-ok g c =
+    replies_by c.args.client.now c.begin.new.self CallBegin c.silent.result AnsweredOk [] as_before c.in-Ok.ensures.1 (ap word_of c.silent.ensures.word) c.silent.ensures.said tt
+
+pub returns-in-Err-clause-ok : goal.returns-in-Err-clause-ok
+returns-in-Err-clause-ok g c =
+    refusal_reply c.args.client.now c.begin.new.self CallBegin c.in-Err.fault c.refused.result c.in-Err.ensures.0 c.in-Err.ensures.1 c.refused.ensures

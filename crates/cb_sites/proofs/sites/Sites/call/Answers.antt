@@ -1,0 +1,27 @@
+use Rattle.std.proofs.Common.{◌<◌, ◌≤◌, refl, subst}
+use Rattle.cb_sites.specs.SitesState.{AreSites, SitesState}
+use Rattle.cb_sites.proofs.Worlds.{called_answers, called_fits, has_it, lacks_it, no_client_answers}
+use Rattle.cb_transcript.specs.ProtocolEvents.{call_of}
+use Rattle.cb_sites.proofs.sites.Sites.call.Goals as goal
+
+pub returns-then-not-has_client-clause-ok : goal.returns-then-not-has_client-clause-ok
+returns-then-not-has_client-clause-ok g c =
+    let sites : SitesState = record { limits = c.self.inside.limits; clients = c.self.inside.clients.items } in
+    let lacks : c.args.self.now.limits.clients ≤ c.args.client
+    = lacks_it sites c.args.self.now c.args.client c.get.result c.self.view_is c.get.ensures.value c.if-not-has_client.ensures.value.1 in
+    rw (c.silent.ensures.word, c.silent.ensures.said) (no_client_answers c.args.self.now c.args.client (call_of c.args.call.now) lacks)
+
+pub returns-clause-ok : goal.returns-clause-ok
+returns-clause-ok g c =
+    let sites : SitesState = record { limits = c.self.inside.limits; clients = c.self.inside.clients.items } in
+    let has : c.args.client < c.args.self.now.limits.clients
+    = has_it sites c.args.self.now c.args.client c.get.result c.self.view_is c.get.ensures.value (c.if-not-has_client.ensures.value.0 refl) in
+    called_answers c.args.self.now c.call_at.new.self c.args.client (call_of c.args.call.now) c.call_at.result (subst AreSites c.self.view_is c.self.invariant) has
+    c.call_at.ensures.rest c.call_at.ensures.called
+
+pub returns-clause-fits : goal.returns-clause-fits
+returns-clause-fits g c =
+    let sites : SitesState = record { limits = c.self.inside.limits; clients = c.self.inside.clients.items } in
+    let has : c.args.client < c.args.self.now.limits.clients
+    = has_it sites c.args.self.now c.args.client c.get.result c.self.view_is c.get.ensures.value (c.if-not-has_client.ensures.value.0 refl) in
+    called_fits c.args.self.now c.call_at.new.self c.args.client (call_of c.args.call.now) c.call_at.result (subst AreSites c.self.view_is c.self.invariant) has c.call_at.ensures.called

@@ -1,0 +1,16 @@
+use Rattle.std.proofs.Common.{List, subst, sym}
+use Rattle.cb_client.specs.ClientState.{ClientState}
+use Rattle.cb_copies.specs.CopiesState.{limits_of}
+use Rattle.cb_protocol.specs.World.{new_world}
+use Rattle.cb_sites.specs.SitesState.{AreSites, Represents}
+use Rattle.cb_sites.proofs.Worlds.{first_sites, first_world}
+use Rattle.cb_sites.proofs.sites.Sites.new.Goals as goal
+
+pub invariant_of-result : goal.invariant_of-result
+invariant_of-result g c =
+    subst (λ (x : List ClientState). AreSites (record { limits = c.args.limits.now; clients = x })) (sym c.in_ok-clients.ensures) (first_sites c.args.limits.now c.clients-in_range.ensures.in_range)
+
+pub returns-clause-opening : goal.returns-clause-opening
+returns-clause-opening g c opening =
+    subst (λ (x : List ClientState). Represents (record { limits = c.args.limits.now; clients = x }) (new_world (limits_of c.args.limits.now) opening)) (sym c.in_ok-clients.ensures)
+    (first_world c.args.limits.now opening)

@@ -1,0 +1,73 @@
+use Rattle.std.proofs.Common.{Vec, Global, subst, sym}
+use Rattle.std.proofs.lemmas.Result.{on_err_weaker}
+use Rattle.std.specs.List.{AllByRecursion}
+use Rattle.std.specs.Prelude.{IfOk}
+use Rattle.cb_frame_types.specs.Grammar.{Fits}
+use Rattle.cb_frame_types.specs.declared.frame.Frame.{Frame}
+use Rattle.cb_outbox.specs.Messages.{messages_of}
+use Rattle.cb_page.specs.Bounds.{Bounds}
+use Rattle.cb_sites.specs.SitesState.{SitesState}
+use Rattle.cb_sites.proofs.Worlds.{IsLent, called_sites, frame_delivers, left_as_before, lent_limits}
+use Rattle.cb_sites.proofs.sites.Sites.take.Goals as goal
+
+pub deliver-requires : goal.deliver-requires
+deliver-requires g c =
+    let sites : SitesState = record { limits = c.self.inside.limits; clients = c.self.inside.clients.items } in
+    let lent : IsLent sites c.args.self.now c.index.result c.args.frame.client c.index_mut-taker.result.now = record {
+      sites = c.self.invariant;
+      same = c.self.view_is;
+      has = c.requires.client;
+      place = c.index.ensures.value;
+      read = c.index_mut-taker.ensures.value;
+    } in
+    subst (λ (x : Bounds). Fits x c.args.frame) (sym (lent_limits sites c.args.self.now c.index.result c.args.frame.client c.index_mut-taker.result.now lent)) c.requires
+
+pub invariant_of-self : goal.invariant_of-self
+invariant_of-self g c =
+    let sites : SitesState = record { limits = c.self.inside.limits; clients = c.self.inside.clients.items } in
+    let lent : IsLent sites c.args.self.now c.index.result c.args.frame.client c.index_mut-taker.result.now = record {
+      sites = c.self.invariant;
+      same = c.self.view_is;
+      has = c.requires.client;
+      place = c.index.ensures.value;
+      read = c.index_mut-taker.ensures.value;
+    } in
+    called_sites sites c.args.self.now c.index.result c.args.frame.client c.index_mut-taker.result.now c.deliver.new.client lent c.deliver.ensures.stays
+
+pub returns-clause-ok : goal.returns-clause-ok
+returns-clause-ok g c =
+    let sites : SitesState = record { limits = c.self.inside.limits; clients = c.self.inside.clients.items } in
+    let lent : IsLent sites c.args.self.now c.index.result c.args.frame.client c.index_mut-taker.result.now = record {
+      sites = c.self.invariant;
+      same = c.self.view_is;
+      has = c.requires.client;
+      place = c.index.ensures.value;
+      read = c.index_mut-taker.ensures.value;
+    } in
+    frame_delivers sites c.args.self.now c.index.result c.args.frame c.index_mut-taker.result.now c.deliver.new.client (λ (said : Vec Frame Global). messages_of said.items) c.deliver.result lent
+    c.deliver.ensures.ok
+
+pub returns-clause-fits : goal.returns-clause-fits
+returns-clause-fits g c =
+    let sites : SitesState = record { limits = c.self.inside.limits; clients = c.self.inside.clients.items } in
+    let lent : IsLent sites c.args.self.now c.index.result c.args.frame.client c.index_mut-taker.result.now = record {
+      sites = c.self.invariant;
+      same = c.self.view_is;
+      has = c.requires.client;
+      place = c.index.ensures.value;
+      read = c.index_mut-taker.ensures.value;
+    } in
+    subst (λ (x : Bounds). IfOk c.deliver.result (λ said. AllByRecursion (Fits x) said.items))
+    (lent_limits sites c.args.self.now c.index.result c.args.frame.client c.index_mut-taker.result.now lent) c.deliver.ensures.fits
+
+pub returns-clause-err : goal.returns-clause-err
+returns-clause-err g c =
+    let sites : SitesState = record { limits = c.self.inside.limits; clients = c.self.inside.clients.items } in
+    let lent : IsLent sites c.args.self.now c.index.result c.args.frame.client c.index_mut-taker.result.now = record {
+      sites = c.self.invariant;
+      same = c.self.view_is;
+      has = c.requires.client;
+      place = c.index.ensures.value;
+      read = c.index_mut-taker.ensures.value;
+    } in
+    on_err_weaker c.deliver.result (λ same. left_as_before sites c.args.self.now c.index.result c.args.frame.client c.index_mut-taker.result.now c.deliver.new.client lent same) c.deliver.ensures.err

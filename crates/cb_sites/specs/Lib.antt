@@ -1,0 +1,2 @@
+pub mod SitesState
+pub mod ByWorld

@@ -1,0 +1,153 @@
+//! The clients by their numbers.
+ghost use Rattle.std.specs.Prelude.{◌≡◌, ◌<◌, [], IfOk, OnErr};
+ghost use Rattle.std.specs.List.{AllByRecursion};
+ghost use Rattle.cb_copies.specs.CopiesState.{limits_of};
+ghost use Rattle.cb_frame_types.specs.Grammar.{Fits};
+ghost use Rattle.cb_outbox.specs.Messages.{message_of, messages_of};
+ghost use Rattle.cb_protocol.specs.World.{ClientCalls, Opening, Restart as RestartEvent, new_world};
+ghost use Rattle.cb_sites.specs.ByWorld.{Answers, Delivers, Replies, StaysOne};
+ghost use Rattle.cb_client.specs.ClientState.{new_state};
+ghost use Rattle.cb_sites.specs.SitesState.{Represents, client_at, first_clients, with_client};
+ghost use Rattle.cb_transcript.specs.ProtocolEvents.{call_of, word_of};
+
+use crate::calling::{answer, deliver};
+use crate::reply::Reply;
+use cb_client::Client;
+use cb_event::Call;
+use cb_first_client::ClientFault;
+use cb_frame::Frame;
+use cb_page::{ClientNo, Incarnation, Limits};
+use cb_transcript::AnswerWord;
+use cb_twoq::Chooser;
+use std::alloc::{AllocError, Global};
+use std::marker::Model;
+
+/// The clients of a world, each at its present incarnation.
+#[derive(Drop)]
+pub struct Sites<Q: Chooser> {
+    limits: Limits,
+    clients: Vec<Client<Q>>,
+}
+
+impl<Q: Chooser> Model for Sites<Q> {
+    ghost use Rattle.cb_sites.specs.SitesState.{AreSites, SitesState};
+
+    ghost Value = { SitesState };
+
+    ghost view = { λ sites. record {
+      limits = sites.limits;
+      clients = sites.clients.items;
+    } };
+
+    ghost invariant = { λ sites. AreSites (record {
+      limits = sites.limits;
+      clients = sites.clients.items;
+    }) };
+}
+
+impl<Q: Chooser> Sites<Q> {
+    /// The clients of these limits, each at the start of its first incarnation. `AllocError` only
+    /// where memory was refused.
+    pub fn new(alloc: Global, limits: &Limits) -> Result<Sites<Q>, AllocError>
+        ensures limits { IfOk result (λ sites. sites.limits ≡ limits.now) }
+        ensures opening { IfOk result (λ sites. (opening : Opening)
+            → Represents sites (new_world (limits_of limits.now) opening)) }
+    {
+        // The limits are in range by their type: each call on them says so.
+        let _in_range = limits.clients();
+        let clients = new_clients(alloc, limits)?;
+        Ok(Sites {
+            limits: *limits,
+            clients,
+        })
+    }
+
+    /// Calls the client of that number, if there is one. `AllocError` only where memory was
+    /// refused; the client may have changed then.
+    pub fn call(
+        &mut self,
+        alloc: Global,
+        client: ClientNo,
+        call: &Call,
+    ) -> Result<Reply, AllocError>
+        ensures ok { IfOk result (λ reply. Answers self.old (ClientCalls client (call_of call.now))
+            (word_of reply.word) (messages_of reply.said.items) self.new) }
+        ensures fits { IfOk result (λ reply.
+            AllByRecursion (Fits self.old.limits) reply.said.items) }
+        ensures limits { self.new.limits ≡ self.old.limits }
+    {
+        if !self.limits.has_client(client.get()) {
+            return Ok(Reply::silent(alloc, AnswerWord::NoClient));
+        }
+        self.call_at(alloc, client, call)
+    }
+
+    /// The same of a client that there is.
+    fn call_at(&mut self, alloc: Global, client: ClientNo, call: &Call) -> Result<Reply, AllocError>
+        requires { client < self.old.limits.clients }
+        ensures called { IfOk result (λ reply. Replies (client_at self.old client)
+            (call_of call.now) reply (client_at self.new client)) }
+        ensures stays { StaysOne (client_at self.old client) (client_at self.new client) }
+        ensures rest { self.new ≡ with_client self.old client (client_at self.new client) }
+    {
+        let caller = &mut self.clients[client.index()];
+        answer(alloc, caller, call)
+    }
+
+    /// The client that a frame names takes it, if it is of its incarnation; what it says to it.
+    /// `AllocError` only where memory was refused; then nothing changes.
+    pub fn take(&mut self, alloc: Global, frame: Frame) -> Result<Vec<Frame>, AllocError>
+        requires { Fits self.old.limits frame }
+        ensures ok { IfOk result (λ said. Delivers self.old (message_of frame)
+            (messages_of said.items) self.new) }
+        ensures fits { IfOk result (λ said. AllByRecursion (Fits self.old.limits) said.items) }
+        ensures err { OnErr result (self.new ≡ self.old) }
+    {
+        let taker = &mut self.clients[frame.client.index()];
+        deliver(alloc, taker, frame)
+    }
+
+    /// The client of that number is new, at its next incarnation, if there is such a client and one
+    /// is left. `AllocError` only where memory was refused; then nothing changes.
+    pub fn restart(&mut self, alloc: Global, client: ClientNo) -> Result<AnswerWord, AllocError>
+        ensures ok { IfOk result (λ word. Answers self.old (RestartEvent client) (word_of word) []
+            self.new) }
+        ensures err { OnErr result (self.new ≡ self.old) }
+    {
+        if !self.limits.has_client(client.get()) {
+            return Ok(AnswerWord::NoClient);
+        }
+        let Some(next) = self.clients[client.index()].incarnation().next() else {
+            return Ok(AnswerWord::Refused(ClientFault::Exhausted));
+        };
+        self.clients[client.index()] = new_client(alloc, &self.limits, client, next)?;
+        Ok(AnswerWord::Ok)
+    }
+}
+
+/// The clients of these limits, by rising number, each at the start of its first incarnation.
+fn new_clients<Q: Chooser>(alloc: Global, limits: &Limits) -> Result<Vec<Client<Q>>, AllocError>
+    ensures { IfOk result (λ clients. clients.items
+        ≡ first_clients limits.now limits.now.clients) }
+{
+    let mut clients = Vec::new(alloc);
+    for number in 0..limits.clients() {
+        let client = new_client(alloc, limits, ClientNo::new(number), Incarnation::new(1))?;
+        clients.push(client)?;
+    }
+    Ok(clients)
+}
+
+/// The client of that number at the start of that incarnation.
+fn new_client<Q: Chooser>(
+    alloc: Global,
+    limits: &Limits,
+    number: ClientNo,
+    incarnation: Incarnation,
+) -> Result<Client<Q>, AllocError>
+    requires { number < limits.now.clients }
+    ensures { IfOk result (λ client. client ≡ new_state number incarnation limits.now) }
+{
+    let chooser = Q::make(alloc, limits)?;
+    Client::new(alloc, number, incarnation, limits, chooser)
+}
