@@ -3,9 +3,9 @@
 #
 #   scripts/sides.sh FILE..
 #
-# A FILE is a list as docs/FORMATS.md says, packed by gzip where its name ends in .gz. For each it prints how many lines
-# were compared and how many differ; the status is 1 where one does, and 2 where the program isn't proved or built. RT is
-# the command, `rt` if it isn't set.
+# A FILE is a list of a client or of a server as docs/FORMATS.md says, packed by gzip where its name ends in .gz. For each it
+# prints how many lines were compared and how many differ; the status is 1 where one does, and 2 where the program isn't
+# proved or built. RT is the command, `rt` if it isn't set.
 set -u
 top=$(cd "$(dirname "$0")/.." && pwd)
 program="$top/crates/cb_sides/out/cb_sides"
@@ -21,8 +21,8 @@ for file in "$@"; do
   esac || { bad=1; continue; }
   "$program" <"$list" >"$answers"
   lines=$(wc -l <"$list")
-  differ=$(diff "$list" "$answers" | grep -c '^[<>]')
+  differ=$(paste -d '\t' "$list" "$answers" | awk -F '\t' '$1 "" != $2 ""' | wc -l)
   echo "$file: $lines lines compared, $differ differ"
-  [ "$differ" -eq 0 ] || bad=1
+  [ "$lines" -gt 0 ] && [ "$differ" -eq 0 ] || bad=1
 done
 exit $bad

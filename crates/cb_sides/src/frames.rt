@@ -1,10 +1,16 @@
-//! Frames that are answered.
+//! Frames that are answered, and bytes, by their digits.
 
 use cb_frame::{Frame, encode};
 use cb_page::Limits;
 use std::alloc::Global;
 use std::io;
 use std::io::Write;
+
+/// Prints the digits of bytes.
+pub(crate) fn put_digits<O: Write>(alloc: Global, bytes: &[u8], out: &mut O) -> io::Result<()> {
+    let digits = hex::encode(alloc, bytes)?;
+    write!(out, "{digits}")
+}
 
 /// Prints a frame that was answered.
 pub(crate) fn put_frame<O: Write>(
@@ -16,8 +22,7 @@ pub(crate) fn put_frame<O: Write>(
     if !frame.fits(limits) {
         return writeln!(out, "< a frame that doesn't fit");
     }
-    let bytes = encode(alloc, frame)?;
-    let digits = hex::encode(alloc, bytes)?;
+    let digits = hex::encode(alloc, encode(alloc, frame)?)?;
     writeln!(out, "< {digits}")
 }
 

@@ -7,35 +7,54 @@
 
 mod client_side;
 mod frames;
+mod server_side;
 mod words;
 
-use client_side::ClientSide;
+use crate::words::{CLIENT, SERVER};
 use std::alloc::Global;
 use std::io;
 use std::io::{BufWriter, Write};
 
-/// Plays one line of a list; the first line of a list opens its side.
-fn play_line<O: Write>(
+/// Plays the list that this line opens, if it opens one; what follows it ends where another begins.
+fn play_list<O: Write>(
     alloc: Global,
-    side: &mut Option<ClientSide>,
     line: &str,
+    following: &[String],
     out: &mut O,
 ) -> io::Result<()> {
-    if line.starts_with("client ") {
-        *side = Some(ClientSide::open(alloc, line)?);
-        return writeln!(out, "{line}");
+    if line.starts_with(CLIENT) {
+        writeln!(out, "{line}")?;
+        return client_side::play_list(alloc, line, following, out);
     }
-    match side {
-        Some(client) => client.play(alloc, line, out),
-        None => Ok(()),
+    if line.starts_with(SERVER) {
+        writeln!(out, "{line}")?;
+        return server_side::play_list(alloc, line, following, out);
     }
+    Ok(())
+}
+
+/// Plays all lists.
+fn play_lists<O: Write>(alloc: Global, lines: &[String], out: &mut O) -> io::Result<()> {
+    let mut rest = lines;
+    for line in lines {
+        rest = rest.get(1..).unwrap_or(rest);
+        play_list(alloc, line.as_str(), rest, out)?;
+    }
+    Ok(())
+}
+
+/// All lines of the standard input.
+fn all_lines(rt: &HostRuntime) -> io::Result<Vec<String>> {
+    let mut lines = Vec::new(rt.alloc());
+    for line in rt.lines(rt.alloc()) {
+        lines.push(line?)?;
+    }
+    Ok(lines)
 }
 
 fn main(rt: HostRuntime) -> io::Result<()> {
+    let lines = all_lines(&rt)?;
     let mut out = BufWriter::new(rt.alloc(), io::writer(&rt))?;
-    let mut side = None;
-    for line in rt.lines(rt.alloc()) {
-        play_line(rt.alloc(), &mut side, line?.as_str(), &mut out)?;
-    }
+    play_lists(rt.alloc(), lines.as_slice(), &mut out)?;
     out.flush()
 }

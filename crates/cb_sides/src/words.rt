@@ -5,6 +5,17 @@ use std::alloc::Global;
 use std::io;
 use std::str::SplitWhitespace;
 
+/// What a line begins with that opens a list of a client.
+pub(crate) const CLIENT: &str = "client ";
+
+/// What a line begins with that opens a list of a server.
+pub(crate) const SERVER: &str = "server ";
+
+/// Whether a line opens a list.
+pub(crate) fn is_opening(line: &str) -> bool {
+    line.starts_with(CLIENT) || line.starts_with(SERVER)
+}
+
 /// What a line that isn't of a list is answered.
 pub(crate) fn not_a_line() -> io::Error {
     io::Error::from(io::ErrorKind::InvalidData)

@@ -1,0 +1,140 @@
+//! A server alone, as a list plays it, over a store of zeros.
+
+use crate::frames::{put_digits, put_frames};
+use crate::words::{bytes, is_opening, limits, not_a_line, number};
+use cb_commit::{Batch, Store};
+use cb_frame::BytesFault;
+use cb_page::{CommitNo, Limits};
+use cb_server::Server;
+use std::alloc::Global;
+use std::io;
+use std::io::Write;
+
+/// Plays the list that the line opens: what follows it, up to where another list begins.
+pub(crate) fn play_list<O: Write>(
+    alloc: Global,
+    line: &str,
+    following: &[String],
+    out: &mut O,
+) -> io::Result<()> {
+    let limits = limits(line)?;
+    serve(alloc, &limits, following, out)
+}
+
+/// Plays a list to a server of these limits.
+fn serve<O: Write>(
+    alloc: Global,
+    limits: &Limits,
+    lines: &[String],
+    out: &mut O,
+) -> io::Result<()> {
+    let store = Store::zeros(alloc, limits)?;
+    let mut server = Server::new(alloc, limits, store)?;
+    play_lines(alloc, &mut server, lines, out)
+}
+
+/// Plays the lines of a list; at its end the commits are printed.
+fn play_lines<O: Write>(
+    alloc: Global,
+    server: &mut Server,
+    lines: &[String],
+    out: &mut O,
+) -> io::Result<()> {
+    for line in lines {
+        if is_opening(line.as_str()) {
+            break;
+        }
+        play(alloc, server, line.as_str(), out)?;
+    }
+    put_commits(server, out)
+}
+
+/// Plays one line.
+fn play<O: Write>(alloc: Global, server: &mut Server, line: &str, out: &mut O) -> io::Result<()> {
+    let mut words = line.split_whitespace();
+    match words.next() {
+        Some(">") => take(alloc, server, words.next().ok_or(not_a_line())?, out),
+        Some("again") => say_again(alloc, server, out),
+        Some("batch") => batch(alloc, server, out),
+        Some("flushed") => flush(alloc, server, number(&mut words)?, out),
+        Some("cannot") => {
+            words.next().ok_or(not_a_line())?;
+            flush(alloc, server, number(&mut words)?, out)
+        }
+        _ => Ok(()),
+    }
+}
+
+/// A frame comes, whose bytes the word spells.
+fn take<O: Write>(alloc: Global, server: &mut Server, digits: &str, out: &mut O) -> io::Result<()> {
+    writeln!(out, "> {digits}")?;
+    let bytes = bytes(alloc, digits)?;
+    take_bytes(alloc, server, bytes.as_slice(), out)
+}
+
+/// A frame of these bytes comes.
+fn take_bytes<O: Write>(
+    alloc: Global,
+    server: &mut Server,
+    bytes: &[u8],
+    out: &mut O,
+) -> io::Result<()> {
+    match server.take_bytes(alloc, bytes) {
+        Ok((frames, _)) => put_frames(alloc, server.limits(), frames.as_slice(), out),
+        Err(BytesFault::Taker(fault)) => writeln!(out, "! {fault:?}"),
+        Err(BytesFault::Frame(fault)) => writeln!(out, "! {fault:?}"),
+    }
+}
+
+/// What is unanswered is sent again.
+fn say_again<O: Write>(alloc: Global, server: &mut Server, out: &mut O) -> io::Result<()> {
+    writeln!(out, "again")?;
+    let frames = server.again(alloc)?;
+    put_frames(alloc, server.limits(), frames.as_slice(), out)
+}
+
+/// What there is to write to the disk.
+fn batch<O: Write>(alloc: Global, server: &Server, out: &mut O) -> io::Result<()> {
+    match server.batch(alloc)? {
+        Some(batch) => put_batch(alloc, &batch, out),
+        None => writeln!(out, "batch none"),
+    }
+}
+
+/// Prints a batch: its number, then of each page number, version and bytes.
+fn put_batch<O: Write>(alloc: Global, batch: &Batch, out: &mut O) -> io::Result<()> {
+    write!(out, "batch {number}", number = batch.number().get())?;
+    for page in batch.pages() {
+        let number = page.page.get();
+        let version = page.version.get();
+        write!(out, " {number}:{version}:")?;
+        put_digits(alloc, page.bytes.as_slice(), out)?;
+    }
+    writeln!(out)
+}
+
+/// The commits up to a number are on the disk.
+fn flush<O: Write>(alloc: Global, server: &mut Server, number: u64, out: &mut O) -> io::Result<()> {
+    match CommitNo::checked(number) {
+        Some(commit) if server.can_flush(commit) => {
+            writeln!(out, "flushed {number}")?;
+            let frames = server.flushed(alloc, commit)?;
+            put_frames(alloc, server.limits(), frames.as_slice(), out)
+        }
+        _ => writeln!(out, "cannot flush {number}"),
+    }
+}
+
+/// Prints all commits.
+fn put_commits<O: Write>(server: &Server, out: &mut O) -> io::Result<()> {
+    for commit in server.committed() {
+        let client = commit.client.get();
+        let incarnation = commit.incarnation.get();
+        writeln!(
+            out,
+            "commit {client} {incarnation} {txn}",
+            txn = commit.txn.get()
+        )?;
+    }
+    Ok(())
+}
