@@ -10,7 +10,7 @@ set -u
 top=$(cd "$(dirname "$0")/.." && pwd)
 room=$(mktemp -d)
 trap 'rm -rf "$room"' EXIT
-crates="cb_page cb_frame_types cb_frame cb_protocol cb_commit cb_shelf"
+crates="cb_page cb_frame_types cb_frame cb_protocol cb_commit cb_statements cb_shelf"
 bad=0
 
 # builds the program beside copies of the crates that it stands on

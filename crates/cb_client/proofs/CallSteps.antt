@@ -10,7 +10,6 @@ use Rattle.cb_protocol.specs.ClientCalls.{Call, CallBegin, CallHello, CallPeek, 
 use Rattle.cb_protocol.specs.Messages.{Hello, Message}
 use Rattle.cb_protocol.specs.Ranges.{InputFits}
 use Rattle.cb_protocol.specs.Serial.{Operation}
-use Rattle.cb_page.specs.Flags.{has}
 use Rattle.cb_copies.specs.CopiesState.{content_at}
 use Rattle.cb_client_engine.specs.ClientState.{ClientState, IsClient, client_of, stage_of}
 use Rattle.cb_client_engine.specs.declared.standing.Stage.{Stage}

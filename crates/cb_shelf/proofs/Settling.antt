@@ -5,8 +5,8 @@ use Rattle.sqlite.specs.State.{HasCleanDisk, Survives}
 use Rattle.sqlite.specs.Held.{Held, state}
 use Rattle.sqlite.proofs.StateLemmas.{survives_then}
 use Rattle.sqlite.proofs.Callers.{survives_begin}
-use Rattle.cb_shelf.specs.Statements.{Statement, MakesAll}
-use Rattle.cb_shelf.specs.Inside.{Inside, IsSame}
+use Rattle.cb_statements.specs.Statements.{Statement, MakesAll}
+use Rattle.cb_statements.specs.Inside.{Inside, IsSame}
 use Rattle.cb_shelf.specs.Opening.{LaysOut, LaidBy, Opened, Has, laid}
 use Rattle.cb_shelf.specs.declared.opening.Tables.TheVariants.{Nothing as none, Old as older}
 use Rattle.cb_page.specs.Bounds.{Bounds}

@@ -1,6 +1,6 @@
 -- What an open may do to a database.
 use Rattle.std.specs.Prelude.{◌≡◌, ◌⊎◌, ℕ, pos, Bool, true, false, if◌then◌else◌, List, [], ◌∷◌}
-use Rattle.std.specs.Prelude.{◌++◌, length, is_ok, IsTrue, codes}
+use Rattle.std.specs.Prelude.{◌++◌, length, IsTrue, codes}
 use Rattle.std.specs.List.{range_with_len, flat_map}
 use Rattle.sqlite.specs.declared.types.Value.TheVariants.{Int}
 use Rattle.sqlite.specs.Store.{Ghosts}
@@ -10,13 +10,13 @@ use Rattle.sqlite.specs.Held.{Held, state}
 use Rattle.cb_page.specs.Bounds.{Bounds}
 use Rattle.cb_commit.specs.Stores.{StoreState, IsOf, zeros, version_at, bytes_at}
 use Rattle.sqlite_schema.specs.declared.schema.Schema.{Schema}
-use Rattle.sqlite.specs.Listing.{understood}
+use Rattle.cb_statements.specs.Inside.{can_answer}
 use Rattle.cb_shelf.specs.declared.opening.Tables.{Tables}
 use Rattle.cb_shelf.specs.declared.opening.Tables.TheVariants.{Nothing as none, Old as older}
 use Rattle.cb_shelf.specs.declared.opening.Tables.TheVariants.{New as newer}
 use Rattle.cb_shelf.specs.declared.opening.Found.{Found}
 use Rattle.cb_shelf.specs.declared.opening.Found.TheVariants.{Nothing, Old, New}
-use Rattle.cb_shelf.specs.Statements.{Statement, MakesAll, page_statements}
+use Rattle.cb_statements.specs.Statements.{Statement, MakesAll, page_statements}
 
 -- a statement with no parameters
 abbrev pub plain : List ℕ → Statement
@@ -72,10 +72,6 @@ abbrev pub IsFound : Bounds → Found → Type 0
 IsFound limits Nothing = Unit {0}
 IsFound limits (Old store) = IsOf limits store
 IsFound limits New = Unit {0}
-
--- whether the tables of a schema can answer a query
-abbrev pub can_answer : Schema → List ℕ → Bool
-can_answer schema query = is_ok (understood schema query)
 
 -- the tables of the older generation are all there, or none is
 abbrev pub HasOld : Schema → Bool → Type 0

@@ -3,9 +3,9 @@ ghost use Rattle.std.specs.Prelude.{◌≡◌, ◌⊎◌, None, Some, Err, IfOk,
 ghost use Rattle.sqlite.specs.State.{HasCleanDisk, Survives};
 ghost use Rattle.sqlite.specs.Held.{state};
 ghost use Rattle.cb_commit.specs.History.{CanFlush, next_batch};
-ghost use Rattle.cb_shelf.specs.Statements.{MakesAll, batch_statements};
-ghost use Rattle.cb_shelf.specs.Inside.{IsSame};
-ghost use Rattle.cb_shelf.specs.Shelves.{Wrote};
+ghost use Rattle.cb_statements.specs.Statements.{MakesAll, batch_statements};
+ghost use Rattle.cb_statements.specs.Inside.{IsSame};
+ghost use Rattle.cb_statements.specs.Writing.{Wrote};
 ghost use Rattle.cb_shelf.specs.Flushing.{to_write, once_written, dones_of};
 
 use crate::{Shelf, ShelfFault};

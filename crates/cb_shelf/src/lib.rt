@@ -6,14 +6,11 @@
 //! there at all. [`flush_once`] writes what a server committed and reports it.
 #![tactic(auto)]
 
-mod fault;
 mod flush;
 mod opening;
 mod reading;
 mod shelf;
-mod step;
-mod writing;
 
-pub use fault::ShelfFault;
+pub use cb_statements::ShelfFault;
 pub use flush::flush_once;
 pub use shelf::Shelf;

@@ -4,19 +4,17 @@ ghost use Rattle.std.specs.Prelude.{◌≢◌, IsErr, OnOk, OnErr};
 ghost use Rattle.sqlite.specs.State.{HasCleanDisk, Survives};
 ghost use Rattle.sqlite.specs.Held.{state};
 ghost use Rattle.cb_commit.specs.Stores.{IsOf, zeros};
-ghost use Rattle.cb_shelf.specs.Statements.{MakesAll};
+ghost use Rattle.cb_statements.specs.Statements.{MakesAll};
 ghost use Rattle.sqlite_schema.specs.declared.schema.Schema.{Schema};
-ghost use Rattle.cb_shelf.specs.Inside.{Inside, IsAny, IsSame, Tells};
+ghost use Rattle.cb_statements.specs.Inside.{Inside, IsAny, IsSame, Tells};
 ghost use Rattle.cb_shelf.specs.Opening.{LaysOut, LaidBy, Opened, IsFound, table_statements};
 ghost use Rattle.cb_shelf.specs.Opening.{Has, HasOld, HasNew, tables_of};
 ghost use Rattle.cb_shelf.specs.Opening.{clear_statements, first_pages, laid, mark_row};
 
-use crate::ShelfFault;
 use crate::reading::{OLD_TABLES, TABLES, ask_number, read_store};
-use crate::step::{is_there, run};
-use crate::writing::put_page;
 use cb_commit::Store;
 use cb_page::{Limits, PageNo};
+use cb_statements::{ShelfFault, is_there, put_page, run};
 use sqlite::{Alter, Connection, Transaction, params};
 use std::alloc::Global;
 

@@ -5,13 +5,11 @@ ghost use Rattle.sqlite.specs.State.{HasCleanDisk, Survives};
 ghost use Rattle.sqlite.specs.Held.{state};
 ghost use Rattle.cb_page.specs.Numbers.{max_number};
 ghost use Rattle.cb_commit.specs.Stores.{IsOf, IsStored};
-ghost use Rattle.cb_shelf.specs.Inside.{Inside, IsAny, IsSame};
+ghost use Rattle.cb_statements.specs.Inside.{Inside, IsAny, IsSame};
 
-use crate::ShelfFault;
-use crate::step::ask;
-use crate::writing::{PART, part_count};
 use cb_commit::{Store, StoredPage};
 use cb_page::{Limits, MAX_NUMBER, Page, PageNo, Version};
+use cb_statements::{PART, ShelfFault, ask, part_count};
 use sqlite::types::ValueRef;
 use sqlite::{Alter, Connection, Row, Transaction, params};
 use std::alloc::Global;

@@ -4,17 +4,16 @@ ghost use Rattle.std.specs.Prelude.{OnOk, OnErr};
 ghost use Rattle.sqlite.specs.State.{HasCleanDisk, Survives};
 ghost use Rattle.sqlite.specs.Held.{state};
 ghost use Rattle.cb_commit.specs.Stores.{IsOf};
-ghost use Rattle.cb_shelf.specs.Statements.{MakesAll, batch_statements};
-ghost use Rattle.cb_shelf.specs.Inside.{IsSame};
+ghost use Rattle.cb_statements.specs.Statements.{MakesAll, batch_statements};
+ghost use Rattle.cb_statements.specs.Inside.{IsSame};
 ghost use Rattle.cb_shelf.specs.Opening.{LaysOut, Opened};
-ghost use Rattle.cb_shelf.specs.Shelves.{Fits, Wrote};
+ghost use Rattle.cb_statements.specs.Writing.{Fits, Wrote};
 
-use crate::ShelfFault;
 use crate::opening::open_tables;
 use crate::reading::read_back;
-use crate::writing::{fits, write_batch};
 use cb_commit::{Batch, Store};
 use cb_page::Limits;
+use cb_statements::{ShelfFault, fits, write_batch};
 use sqlite::{Alter, Connection};
 use std::alloc::Global;
 

@@ -62,6 +62,13 @@ impl<Q: Chooser> Sites<Q> {
         })
     }
 
+    /// The limits of the world.
+    pub fn limits(&self) -> &Limits
+        ensures { result.now ≡ self.now.limits }
+    {
+        &self.limits
+    }
+
     /// Calls the client of that number, if there is one. `AllocError` only where memory was
     /// refused; the client may have changed then.
     pub fn call(

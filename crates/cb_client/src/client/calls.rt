@@ -39,7 +39,9 @@ impl<Q: Chooser> Client<Q> {
         requires { self.now.stage ≢ Idle }
         ensures { self.now.txn ≡ Some result }
     {
-        let Some(txn) = self.engine.txn else { unreachable!() };
+        let Some(txn) = self.engine.txn else {
+            unreachable!()
+        };
         txn
     }
 

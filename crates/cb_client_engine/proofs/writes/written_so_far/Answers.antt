@@ -2,7 +2,7 @@ use Rattle.std.proofs.Common.{◌∙◌, ◌≡◌, ◌+◌, ◌<◌, ◌++◌, 
 use Rattle.std.specs.Vec.{vec_capacity}
 use Rattle.cb_copies.specs.CopiesState.{client_with}
 use Rattle.cb_outbox.specs.Messages.{page_writes}
-use Rattle.cb_protocol.specs.Client.{Client, new_client}
+use Rattle.cb_protocol.specs.Client.{new_client}
 use Rattle.cb_protocol.specs.ClientCalls.{written_pages}
 use Rattle.cb_client_engine.proofs.Writing.{flag_within, next_write, no_more, room_for_one}
 use Rattle.cb_client_engine.proofs.writes.written_so_far.Goals as goal

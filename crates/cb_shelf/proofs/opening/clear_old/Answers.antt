@@ -1,6 +1,6 @@
 use Rattle.std.proofs.Common.{◌≡◌, true, [], ◌∷◌, codes, rules}
 use Rattle.cb_shelf.specs.Opening.{plain}
-use Rattle.cb_shelf.proofs.Stepping.{makes_then}
+use Rattle.cb_statements.proofs.Stepping.{makes_then}
 use Rattle.cb_shelf.proofs.opening.clear_old.Goals as goal
 
 pub returns-clause-inside : goal.returns-clause-inside

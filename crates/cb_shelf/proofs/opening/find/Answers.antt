@@ -1,4 +1,5 @@
-use Rattle.cb_shelf.proofs.Stepping.{was_clean, found_told}
+use Rattle.cb_shelf.proofs.Telling.{found_told}
+use Rattle.cb_statements.proofs.Stepping.{was_clean}
 use Rattle.cb_shelf.proofs.opening.find.Goals as goal
 
 pub returns-clause-told : goal.returns-clause-told

@@ -1,4 +1,4 @@
-use Rattle.cb_shelf.proofs.Stepping.{tables_tell}
+use Rattle.cb_shelf.proofs.Telling.{tables_tell}
 use Rattle.cb_shelf.proofs.opening.find_tables.Goals as goal
 
 pub returns-clause-told : goal.returns-clause-told

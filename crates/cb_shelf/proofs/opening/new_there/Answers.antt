@@ -1,5 +1,5 @@
 use Rattle.cb_shelf.specs.Opening.{HasNew}
-use Rattle.cb_shelf.proofs.Stepping.{three_tell, tells_nothing}
+use Rattle.cb_shelf.proofs.Telling.{three_tell, tells_nothing}
 use Rattle.cb_shelf.proofs.opening.new_there.Goals as goal
 
 pub returns-in_err-mark-clause-tells : goal.returns-in_err-mark-clause-tells

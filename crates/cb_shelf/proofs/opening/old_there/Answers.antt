@@ -1,5 +1,5 @@
 use Rattle.cb_shelf.specs.Opening.{HasOld}
-use Rattle.cb_shelf.proofs.Stepping.{tells_then, tells_nothing, both_told}
+use Rattle.cb_shelf.proofs.Telling.{tells_then, tells_nothing, both_told}
 use Rattle.cb_shelf.proofs.opening.old_there.Goals as goal
 
 pub returns-in_err-page-clause-tells : goal.returns-in_err-page-clause-tells

@@ -1,5 +1,5 @@
 use Rattle.std.proofs.Common.{refl, Ok}
-use Rattle.cb_shelf.proofs.Stepping.{stays_any}
+use Rattle.cb_statements.proofs.Stepping.{stays_any}
 use Rattle.cb_shelf.proofs.reading.read_bytes.Goals as goal
 
 pub loop-place-init : goal.loop-place-init

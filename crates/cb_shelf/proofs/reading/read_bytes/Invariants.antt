@@ -1,6 +1,6 @@
 use Rattle.std.proofs.Common.{◌≡◌, Ok}
-use Rattle.cb_shelf.specs.Inside.{Inside, IsAny}
-use Rattle.cb_shelf.specs.declared.fault.ShelfFault.{ShelfFault}
+use Rattle.cb_statements.specs.Inside.{Inside, IsAny}
+use Rattle.cb_statements.specs.declared.fault.ShelfFault.{ShelfFault}
 use Rattle.cb_shelf.proofs.reading.read_bytes.Given as goal
 
 -- the parts before this one were asked for

@@ -1,7 +1,7 @@
 use Rattle.std.proofs.Common.{refl, Ok, rules}
 use Rattle.std.proofs.lemmas.List.Elements.{All-push}
 use Rattle.cb_commit.specs.Stores.{IsStored}
-use Rattle.cb_shelf.proofs.Stepping.{stays_any, asks_then, asks_judged}
+use Rattle.cb_statements.proofs.Stepping.{stays_any, asks_then, asks_judged}
 use Rattle.cb_shelf.proofs.reading.read_pages.Goals as goal
 
 pub loop-page-init : goal.loop-page-init

@@ -1,8 +1,8 @@
 use Rattle.std.proofs.Common.{◌≡◌, Ok, length}
 use Rattle.std.specs.List.{All}
 use Rattle.cb_commit.specs.Stores.{IsStored}
-use Rattle.cb_shelf.specs.Inside.{Inside, IsAny}
-use Rattle.cb_shelf.specs.declared.fault.ShelfFault.{ShelfFault}
+use Rattle.cb_statements.specs.Inside.{Inside, IsAny}
+use Rattle.cb_statements.specs.declared.fault.ShelfFault.{ShelfFault}
 use Rattle.cb_shelf.proofs.reading.read_pages.Given as goal
 
 -- the pages before this one are read

@@ -1,12 +1,11 @@
 use Rattle.std.proofs.Common.{refl, subst, sym}
 use Rattle.cb_client.specs.ClientState.{ClientState}
-use Rattle.cb_outbox.specs.Messages.{messages_of}
 use Rattle.cb_sites.specs.ByWorld.{StaysOne}
 use Rattle.cb_sites.proofs.Worlds.{takes_stays}
 use Rattle.cb_sites.proofs.calling.deliver.Goals as goal
 
 pub returns-in-Ok-clause-stays : goal.returns-in-Ok-clause-stays
-returns-in-Ok-clause-stays g c = takes_stays c.args.client.now c.take.new.self c.args.frame (messages_of c.in-Ok.said.items) c.in-Ok.ensures.ok
+returns-in-Ok-clause-stays g c = takes_stays c.args.client.now c.take.new.self _ _ c.in-Ok.ensures.ok
 
 pub returns-in-Err-clause-stays : goal.returns-in-Err-clause-stays
 returns-in-Err-clause-stays g c =

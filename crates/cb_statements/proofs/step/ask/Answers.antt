@@ -1,0 +1,15 @@
+use Rattle.sqlite.specs.Values.{bound}
+use Rattle.sqlite.specs.Held.{state}
+use Rattle.cb_statements.specs.Inside.{IsAny}
+use Rattle.cb_statements.proofs.Stepping.{asked, refused, refused_kept}
+use Rattle.cb_statements.proofs.step.ask.Goals as goal
+
+pub returns-in_err-rows-clause-inside : goal.returns-in_err-rows-clause-inside
+returns-in_err-rows-clause-inside g c =
+    refused g.S.Store IsAny _ c.args.tx.now.conn.now c.query_all.new.self.conn.now c.from_residual.result c.from_residual.ensures.1
+    (λ clean _. refused_kept (state g.S.Store c.args.tx.now.conn.now) (state g.S.Store c.query_all.new.self.conn.now) c.args.text.now (bound c.args.params.now) c.in_err-rows.field-0.0 (c.in_err-rows.ensures.err clean))
+    c.query_all.ensures.survives
+
+pub returns-clause-inside : goal.returns-clause-inside
+returns-clause-inside g c =
+    asked g.S.Store c.args.text.now (bound c.args.params.now) c.args.tx.now.conn.now c.query_all.new.self.conn.now _ c.in_ok-rows.rows c.in_ok-rows.ensures.ok c.query_all.ensures.survives

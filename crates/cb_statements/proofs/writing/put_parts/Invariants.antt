@@ -1,0 +1,12 @@
+use Rattle.std.proofs.Common.{◌≡◌, Ok}
+use Rattle.cb_statements.specs.Statements.{MakesAll, part_statements}
+use Rattle.cb_statements.specs.Inside.{Inside}
+use Rattle.cb_statements.specs.declared.fault.ShelfFault.{ShelfFault}
+use Rattle.cb_statements.proofs.writing.put_parts.Given as goal
+
+-- the parts before this one are put
+abbrev pub invariant-loop-place : goal.invariant-loop-place
+invariant-loop-place g l = record {
+  same_reference : l.tx.conn.ghost_name ≡ l.initial.tx.conn.ghost_name;
+  inside : Inside {X = Unit {0}} {E = ShelfFault} g.S.Store (MakesAll g.S.Store (part_statements l.page l.bytes l.place)) l.initial.tx.conn.now l.tx.conn.now (Ok tt);
+}

@@ -1,0 +1,4 @@
+pub mod Faults
+pub mod Statements
+pub mod Inside
+pub mod Writing

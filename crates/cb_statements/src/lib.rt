@@ -1,0 +1,15 @@
+//! The statements that write pages of a store to the tables of an SQLite database, each run inside a
+//! transaction.
+//!
+//! [`run`], [`ask`] and [`is_there`] are single statements: in contracts each is a step
+//! (`Inside`), and what it makes of the database is what the statements make that ran (`MakesAll`).
+//! [`put_page`] and [`write_batch`] are lists of them.
+#![tactic(auto)]
+
+mod fault;
+mod step;
+mod writing;
+
+pub use fault::ShelfFault;
+pub use step::{ask, is_there, run};
+pub use writing::{PART, fits, part_count, put_page, write_batch};
