@@ -103,8 +103,8 @@ numbered_more first i frames f list next h is told put =
     let one : take (i + 1) frames ≡ take i frames ++ f ∷ [] = take_more frames i f h ∙ ap (λ (g : Frame). take i frames ++ g ∷ []) (sym is) in
     let within : length (take i frames) ≡ i = length-take-le i frames (omega (arith, h)) in
     put ∙ ap (λ (xs : List SentPacket). xs ++ record { number = first + i; kind = kind_of_body f.body; client = f.client } ∷ []) told
-        ∙ ap (λ (n : ℕ). sent_as first (take i frames) ++ record { number = first + n; kind = kind_of_body f.body; client = f.client } ∷ []) (sym within)
-        ∙ sym (ap (λ (xs : List Frame). sent_as first xs) one ∙ sent_more first (take i frames) f)
+    ∙ ap (λ (n : ℕ). sent_as first (take i frames) ++ record { number = first + n; kind = kind_of_body f.body; client = f.client } ∷ []) (sym within)
+    ∙ sym (ap (λ (xs : List Frame). sent_as first xs) one ∙ sent_more first (take i frames) f)
 
 as_many : (frames : List Frame) → length (map spelling frames) ≡ length frames
 as_many [] = refl
