@@ -1,5 +1,5 @@
 -- A world of the protocol, event by event: it stays reached from the opening store, which stays what it was.
-use Rattle.std.proofs.Common.{◌≡◌, ℕ, ◌+◌, Bool, true, false, List, [], ◌∷◌, ◌++◌, length, map, refl, ap, sym, ◌∙◌, subst, suc, ◌≤◌, nat_lt, take, zero, Result, Ok, Err, OnErr, arith}
+use Rattle.std.proofs.Common.{◌≡◌, ℕ, Bool, true, false, List, [], ◌∷◌, ◌++◌, length, map, refl, ap, sym, ◌∙◌, subst, suc, ◌≤◌, nat_lt, take, zero, Result, Ok, Err, OnErr, arith}
 use Rattle.std.specs.Prelude.{reverse}
 use Rattle.std.specs.List.{AllByRecursion}
 use Rattle.std.proofs.lemmas.List.{get_or_past, take_at, map-append, reverse-append}
@@ -17,14 +17,12 @@ use Rattle.cb_net.specs.NetState.{NetState, RepresentsNet, limits_in}
 use Rattle.cb_world.specs.WorldState.{WorldState, Represents, opened}
 use Rattle.cb_event.specs.declared.event.Event.{Event}
 use Rattle.cb_transcript.specs.declared.answer.Answer.{Answer}
-use Rattle.cb_transcript.specs.declared.answer.SentPacket.{SentPacket}
 use Rattle.cb_transcript.specs.declared.answer.TranscriptEntry.{TranscriptEntry}
 use Rattle.cb_net.proofs.Packing.{spell_length}
 use Rattle.cb_protocol.specs.Basics.{Limits}
 use Rattle.cb_protocol.specs.Headline.{Promise, SoundOpening}
 use Rattle.cb_protocol.specs.Laws.{WholePromise}
 use Rattle.cb_protocol.specs.Messages.{Message}
-use Rattle.cb_protocol.specs.Server.{Server}
 use Rattle.cb_protocol.specs.WaitsFor.{on_cycle}
 use Rattle.cb_protocol.specs.World as protocol
 use Rattle.cb_protocol.specs.World.{ReachedWorld, numbered_from}
