@@ -1,0 +1,2 @@
+pub mod NetState
+pub mod NetMoves

@@ -1,0 +1,13 @@
+use Rattle.std.proofs.Common.{refl, false, subst}
+use Rattle.cb_world.specs.Plays.{Steps}
+use Rattle.cb_world.specs.WorldState.{WorldState}
+use Rattle.cb_world.proofs.Worlds.{stepped}
+use Rattle.cb_world.proofs.world.World.advance.Goals as goal
+
+pub invariant_of-self-2 : goal.invariant_of-self-2
+invariant_of-self-2 g c = (stepped _ _ c.args.event c.callback_read.ensures.promise c.self.invariant c.if-self.false refl refl c.tell.ensures.opening c.in_ok-tell.ensures.ok).0
+
+pub returns-clause-ok : goal.returns-clause-ok
+returns-clause-ok g c =
+    let one = (stepped _ (record { limits = c.self.inside.limits; net = c.tell.new.net; opening = c.tell.new.transcript.opening; transcript = c.tell.new.transcript.entries; stopped = false }) c.args.event c.callback_read.ensures.promise c.self.invariant c.if-self.false refl refl c.tell.ensures.opening c.in_ok-tell.ensures.ok).1 in
+    (one.0, subst (λ (w : WorldState). Steps w c.args.event one.0 (record { limits = c.self.inside.limits; net = c.tell.new.net; opening = c.tell.new.transcript.opening; transcript = c.tell.new.transcript.entries; stopped = false })) c.self.view_is one.1)

@@ -1,0 +1,2 @@
+pub mod WorldState
+pub mod Plays

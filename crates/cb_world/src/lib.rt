@@ -1,0 +1,9 @@
+//! The world: a server, its clients and their packets, played event by event.
+//!
+//! In contracts a running [`World`] is a world of the protocol that is reached from its opening
+//! store, whatever events are played: so the protocol's whole promise holds of it at each moment.
+#![tactic(auto)]
+
+mod world;
+
+pub use world::{PlayFault, World};

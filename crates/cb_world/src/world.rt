@@ -1,0 +1,277 @@
+//! The world: it plays events one by one, and keeps what became of each.
+ghost use Rattle.std.specs.Prelude.{◌≡◌, ◌↔◌, ℕ, ◌<◌, List, [], ◌∷◌, ◌++◌, length, take};
+ghost use Rattle.std.specs.Prelude.{option_copied, slice_get, true, false, IfOk, IfErr, IfSome};
+ghost use Rattle.std.specs.Prelude.{OnErr, IsErr, IsTrue};
+ghost use Rattle.cb_commit.specs.Stores.{IsOf};
+ghost use Rattle.cb_protocol.specs.Headline.{Promise};
+ghost use Rattle.cb_protocol.specs.World.{new_world};
+ghost use Rattle.cb_world.specs.Plays.{Played, IsReached, Steps};
+ghost use Rattle.cb_net.specs.NetMoves.{NetBecomes};
+ghost use Rattle.cb_server.specs.ServerState.{server_of};
+ghost use Rattle.cb_transcript.specs.ProtocolEvents.{event_of};
+ghost use Rattle.cb_copies.specs.CopiesState.{limits_of};
+ghost use Rattle.cb_holdings.specs.Holdings.{newest_first, opening_of};
+ghost use Rattle.cb_packets.specs.Packets.{IsSpelled};
+ghost use Rattle.cb_world.specs.WorldState.{Represents, opened};
+ghost use Rattle.cb_transcript.specs.declared.answer.Answer.{Answer as AnswerState};
+ghost use Rattle.cb_transcript.specs.declared.answer.TranscriptEntry.{TranscriptEntry as EntryData};
+
+use cb_commit::{Commit, Store};
+use cb_event::Event;
+use cb_net::Net;
+use cb_page::Limits;
+use cb_protocol::callback_read;
+use cb_transcript::{Answer, Transcript, TranscriptEntry};
+use cb_twoq::Chooser;
+use std::alloc::{AllocError, Global};
+use std::marker::Model;
+
+/// Want of memory in a play, and what became of the events before it.
+#[derive(Debug, Drop)]
+pub struct PlayFault {
+    pub transcript: Transcript,
+}
+
+/// A server, its clients, every packet that was sent, and what became of every event. In contracts
+/// a running world is a world of the protocol, reached from the opening store.
+#[derive(Drop)]
+pub struct World<Q: Chooser> {
+    alloc: Global,
+    limits: Limits,
+    net: Net<Q>,
+    transcript: Transcript,
+    stopped: bool,
+}
+
+impl<Q: Chooser> Model for World<Q> {
+    ghost use Rattle.std.specs.Prelude.{◌≡◌, false};
+    ghost use Rattle.cb_world.specs.WorldState.{WorldState};
+    ghost use Rattle.cb_world.specs.Plays.{IsWorld};
+
+    ghost Value = { WorldState };
+
+    ghost view = { λ w. record {
+      limits = w.limits;
+      net = w.net;
+      opening = w.transcript.opening;
+      transcript = w.transcript.entries;
+      stopped = w.stopped;
+    } };
+
+    ghost invariant = { λ w. IsWorld (record {
+      limits = w.limits;
+      net = w.net;
+      opening = w.transcript.opening;
+      transcript = w.transcript.entries;
+      stopped = w.stopped;
+    }) };
+}
+
+impl<Q: Chooser> World<Q> {
+    /// The world of a store in which nothing has happened: each client at its first incarnation,
+    /// and no packet. `AllocError` only where memory was refused.
+    pub fn new(alloc: Global, limits: &Limits, store: Store) -> Result<World<Q>, AllocError>
+        requires { IsOf limits.now store }
+        ensures runs { IfOk result (λ w. w.stopped ≡ false) }
+        ensures transcript { IfOk result (λ w. w.transcript ≡ []) }
+        ensures packets { IfOk result (λ w. w.net.packets.sent ≡ []) }
+        ensures limits { IfOk result (λ w. w.limits ≡ limits.now) }
+        ensures opening { IfOk result (λ w. w.opening ≡ store) }
+        ensures represents { IfOk result
+            (λ w. Represents w (new_world (limits_of limits.now) (opening_of store))) }
+        ensures promise { IfOk result
+            (λ w. Promise (opened w) (new_world (limits_of limits.now) (opening_of store))) }
+    {
+        callback_read();
+        // The store is sound by its type: each call on it says so.
+        let _number = store.number();
+        let opening = store.copy(alloc)?;
+        Ok(World {
+            alloc,
+            limits: *limits,
+            net: Net::new(alloc, limits, store)?,
+            transcript: Transcript::new(alloc, opening),
+            stopped: false,
+        })
+    }
+
+    /// Plays one event. `AllocError` where memory was refused: the world is stopped from then on,
+    /// and each later call answers it again.
+    pub fn step(&mut self, event: Event) -> Result<Answer, AllocError>
+        ensures ok { IfOk result (λ a. Steps self.old event a self.new) }
+        ensures stopped { OnErr result (self.new.stopped ≡ true) }
+        ensures kept { OnErr result (self.new.transcript ≡ self.old.transcript) }
+        ensures packets { OnErr result (self.new.net.packets.sent ≡ self.old.net.packets.sent) }
+        ensures limits { self.new.limits ≡ self.old.limits }
+        ensures opening { self.new.opening ≡ self.old.opening }
+        ensures stays { self.old.stopped ≡ true → IsErr result }
+    {
+        let sent_before = self.net.packets().len();
+        self.advance(event)?;
+        let answer = last_answer(self.alloc, self.transcript.entries());
+        if answer.is_err() {
+            self.stopped = true;
+            self.transcript.forget_last();
+            self.net.keep_packets(sent_before);
+        }
+        answer
+    }
+
+    /// Plays events in order until memory is refused; then the fault has what became of the events
+    /// before. A stopped world plays none.
+    pub fn play(mut self, events: &[Event]) -> Result<Transcript, PlayFault>
+        ensures ok { IfOk result (λ transcript. Played self events.now transcript.entries) }
+        ensures opening { IfOk result (λ transcript. transcript.opening ≡ self.opening) }
+        ensures fault_opening { IfErr result (λ fault. fault.transcript.opening ≡ self.opening) }
+        ensures fault { IfErr result (λ fault. self.stopped ≡ false → (n : ℕ)
+            × (n < length events.now) × Played self (take n events.now) fault.transcript.entries) }
+        ensures stopped { self.stopped ≡ true
+            → IfErr result (λ fault. fault.transcript.entries ≡ self.transcript) }
+        ensures stays { self.stopped ≡ true → IsErr result }
+    {
+        callback_read();
+        if !self.is_running() {
+            return Err(PlayFault {
+                transcript: self.into_transcript(),
+            });
+        }
+        for event in events {
+            let Ok(()) = self.advance_by(event) else {
+                return Err(PlayFault {
+                    transcript: self.into_transcript(),
+                });
+            };
+        }
+        Ok(self.into_transcript())
+    }
+
+    /// Plays one event, and leaves its answer in the transcript alone.
+    fn advance(&mut self, event: Event) -> Result<(), AllocError>
+        ensures ok { IfOk result (λ _. (a : AnswerState) × Steps self.old event a self.new) }
+        ensures stopped { OnErr result (self.new.stopped ≡ true) }
+        ensures kept { OnErr result (self.new.transcript ≡ self.old.transcript) }
+        ensures packets { OnErr result (self.new.net.packets.sent ≡ self.old.net.packets.sent) }
+        ensures limits { self.new.limits ≡ self.old.limits }
+        ensures opening { self.new.opening ≡ self.old.opening }
+        ensures stays { self.old.stopped ≡ true → IsErr result }
+    {
+        callback_read();
+        if self.stopped {
+            return Err(AllocError);
+        }
+        self.stopped = true;
+        tell(self.alloc, &mut self.net, &mut self.transcript, event)?;
+        self.stopped = false;
+        Ok(())
+    }
+
+    /// The same with an event that is kept.
+    fn advance_by(&mut self, event: &Event) -> Result<(), AllocError>
+        ensures ok { IfOk result (λ _. (a : AnswerState) × Steps self.old event.now a self.new) }
+        ensures kept { OnErr result (self.new.transcript ≡ self.old.transcript) }
+        ensures opening { self.new.opening ≡ self.old.opening }
+    {
+        let event = event.copy(self.alloc)?;
+        self.advance(event)
+    }
+
+    /// Whether no want of memory stopped the world.
+    pub fn is_running(&self) -> bool
+        ensures value { IsTrue result ↔ (self.now.stopped ≡ false) }
+        ensures reached { self.now.stopped ≡ false → IsReached self.now }
+    {
+        !self.stopped
+    }
+
+    /// The limits of its store, clients and pools.
+    pub fn limits(&self) -> &Limits
+        ensures { result.now ≡ self.now.limits }
+    {
+        &self.limits
+    }
+
+    /// What became of every event so far.
+    pub fn transcript(&self) -> &Transcript
+        ensures entries { result.now.entries ≡ self.now.transcript }
+        ensures opening { result.now.opening ≡ self.now.opening }
+    {
+        &self.transcript
+    }
+
+    /// The commits so far, the first one first: the transcript doesn't tell them yet.
+    pub fn committed(&self) -> &[Commit]
+        ensures { newest_first result.now ≡ (server_of self.now.net.server).commits }
+    {
+        self.net.server().committed()
+    }
+
+    /// The bytes of the packet of that number among all that were ever sent, from 0: the frame that
+    /// was sent.
+    pub fn packet(&self, number: u64) -> Option<&[u8]>
+        ensures bytes { option_copied result ≡ slice_get self.now.net.packets.sent number }
+        ensures frame { IfSome result (λ bytes. IsSpelled self.now.limits bytes.now) }
+    {
+        self.net.packets().bytes(number)
+    }
+
+    /// What became of every event.
+    fn into_transcript(self) -> Transcript
+        ensures entries { result.entries ≡ self.transcript }
+        ensures opening { result.opening ≡ self.opening }
+    {
+        self.transcript
+    }
+}
+
+/// Plays one event at the net and tells it. Where memory is refused nothing is told, and no packet
+/// is sent; the net may have changed otherwise.
+fn tell<Q: Chooser>(
+    alloc: Global,
+    net: &mut Net<Q>,
+    transcript: &mut Transcript,
+    event: Event,
+) -> Result<(), AllocError>
+    ensures ok { IfOk result (λ _. (a : AnswerState)
+        × NetBecomes net.old (event_of event) a net.new
+        × (transcript.new.entries ≡ transcript.old.entries
+        ++ record { event = event; answer = a } ∷ [])) }
+    ensures opening { transcript.new.opening ≡ transcript.old.opening }
+    ensures kept { OnErr result (transcript.new ≡ transcript.old) }
+    ensures packets { OnErr result (net.new.packets.sent ≡ net.old.packets.sent) }
+{
+    let sent_before = net.packets().len();
+    let answer = net.event(alloc, &event)?;
+    let told = transcript.tell(event, answer);
+    if told.is_err() {
+        net.keep_packets(sent_before);
+    }
+    told
+}
+
+/// A copy of the last answer.
+fn last_answer(alloc: Global, entries: &[TranscriptEntry]) -> Result<Answer, AllocError>
+    requires { 0 < length entries.now }
+    ensures { IfOk result (λ a. (es : List EntryData) (e : EntryData)
+        → entries.now ≡ es ++ e ∷ [] → a ≡ e.answer) }
+{
+    entries[entries.len() - 1].answer.copy(alloc)
+}
+
+/// The law of what a new world shows: it runs, under its limits, and nothing has happened.
+fn law<Q: Chooser>(
+    alloc: Global,
+    limits: &Limits,
+    store: Store,
+) -> Result<(bool, Limits, usize, bool), AllocError>
+    requires { IsOf limits.now store }
+    ensures { IfOk result (λ shown. shown ≡ (true, limits.now, 0, true)) }
+{
+    let world: World<Q> = World::new(alloc, limits, store)?;
+    let told = world.transcript().entries().len();
+    Ok((
+        world.is_running(),
+        *world.limits(),
+        told,
+        world.packet(0).is_none(),
+    ))
+}
