@@ -1,4 +1,4 @@
-use Rattle.std.proofs.Common.{List, [], add-one, ap, get_or, length, map, refl, reverse, sym, take, option_map, ℕ, ◌++◌, ◌+◌, ◌<◌, ◌≤◌, ◌∙◌, ◌∷◌, ◌≡◌, arith}
+use Rattle.std.proofs.Common.{List, [], add-one, ap, get_or, length, map, refl, reverse, take, option_map, ℕ, ◌++◌, ◌+◌, ◌<◌, ◌≤◌, ◌∙◌, ◌∷◌, ◌≡◌, arith}
 use Rattle.std.proofs.Math.Seq.{take-suc}
 use Rattle.std.proofs.lemmas.List.{length-map, length-reverse, length-take, map-append, reverse-append}
 use Rattle.cb_protocol.specs.Answers.{AnswerWord, AnsweredOk}

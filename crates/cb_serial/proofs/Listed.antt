@@ -1,4 +1,4 @@
-use Rattle.std.proofs.Common.{List, [], All, Bool, true, false, None, Some, Vec, ap, refl, reverse, sym, subst, option_map, filter_map, get_or, length, Option, nat_eq, ◌&&◌, ℕ, ◌++◌, ◌<◌, ◌∙◌, ◌∷◌, ◌≡◌, cond}
+use Rattle.std.proofs.Common.{List, [], All, Bool, true, false, None, Some, Vec, ap, refl, reverse, sym, subst, option_map, get_or, length, Option, nat_eq, ◌&&◌, ℕ, ◌++◌, ◌<◌, ◌∙◌, ◌∷◌, ◌≡◌, cond}
 use Rattle.std.specs.HashMap.{HashMap, IsEmpty}
 use Rattle.std.specs.Map.{lookup}
 use mathlib.Core.List.{reverse-cons}
@@ -15,6 +15,7 @@ use Rattle.cb_serial.proofs.Followed.{operation_told}
 use Rattle.cb_serial.specs.declared.transactions.TransactionKey.{TransactionKey}
 use Rattle.cb_transcript.specs.declared.answer.TranscriptEntry.{TranscriptEntry}
 
+-- the key of a transaction's name
 abbrev pub key_of : ℕ → ℕ → ℕ → TransactionKey
 key_of client incarnation txn = record { client = client; incarnation = incarnation; txn = txn }
 

@@ -1,7 +1,7 @@
-use Rattle.std.proofs.Common.{List, [], get_or, length, map, set, refl, sym, Bool, true, false, ℕ, ◌<◌, ◌≤◌, ◌∙◌, ◌≡◌, ap, arith}
+use Rattle.std.proofs.Common.{List, [], get_or, length, map, set, sym, ℕ, ◌<◌, ◌≤◌, ◌∙◌, ◌≡◌, ap, arith}
 use Rattle.std.proofs.lemmas.Grind.{common_steps}
 use Rattle.std.proofs.Math.ListN.{get_or-eq_default}
-use Rattle.std.proofs.lemmas.List.{get_or-map, map-set, get_or-set_same, get_or-set_other, length-map}
+use Rattle.std.proofs.lemmas.List.{get_or-map, map-set, length-map}
 use Rattle.std.proofs.Math.Decide.{dec_lt}
 use Rattle.cb_protocol.specs.Basics.{update}
 

@@ -1,4 +1,4 @@
-use Rattle.std.proofs.Common.{List, [], All, add-one, arith, suc-le-suc, true≢false, ap, get_or, subst, Some, suc, zero, true, false, length, map, refl, reverse, sym, take, drop, ℕ, ◌++◌, ◌+◌, ◌<◌, ◌∙◌, ◌∷◌, ◌≡◌}
+use Rattle.std.proofs.Common.{List, [], All, add-one, arith, suc-le-suc, true≢false, ap, get_or, subst, Some, suc, zero, true, false, length, refl, sym, take, ℕ, ◌++◌, ◌+◌, ◌<◌, ◌∙◌, ◌∷◌, ◌≡◌}
 use Rattle.std.proofs.Math.Seq.{take-suc}
 use Rattle.std.proofs.lemmas.List.Elements.{filter_map-append}
 use Rattle.cb_protocol.specs.Basics.{Bytes, update}

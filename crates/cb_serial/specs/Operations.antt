@@ -1,6 +1,6 @@
 -- The operations of a transcript, as the serial check walks over them.
 use Rattle.std.specs.Prelude.{◌≡◌, ℕ, ◌<◌, List, [], reverse, slice_get}
-use Rattle.std.specs.Prelude.{slice_index_or, Bool, true, false, nat_eq, ◌&&◌, Option, Some, None}
+use Rattle.std.specs.Prelude.{slice_index_or, Bool, nat_eq, ◌&&◌, Option, Some, None}
 use Rattle.std.specs.Prelude.{option_map, Vec}
 use Rattle.std.specs.List.{All, filter_map}
 use Rattle.std.specs.HashMap.{HashMap, get}
@@ -73,12 +73,15 @@ done_at entries place = done_in (slice_get entries place)
 abbrev pub operations_at : List TranscriptEntry → List ℕ → List serial.Operation
 operations_at entries places = filter_map (done_at entries) places
 
+-- each of these events is an operation
+abbrev pub AreDone : List TranscriptEntry → List ℕ → Type 0
+AreDone entries places =
+    All (λ place. (done : serial.Operation) × (done_at entries place ≡ Some done)) places
+
 -- For each transaction they are those that the transcript tells of, the oldest first.
 pub record HasOperations {A S : Type 0} (lists : HashMap TransactionKey (Vec ℕ A) S)
     (entries : List TranscriptEntry) (told : List ToldEntry) : Type 0 where
-  pub done : (key : TransactionKey)
-      → All (λ place. (done : serial.Operation) × (done_at entries place ≡ Some done))
-      (listed lists key)
+  pub done : (key : TransactionKey) → AreDone entries (listed lists key)
   pub operations : (key : TransactionKey)
       → operations_at entries (listed lists key)
       ≡ reverse (transaction_operations (transcript_operations told)

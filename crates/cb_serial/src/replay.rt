@@ -1,10 +1,8 @@
 //! A store under replay: what a serial page store would show.
-ghost use Rattle.std.specs.Prelude.{◌≡◌, ◌<◌, ◌↔◌, ℕ, length, IsTrue, IfOk, true, Some};
-ghost use Rattle.std.specs.List.{All};
+ghost use Rattle.std.specs.Prelude.{◌≡◌, ◌↔◌, IsTrue, IfOk, Some};
 ghost use Rattle.cb_commit.specs.Stores.{IsOf, bytes_at};
 ghost use Rattle.cb_protocol.specs.Basics.{update};
-ghost use Rattle.cb_protocol.specs.Serial.{Operation as OperationOf};
-ghost use Rattle.cb_serial.specs.Operations.{call_operation, done_at, done_in};
+ghost use Rattle.cb_serial.specs.Operations.{AreDone, call_operation, done_in};
 ghost use Rattle.cb_serial.specs.Replays.{AnswersAs, HasEveryPage, IsPlayedTo, shown};
 
 use cb_commit::Store;
@@ -50,8 +48,7 @@ impl<'a> Replay<'a> {
     /// answer otherwise: its place in them, from 0, or `None` where all are legal.
     pub(crate) fn play(&mut self, entries: &'a [TranscriptEntry], places: &[usize]) -> Option<usize>
         requires pages { HasEveryPage self.old }
-        requires places { All (λ place. (done : OperationOf) × (done_at entries.now place
-            ≡ Some done)) places.now }
+        requires places { AreDone entries.now places.now }
         ensures played { IsPlayedTo entries.now self.old places.now self.new result }
         ensures pages { HasEveryPage self.new }
     {

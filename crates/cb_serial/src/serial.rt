@@ -1,9 +1,7 @@
 //! The serial check.
-ghost use Rattle.std.specs.Prelude.{◌≡◌, Some, IfOk, ◌↔◌};
+ghost use Rattle.std.specs.Prelude.{◌≡◌, IfOk, ◌↔◌};
 ghost use Rattle.cb_commit.specs.Stores.{IsOf};
-ghost use Rattle.std.specs.List.{All};
-ghost use Rattle.cb_protocol.specs.Serial.{Operation as OperationOf};
-ghost use Rattle.cb_serial.specs.Operations.{done_at, listed};
+ghost use Rattle.cb_serial.specs.Operations.{AreDone, listed};
 ghost use Rattle.cb_serial.specs.Replays.{HasEveryPage, IsPlayedTo};
 ghost use Rattle.cb_serial.specs.declared.transactions.TransactionKey.{TransactionKey as KeyData};
 ghost use Rattle.cb_serial.specs.Verdicts.{NamesFirst};
@@ -55,8 +53,7 @@ fn play_named<'a>(
     name: TransactionName,
 ) -> Option<usize>
     requires pages { HasEveryPage store.old }
-    requires places { (key : KeyData) → All (λ place. (done : OperationOf) × (done_at entries.now place
-        ≡ Some done)) (listed transactions.now key) }
+    requires places { (key : KeyData) → AreDone entries.now (listed transactions.now key) }
     ensures played { IsPlayedTo entries.now store.old (listed transactions.now (record {
       client = name.client;
       incarnation = name.incarnation;

@@ -1,9 +1,8 @@
-use Rattle.std.proofs.Common.{ap, refl, ◌+◌, ◌∙◌, ◌≡◌}
+use Rattle.std.proofs.Common.{ap, refl, ◌+◌, ◌∙◌}
 use Rattle.cb_serial.specs.Operations.{listed}
 use Rattle.cb_serial.proofs.SerialChecks.{all_serial, goes_on, illegal_not_serial, named, stops_first}
 use Rattle.cb_commit.specs.Stores.{bytes_at}
 use Rattle.cb_transcript.specs.Transcripts.{TranscriptState, told_operations}
-use Rattle.cb_transcript.specs.declared.transcript.TransactionName.{TransactionName}
 use Rattle.cb_serial.specs.declared.transactions.TransactionKey.{TransactionKey}
 use Rattle.cb_serial.proofs.serial.check_serial.Goals as goal
 

@@ -1,4 +1,4 @@
-use Rattle.std.proofs.Common.{arith, ap, length, rules, subst, sym, ◌<◌, ◌≤◌, ◌∙◌, ◌≡◌}
+use Rattle.std.proofs.Common.{arith, ap, length, subst, ◌<◌, ◌≤◌}
 use Rattle.std.proofs.Math.ListN.{get_or-eq_default}
 use Rattle.cb_commit.specs.Stores.{bytes_at, no_page}
 use Rattle.cb_serial.proofs.Pages.{all_shown}

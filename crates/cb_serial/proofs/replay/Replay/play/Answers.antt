@@ -1,6 +1,5 @@
-use Rattle.std.proofs.Common.{ap, length, refl, rules, Some, slice_index_or, subst, sym, ◌<◌, ◌∙◌, ◌≡◌}
+use Rattle.std.proofs.Common.{ap, length, refl, rules, Some, slice_index_or, subst, sym, ◌∙◌, ◌≡◌}
 use Rattle.std.proofs.lemmas.Option.{slice_get_read}
-use Rattle.cb_protocol.specs.Serial.{Operation}
 use Rattle.cb_serial.specs.Operations.{done_at, done_in}
 use Rattle.cb_serial.specs.Replays.{AnswersAs, shown}
 use Rattle.cb_serial.proofs.Replays.{done_within, plays_on, plays_stop}

@@ -1,4 +1,3 @@
-use Rattle.std.proofs.Common.{◌≡◌, length}
 use Rattle.cb_serial.specs.Replays.{HasEveryPage, shown}
 use Rattle.cb_serial.proofs.Replays.{PlaysTo}
 use Rattle.cb_serial.proofs.replay.Replay.play.Given as goal

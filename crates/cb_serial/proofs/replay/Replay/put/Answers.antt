@@ -1,4 +1,4 @@
-use Rattle.std.proofs.Common.{length, subst, sym, ◌<◌, ◌≡◌, ℕ}
+use Rattle.std.proofs.Common.{length, subst, ◌<◌, ◌≡◌, ℕ}
 use Rattle.std.specs.Vec.{with_item}
 use Rattle.cb_protocol.specs.Basics.{update}
 use Rattle.cb_serial.specs.Replays.{shown}
