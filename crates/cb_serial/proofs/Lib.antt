@@ -1,0 +1,5 @@
+pub mod Followed
+pub mod Listed
+pub mod Pages
+pub mod Replays
+pub mod SerialChecks

@@ -1,0 +1,10 @@
+use Rattle.cb_serial.specs.Replays.{HasEveryPage, shown}
+use Rattle.cb_serial.proofs.SerialChecks.{ChecksTo}
+use Rattle.cb_serial.proofs.serial.check_serial.Given as goal
+
+abbrev pub invariant-loop-place : goal.invariant-loop-place
+invariant-loop-place l = record {
+  pages : HasEveryPage l.store;
+  checks : ChecksTo (record { opening = l.fn.opening; entries = l.fn.entries; commits = l.commits })
+      (shown l.store) l.place;
+}

@@ -1,0 +1,5 @@
+//! Tests of the serial check.
+#![tactic(auto)]
+
+#[cfg(test)]
+mod histories;
