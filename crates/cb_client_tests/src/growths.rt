@@ -339,6 +339,8 @@ fn play_both<Q: Chooser, R: Chooser>(
 }
 
 fn made_once(alloc: Global, limits: &Limits) -> Option<Client<TwoQ>> {
+    // There is one client at least: `clients` says so.
+    let _in_range = limits.clients();
     let pool = TwoQ::make(alloc, limits).ok()?;
     Client::new(alloc, ClientNo::new(0), Incarnation::new(1), limits, pool).ok()
 }
