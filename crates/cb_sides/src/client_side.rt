@@ -57,7 +57,7 @@ fn play<O: Write>(
         Some("finish") => finish(alloc, client, out),
         Some("drop") => drop_txn(alloc, client, out),
         Some("status") => writeln!(out, "status = {status:?}", status = client.status()),
-        Some("last") => put_outcome(client.last(), out),
+        Some("last") => put_last(client.last(), out),
         Some(word) => play_page(alloc, client, word, &mut words, out),
     }
 }
@@ -147,15 +147,22 @@ fn put_dropped<O: Write>(
     put_frames(alloc, limits, frames, out)
 }
 
-/// Prints how the last transaction ended.
-fn put_outcome<O: Write>(last: Option<Outcome>, out: &mut O) -> io::Result<()> {
+/// Prints how the last transaction ended, if one did.
+fn put_last<O: Write>(last: Option<Outcome>, out: &mut O) -> io::Result<()> {
     match last {
-        Some(Outcome::Committed(number)) => {
+        Some(outcome) => put_outcome(outcome, out),
+        None => writeln!(out, "last = none"),
+    }
+}
+
+/// Prints how a transaction ended.
+fn put_outcome<O: Write>(outcome: Outcome, out: &mut O) -> io::Result<()> {
+    match outcome {
+        Outcome::Committed(number) => {
             writeln!(out, "last = Committed {number}", number = number.get())
         }
-        Some(Outcome::Dropped) => writeln!(out, "last = Dropped"),
-        Some(Outcome::Aborted) => writeln!(out, "last = Aborted"),
-        None => writeln!(out, "last = none"),
+        Outcome::Dropped => writeln!(out, "last = Dropped"),
+        Outcome::Aborted => writeln!(out, "last = Aborted"),
     }
 }
 
