@@ -20,3 +20,9 @@ returns-clause-promise g c =
     let sound = sound_opening c.args.store c.number-number.ensures.sound in
     let first = reached_at_first v c.args.limits.now c.args.store refl c.in_ok-new.ensures.limits (ap (λ (t : TranscriptState). t.opening) c.new-2.ensures ∙ c.in_ok-opening.ensures) sound c.in_ok-new.ensures.represents (ap (λ (t : TranscriptState). t.entries) c.new-2.ensures) in
     subst (λ (o : Opening). Promise o (new_world (limits_of c.args.limits.now) (opening_of c.args.store))) (sym first.0) (first_promise (limits_of c.args.limits.now) (opening_of c.args.store) c.callback_read.ensures.promise sound)
+
+pub returns-clause-represents : goal.returns-clause-represents
+returns-clause-represents g c =
+    let v : WorldState = record { limits = c.args.limits.now; net = c.in_ok-new.field-0; opening = c.new-2.result.opening; transcript = c.new-2.result.entries; stopped = false } in
+    let first = reached_at_first v c.args.limits.now c.args.store refl c.in_ok-new.ensures.limits (ap (λ (t : TranscriptState). t.opening) c.new-2.ensures ∙ c.in_ok-opening.ensures) (sound_opening c.args.store c.number-number.ensures.sound) c.in_ok-new.ensures.represents (ap (λ (t : TranscriptState). t.entries) c.new-2.ensures) in
+    first.1
