@@ -1,5 +1,7 @@
 -- A world of the protocol, event by event: it stays reached from the opening store, which stays what it was.
 use Rattle.std.proofs.Common.{◌≡◌, ℕ, Bool, true, false, List, [], ◌∷◌, ◌++◌, length, map, refl, ap, sym, ◌∙◌, subst, suc, ◌≤◌, nat_lt, take, zero, Result, Ok, Err, OnErr, arith}
+use Rattle.std.proofs.Common.{Option, Some, None, Bor, not}
+use Rattle.std.specs.Option.{is_some, option_copied}
 use Rattle.std.specs.Prelude.{reverse}
 use Rattle.std.specs.List.{AllByRecursion}
 use Rattle.std.proofs.lemmas.List.{get_or_past, take_at, map-append, reverse-append}
@@ -165,3 +167,9 @@ stepped w v e whole z ran runs l o told =
     let one = steps w v e told.0 whole s ran runs l o told.1 told.2 in
     let after = reached_after w v e told.0 s.sound (told.1.limits ∙ s.limits ∙ sym l) one in
     (record { packets = spelled_packets w v (event_of e) told.0 s.limits l z.packets told.1; running = λ _. after }, (told.0, one))
+
+-- where nothing is lent there is nothing
+pub nothing_lent : {A : Type 0} (o : Option (Bor A)) (none : Bool) → is_some o ≡ not none → option_copied o ≡ None → none ≡ true
+nothing_lent None true told e = refl
+nothing_lent None false told e = told
+nothing_lent (Some x) none told e = absurd (let no : Some x.now ≡ None = e in cc)
