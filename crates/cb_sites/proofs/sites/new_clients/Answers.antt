@@ -12,5 +12,5 @@ loop-number-preserved g c =
 pub returns : goal.returns
 returns g c =
     let at_end : c.loop-number.number ≡ c.args.limits.now.clients =
-        omega (arith, c.loop-number.auto.number-end, c.loop-number-test.false, c.clients-number-end.ensures.value) in
+    omega (arith, c.loop-number.auto.number-end, c.loop-number-test.false, c.clients-number-end.ensures.value) in
     subst (λ (number : ℕ). c.loop-number.clients.items ≡ first_clients c.args.limits.now number) at_end c.loop-number.invariant
