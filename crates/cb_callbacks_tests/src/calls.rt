@@ -213,7 +213,7 @@ pub(crate) fn settle(
 {
     let mut outbox = Outbox::new(alloc, limits);
     let reads = callbacks.read_asks();
-    outbox.reserve(alloc, 1_056, reads)?;
+    outbox.reserve(alloc, 33 * callbacks.waiting_asks(), reads)?;
     let Some(next) = callbacks.holdings().next_grant() else {
         return Ok(outbox.take(alloc));
     };

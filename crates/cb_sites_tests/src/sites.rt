@@ -82,20 +82,30 @@ fn takes<Q: Chooser>(
     }
 }
 
+/// Whether a Welcome to that incarnation is taken, and nothing said to it.
+fn takes_welcome<Q: Chooser>(
+    alloc: Global,
+    sites: &mut Sites<Q>,
+    client: ClientNo,
+    incarnation: Incarnation,
+) -> bool {
+    let welcome = Body::Short(ShortBody::Welcome);
+    takes(alloc, sites, client, incarnation, welcome, 0)
+}
+
 /// Whether a client that restarted isn't welcome, and takes nothing that was sent to its ended
 /// incarnation.
 fn is_new_again<Q: Chooser>(alloc: Global, sites: &mut Sites<Q>) -> bool {
     let client = ClientNo::new(1);
     let (first, second) = (Incarnation::new(1), Incarnation::new(2));
-    let welcome = ShortBody::Welcome;
     let refused = Word::Refused(ClientFault::NotWelcome);
     let began = answers(alloc, sites, client, &Call::Hello, Word::Ok, 1)
-        && takes(alloc, sites, client, first, Body::Short(welcome), 0)
+        && takes_welcome(alloc, sites, client, first)
         && answers(alloc, sites, client, &Call::Begin, Word::Ok, 0);
     let ended = restarts(alloc, sites, client, Word::Ok)
-        && takes(alloc, sites, client, first, Body::Short(welcome), 0)
+        && takes_welcome(alloc, sites, client, first)
         && answers(alloc, sites, client, &Call::Begin, refused, 0);
-    let again = takes(alloc, sites, client, second, Body::Short(welcome), 0)
+    let again = takes_welcome(alloc, sites, client, second)
         && answers(alloc, sites, client, &Call::Begin, Word::Ok, 0);
     began && ended && again
 }
@@ -140,14 +150,7 @@ fn reads<Q: Chooser>(alloc: Global, sites: &mut Sites<Q>, client: ClientNo) -> b
     };
     answers(alloc, sites, client, &Call::Peek { page }, Word::Nothing, 0)
         && answers(alloc, sites, client, &Call::Hello, Word::Ok, 1)
-        && takes(
-            alloc,
-            sites,
-            client,
-            first,
-            Body::Short(ShortBody::Welcome),
-            0,
-        )
+        && takes_welcome(alloc, sites, client, first)
         && answers(alloc, sites, client, &Call::Begin, Word::Ok, 0)
         && answers(alloc, sites, client, &Call::Read { page }, Word::Asked, 1)
         && takes(alloc, sites, client, first, granted, 0)
