@@ -17,8 +17,10 @@ pub record IsStored (page_size number : ℕ) (page : StoredPage) : Type 0 where
   pub size : length page.bytes ≡ page_size
   pub version : page.version ≤ number
 
--- Every page is so, and the number is one that a commit can have, or 0.
+-- There are no more pages than a store can have, every page is so, and the number is one that a
+-- commit can have, or 0.
 pub record IsSound (s : StoreState) : Type 0 where
+  pub count : length s.pages ≤ 4096
   pub pages : All (IsStored s.page_size s.number) s.pages
   pub number : s.number ≤ max_number
 

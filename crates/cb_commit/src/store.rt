@@ -99,6 +99,14 @@ impl Store {
         self.pages.len() == limits.pages() as usize && self.page_size == limits.page_size()
     }
 
+    /// How many pages the store has.
+    pub fn page_count(&self) -> usize
+        ensures value { result ≡ length self.now.pages }
+        ensures sound { IsSound self.now }
+    {
+        self.pages.len()
+    }
+
     /// The number of the last commit in the store, 0 before the first.
     pub fn number(&self) -> u64
         ensures value { result ≡ self.now.number }

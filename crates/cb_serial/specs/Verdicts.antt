@@ -4,8 +4,8 @@ use Rattle.cb_commit.specs.Stores.{bytes_at}
 use Rattle.cb_protocol.specs.Basics.{Bytes}
 use Rattle.cb_protocol.specs.Serial.{IsSerial, Legal, Operation, store_left}
 use Rattle.cb_transcript.specs.Transcripts.{TranscriptState, told_operations}
-use Rattle.cb_transcript.specs.declared.transcript.Verdict.{Verdict}
-use Rattle.cb_transcript.specs.declared.transcript.Verdict.TheVariants as verdict
+use Rattle.cb_serial.specs.declared.serial.Verdict.{Verdict}
+use Rattle.cb_serial.specs.declared.serial.Verdict.TheVariants as verdict
 
 -- Of these transactions that operation is the first that isn't legal: all transactions before its
 -- own are a serial history, and on the store that they leave the operations before it are legal,

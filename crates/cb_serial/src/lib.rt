@@ -1,8 +1,5 @@
-//! The serial check: whether the committed transactions of a transcript are a serial history on its
-//! opening store.
-//!
-//! [`check_serial`] takes the parts of a transcript, whoever made them: the store before any event,
-//! every event with its answer, and the committed transactions in commit order.
+//! The serial check: whether the committed transactions of a transcript, whoever made it, are a
+//! serial history on its opening store.
 #![tactic(auto)]
 
 mod operation;
@@ -11,4 +8,4 @@ mod serial;
 mod standing;
 mod transactions;
 
-pub use serial::check_serial;
+pub use serial::{Verdict, check_serial};

@@ -1,13 +1,13 @@
 //! A store under replay: what a serial page store would show.
 ghost use Rattle.std.specs.Prelude.{◌≡◌, ◌↔◌, IsTrue, IfOk, Some};
-ghost use Rattle.cb_commit.specs.Stores.{IsOf, bytes_at};
+ghost use Rattle.cb_commit.specs.Stores.{bytes_at};
 ghost use Rattle.cb_protocol.specs.Basics.{update};
 ghost use Rattle.cb_serial.specs.Operations.{AreDone, call_operation, done_in};
 ghost use Rattle.cb_serial.specs.Replays.{AnswersAs, HasEveryPage, IsPlayedTo, shown};
 
 use cb_commit::Store;
 use cb_event::{Call, Event};
-use cb_page::{Limits, PageNo};
+use cb_page::PageNo;
 use cb_transcript::{AnswerWord, TranscriptEntry};
 use std::alloc::{AllocError, Global};
 
@@ -23,19 +23,14 @@ pub(crate) struct Replay<'a> {
 
 impl<'a> Replay<'a> {
     /// The opening store. `AllocError` only where memory was refused.
-    pub(crate) fn new(
-        alloc: Global,
-        limits: &Limits,
-        opening: &'a Store,
-    ) -> Result<Replay<'a>, AllocError>
-        requires { IsOf limits.now opening.now }
+    pub(crate) fn new(alloc: Global, opening: &'a Store) -> Result<Replay<'a>, AllocError>
         ensures shown { IfOk result (λ replay. shown replay ≡ bytes_at opening.now) }
         ensures pages { IfOk result HasEveryPage }
     {
-        let count = limits.pages();
+        let count = opening.page_count();
         let mut pages = Vec::with_capacity(alloc, PAGE_NUMBERS as usize)?;
         for page in 0..PAGE_NUMBERS {
-            if page < count {
+            if (page as usize) < count {
                 pages.push_reserved(opening.bytes(PageNo::new(page)));
             } else {
                 pages.push_reserved(&[]);

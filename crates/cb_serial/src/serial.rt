@@ -1,39 +1,38 @@
 //! The serial check.
 ghost use Rattle.std.specs.Prelude.{◌≡◌, IfOk, ◌↔◌};
-ghost use Rattle.cb_commit.specs.Stores.{IsOf};
 ghost use Rattle.cb_serial.specs.Operations.{AreDone, listed};
 ghost use Rattle.cb_serial.specs.Replays.{HasEveryPage, IsPlayedTo};
 ghost use Rattle.cb_serial.specs.declared.transactions.TransactionKey.{TransactionKey as KeyData};
 ghost use Rattle.cb_serial.specs.Verdicts.{NamesFirst};
 ghost use Rattle.cb_transcript.specs.Transcripts.{IsSerialOnOpening};
-ghost use Rattle.cb_transcript.specs.declared.transcript.Verdict.TheVariants as verdict;
+ghost use Rattle.cb_serial.specs.declared.serial.Verdict.TheVariants as verdict;
 
 use crate::replay::Replay;
 use crate::transactions::{TransactionKey, Transactions, transactions_of};
-use cb_commit::Store;
-use cb_page::Limits;
-use cb_transcript::{TransactionName, TranscriptEntry, Verdict};
+use cb_transcript::{TransactionName, Transcript, TranscriptEntry};
 use std::alloc::{AllocError, Global};
 
-/// Whether these transactions, in commit order, are a serial history on the opening store, with the
-/// operations that these events and their answers tell of: `Serial` exactly where they are, else
-/// the first operation that isn't legal. `AllocError` only where memory was refused. It costs a
-/// walk over the events, and one over the operations of the transactions.
-pub fn check_serial(
-    alloc: Global,
-    limits: &Limits,
-    opening: &Store,
-    entries: &[TranscriptEntry],
-    commits: &[TransactionName],
-) -> Result<Verdict, AllocError>
-    requires { IsOf limits.now opening.now }
-    ensures serial { IfOk result (λ v. (v ≡ verdict.Serial) ↔ IsSerialOnOpening
-        (record { opening = opening.now; entries = entries.now; commits = commits.now })) }
-    ensures first { IfOk result (NamesFirst
-        (record { opening = opening.now; entries = entries.now; commits = commits.now })) }
+/// Whether the committed transactions are serial.
+#[derive(Clone, Copy, Debug, PartialEq, Eq)]
+pub enum Verdict {
+    Serial,
+    /// The first operation that a serial page store would not answer so: its place in its
+    /// transaction, and the transaction's in commit order, each from 1.
+    Not { commit: u64, op: u64 },
+}
+
+/// Whether the committed transactions of a transcript, in commit order, are a serial history on its
+/// opening store, with the operations that its events and their answers tell of: `Serial` exactly
+/// where they are, else the first operation that isn't legal. `AllocError` only where memory was
+/// refused. It costs a walk over the events, and one over the operations of the transactions.
+pub fn check_serial(alloc: Global, transcript: &Transcript) -> Result<Verdict, AllocError>
+    ensures serial { IfOk result (λ v. (v ≡ verdict.Serial) ↔ IsSerialOnOpening transcript.now) }
+    ensures first { IfOk result (NamesFirst transcript.now) }
 {
+    let entries = transcript.entries();
+    let commits = transcript.commits();
     let transactions = transactions_of(alloc, entries)?;
-    let mut store = Replay::new(alloc, limits, opening)?;
+    let mut store = Replay::new(alloc, transcript.opening())?;
     for place in 0..commits.len() {
         if let Some(op) = play_named(&mut store, entries, &transactions, commits[place]) {
             return Ok(Verdict::Not {

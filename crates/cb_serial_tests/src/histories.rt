@@ -3,8 +3,8 @@
 use cb_commit::Store;
 use cb_event::{Call, Event};
 use cb_page::{ClientNo, Incarnation, Limits, Page, PageNo, TxnNo};
-use cb_serial::check_serial;
-use cb_transcript::{Answer, AnswerWord, TransactionName, TranscriptEntry, Verdict};
+use cb_serial::{Verdict, check_serial};
+use cb_transcript::{Answer, AnswerWord, TransactionName, Transcript, TranscriptEntry};
 use std::alloc::Global;
 
 /// What became of an event: by client, page, and the byte all over the page.
@@ -85,21 +85,10 @@ fn names_of(alloc: Global, names: &[(u16, u64, u64)]) -> Option<Vec<TransactionN
 }
 
 fn verdict_of(alloc: Global, told: &[Told], names: &[(u16, u64, u64)]) -> Option<Verdict> {
-    let limits = small_limits()?;
-    let store = Store::zeros(alloc, &limits).ok()?;
-    if !store.is_of(&limits) {
-        return None;
-    }
+    let store = Store::zeros(alloc, &small_limits()?).ok()?;
     let entries = entries_of(alloc, told)?;
     let commits = names_of(alloc, names)?;
-    check_serial(
-        alloc,
-        &limits,
-        &store,
-        entries.as_slice(),
-        commits.as_slice(),
-    )
-    .ok()
+    check_serial(alloc, &Transcript::from_parts(store, entries, commits)).ok()
 }
 
 /// One client writes a page, and the other reads it as it was.

@@ -1,15 +1,13 @@
 //! What a client answers to a call, and the frames that it says.
 ghost use Rattle.std.specs.Prelude.{◌≡◌, [], ◌∷◌, IfOk, Some};
 ghost use Rattle.cb_protocol.specs.Answers.{Refused};
-ghost use Rattle.cb_transcript.specs.ProtocolEvents.{word_of};
+ghost use Rattle.cb_transcript.specs.ProtocolEvents.{fault_of, word_of};
 ghost use Rattle.std.specs.Option.{option_map};
 ghost use Rattle.cb_client.specs.ByTable.{refusal};
-ghost use Rattle.cb_first_client.specs.ClientAnswers.{fault_of};
 
 use cb_client::ClientFault;
-use cb_first_client::ClientFault as Refusal;
 use cb_frame::Frame;
-use cb_transcript::AnswerWord;
+use cb_transcript::{AnswerWord, Refusal};
 use std::alloc::{AllocError, Global};
 
 /// What a client answers to a call, and the frames that it says, in order.

@@ -14,10 +14,9 @@ use crate::calling::{answer, deliver};
 use crate::reply::Reply;
 use cb_client::Client;
 use cb_event::Call;
-use cb_first_client::ClientFault;
 use cb_frame::Frame;
 use cb_page::{ClientNo, Incarnation, Limits};
-use cb_transcript::AnswerWord;
+use cb_transcript::{AnswerWord, Refusal};
 use cb_twoq::Chooser;
 use std::alloc::{AllocError, Global};
 use std::marker::Model;
@@ -125,7 +124,7 @@ impl<Q: Chooser> Sites<Q> {
             return Ok(AnswerWord::NoClient);
         }
         let Some(next) = self.clients[client.index()].incarnation().next() else {
-            return Ok(AnswerWord::Refused(ClientFault::Exhausted));
+            return Ok(AnswerWord::Refused(Refusal::Exhausted));
         };
         self.clients[client.index()] = new_client(alloc, &self.limits, client, next)?;
         Ok(AnswerWord::Ok)

@@ -1,11 +1,10 @@
 ghost use Rattle.std.specs.Prelude.{◌<◌};
 
 use cb_event::Call;
-use cb_first_client::ClientFault;
 use cb_frame::{Body, Frame, ShortBody};
 use cb_page::{ClientNo, CommitNo, GrantNo, Incarnation, Limits, Page, PageNo, TxnNo, Version};
 use cb_sites::Sites;
-use cb_transcript::AnswerWord;
+use cb_transcript::{AnswerWord, Refusal};
 use cb_twoq::{Chooser, TwoQ};
 use std::alloc::Global;
 
@@ -17,7 +16,7 @@ enum Word {
     Bytes(usize),
     Asked,
     Nothing,
-    Refused(ClientFault),
+    Refused(Refusal),
     NoClient,
     Other,
 }
@@ -98,7 +97,7 @@ fn takes_welcome<Q: Chooser>(
 fn is_new_again<Q: Chooser>(alloc: Global, sites: &mut Sites<Q>) -> bool {
     let client = ClientNo::new(1);
     let (first, second) = (Incarnation::new(1), Incarnation::new(2));
-    let refused = Word::Refused(ClientFault::NotWelcome);
+    let refused = Word::Refused(Refusal::NotWelcome);
     let began = answers(alloc, sites, client, &Call::Hello, Word::Ok, 1)
         && takes_welcome(alloc, sites, client, first)
         && answers(alloc, sites, client, &Call::Begin, Word::Ok, 0);

@@ -1,3 +1,4 @@
 pub mod Answers
 pub mod ProtocolEvents
+pub mod RefusalTexts
 pub mod Transcripts

@@ -9,7 +9,8 @@ use Rattle.cb_transcript.specs.declared.answer.AnswerWord.TheVariants as word
 use Rattle.cb_transcript.specs.declared.answer.SentPacket.{SentPacket}
 use Rattle.cb_transcript.specs.declared.answer.Answer.{Answer}
 use Rattle.cb_transcript.specs.declared.answer.TranscriptEntry.{TranscriptEntry}
-use Rattle.cb_first_client.specs.ClientAnswers.{fault_of}
+use Rattle.cb_transcript.specs.declared.refusal.Refusal.{Refusal}
+use Rattle.cb_transcript.specs.declared.refusal.Refusal.TheVariants as refusal
 use Rattle.cb_frame.specs.Kinds.{code_of}
 use Rattle.cb_protocol.specs.Answers as answers
 use Rattle.cb_protocol.specs.ClientCalls as calls
@@ -35,6 +36,22 @@ event_of event.AgainServer = world.ServerAgain
 event_of event.Flush = world.FlushAll
 event_of (event.FlushTo number) = world.FlushTo number
 
+-- the protocol's refusal
+abbrev pub fault_of : Refusal → answers.ClientFault
+fault_of refusal.NotWelcome = answers.NotWelcome
+fault_of refusal.NoTransaction = answers.NoTransaction
+fault_of refusal.TransactionOpen = answers.TransactionOpen
+fault_of refusal.Committing = answers.Committing
+fault_of refusal.Waiting = answers.Waiting
+fault_of refusal.PageRange = answers.PageRange
+fault_of refusal.NotRead = answers.NotRead
+fault_of refusal.NotHere = answers.NotHere
+fault_of refusal.NotWritable = answers.NotWritable
+fault_of refusal.WrongLength = answers.WrongLength
+fault_of refusal.PoolFull = answers.PoolFull
+fault_of refusal.Exhausted = answers.Exhausted
+
+-- the protocol's word
 abbrev pub word_of : AnswerWord → answers.AnswerWord
 word_of word.Ok = answers.AnsweredOk
 word_of (word.Bytes bytes) = answers.AnsweredBytes bytes

@@ -1,6 +1,7 @@
 -- The transcript of a world, and whether its committed transactions are serial.
 use Rattle.std.specs.Prelude.{List, map, reverse}
 use Rattle.cb_commit.specs.Stores.{StoreState, bytes_at}
+use Rattle.cb_commit.specs.declared.commit.Commit.{Commit}
 use Rattle.cb_transcript.specs.ProtocolEvents.{transcript_of}
 use Rattle.cb_transcript.specs.declared.answer.TranscriptEntry.{TranscriptEntry}
 use Rattle.cb_transcript.specs.declared.transcript.TransactionName.{TransactionName}
@@ -14,6 +15,11 @@ pub record TranscriptState : Type 0 where
   pub opening : StoreState
   pub entries : List TranscriptEntry
   pub commits : List TransactionName
+
+-- the transaction that a commit is of
+abbrev pub committed_name : Commit → TransactionName
+committed_name commit =
+    record { client = commit.client; incarnation = commit.incarnation; txn = commit.txn }
 
 -- the protocol's name of a transaction
 abbrev pub name_of : TransactionName → protocol.TransactionName

@@ -1,8 +1,8 @@
 ghost use Rattle.std.specs.Prelude.{◌≡◌, List, [], ◌∷◌, Some, IfOk, IfSome, OnErr};
 ghost use Rattle.cb_transcript.specs.Answers.{IsBytes};
 
+use crate::refusal::Refusal;
 use cb_event::Event;
-use cb_first_client::ClientFault;
 use cb_frame::Kind;
 use cb_page::{ClientNo, CommitNo, Page};
 use std::alloc::{AllocError, Global};
@@ -28,7 +28,7 @@ pub enum AnswerWord {
     /// No packet of that number was sent yet.
     NoPacket,
     /// The client refused, or a restart has no next incarnation.
-    Refused(ClientFault),
+    Refused(Refusal),
     /// The server has no number left for what the packet asks.
     ServerExhausted,
     /// There is no such client.

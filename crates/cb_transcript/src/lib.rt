@@ -1,11 +1,12 @@
-//! What became of the events of a world, and the serial check of it.
+//! What became of the events of a world.
 //!
 //! A [`Transcript`] lists each event with its [`Answer`], and the transactions that were committed.
-//! [`check_serial`] says whether these are a serial history.
 #![tactic(auto)]
 
 mod answer;
+mod refusal;
 mod transcript;
 
 pub use answer::{Answer, AnswerWord, SentPacket, SentPackets, TranscriptEntry};
-pub use transcript::{TransactionName, Transcript, Verdict, check_serial};
+pub use refusal::Refusal;
+pub use transcript::{TransactionName, Transcript};

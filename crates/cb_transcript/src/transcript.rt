@@ -1,11 +1,9 @@
-//! The transcript of a world, and the serial check of it.
-ghost use Rattle.std.specs.Prelude.{◌≡◌, List, ◌++◌, [], ◌∷◌, IfOk, OnOk, OnErr, ◌↔◌};
-ghost use Rattle.cb_transcript.specs.Transcripts.{IsSerialOnOpening};
-ghost use Rattle.cb_transcript.specs.declared.answer.TranscriptEntry.{TranscriptEntry as EntryData};
-ghost use Rattle.cb_transcript.specs.declared.transcript.Verdict.TheVariants as verdict;
+//! The transcript of a world.
+ghost use Rattle.std.specs.Prelude.{◌≡◌, ◌++◌, [], ◌∷◌, length, map, take, IfOk, OnOk, OnErr};
+ghost use Rattle.cb_transcript.specs.Transcripts.{committed_name};
 
 use crate::answer::{Answer, TranscriptEntry};
-use cb_commit::Store;
+use cb_commit::{Commit, Store};
 use cb_event::Event;
 use cb_page::{ClientNo, Incarnation, TxnNo};
 use std::alloc::{AllocError, Global};
@@ -19,17 +17,7 @@ pub struct TransactionName {
     pub txn: TxnNo,
 }
 
-/// Whether the committed transactions are serial.
-#[derive(Clone, Copy, Debug, PartialEq, Eq)]
-pub enum Verdict {
-    Serial,
-    /// The first operation that a serial page store would not answer so: its place in its
-    /// transaction, and the transaction's in commit order, each from 1.
-    Not { commit: u64, op: u64 },
-}
-
-/// What became of every event of a world, and the transactions that were committed. No transaction
-/// ends yet, so none is committed.
+/// What became of every event of a world, and the transactions that were committed.
 #[derive(Debug, Drop)]
 pub struct Transcript {
     opening: Store,
@@ -38,7 +26,6 @@ pub struct Transcript {
 }
 
 impl Model for Transcript {
-    ghost use Rattle.std.specs.Prelude.{◌≡◌, []};
     ghost use Rattle.cb_transcript.specs.Transcripts.{TranscriptState};
 
     ghost Value = { TranscriptState };
@@ -48,8 +35,6 @@ impl Model for Transcript {
       entries = t.entries.items;
       commits = t.commits.items;
     } };
-
-    ghost invariant = { λ t. t.commits.items ≡ [] };
 }
 
 impl Transcript {
@@ -57,10 +42,23 @@ impl Transcript {
     pub fn new(alloc: Global, opening: Store) -> Transcript
         ensures { result ≡ record { opening = opening; entries = []; commits = [] } }
     {
+        Transcript::from_parts(opening, Vec::new(alloc), Vec::new(alloc))
+    }
+
+    /// A transcript that somebody else made: the store before any event, every event with its
+    /// answer, and the committed transactions in commit order. Nothing is checked of them.
+    pub fn from_parts(
+        opening: Store,
+        entries: Vec<TranscriptEntry>,
+        commits: Vec<TransactionName>,
+    ) -> Transcript
+        ensures { result
+            ≡ record { opening = opening; entries = entries.items; commits = commits.items } }
+    {
         Transcript {
             opening,
-            entries: Vec::new(alloc),
-            commits: Vec::new(alloc),
+            entries,
+            commits,
         }
     }
 
@@ -80,56 +78,62 @@ impl Transcript {
 
     /// The transactions that were committed, in commit order.
     pub fn commits(&self) -> &[TransactionName]
-        ensures value { result.now ≡ self.now.commits }
-        ensures none { self.now.commits ≡ [] }
+        ensures { result.now ≡ self.now.commits }
     {
         self.commits.as_slice()
     }
 
-    /// Tells an event and what became of it. `AllocError` only where memory was refused; then
-    /// nothing is told.
-    pub fn tell(&mut self, event: Event, answer: Answer) -> Result<(), AllocError>
-        ensures ok { OnOk result (self.new.entries ≡ self.old.entries
-            ++ record { event = event; answer = answer } ∷ []) }
-        ensures opening { self.new.opening ≡ self.old.opening }
-        ensures commits { self.new.commits ≡ self.old.commits }
+    /// Tells an event, what became of it, and the commits that it applied. `AllocError` only where
+    /// memory was refused; then nothing is told.
+    pub fn tell(
+        &mut self,
+        event: Event,
+        answer: Answer,
+        applied: &[Commit],
+    ) -> Result<(), AllocError>
+        ensures ok { OnOk result (self.new ≡ record self.old {
+          entries = self.old.entries ++ record { event = event; answer = answer } ∷ [];
+          commits = self.old.commits ++ map committed_name applied.now;
+        }) }
         ensures kept { OnErr result (self.new ≡ self.old) }
     {
+        self.commits.reserve(applied.len())?;
         self.entries.push(TranscriptEntry { event, answer })?;
+        for commit in applied {
+            self.commits.push_reserved(TransactionName {
+                client: commit.client,
+                incarnation: commit.incarnation,
+                txn: commit.txn,
+            });
+        }
         Ok(())
     }
 
-    /// Forgets the last event.
-    pub fn forget_last(&mut self)
-        ensures opening { self.new.opening ≡ self.old.opening }
-        ensures entries { (es : List EntryData) (e : EntryData) → self.old.entries ≡ es ++ e ∷ []
-            → self.new.entries ≡ es }
+    /// Only the first events stay, and the first commits, so many of each: what was told last is
+    /// taken back.
+    pub fn keep(&mut self, entries: usize, commits: usize)
+        ensures { self.new ≡ record self.old {
+          entries = take entries self.old.entries;
+          commits = take commits self.old.commits;
+        } }
     {
-        self.entries.pop();
+        self.entries.truncate(entries);
+        self.commits.truncate(commits);
     }
 }
 
-/// Whether the committed transactions of a transcript are a serial history on its opening store. It
-/// takes no memory yet: none is committed.
-pub fn check_serial(_alloc: Global, transcript: &Transcript) -> Result<Verdict, AllocError>
-    ensures { IfOk result (λ v. (v ≡ verdict.Serial) ↔ IsSerialOnOpening transcript.now) }
-{
-    transcript.commits();
-    Ok(Verdict::Serial)
-}
-
-/// The law of what a transcript shows: its opening store, and each event told, of which none is
-/// committed.
+/// The law of what a transcript shows: its opening store, each event told, and each commit.
 fn law(
     alloc: Global,
     opening: Store,
     event: Event,
     answer: Answer,
+    applied: &[Commit],
 ) -> Result<(u64, usize, usize), AllocError>
-    ensures { IfOk result (λ shown. shown ≡ (opening.number, 1, 0)) }
+    ensures { IfOk result (λ shown. shown ≡ (opening.number, 1, length applied.now)) }
 {
     let mut transcript = Transcript::new(alloc, opening);
-    transcript.tell(event, answer)?;
+    transcript.tell(event, answer, applied)?;
     let number = transcript.opening().number();
     Ok((
         number,

@@ -1,28 +1,28 @@
-use Rattle.std.proofs.Common.{ap, refl, ◌+◌, ◌∙◌}
+use Rattle.std.proofs.Common.{ap, refl, subst, ◌+◌, ◌∙◌, ◌≡◌}
 use Rattle.cb_serial.specs.Operations.{listed}
+use Rattle.cb_serial.specs.Verdicts.{FirstIllegal}
 use Rattle.cb_serial.proofs.SerialChecks.{all_serial, goes_on, illegal_not_serial, named, stops_first}
 use Rattle.cb_commit.specs.Stores.{bytes_at}
-use Rattle.cb_transcript.specs.Transcripts.{TranscriptState, told_operations}
+use Rattle.cb_transcript.specs.Transcripts.{IsSerialOnOpening, TranscriptState, told_operations}
 use Rattle.cb_serial.specs.declared.transactions.TransactionKey.{TransactionKey}
 use Rattle.cb_serial.proofs.serial.check_serial.Goals as goal
 
 pub returns-in-Some-clause-first : goal.returns-in-Some-clause-first
-returns-in-Some-clause-first c = let t : TranscriptState = record { opening = c.args.opening.now; entries = c.args.entries.now; commits = c.args.commits.now } in
+returns-in-Some-clause-first c = let t : TranscriptState = record { opening = c.args.transcript.now.opening; entries = c.entries-entries.result.now; commits = c.commits-commits.result.now } in
+    let same : t ≡ c.args.transcript.now = λ i. record { opening = c.args.transcript.now.opening; entries = c.entries-entries.ensures i; commits = c.commits-commits.ensures i } in
     let name = c.index-commits-place.result in
     let key : TransactionKey = record { client = name.client; incarnation = name.incarnation; txn = name.txn } in
-    stops_first t c.loop-place.store c.play_named.new.store c.loop-place.place c.in-Some.op name (listed c.in_ok-transactions.transactions key) c.loop-place-test.true
-    (c.in_ok-transactions.ensures.done key) (c.in_ok-transactions.ensures.operations key ∙ ap (named t) c.index-commits-place.is) c.in-Some.ensures.played c.loop-place.invariant.checks
+    subst (λ (u : TranscriptState). FirstIllegal (bytes_at u.opening) (told_operations u) (c.loop-place.place + 1) (c.in-Some.op + 1)) same
+    (stops_first t c.loop-place.store c.play_named.new.store c.loop-place.place c.in-Some.op name (listed c.in_ok-transactions.transactions key) c.loop-place-test.true
+    (c.in_ok-transactions.ensures.done key) (c.in_ok-transactions.ensures.operations key ∙ ap (named t) c.index-commits-place.is) c.in-Some.ensures.played c.loop-place.invariant.checks)
 
 pub returns-in-Some-clause-serial : goal.returns-in-Some-clause-serial
-returns-in-Some-clause-serial c = let t : TranscriptState = record { opening = c.args.opening.now; entries = c.args.entries.now; commits = c.args.commits.now } in
-    let name = c.index-commits-place.result in
-    let key : TransactionKey = record { client = name.client; incarnation = name.incarnation; txn = name.txn } in
-    let first = stops_first t c.loop-place.store c.play_named.new.store c.loop-place.place c.in-Some.op name (listed c.in_ok-transactions.transactions key) c.loop-place-test.true
-    (c.in_ok-transactions.ensures.done key) (c.in_ok-transactions.ensures.operations key ∙ ap (named t) c.index-commits-place.is) c.in-Some.ensures.played c.loop-place.invariant.checks in
+returns-in-Some-clause-serial c = let t : TranscriptState = c.args.transcript.now in
+    let first = returns-in-Some-clause-first c in
     (λ same. cc, λ s. absurd (illegal_not_serial (bytes_at t.opening) (told_operations t) (c.loop-place.place + 1) (c.in-Some.op + 1) first s))
 
 pub loop-place-preserved : goal.loop-place-preserved
-loop-place-preserved c = let t : TranscriptState = record { opening = c.args.opening.now; entries = c.args.entries.now; commits = c.args.commits.now } in
+loop-place-preserved c = let t : TranscriptState = record { opening = c.args.transcript.now.opening; entries = c.entries-entries.result.now; commits = c.commits-commits.result.now } in
     let name = c.index-commits-place.result in
     let key : TransactionKey = record { client = name.client; incarnation = name.incarnation; txn = name.txn } in
     record {
@@ -32,4 +32,7 @@ loop-place-preserved c = let t : TranscriptState = record { opening = c.args.ope
     }
 
 pub returns-clause-serial : goal.returns-clause-serial
-returns-clause-serial c = (λ e. all_serial (record { opening = c.args.opening.now; entries = c.args.entries.now; commits = c.args.commits.now }) _ c.loop-place.place c.loop-place-test.false c.loop-place.invariant.checks, λ s. refl)
+returns-clause-serial c =
+    let t : TranscriptState = record { opening = c.args.transcript.now.opening; entries = c.entries-entries.result.now; commits = c.commits-commits.result.now } in
+    let same : t ≡ c.args.transcript.now = λ i. record { opening = c.args.transcript.now.opening; entries = c.entries-entries.ensures i; commits = c.commits-commits.ensures i } in
+    (λ e. subst IsSerialOnOpening same (all_serial t _ c.loop-place.place c.loop-place-test.false c.loop-place.invariant.checks), λ s. refl)

@@ -5,6 +5,6 @@ use Rattle.cb_serial.proofs.serial.check_serial.Given as goal
 abbrev pub invariant-loop-place : goal.invariant-loop-place
 invariant-loop-place l = record {
   pages : HasEveryPage l.store;
-  checks : ChecksTo (record { opening = l.fn.opening; entries = l.fn.entries; commits = l.commits })
+  checks : ChecksTo (record { opening = l.fn.transcript.opening; entries = l.entries; commits = l.commits })
       (shown l.store) l.place;
 }

@@ -6,5 +6,5 @@ use Rattle.cb_serial.proofs.replay.Replay.new.Goals as goal
 
 pub returns-clause-shown : goal.returns-clause-shown
 returns-clause-shown c = let l = c.loop-page.invariant.so_far in let f = c.loop-page-test.false in
-    let few : length c.args.opening.now.pages ≤ length c.loop-page.pages.items = rw (l, c.requires.count) (omega (arith, f, c.pages-count.ensures.in_range.pages)) in
+    let few : length c.args.opening.now.pages ≤ length c.loop-page.pages.items = rw l (omega (arith, f, c.page_count-count.ensures.sound.count)) in
     all_shown (λ b. b.now) c.loop-page.pages.items (bytes_at c.args.opening.now) (length c.args.opening.now.pages) few (λ k h. ap (λ p. p.bytes) (get_or-eq_default c.args.opening.now.pages no_page h)) (λ k h. c.loop-page.invariant.shown k (subst (λ n. k < n) l h))

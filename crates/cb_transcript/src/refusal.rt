@@ -1,13 +1,14 @@
+//! Why a call of a client is refused.
 ghost use Rattle.std.specs.Prelude.{Some};
-ghost use Rattle.cb_first_client.specs.FaultTexts.{refusal_text};
+ghost use Rattle.cb_transcript.specs.RefusalTexts.{refusal_text};
 
 use std::error::Error;
 use std::fmt;
 
-/// Why a call of a client is refused; nothing changes then. The text is the fault's number and
-/// name; where several causes stand, the lowest number is answered.
+/// Why a client refused a call; nothing changed then. The text is the refusal's number and name.
+/// Want of memory is no answer, so none of these is it.
 #[derive(Clone, Copy, Debug, PartialEq, Eq)]
-pub enum ClientFault {
+pub enum Refusal {
     /// The server's Welcome has not come.
     NotWelcome,
     /// No transaction is open.
@@ -34,26 +35,26 @@ pub enum ClientFault {
     Exhausted,
 }
 
-impl fmt::Display for ClientFault {
+impl fmt::Display for Refusal {
     ghost output = { λ fault. Some (refusal_text fault) };
 
     fn fmt<W: fmt::Write>(&self, f: &mut fmt::Formatter<W>) -> fmt::Result {
         let text = match self {
-            ClientFault::NotWelcome => "1 NotWelcome",
-            ClientFault::NoTransaction => "2 NoTransaction",
-            ClientFault::TransactionOpen => "3 TransactionOpen",
-            ClientFault::Committing => "4 Committing",
-            ClientFault::Waiting => "5 Waiting",
-            ClientFault::PageRange => "6 PageRange",
-            ClientFault::NotRead => "7 NotRead",
-            ClientFault::NotHere => "8 NotHere",
-            ClientFault::NotWritable => "9 NotWritable",
-            ClientFault::WrongLength => "10 WrongLength",
-            ClientFault::PoolFull => "11 PoolFull",
-            ClientFault::Exhausted => "12 Exhausted",
+            Refusal::NotWelcome => "1 NotWelcome",
+            Refusal::NoTransaction => "2 NoTransaction",
+            Refusal::TransactionOpen => "3 TransactionOpen",
+            Refusal::Committing => "4 Committing",
+            Refusal::Waiting => "5 Waiting",
+            Refusal::PageRange => "6 PageRange",
+            Refusal::NotRead => "7 NotRead",
+            Refusal::NotHere => "8 NotHere",
+            Refusal::NotWritable => "9 NotWritable",
+            Refusal::WrongLength => "10 WrongLength",
+            Refusal::PoolFull => "11 PoolFull",
+            Refusal::Exhausted => "12 Exhausted",
         };
         write!(f, "{text}")
     }
 }
 
-impl Error for ClientFault {}
+impl Error for Refusal {}

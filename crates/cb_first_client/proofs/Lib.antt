@@ -1,4 +1,0 @@
-pub mod PoolRoom
-pub mod ClientCopies
-pub mod ClientCalls
-pub mod ClientMessages

@@ -1,4 +1,0 @@
-pub mod Nets
-pub mod NetSends
-pub mod NetAnswers
-pub mod NetOpening

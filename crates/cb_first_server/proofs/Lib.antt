@@ -1,4 +1,0 @@
-pub mod Sessions
-pub mod Settled
-pub mod Taking
-pub mod Replying

@@ -1,3 +1,0 @@
-pub mod SameFrames
-pub mod Worlds
-pub mod Playing

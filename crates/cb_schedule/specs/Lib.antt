@@ -1,2 +1,0 @@
-pub mod WorldState
-pub mod Plays
