@@ -1,2 +1,1 @@
-mod PlayedEvents
 mod TextLemmas

@@ -6,7 +6,7 @@ use Rattle.std.proofs.lemmas.List.{take_all}
 use Rattle.std.proofs.lemmas.List.Elements.{filter_map-append}
 use Rattle.std.proofs.Math.Seq.{take-suc, drop-cons}
 use Rattle.cb_page.specs.Bounds.{Bounds}
-use Rattle.cb_event.specs.ScheduleText.{causes_behind, event_of_line, events_of, fault_at, IsSchedule, HasFault, HasEvent, Refuses}
+use Rattle.cb_event.specs.ScheduleText.{causes_behind, event_of_line, spelled_of_line, events_of, fault_at, IsSchedule, HasFault, HasEvent, Refuses}
 use Rattle.cb_pieces.specs.Pieces.{lines_of}
 use Rattle.std.specs.List.{cons_option}
 use Rattle.cb_event.specs.declared.text.ScheduleFault.TheVariants as fault
@@ -50,26 +50,26 @@ one_event None = refl
 one_event (Some event) = refl
 
 -- the events of one line more
-pub more_events : (lines : List (List ℕ)) (i : ℕ) (line : List ℕ) (rest : List (List ℕ)) → IsNext lines i line rest → events_of (take (i + 1) lines) ≡ events_of (take i lines) ++ option_to_list (event_of_line line)
-more_events lines i line rest next =
-    ap events_of next.before ∙ filter_map-append event_of_line (take i lines) (line ∷ []) ∙ ap (λ (one : List Event). events_of (take i lines) ++ one) (one_event (event_of_line line))
+pub more_events : (limits : Bounds) (lines : List (List ℕ)) (i : ℕ) (line : List ℕ) (rest : List (List ℕ)) → IsNext lines i line rest → events_of limits (take (i + 1) lines) ≡ events_of limits (take i lines) ++ option_to_list (event_of_line limits line)
+more_events limits lines i line rest next =
+    ap (events_of limits) next.before ∙ filter_map-append (event_of_line limits) (take i lines) (line ∷ []) ∙ ap (λ (one : List Event). events_of limits (take i lines) ++ one) (one_event (event_of_line limits line))
 
 -- the fault of the next line, behind the events so far
-pub fault_here : (limits : Bounds) (lines : List (List ℕ)) (i : ℕ) (earlier : List Event) (line : List ℕ) (rest : List (List ℕ)) → IsNext lines i line rest → earlier ≡ events_of (take i lines) → fault_at limits lines i ≡ first_fault (causes_behind limits (i + 1) (length earlier) line)
+pub fault_here : (limits : Bounds) (lines : List (List ℕ)) (i : ℕ) (earlier : List Event) (line : List ℕ) (rest : List (List ℕ)) → IsNext lines i line rest → earlier ≡ events_of limits (take i lines) → fault_at limits lines i ≡ first_fault (causes_behind limits (i + 1) (length earlier) line)
 unfolding fault_at
 fault_here limits lines i earlier line rest next e = rw (next.here, e) refl
 
 -- the reader's state: behind so many lines without a fault, with their events
 pub record IsRead (limits : Bounds) (lines : List (List ℕ)) (n : ℕ) (events : List Event) : Type 0 where
   pub faultless : (i : ℕ) → i < n → fault_at limits lines i ≡ None
-  pub meaning : events ≡ events_of (take n lines)
+  pub meaning : events ≡ events_of limits (take n lines)
 
-pub one_more : (limits : Bounds) (lines : List (List ℕ)) (n : ℕ) (events new : List Event) (line : List ℕ) (rest : List (List ℕ)) → IsRead limits lines n events → drop n lines ≡ line ∷ rest → first_fault (causes_behind limits (n + 1) (length events) line) ≡ None → new ≡ events ++ option_to_list (event_of_line line) → IsRead limits lines (n + 1) new × (drop (n + 1) lines ≡ rest)
+pub one_more : (limits : Bounds) (lines : List (List ℕ)) (n : ℕ) (events new : List Event) (line : List ℕ) (rest : List (List ℕ)) → IsRead limits lines n events → drop n lines ≡ line ∷ rest → first_fault (causes_behind limits (n + 1) (length events) line) ≡ None → new ≡ events ++ option_to_list (event_of_line limits line) → IsRead limits lines (n + 1) new × (drop (n + 1) lines ≡ rest)
 one_more limits lines n events new line rest read left clear added =
     let next = next_line lines n line rest left in (
       record {
         faultless = below_more _ _ read.faultless (fault_here limits lines n events line rest next read.meaning ∙ clear);
-        meaning = added ∙ ap (λ (es : List Event). es ++ option_to_list (event_of_line line)) read.meaning ∙ sym (more_events lines n line rest next);
+        meaning = added ∙ ap (λ (es : List Event). es ++ option_to_list (event_of_line limits line)) read.meaning ∙ sym (more_events limits lines n line rest next);
       },
       next.behind,
     )
@@ -80,7 +80,7 @@ all_read limits text n events read left =
     let all : length (lines_of text) ≤ n = omega (arith, ap length left, length-drop n (lines_of text)) in
     record {
       faultless = λ i h. read.faultless i (omega arith);
-      meaning = read.meaning ∙ ap events_of (take_all n (lines_of text) all);
+      meaning = read.meaning ∙ ap (events_of limits) (take_all n (lines_of text) all);
     }
 
 has_fault : (limits : Bounds) (text : List ℕ) (n : ℕ) (events : List Event) (line : List ℕ) (rest : List (List ℕ)) (e : ScheduleFault) → IsRead limits (lines_of text) n events → drop n (lines_of text) ≡ line ∷ rest → first_fault (causes_behind limits (n + 1) (length events) line) ≡ Some e → HasFault limits text e
@@ -93,7 +93,7 @@ has_fault limits text n events line rest e read left first =
       lowest = fault_here limits (lines_of text) n events line rest next read.meaning ∙ first;
     }
 
-has_event : (limits : Bounds) (text : List ℕ) (n : ℕ) (events : List Event) (line : List ℕ) (rest : List (List ℕ)) → IsRead limits (lines_of text) n events → drop n (lines_of text) ≡ line ∷ rest → first_fault (causes_behind limits (n + 1) (length events) line) ≡ None → IsSome (event_of_line line) → HasEvent limits text
+has_event : (limits : Bounds) (text : List ℕ) (n : ℕ) (events : List Event) (line : List ℕ) (rest : List (List ℕ)) → IsRead limits (lines_of text) n events → drop n (lines_of text) ≡ line ∷ rest → first_fault (causes_behind limits (n + 1) (length events) line) ≡ None → IsSome (spelled_of_line line) → HasEvent limits text
 has_event limits text n events line rest read left clear some =
     let next = next_line (lines_of text) n line rest left in
     let here : fault_at limits (lines_of text) n ≡ None = fault_here limits (lines_of text) n events line rest next read.meaning ∙ clear in
@@ -105,7 +105,7 @@ has_event limits text n events line rest read left clear some =
     }
 
 -- the reader stops at its first fault, or for want of memory
-pub refused : (limits : Bounds) (text : List ℕ) (n : ℕ) (events : List Event) (line : List ℕ) (rest : List (List ℕ)) (e : ScheduleFault) → IsRead limits (lines_of text) n events → drop n (lines_of text) ≡ line ∷ rest → (e ≢ fault.Memory → first_fault (causes_behind limits (n + 1) (length events) line) ≡ Some e) → (e ≡ fault.Memory → (first_fault (causes_behind limits (n + 1) (length events) line) ≡ None) × IsSome (event_of_line line)) → Refuses limits text e
+pub refused : (limits : Bounds) (text : List ℕ) (n : ℕ) (events : List Event) (line : List ℕ) (rest : List (List ℕ)) (e : ScheduleFault) → IsRead limits (lines_of text) n events → drop n (lines_of text) ≡ line ∷ rest → (e ≢ fault.Memory → first_fault (causes_behind limits (n + 1) (length events) line) ≡ Some e) → (e ≡ fault.Memory → (first_fault (causes_behind limits (n + 1) (length events) line) ≡ None) × IsSome (spelled_of_line line)) → Refuses limits text e
 refused limits text n events line rest fault.Memory read left first memory =
     has_event limits text n events line rest read left (memory refl).0 (memory refl).1
 refused limits text n events line rest other read left first memory =

@@ -35,9 +35,11 @@ use Rattle.std.specs.List.{list_all, filter_map}
 use Rattle.std.specs.Option.{option_map}
 use Rattle.cb_page.specs.Bounds.{Bounds}
 use Rattle.cb_page.specs.Faults.{first_fault}
-use Rattle.cb_event.specs.Commands.{Argument, command_of, arguments_of, event_of, are_in_range}
+use Rattle.cb_event.specs.Commands.{Argument, command_of, arguments_of, spelled_by, event_of}
+use Rattle.cb_event.specs.Commands.{are_in_range}
 use Rattle.cb_pieces.specs.Pieces.{lines_of, words_of, is_text, is_number, number_of}
 use Rattle.cb_event.specs.declared.command.Command.{Command}
+use Rattle.cb_event.specs.declared.command.SpelledEvent.{SpelledEvent}
 use Rattle.cb_event.specs.declared.event.Event.{Event}
 use Rattle.cb_event.specs.declared.text.ScheduleFault.{ScheduleFault}
 use Rattle.cb_event.specs.declared.text.ScheduleFault.TheVariants as fault
@@ -46,16 +48,20 @@ use Rattle.cb_event.specs.declared.text.ScheduleFault.TheVariants as fault
 abbrev pub is_comment : List ℕ → Bool
 is_comment first = slice_index first 0 == 35
 
--- the event that the words of a line mean, if the line has no fault: none of an empty line and of a
--- comment
-abbrev pub event_of_words : List (List ℕ) → Option Event
-event_of_words [] = None
-event_of_words (first ∷ rest) =
+-- what the words of a line spell, if the line has no fault: nothing in an empty line and a comment
+abbrev pub spelled_of_words : List (List ℕ) → Option SpelledEvent
+spelled_of_words [] = None
+spelled_of_words (first ∷ rest) =
     if is_comment first then None
-    else option_map (λ command. event_of command (map number_of rest)) (command_of first)
+    else option_map (λ found. spelled_by found.0 (map number_of found.1)) (command_of first rest)
 
-abbrev pub event_of_line : List ℕ → Option Event
-event_of_line line = event_of_words (words_of line)
+-- what a line spells
+abbrev pub spelled_of_line : List ℕ → Option SpelledEvent
+spelled_of_line line = spelled_of_words (words_of line)
+
+-- the event that a line means
+abbrev pub event_of_line : Bounds → List ℕ → Option Event
+event_of_line limits line = option_map (event_of limits) (spelled_of_line line)
 
 -- the faults of the words behind a command, each behind the test of its cause, lowest first
 abbrev pub argument_causes : Bounds → ℕ → List Argument → List (List ℕ)
@@ -66,18 +72,18 @@ argument_causes limits number wanted words =
     ∷ (not (are_in_range limits wanted (map number_of words)), fault.Range number)
     ∷ []
 
--- the faults of a line behind its first word, if that is a command
-abbrev pub command_causes : Bounds → ℕ → Option Command → List (List ℕ)
+-- the faults of a line behind its command, if it begins with one
+abbrev pub command_causes : Bounds → ℕ → Option (Command × List (List ℕ))
     → List (Bool × ScheduleFault)
-command_causes limits number None rest = (true, fault.Word number) ∷ []
-command_causes limits number (Some command) rest =
+command_causes limits number None = (true, fault.Word number) ∷ []
+command_causes limits number (Some (command, rest)) =
     argument_causes limits number (arguments_of command) rest
 
 -- the faults of a line's words: an empty line and a comment have none
 abbrev pub words_causes : Bounds → ℕ → List (List ℕ) → List (Bool × ScheduleFault)
 words_causes limits number [] = []
 words_causes limits number (first ∷ rest) = if is_comment first then []
-    else command_causes limits number (command_of first) rest
+    else command_causes limits number (command_of first rest)
 
 -- the faults of a line by itself, under its number; a comment must be text too
 abbrev pub line_causes : Bounds → ℕ → List ℕ → List (Bool × ScheduleFault)
@@ -93,22 +99,22 @@ most_events = 1000000
 abbrev pub causes_behind : Bounds → ℕ → ℕ → List ℕ → List (Bool × ScheduleFault)
 causes_behind limits number earlier line =
     line_causes limits number line
-    ++ (is_some (event_of_line line) && nat_le most_events earlier, fault.Long number) ∷ []
+    ++ (is_some (spelled_of_line line) && nat_le most_events earlier, fault.Long number) ∷ []
 
 -- the events of lines, in order
-abbrev pub events_of : List (List ℕ) → List Event
-events_of lines = filter_map event_of_line lines
+abbrev pub events_of : Bounds → List (List ℕ) → List Event
+events_of limits lines = filter_map (event_of_line limits) lines
 
 -- the lowest fault of the line of this index; lines are numbered from 1
 unfoldable pub fault_at : Bounds → List (List ℕ) → ℕ → Option ScheduleFault
 fault_at limits lines i =
-    first_fault (causes_behind limits (i + 1) (length (events_of (take i lines)))
+    first_fault (causes_behind limits (i + 1) (length (events_of limits (take i lines)))
     (slice_index_or lines i []))
 
 -- The text is a schedule of these events: no line has a fault.
 pub record IsSchedule (limits : Bounds) (text : List ℕ) (events : List Event) : Type 0 where
   pub faultless : (i : ℕ) → i < length (lines_of text) → fault_at limits (lines_of text) i ≡ None
-  pub meaning : events ≡ events_of (lines_of text)
+  pub meaning : events ≡ events_of limits (lines_of text)
 
 -- The first faulty line has this lowest fault.
 pub record HasFault (limits : Bounds) (text : List ℕ) (fault : ScheduleFault) : Type 0 where
@@ -122,7 +128,7 @@ pub record HasEvent (limits : Bounds) (text : List ℕ) : Type 0 where
   pub line : ℕ
   pub is_line : line < length (lines_of text)
   pub faultless : (i : ℕ) → i ≤ line → fault_at limits (lines_of text) i ≡ None
-  pub event : IsSome (event_of_line (slice_index_or (lines_of text) line []))
+  pub event : IsSome (spelled_of_line (slice_index_or (lines_of text) line []))
 
 -- Why a text was not read: its first faulty line's lowest fault; or memory ran out, at an event.
 abbrev pub Refuses : Bounds → List ℕ → ScheduleFault → Type 0

@@ -1,5 +1,4 @@
-ghost use Rattle.std.specs.Prelude.{◌≡◌, ◌↔◌, IfOk, IsOk, IsTrue, OnErr};
-ghost use Rattle.cb_event.specs.Events.{IsPlayed};
+ghost use Rattle.std.specs.Prelude.{◌≡◌, IfOk, IsOk, OnErr};
 ghost use Rattle.cb_event.specs.Events.{HasBytes, CallsWithBytes};
 
 use cb_page::{ClientNo, Page, PageNo};
@@ -60,22 +59,6 @@ impl Call {
 }
 
 impl Event {
-    /// Whether a world plays such an event yet: hello, begin, read, peek and take.
-    pub fn is_played(&self) -> bool
-        ensures { IsTrue result ↔ IsPlayed self.now }
-    {
-        match self {
-            Event::Call { call, .. } => {
-                matches!(
-                    call,
-                    Call::Hello | Call::Begin | Call::Read { .. } | Call::Peek { .. }
-                )
-            }
-            Event::Take { .. } => true,
-            _ => false,
-        }
-    }
-
     /// The same event. It fails only where there is no memory for the bytes of a write.
     pub fn copy(&self, alloc: Global) -> Result<Event, AllocError>
         ensures same { IfOk result (λ event. event ≡ self.now) }

@@ -2,18 +2,17 @@
 ghost use Rattle.std.specs.Prelude.{◌≡◌, ◌≢◌, ℕ, ◌==◌, true, false, Some, None, [], ◌∷◌, ◌++◌};
 ghost use Rattle.std.specs.Prelude.{length, map, slice_index, nat_lt, List, IfOk, IfErr, OnOk};
 ghost use Rattle.std.specs.Prelude.{IsSome, MatchResult};
-ghost use Rattle.std.specs.List.{All};
 ghost use Rattle.std.specs.Option.{option_to_list};
-ghost use Rattle.cb_event.specs.Events.{IsPlayed};
 ghost use Rattle.cb_page.specs.Faults.{first_fault};
-ghost use Rattle.cb_event.specs.Commands.{Client, Page, arguments_of, event_of};
+ghost use Rattle.cb_event.specs.Commands.{Byte, Client, Number, Page, arguments_of, spelled_by};
 ghost use Rattle.cb_pieces.specs.Pieces.{words_of, is_number, number_of};
 ghost use Rattle.cb_event.specs.ScheduleText.{Gives, is_comment, argument_causes, line_causes};
-ghost use Rattle.cb_event.specs.ScheduleText.{causes_behind, event_of_line, IsSchedule, Refuses};
+ghost use Rattle.cb_event.specs.ScheduleText.{causes_behind, event_of_line, spelled_of_line};
+ghost use Rattle.cb_event.specs.ScheduleText.{IsSchedule, Refuses};
 ghost use Rattle.cb_event.specs.declared.event.Event.{Event};
 ghost use Rattle.cb_event.specs.declared.text.ScheduleFault.TheVariants.{Memory};
 
-use crate::command::{Command, command_of};
+use crate::command::{Command, SpelledEvent, command_of};
 use crate::event::{Call, Event};
 use cb_page::{ClientNo, Limits, PageNo};
 use cb_pieces::{is_text, number_of, split_line, split_word};
@@ -35,7 +34,7 @@ pub enum ScheduleFault {
     /// A word that is no number: not all decimal digits, or 2^62 and more.
     #[error("schedule line {line}: Number")]
     Number { line: u64 },
-    /// There is no such client or page.
+    /// There is no such client or page, or a byte above 255.
     #[error("schedule line {line}: Range")]
     Range { line: u64 },
     /// The event after the 1,000,000th.
@@ -62,7 +61,19 @@ impl<T: Drop> From<AllocFailed<T>> for ScheduleFault {
     }
 }
 
-/// The one word of a line.
+/// No word.
+fn no_words(line: u64, words: &[u8]) -> Result<(), ScheduleFault>
+    ensures ok { OnOk result (words_of words.now ≡ []) }
+    ensures fault { IfErr result (λ e. (e ≡ ScheduleFault.Count line)
+        × ((length (words_of words.now) == 0) ≡ false)) }
+{
+    if split_word(words).is_some() {
+        return Err(ScheduleFault::Count { line });
+    }
+    Ok(())
+}
+
+/// The one word of these.
 fn one_word(line: u64, words: &[u8]) -> Result<&[u8], ScheduleFault>
     ensures ok { IfOk result (λ word. words_of words.now ≡ word.now ∷ []) }
     ensures fault { IfErr result (λ e. (e ≡ ScheduleFault.Count line)
@@ -71,13 +82,11 @@ fn one_word(line: u64, words: &[u8]) -> Result<&[u8], ScheduleFault>
     let Some((word, rest)) = split_word(words) else {
         return Err(ScheduleFault::Count { line });
     };
-    if split_word(rest).is_some() {
-        return Err(ScheduleFault::Count { line });
-    }
+    no_words(line, rest)?;
     Ok(word)
 }
 
-/// The two words of a line.
+/// The two words of these.
 fn two_words(line: u64, words: &[u8]) -> Result<(&[u8], &[u8]), ScheduleFault>
     ensures ok { IfOk result (λ both. words_of words.now ≡ both.0.now ∷ both.1.now ∷ []) }
     ensures fault { IfErr result (λ e. (e ≡ ScheduleFault.Count line)
@@ -86,13 +95,21 @@ fn two_words(line: u64, words: &[u8]) -> Result<(&[u8], &[u8]), ScheduleFault>
     let Some((first, rest)) = split_word(words) else {
         return Err(ScheduleFault::Count { line });
     };
-    let Some((second, more)) = split_word(rest) else {
+    Ok((first, one_word(line, rest)?))
+}
+
+/// The three words of these.
+fn three_words(line: u64, words: &[u8]) -> Result<(&[u8], &[u8], &[u8]), ScheduleFault>
+    ensures ok { IfOk result (λ all.
+        words_of words.now ≡ all.0.now ∷ all.1.now ∷ all.2.now ∷ []) }
+    ensures fault { IfErr result (λ e. (e ≡ ScheduleFault.Count line)
+        × ((length (words_of words.now) == 3) ≡ false)) }
+{
+    let Some((first, rest)) = split_word(words) else {
         return Err(ScheduleFault::Count { line });
     };
-    if split_word(more).is_some() {
-        return Err(ScheduleFault::Count { line });
-    }
-    Ok((first, second))
+    let (second, third) = two_words(line, rest)?;
+    Ok((first, second, third))
 }
 
 /// The number that a word spells.
@@ -121,6 +138,27 @@ fn page_of(limits: &Limits, line: u64, number: u64) -> Result<PageNo, ScheduleFa
         × (nat_lt number limits.now.pages ≡ false)) }
 {
     PageNo::in_store(limits, number).ok_or(ScheduleFault::Range { line })
+}
+
+/// The byte of this number.
+fn byte_of(line: u64, number: u64) -> Result<u8, ScheduleFault>
+    ensures ok { IfOk result (λ byte. (byte ≡ number) × (nat_lt number 256 ≡ true)) }
+    ensures fault { IfErr result (λ e. (e ≡ ScheduleFault.Range line)
+        × (nat_lt number 256 ≡ false)) }
+{
+    u8::try_from(number)
+        .ok()
+        .ok_or(ScheduleFault::Range { line })
+}
+
+/// The one number behind a command.
+fn number_argument(limits: &Limits, line: u64, words: &[u8]) -> Result<u64, ScheduleFault>
+    ensures { Gives
+        (first_fault (argument_causes limits.now line (Number ∷ []) (words_of words.now)))
+        (slice_index (map number_of (words_of words.now)) 0)
+        result }
+{
+    spelled_number(line, one_word(line, words)?)
 }
 
 /// The one client behind a command.
@@ -156,50 +194,86 @@ fn client_and_page(
     ))
 }
 
-/// The event of a command and the words behind it.
+/// The client, the page and the byte behind a command.
+fn client_page_and_byte(
+    limits: &Limits,
+    line: u64,
+    words: &[u8],
+) -> Result<(ClientNo, PageNo, u8), ScheduleFault>
+    ensures { Gives
+        (first_fault
+        (argument_causes limits.now line (Client ∷ Page ∷ Byte ∷ []) (words_of words.now))) (
+          slice_index (map number_of (words_of words.now)) 0,
+          slice_index (map number_of (words_of words.now)) 1,
+          slice_index (map number_of (words_of words.now)) 2,
+        )
+        result }
+{
+    let (first, second, third) = three_words(line, words)?;
+    let client = spelled_number(line, first)?;
+    let page = spelled_number(line, second)?;
+    let byte = spelled_number(line, third)?;
+    Ok((
+        client_of(limits, line, client)?,
+        page_of(limits, line, page)?,
+        byte_of(line, byte)?,
+    ))
+}
+
+/// What a command and the words behind it spell.
 fn command_event(
     limits: &Limits,
     line: u64,
     command: Command,
     words: &[u8],
-) -> Result<Event, ScheduleFault>
+) -> Result<SpelledEvent, ScheduleFault>
     ensures { Gives
         (first_fault (argument_causes limits.now line (arguments_of command) (words_of words.now)))
-        (event_of command (map number_of (words_of words.now)))
+        (spelled_by command (map number_of (words_of words.now)))
         result }
 {
     Ok(match command {
-        Command::Hello => Event::Call {
-            client: client_argument(limits, line, words)?,
-            call: Call::Hello,
-        },
-        Command::Begin => Event::Call {
-            client: client_argument(limits, line, words)?,
-            call: Call::Begin,
-        },
+        Command::Event(event) => {
+            no_words(line, words)?;
+            SpelledEvent::Whole(event)
+        }
+        Command::Call(call) => SpelledEvent::call(client_argument(limits, line, words)?, call),
         Command::Read => {
             let (client, page) = client_and_page(limits, line, words)?;
-            Event::Call {
-                client,
-                call: Call::Read { page },
-            }
+            SpelledEvent::call(client, Call::Read { page })
+        }
+        Command::Want => {
+            let (client, page) = client_and_page(limits, line, words)?;
+            SpelledEvent::call(client, Call::Want { page })
         }
         Command::Peek => {
             let (client, page) = client_and_page(limits, line, words)?;
-            Event::Call {
-                client,
-                call: Call::Peek { page },
-            }
+            SpelledEvent::call(client, Call::Peek { page })
         }
-        Command::Take => Event::Take {
-            packet: spelled_number(line, one_word(line, words)?)?,
-        },
+        Command::Write => {
+            let (client, page, byte) = client_page_and_byte(limits, line, words)?;
+            SpelledEvent::Write { client, page, byte }
+        }
+        Command::Restart => SpelledEvent::Whole(Event::Restart {
+            client: client_argument(limits, line, words)?,
+        }),
+        Command::Take => SpelledEvent::Whole(Event::Take {
+            packet: number_argument(limits, line, words)?,
+        }),
+        Command::FlushTo => SpelledEvent::Whole(Event::FlushTo {
+            number: number_argument(limits, line, words)?,
+        }),
     })
 }
 
-/// The event of a line, if it has one.
-fn line_event(limits: &Limits, line: u64, bytes: &[u8]) -> Result<Option<Event>, ScheduleFault>
-    ensures { Gives (first_fault (line_causes limits.now line bytes.now)) (event_of_line bytes.now)
+/// What a line spells, if it isn't skipped.
+fn line_event(
+    limits: &Limits,
+    line: u64,
+    bytes: &[u8],
+) -> Result<Option<SpelledEvent>, ScheduleFault>
+    ensures { Gives (first_fault (line_causes limits.now line bytes.now))
+        (spelled_of_line bytes.now)
         result }
 {
     if !is_text(bytes) {
@@ -211,10 +285,10 @@ fn line_event(limits: &Limits, line: u64, bytes: &[u8]) -> Result<Option<Event>,
     if is_comment(first) {
         return Ok(None);
     }
-    let Some(command) = command_of(first) else {
+    let Some((command, words)) = command_of(first, rest) else {
         return Err(ScheduleFault::Word { line });
     };
-    Ok(Some(command_event(limits, line, command, rest)?))
+    Ok(Some(command_event(limits, line, command, words)?))
 }
 
 fn is_comment(first: &[u8]) -> bool
@@ -229,6 +303,7 @@ const MOST_EVENTS: usize = 1_000_000;
 /// Adds the event of a line, if it has one.
 #[tactic(auto, using(crate::proofs::TextLemmas::clear_append, crate::proofs::TextLemmas::fault_append))]
 fn add_line(
+    alloc: Global,
     limits: &Limits,
     line: u64,
     bytes: &[u8],
@@ -237,20 +312,20 @@ fn add_line(
     ensures ok { OnOk result
         (first_fault (causes_behind limits.now line (length events.old.items) bytes.now) ≡ None) }
     ensures added { OnOk result (events.new.items ≡ events.old.items
-        ++ option_to_list (event_of_line bytes.now)) }
+        ++ option_to_list (event_of_line limits.now bytes.now)) }
     ensures fault { IfErr result (λ e. e ≢ ScheduleFault.Memory →
         first_fault (causes_behind limits.now line (length events.old.items) bytes.now) ≡ Some e) }
     ensures memory { IfErr result (λ e. e ≡ ScheduleFault.Memory →
         (first_fault (causes_behind limits.now line (length events.old.items) bytes.now) ≡ None)
-        × IsSome (event_of_line bytes.now)) }
+        × IsSome (spelled_of_line bytes.now)) }
 {
-    let Some(event) = line_event(limits, line, bytes)? else {
+    let Some(spelled) = line_event(limits, line, bytes)? else {
         return Ok(());
     };
     if events.len() >= MOST_EVENTS {
         return Err(ScheduleFault::Long { line });
     }
-    events.push(event)?;
+    events.push(spelled.event(alloc, limits)?)?;
     Ok(())
 }
 
@@ -263,8 +338,6 @@ pub fn read_schedule(
     text: &[u8],
 ) -> Result<Vec<Event>, ScheduleFault>
     ensures events { IfOk result (λ events. IsSchedule limits.now text.now events.items) }
-    // Every event is one that a world plays.
-    ensures played { IfOk result (λ events. All IsPlayed events.items) }
     // A schedule is read, unless memory runs out.
     ensures only { (meant : List Event) → IsSchedule limits.now text.now meant →
         MatchResult result (λ events. events.items ≡ meant) (λ e. e ≡ ScheduleFault.Memory) }
@@ -275,7 +348,7 @@ pub fn read_schedule(
     let mut rest = text;
     while let Some((bytes, after)) = split_line(rest) {
         line += 1;
-        add_line(limits, line, bytes, &mut events)?;
+        add_line(alloc, limits, line, bytes, &mut events)?;
         rest = after;
     }
     Ok(events)

@@ -1,7 +1,6 @@
 use Rattle.std.proofs.Common.{arith, ◌∙◌}
 use Rattle.std.proofs.lemmas.Result.{err_from_is_err_and}
 use Rattle.cb_event.proofs.TextLemmas.{one_more, all_read, refused, one_reading, no_reading}
-use Rattle.cb_event.proofs.PlayedEvents.{played_schedule}
 use Rattle.cb_event.proofs.text.read_schedule.Goals as goal
 
 pub returns-in_err-add_line-clause-fault : goal.returns-in_err-add_line-clause-fault
@@ -26,7 +25,3 @@ loop-bytes-preserved c =
 
 pub returns-clause-events : goal.returns-clause-events
 returns-clause-events c = all_read _ _ _ _ c.loop-bytes.invariant.read (c.loop-bytes.invariant.left ∙ c.in_default.ensures)
-
-pub returns-clause-played : goal.returns-clause-played
-returns-clause-played c =
-    played_schedule _ _ _ (all_read _ _ _ _ c.loop-bytes.invariant.read (c.loop-bytes.invariant.left ∙ c.in_default.ensures))
