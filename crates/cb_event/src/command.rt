@@ -82,12 +82,7 @@ fn told_apart(named: Command, rest: &[u8]) -> (Command, &[u8])
 {
     match named {
         Command::Call(Call::Again) => server_or_client(rest),
-        Command::FlushTo => {
-            if split_word(rest).is_none() {
-                return (Command::Event(Event::Flush), rest);
-            }
-            (Command::FlushTo, rest)
-        }
+        Command::FlushTo if split_word(rest).is_none() => (Command::Event(Event::Flush), rest),
         other => (other, rest),
     }
 }
