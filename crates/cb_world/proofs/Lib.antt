@@ -1,2 +1,3 @@
 pub mod Worlds
 pub mod Playing
+pub mod Telling

@@ -5,11 +5,13 @@ use Rattle.cb_page.specs.Bounds.{Bounds}
 use Rattle.cb_world.specs.Plays.{Played, IsReached, Steps}
 use Rattle.cb_transcript.specs.ProtocolEvents.{event_of, answer_of}
 use Rattle.cb_copies.specs.CopiesState.{limits_of}
-use Rattle.cb_world.specs.WorldState.{WorldState, Represents, opened}
+use Rattle.cb_transcript.specs.Transcripts.{TranscriptState}
+use Rattle.cb_world.specs.WorldState.{WorldState, Represents, opened, told}
 use Rattle.cb_event.specs.declared.event.Event.{Event}
 use Rattle.cb_transcript.specs.declared.answer.Answer.{Answer}
 use Rattle.cb_transcript.specs.declared.answer.TranscriptEntry.{TranscriptEntry}
 use Rattle.cb_world.proofs.Worlds.{after_more, plays_more, promises_more, reached_more}
+use Rattle.cb_protocol.specs.AnyMessages.{committed_names}
 use Rattle.cb_protocol.specs.Headline.{SoundOpening}
 use Rattle.cb_protocol.specs.Laws.{WholePromise}
 use Rattle.cb_protocol.specs.World.{ReachedWorld}
@@ -18,7 +20,7 @@ use Rattle.cb_protocol.specs.World as protocol
 
 -- these events were played, and the last world of the run is what v is
 pub record PlayedTo (w : WorldState) (es : List Event) (v : WorldState) : Type 0 where
-  pub played : Played w es v.transcript
+  pub played : Played w es (told v)
   pub limits : v.limits ≡ w.limits
   pub opening : v.opening ≡ w.opening
   pub sound : SoundOpening (opened w)
@@ -39,7 +41,9 @@ played_none w whole ran s = record {
     by_events = refl;
     events = refl;
     answers = refl;
-    transcript = sym (append-nil w.transcript);
+    opening = refl;
+    entries = sym (append-nil w.transcript);
+    commits = s.represents.commits;
   };
   limits = refl;
   opening = refl;
@@ -74,7 +78,9 @@ played_more w es u e a v whole p s =
         events = map-append (λ (moment : protocol.Moment). moment.event) p.played.moments (m ∷ []) ∙ ap (λ (xs : List protocol.Event). xs ++ event_of e ∷ []) p.played.events ∙ sym (map-append event_of es (e ∷ []));
         answers = map-append (λ (moment : protocol.Moment). moment.answer) p.played.moments (m ∷ []) ∙ ap (λ (xs : List protocol.Answer). xs ++ answer_of a ∷ []) p.played.answers
             ∙ sym (map-append (λ (entry : TranscriptEntry). answer_of entry.answer) p.played.added (one ∷ []));
-        transcript = s.transcript ∙ ap (λ (xs : List TranscriptEntry). xs ++ one ∷ []) p.played.transcript ∙ append_assoc w.transcript p.played.added (one ∷ []);
+        opening = s.opening ∙ p.opening;
+        entries = s.transcript ∙ ap (λ (xs : List TranscriptEntry). xs ++ one ∷ []) p.played.entries ∙ append_assoc w.transcript p.played.added (one ∷ []);
+        commits = next.2.commits ∙ ap (λ (x : protocol.World). committed_names x.server.commits) (sym last);
       };
       limits = s.limits ∙ p.limits;
       opening = s.opening ∙ p.opening;
@@ -84,5 +90,5 @@ played_more w es u e a v whole p s =
     }
 
 -- what was told is what the last world tells
-pub played_end : (w : WorldState) (es : List Event) (v : WorldState) (told : List TranscriptEntry) → PlayedTo w es v → told ≡ v.transcript → Played w es told
-played_end w es v told p e = subst (λ (xs : List TranscriptEntry). Played w es xs) (sym e) p.played
+pub played_end : (w : WorldState) (es : List Event) (v : WorldState) (t : TranscriptState) → PlayedTo w es v → t ≡ told v → Played w es t
+played_end w es v t p e = subst (λ (x : TranscriptState). Played w es x) (sym e) p.played

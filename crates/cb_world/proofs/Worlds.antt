@@ -1,5 +1,5 @@
 -- A world of the protocol, event by event: it stays reached from the opening store, which stays what it was.
-use Rattle.std.proofs.Common.{◌≡◌, ℕ, Bool, true, false, List, [], ◌∷◌, ◌++◌, length, map, refl, ap, sym, ◌∙◌, subst, suc, ◌≤◌, nat_lt, take, zero, Result, Ok, Err, OnErr, arith}
+use Rattle.std.proofs.Common.{◌≡◌, ℕ, Bool, true, false, List, [], ◌∷◌, ◌++◌, length, map, refl, ap, sym, ◌∙◌, subst, suc, ◌≤◌, nat_lt, take, zero, Result, Ok, Err, OnErr, OnOk, IfOk, arith}
 use Rattle.std.proofs.Common.{Option, Some, None, Bor, not}
 use Rattle.std.specs.Option.{is_some, option_copied}
 use Rattle.std.specs.Prelude.{reverse}
@@ -16,12 +16,17 @@ use Rattle.cb_copies.specs.CopiesState.{limits_of}
 use Rattle.cb_holdings.specs.Holdings.{opening_of}
 use Rattle.cb_packets.specs.Packets.{IsSpelled}
 use Rattle.cb_net.specs.NetState.{NetState, RepresentsNet, limits_in}
-use Rattle.cb_world.specs.WorldState.{WorldState, Represents, opened}
+use Rattle.cb_transcript.specs.Transcripts.{name_of}
+use Rattle.cb_transcript.specs.declared.transcript.TransactionName.{TransactionName}
+use Rattle.cb_world.specs.WorldState.{WorldState, Represents, Tells, opened}
+use Rattle.cb_world.proofs.Telling.{told_is_serial}
 use Rattle.cb_event.specs.declared.event.Event.{Event}
 use Rattle.cb_transcript.specs.declared.answer.Answer.{Answer}
 use Rattle.cb_transcript.specs.declared.answer.TranscriptEntry.{TranscriptEntry}
 use Rattle.cb_net.proofs.Packing.{spell_length}
+use Rattle.cb_protocol.specs.AnyMessages.{committed_names}
 use Rattle.cb_protocol.specs.Basics.{Limits}
+use Rattle.cb_protocol.specs.Server.{Server}
 use Rattle.cb_protocol.specs.Headline.{Promise, SoundOpening}
 use Rattle.cb_protocol.specs.Laws.{WholePromise}
 use Rattle.cb_protocol.specs.Messages.{Message}
@@ -63,9 +68,9 @@ transcript_more told e a = sym (ap reverse (map-append entry_of told (record { e
 
 -- What an event makes of the net it makes of the world, as the protocol has it.
 pub net_becomes : (w v : WorldState) (e : Event) (a : Answer) (u : protocol.World) → limits_in w.net ≡ w.limits
-    → net.NetBecomes w.net (event_of e) a v.net → v.transcript ≡ w.transcript ++ record { event = e; answer = a } ∷ [] → Represents w u
+    → net.NetBecomes w.net (event_of e) a v.net → v.transcript ≡ w.transcript ++ record { event = e; answer = a } ∷ [] → Tells v.net w.commits v.commits → Represents w u
     → (x : protocol.World) × protocol.Becomes (limits_of w.limits) on_cycle u (event_of e) (answer_of a) x × Represents v x
-net_becomes w v e a u l b t sh =
+net_becomes w v e a u l b t c sh =
     let by = b.by_event u sh.net in
     let fs = by.1 in
     let x : protocol.World = After u (event_of e) a fs by.2 in
@@ -73,7 +78,7 @@ net_becomes w v e a u l b t sh =
       x,
       subst (λ (m : Bounds). protocol.Becomes (limits_of m) on_cycle u (event_of e) (answer_of a) x) l
           (by.0, by.3, by.4 ∙ ap (λ (ss : List protocol.SentPacket). record { answer = record { word = word_of a.word; sent = ss }; world = x }) numbers),
-      record { net = by.6; transcript = ap (λ (hs : List protocol.TranscriptEntry). record { event = event_of e; word = word_of a.word } ∷ hs) sh.transcript ∙ transcript_more w.transcript e a ∙ ap transcript_of (sym t) },
+      record { net = by.6; commits = c.all ∙ ap (λ (s : Server). committed_names s.commits) (sym by.6.server); transcript = ap (λ (hs : List protocol.TranscriptEntry). record { event = event_of e; word = word_of a.word } ∷ hs) sh.transcript ∙ transcript_more w.transcript e a ∙ ap transcript_of (sym t) },
     )
 
 -- Where only the packets from before an event stay, they are those of before.
@@ -84,11 +89,15 @@ pub on_err : {A E : Type 0} (r : Result A E) (P : Type 0) → P → OnErr r P
 on_err (Ok a) P p = tt
 on_err (Err e) P p = p
 
+pub if_ok : {A E X P : Type 0} (r : Result A E) → OnOk r X → (X → P) → IfOk r (λ a. P)
+if_ok (Ok a) x p = p x
+if_ok (Err e) x p = tt
+
 -- A running world plays an event.
 pub steps : (w v : WorldState) (e : Event) (a : Answer) → WholePromise → IsReached w → w.stopped ≡ false → v.stopped ≡ false → v.limits ≡ w.limits → v.opening ≡ w.opening
-    → net.NetBecomes w.net (event_of e) a v.net → v.transcript ≡ w.transcript ++ record { event = e; answer = a } ∷ [] → Steps w e a v
-steps w v e a whole s ran runs l o b t =
-    let next = net_becomes w v e a s.world s.limits b t s.represents in
+    → net.NetBecomes w.net (event_of e) a v.net → v.transcript ≡ w.transcript ++ record { event = e; answer = a } ∷ [] → Tells v.net w.commits v.commits → Steps w e a v
+steps w v e a whole s ran runs l o b t c =
+    let next = net_becomes w v e a s.world s.limits b t c s.represents in
     let reached = reached_more (limits_of w.limits) (opened w) s.world next.0 (event_of e) (answer_of a) s.reached next.1 in
     let promise = whole (limits_of w.limits) on_cycle (opened w) next.0 s.sound reached in
     record {
@@ -97,8 +106,9 @@ steps w v e a whole s ran runs l o b t =
       limits = l;
       opening = o;
       transcript = t;
+      commits = (c.later, c.more);
       packets = (b.packets.sent, b.packets.all, b.packets.counted);
-      becomes = λ u sh. net_becomes w v e a u s.limits b t sh;
+      becomes = λ u sh. net_becomes w v e a u s.limits b t c sh;
       promise = (next.0, next.2, reached, promise);
     }
 
@@ -129,11 +139,11 @@ spelled_packets w v e a of l all b = rw b.packets.all (subst (λ (m : Bounds). A
     (all_append w.limits w.net.packets.sent b.packets.sent all (subst (λ (m : Bounds). AllByRecursion (IsSpelled m) b.packets.sent) of b.packets.spelled)))
 
 -- The world of a store before any event.
-pub reached_at_first : (v : WorldState) (l : Bounds) (s : StoreState) → v.limits ≡ l → limits_in v.net ≡ l → v.opening ≡ s → SoundOpening (opening_of s) → RepresentsNet v.net (protocol.new_world (limits_of l) (opening_of s)) → v.transcript ≡ []
+pub reached_at_first : (v : WorldState) (l : Bounds) (s : StoreState) → v.limits ≡ l → limits_in v.net ≡ l → v.opening ≡ s → SoundOpening (opening_of s) → RepresentsNet v.net (protocol.new_world (limits_of l) (opening_of s)) → v.transcript ≡ [] → v.commits ≡ []
     → (opened v ≡ opening_of s) × Represents v (protocol.new_world (limits_of l) (opening_of s)) × IsReached v
-reached_at_first v l s e f k sound sh t =
+reached_at_first v l s e f k sound sh t c =
     let o : opened v ≡ opening_of s = ap opening_of k in
-    let represents : Represents v (protocol.new_world (limits_of l) (opening_of s)) = record { net = sh; transcript = ap transcript_of (sym t) } in (
+    let represents : Represents v (protocol.new_world (limits_of l) (opening_of s)) = record { net = sh; transcript = ap transcript_of (sym t); commits = ap (λ (ns : List TransactionName). reverse (map name_of ns)) c } in (
       o,
       represents,
       record {
@@ -160,13 +170,13 @@ sound_opening s sound p = by_test (nat_lt p (length s.pages)) refl
 
 -- A running world that is told an event is such a world again.
 pub stepped : (w v : WorldState) (e : Event) → WholePromise → IsWorld w → w.stopped ≡ false → v.stopped ≡ false → v.limits ≡ w.limits → v.opening ≡ w.opening
-    → (a : Answer) × net.NetBecomes w.net (event_of e) a v.net × (v.transcript ≡ w.transcript ++ record { event = e; answer = a } ∷ [])
+    → (a : Answer) × net.NetBecomes w.net (event_of e) a v.net × (v.transcript ≡ w.transcript ++ record { event = e; answer = a } ∷ []) × Tells v.net w.commits v.commits
     → IsWorld v × ((a : Answer) × Steps w e a v)
 stepped w v e whole z ran runs l o told =
     let s = z.running ran in
-    let one = steps w v e told.0 whole s ran runs l o told.1 told.2 in
+    let one = steps w v e told.0 whole s ran runs l o told.1 told.2 told.3 in
     let after = reached_after w v e told.0 s.sound (told.1.limits ∙ s.limits ∙ sym l) one in
-    (record { packets = spelled_packets w v (event_of e) told.0 s.limits l z.packets told.1; running = λ _. after }, (told.0, one))
+    (record { packets = spelled_packets w v (event_of e) told.0 s.limits l z.packets told.1; serial = told_is_serial v one.promise.0 one.promise.1 (subst (λ (x : protocol.Opening). Promise x one.promise.0) (ap opening_of (sym one.opening)) one.promise.3); running = λ _. after }, (told.0, one))
 
 -- where nothing is lent there is nothing
 pub nothing_lent : {A : Type 0} (o : Option (Bor A)) (none : Bool) → is_some o ≡ not none → option_copied o ≡ None → none ≡ true

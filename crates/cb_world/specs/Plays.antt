@@ -5,7 +5,9 @@ use Rattle.cb_net.specs.NetState.{limits_in}
 use Rattle.cb_packets.specs.Packets.{IsSpelled}
 use Rattle.cb_transcript.specs.ProtocolEvents.{event_of, answer_of}
 use Rattle.cb_copies.specs.CopiesState.{limits_of}
-use Rattle.cb_world.specs.WorldState.{WorldState, Represents, opened}
+use Rattle.cb_transcript.specs.Transcripts.{IsSerialOnOpening, TranscriptState}
+use Rattle.cb_transcript.specs.declared.transcript.TransactionName.{TransactionName}
+use Rattle.cb_world.specs.WorldState.{WorldState, Represents, TellsCommits, opened, told}
 use Rattle.cb_event.specs.declared.event.Event.{Event}
 use Rattle.cb_transcript.specs.declared.answer.Answer.{Answer}
 use Rattle.cb_transcript.specs.declared.answer.TranscriptEntry.{TranscriptEntry}
@@ -23,21 +25,23 @@ pub record IsReached (v : WorldState) : Type 0 where
   pub represents : Represents v world
   pub reached : ReachedWorld (limits_of v.limits) on_cycle (opened v) world
 
--- every packet that was ever sent is the spelling of a frame; and the world is such a one while it
--- runs
+-- every packet that was ever sent is the spelling of a frame, what the world tells is serial, and
+-- the world is such a one while it runs
 pub record IsWorld (v : WorldState) : Type 0 where
   pub packets : AllByRecursion (IsSpelled v.limits) v.net.packets.sent
+  pub serial : IsSerialOnOpening (told v)
   pub running : v.stopped ≡ false → IsReached v
 
 -- The world w answers a to event e and becomes v, both running: whatever world of the protocol w
 -- is, v is one that this one becomes by the event with the answer. The packets are the old ones and
--- as many more as the answer names, and the whole promise holds of v.
+-- as many more as the answer names, what was told stays told, and the whole promise holds of v.
 pub record Steps (w : WorldState) (e : Event) (a : Answer) (v : WorldState) : Type 0 where
   pub ran : w.stopped ≡ false
   pub runs : v.stopped ≡ false
   pub limits : v.limits ≡ w.limits
   pub opening : v.opening ≡ w.opening
   pub transcript : v.transcript ≡ w.transcript ++ record { event = e; answer = a } ∷ []
+  pub commits : (later : List TransactionName) × (v.commits ≡ w.commits ++ later)
   pub packets : (sent : List (List ℕ)) × (v.net.packets.sent ≡ w.net.packets.sent ++ sent)
       × (length sent ≡ length a.sent)
   pub becomes : (u : protocol.World) → Represents w u → (x : protocol.World)
@@ -48,8 +52,9 @@ pub record Steps (w : WorldState) (e : Event) (a : Answer) (v : WorldState) : Ty
 
 -- The world w plays these events, in order: there is a world of the protocol that it is, and a run
 -- from there with just these events and the answers told, and of each world on the way the whole
--- promise holds. What is told is all that was told before, and these events with their answers.
-pub record Played (w : WorldState) (es : List Event) (entries : List TranscriptEntry) : Type 0 where
+-- promise holds. What is told is all that was told before, these events with their answers, and the
+-- commits of the last world.
+pub record Played (w : WorldState) (es : List Event) (transcript : TranscriptState) : Type 0 where
   pub ran : w.stopped ≡ false
   pub first : protocol.World
   pub represents : Represents w first
@@ -61,4 +66,6 @@ pub record Played (w : WorldState) (es : List Event) (entries : List TranscriptE
   pub by_events : map (λ entry. entry.event) added ≡ es
   pub events : map (λ moment. moment.event) moments ≡ map event_of es
   pub answers : map (λ moment. moment.answer) moments ≡ map (λ entry. answer_of entry.answer) added
-  pub transcript : entries ≡ w.transcript ++ added
+  pub opening : transcript.opening ≡ w.opening
+  pub entries : transcript.entries ≡ w.transcript ++ added
+  pub commits : TellsCommits transcript.commits (protocol.world_after first moments).server.commits

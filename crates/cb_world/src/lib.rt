@@ -4,6 +4,8 @@
 //! store, whatever events are played: so the protocol's whole promise holds of it at each moment.
 #![tactic(auto)]
 
+mod laws;
 mod world;
 
+pub use laws::worlds_are_serial;
 pub use world::{PlayFault, World};

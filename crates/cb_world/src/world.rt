@@ -1,5 +1,5 @@
 //! The world: it plays events one by one, and keeps what became of each.
-ghost use Rattle.std.specs.Prelude.{◌≡◌, ◌↔◌, ℕ, ◌<◌, List, [], ◌∷◌, ◌++◌, length, take};
+ghost use Rattle.std.specs.Prelude.{◌≡◌, ◌↔◌, ℕ, ◌<◌, ◌≤◌, List, [], ◌∷◌, ◌++◌, length, take, drop};
 ghost use Rattle.std.specs.Prelude.{option_copied, slice_get, true, false, IfOk, IfErr, IfSome};
 ghost use Rattle.std.specs.Prelude.{OnErr, IsErr, IsTrue};
 ghost use Rattle.cb_commit.specs.Stores.{IsOf};
@@ -9,10 +9,11 @@ ghost use Rattle.cb_world.specs.Plays.{Played, IsReached, Steps};
 ghost use Rattle.cb_net.specs.NetMoves.{NetBecomes};
 ghost use Rattle.cb_server.specs.ServerState.{server_of};
 ghost use Rattle.cb_transcript.specs.ProtocolEvents.{event_of};
+ghost use Rattle.cb_transcript.specs.Transcripts.{IsSerialOnOpening};
 ghost use Rattle.cb_copies.specs.CopiesState.{limits_of};
 ghost use Rattle.cb_holdings.specs.Holdings.{newest_first, opening_of};
 ghost use Rattle.cb_packets.specs.Packets.{IsSpelled};
-ghost use Rattle.cb_world.specs.WorldState.{Represents, opened};
+ghost use Rattle.cb_world.specs.WorldState.{IsTold, Represents, Tells, opened, told};
 ghost use Rattle.cb_transcript.specs.declared.answer.Answer.{Answer as AnswerState};
 ghost use Rattle.cb_transcript.specs.declared.answer.TranscriptEntry.{TranscriptEntry as EntryData};
 
@@ -55,6 +56,7 @@ impl<Q: Chooser> Model for World<Q> {
       net = w.net;
       opening = w.transcript.opening;
       transcript = w.transcript.entries;
+      commits = w.transcript.commits;
       stopped = w.stopped;
     } };
 
@@ -63,6 +65,7 @@ impl<Q: Chooser> Model for World<Q> {
       net = w.net;
       opening = w.transcript.opening;
       transcript = w.transcript.entries;
+      commits = w.transcript.commits;
       stopped = w.stopped;
     }) };
 }
@@ -73,10 +76,10 @@ impl<Q: Chooser> World<Q> {
     pub fn new(alloc: Global, limits: &Limits, store: Store) -> Result<World<Q>, AllocError>
         requires { IsOf limits.now store }
         ensures runs { IfOk result (λ w. w.stopped ≡ false) }
-        ensures transcript { IfOk result (λ w. w.transcript ≡ []) }
+        ensures told { IfOk result
+            (λ w. told w ≡ record { opening = store; entries = []; commits = [] }) }
         ensures packets { IfOk result (λ w. w.net.packets.sent ≡ []) }
         ensures limits { IfOk result (λ w. w.limits ≡ limits.now) }
-        ensures opening { IfOk result (λ w. w.opening ≡ store) }
         ensures represents { IfOk result
             (λ w. Represents w (new_world (limits_of limits.now) (opening_of store))) }
         ensures promise { IfOk result
@@ -100,18 +103,19 @@ impl<Q: Chooser> World<Q> {
     pub fn step(&mut self, event: Event) -> Result<Answer, AllocError>
         ensures ok { IfOk result (λ a. Steps self.old event a self.new) }
         ensures stopped { OnErr result (self.new.stopped ≡ true) }
-        ensures kept { OnErr result (self.new.transcript ≡ self.old.transcript) }
+        ensures kept { OnErr result (told self.new ≡ told self.old) }
         ensures packets { OnErr result (self.new.net.packets.sent ≡ self.old.net.packets.sent) }
         ensures limits { self.new.limits ≡ self.old.limits }
-        ensures opening { self.new.opening ≡ self.old.opening }
         ensures stays { self.old.stopped ≡ true → IsErr result }
     {
         let sent_before = self.net.packets().len();
+        let told_before = self.transcript.entries().len();
+        let commits_before = self.transcript.commits().len();
         self.advance(event)?;
         let answer = last_answer(self.alloc, self.transcript.entries());
         if answer.is_err() {
             self.stopped = true;
-            self.transcript.forget_last();
+            self.transcript.keep(told_before, commits_before);
             self.net.keep_packets(sent_before);
         }
         answer
@@ -120,13 +124,13 @@ impl<Q: Chooser> World<Q> {
     /// Plays events in order until memory is refused; then the fault has what became of the events
     /// before. A stopped world plays none.
     pub fn play(mut self, events: &[Event]) -> Result<Transcript, PlayFault>
-        ensures ok { IfOk result (λ transcript. Played self events.now transcript.entries) }
-        ensures opening { IfOk result (λ transcript. transcript.opening ≡ self.opening) }
-        ensures fault_opening { IfErr result (λ fault. fault.transcript.opening ≡ self.opening) }
+        ensures ok { IfOk result (λ transcript. Played self events.now transcript) }
+        ensures serial { IfOk result IsSerialOnOpening }
         ensures fault { IfErr result (λ fault. self.stopped ≡ false → (n : ℕ)
-            × (n < length events.now) × Played self (take n events.now) fault.transcript.entries) }
+            × (n < length events.now) × Played self (take n events.now) fault.transcript) }
+        ensures fault_serial { IfErr result (λ fault. IsSerialOnOpening fault.transcript) }
         ensures stopped { self.stopped ≡ true
-            → IfErr result (λ fault. fault.transcript.entries ≡ self.transcript) }
+            → IfErr result (λ fault. fault.transcript ≡ told self) }
         ensures stays { self.stopped ≡ true → IsErr result }
     {
         callback_read();
@@ -149,10 +153,9 @@ impl<Q: Chooser> World<Q> {
     fn advance(&mut self, event: Event) -> Result<(), AllocError>
         ensures ok { IfOk result (λ _. (a : AnswerState) × Steps self.old event a self.new) }
         ensures stopped { OnErr result (self.new.stopped ≡ true) }
-        ensures kept { OnErr result (self.new.transcript ≡ self.old.transcript) }
+        ensures kept { OnErr result (told self.new ≡ told self.old) }
         ensures packets { OnErr result (self.new.net.packets.sent ≡ self.old.net.packets.sent) }
         ensures limits { self.new.limits ≡ self.old.limits }
-        ensures opening { self.new.opening ≡ self.old.opening }
         ensures stays { self.old.stopped ≡ true → IsErr result }
     {
         callback_read();
@@ -168,8 +171,7 @@ impl<Q: Chooser> World<Q> {
     /// The same with an event that is kept.
     fn advance_by(&mut self, event: &Event) -> Result<(), AllocError>
         ensures ok { IfOk result (λ _. (a : AnswerState) × Steps self.old event.now a self.new) }
-        ensures kept { OnErr result (self.new.transcript ≡ self.old.transcript) }
-        ensures opening { self.new.opening ≡ self.old.opening }
+        ensures kept { OnErr result (told self.new ≡ told self.old) }
     {
         let event = event.copy(self.alloc)?;
         self.advance(event)
@@ -190,19 +192,26 @@ impl<Q: Chooser> World<Q> {
         &self.limits
     }
 
-    /// What became of every event so far.
+    /// What became of every event so far, and the transactions that were committed.
     pub fn transcript(&self) -> &Transcript
-        ensures entries { result.now.entries ≡ self.now.transcript }
-        ensures opening { result.now.opening ≡ self.now.opening }
+        ensures value { result.now ≡ told self.now }
+        ensures serial { IsSerialOnOpening result.now }
     {
         &self.transcript
     }
 
-    /// The commits so far, the first one first: the transcript doesn't tell them yet.
+    /// The commits so far, the first one first, with the pages that they wrote.
     pub fn committed(&self) -> &[Commit]
         ensures { newest_first result.now ≡ (server_of self.now.net.server).commits }
     {
         self.net.server().committed()
+    }
+
+    /// How many packets were ever sent.
+    pub fn packet_count(&self) -> usize
+        ensures { result ≡ length self.now.net.packets.sent }
+    {
+        self.net.packets().len()
     }
 
     /// The bytes of the packet of that number among all that were ever sent, from 0: the frame that
@@ -216,36 +225,47 @@ impl<Q: Chooser> World<Q> {
 
     /// What became of every event.
     fn into_transcript(self) -> Transcript
-        ensures entries { result.entries ≡ self.transcript }
-        ensures opening { result.opening ≡ self.opening }
+        ensures value { result ≡ told self }
+        ensures serial { IsSerialOnOpening result }
     {
         self.transcript
     }
 }
 
-/// Plays one event at the net and tells it. Where memory is refused nothing is told, and no packet
-/// is sent; the net may have changed otherwise.
+/// Plays one event at the net and tells it, with the commit that it applied. Where memory is
+/// refused nothing is told, and no packet is sent; the net may have changed otherwise.
 fn tell<Q: Chooser>(
     alloc: Global,
     net: &mut Net<Q>,
     transcript: &mut Transcript,
     event: Event,
 ) -> Result<(), AllocError>
+    requires { IsTold net.old transcript.old.commits }
     ensures ok { IfOk result (λ _. (a : AnswerState)
         × NetBecomes net.old (event_of event) a net.new
         × (transcript.new.entries ≡ transcript.old.entries
-        ++ record { event = event; answer = a } ∷ [])) }
+        ++ record { event = event; answer = a } ∷ [])
+        × Tells net.new transcript.old.commits transcript.new.commits) }
     ensures opening { transcript.new.opening ≡ transcript.old.opening }
     ensures kept { OnErr result (transcript.new ≡ transcript.old) }
     ensures packets { OnErr result (net.new.packets.sent ≡ net.old.packets.sent) }
 {
     let sent_before = net.packets().len();
     let answer = net.event(alloc, &event)?;
-    let told = transcript.tell(event, answer);
+    let applied = untold(net.server().committed(), transcript.commits().len());
+    let told = transcript.tell(event, answer, applied);
     if told.is_err() {
         net.keep_packets(sent_before);
     }
     told
+}
+
+/// The commits behind those told, of which there are so many.
+fn untold(commits: &[Commit], told: usize) -> &[Commit]
+    requires { told ≤ length commits.now }
+    ensures { result.now ≡ drop told commits.now }
+{
+    &commits[told..]
 }
 
 /// A copy of the last answer.

@@ -3,9 +3,10 @@
 use cb_commit::Store;
 use cb_event::{Call, Event};
 use cb_page::{ClientNo, Limits, Page, PageNo};
+use cb_serial::Verdict;
 use cb_transcript::{Answer, AnswerWord};
 use cb_twoq::{Chooser, PlainTwoQ, TwoQ};
-use cb_world::World;
+use cb_world::{World, worlds_are_serial};
 use std::alloc::Global;
 
 /// One event, by the numbers of a client and a page; a write has its byte, which fills the page.
@@ -143,7 +144,16 @@ fn plays<Q: Chooser>(alloc: Global, world: &mut World<Q>, rows: &[Row], commits:
             return false;
         }
     }
-    world.transcript().entries().len() == rows.len() && world.committed().len() == commits
+    tells(alloc, world, rows.len(), commits)
+}
+
+/// Whether the world tells so many events and commits, which are serial.
+fn tells<Q: Chooser>(alloc: Global, world: &World<Q>, events: usize, commits: usize) -> bool {
+    let transcript = world.transcript();
+    transcript.entries().len() == events
+        && transcript.commits().len() == commits
+        && world.committed().len() == commits
+        && worlds_are_serial(alloc, world) == Ok(Verdict::Serial)
 }
 
 /// Whether a world of such pools and these limits, over zeros, answers the steps so.

@@ -15,7 +15,7 @@ pub returns-in_default-clause-fault : goal.returns-in_default-clause-fault
 returns-in_default-clause-fault g c = λ ran. (
   c.loop-event.event-index,
   c.loop-event-test.true,
-  played_end c.args.self _ c.loop-event.self _ c.loop-event.invariant.played (c.into_transcript-in_default.ensures.entries ∙ c.in_default.ensures.kept),
+  played_end c.args.self _ c.loop-event.self _ c.loop-event.invariant.played (c.into_transcript-in_default.ensures.value ∙ c.in_default.ensures.kept),
 )
 
 pub loop-event-preserved : goal.loop-event-preserved
@@ -30,5 +30,5 @@ pub returns-clause-ok : goal.returns-clause-ok
 returns-clause-ok g c =
     let events = c.args.events.now in
     let whole : c.loop-event.event-index ≡ length events = omega arith in
-    subst (λ (es : List Event). Played c.args.self es c.into_transcript-2.result.entries) (ap (λ n. take n events) whole ∙ take-length events)
-    (played_end c.args.self _ c.loop-event.self _ c.loop-event.invariant.played c.into_transcript-2.ensures.entries)
+    subst (λ (es : List Event). Played c.args.self es c.into_transcript-2.result) (ap (λ n. take n events) whole ∙ take-length events)
+    (played_end c.args.self _ c.loop-event.self _ c.loop-event.invariant.played c.into_transcript-2.ensures.value)
