@@ -5,7 +5,7 @@ use Rattle.std.specs.List.{list_all, flat_map}
 use Rattle.std.specs.Fmt.{decimal}
 use Rattle.cb_settings.specs.Escaped.{two_digits}
 use Rattle.cb_frame.specs.Kinds.{name_of}
-use Rattle.cb_first_client.specs.FaultTexts.{refusal_text}
+use Rattle.cb_transcript.specs.RefusalTexts.{refusal_text}
 use Rattle.cb_transcript.specs.declared.answer.AnswerWord.{AnswerWord}
 use Rattle.cb_transcript.specs.declared.answer.AnswerWord.TheVariants as word
 use Rattle.cb_transcript.specs.declared.answer.SentPacket.{SentPacket}

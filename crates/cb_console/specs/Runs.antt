@@ -4,15 +4,14 @@ use Rattle.std.specs.Prelude.{◌≡◌, ◌≢◌, ◌⊎◌, ℕ, Bool, true, 
 use Rattle.std.specs.Prelude.{Result, Ok, Err, IfSome, List, [], ◌∷◌, ◌++◌, length, take, codes}
 use Rattle.std.specs.Io.KnownBytes.{Appends}
 use Rattle.cb_commit.specs.Stores.{zeros}
+use Rattle.cb_copies.specs.CopiesState.{limits_of}
+use Rattle.cb_holdings.specs.Holdings.{opening_of}
 use Rattle.cb_page.specs.Bounds.{Bounds}
 use Rattle.cb_protocol.specs.World.{new_world}
-use Rattle.cb_schedule.specs.Plays.{Played}
-use Rattle.cb_first_client.specs.ProtocolLimits.{limits_of}
+use Rattle.cb_world.specs.Plays.{Played}
+use Rattle.cb_world.specs.WorldState.{Represents, WorldState, told}
 use Rattle.cb_event.specs.ScheduleText as text
 use Rattle.cb_transcript.specs.Transcripts.{IsSerialOnOpening, TranscriptState}
-use Rattle.cb_first_net.specs.NetState.{opening_of}
-use Rattle.cb_schedule.specs.WorldState.{Represents, WorldState}
-use Rattle.cb_transcript.specs.declared.answer.TranscriptEntry.{TranscriptEntry}
 use Rattle.cb_event.specs.declared.event.Event.{Event}
 use Rattle.cb_event.specs.declared.text.ScheduleFault.{ScheduleFault}
 use Rattle.cb_event.specs.declared.text.ScheduleFault.TheVariants as schedule
@@ -29,18 +28,17 @@ use Rattle.cb_console.specs.declared.play.ReadFault.TheVariants as fault
 -- The world over a store of zeros in which nothing has happened.
 pub record IsOpening (bounds : Bounds) (world : WorldState) : Type 0 where
   pub limits : world.limits ≡ bounds
-  pub transcript : world.transcript ≡ []
-  pub packets : world.net.packets ≡ []
+  pub tells : told world ≡ record { opening = zeros bounds; entries = []; commits = [] }
+  pub packets : world.net.packets.sent ≡ []
   pub shows : Represents world (new_world (limits_of bounds) (opening_of (zeros bounds)))
 
--- From there these events are played, and the transcript tells of them, and of no other opening
--- store.
+-- From there these events are played; the transcript tells of them, and is serial.
 pub record PlaysFromZeros (bounds : Bounds) (events : List Event) (transcript : TranscriptState)
     : Type 0 where
   pub world : WorldState
   pub is_opening : IsOpening bounds world
-  pub played : Played world events transcript.entries
-  pub opening : transcript.opening ≡ zeros bounds
+  pub played : Played world events transcript
+  pub serial : IsSerialOnOpening transcript
 
 -- The texts are a configuration and a schedule; of its events those chosen are played from zeros.
 pub record Tells (config_bytes schedule_bytes : List ℕ) (chosen : List Event → List Event)
@@ -94,11 +92,9 @@ read_fault_line (fault.Config e) = option_map (λ line. codes "config: " ++ line
 read_fault_line (fault.Schedule e) = None
 read_fault_line fault.Memory = Some (codes "memory")
 
--- All lines of a transcript are printed, with the two last. None is a commit yet.
+-- all lines of a transcript are printed, with the two last
 abbrev pub PrintsAll : TranscriptState → Bool → Option (List ℕ) → Option (List ℕ) → Type 0
-PrintsAll transcript serial old new =
-    (transcript.commits ≡ [])
-    × Appends old new
+PrintsAll transcript serial old new = Appends old new
     (lines_from 1 transcript.entries ++ last_lines (length transcript.commits) serial)
 
 -- A transcript is printed to its end, and the status is 0 exactly where it is serial; or memory ran
@@ -131,9 +127,10 @@ PrintsOutcome (Ok (play.Part transcript)) status old_out new_out old_err new_err
 PrintsOutcome (Err e) status old_out new_out old_err new_err =
     (new_out ≡ old_out) × PrintsFault e status old_err new_err
 
--- A run of the program prints what came of its two texts.
+-- A run of the program prints what came of its two texts, and the serial check says no of none.
 pub record IsRun (config_bytes schedule_bytes : List ℕ) (status : ℕ)
     (old_out new_out old_err new_err : Option (List ℕ)) : Type 0 where
   pub outcome : Result Play ReadFault
   pub of_texts : IsOutcome config_bytes schedule_bytes outcome
   pub prints : PrintsOutcome outcome status old_out new_out old_err new_err
+  pub serial : status ≢ 1

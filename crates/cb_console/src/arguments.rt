@@ -54,11 +54,20 @@ CONFIG has whole numbers as TOML: clients, pages, page_size, slots, and if wante
 keep_write.
 
 SCHEDULE has one event on a line; lines that begin with # are skipped:
-  hello C     client C greets the server
-  begin C     client C begins a transaction
-  read C P    client C reads page P
-  peek C P    what client C has of page P, without asking
-  take N      packet N arrives (packets are numbered from 0)
+  hello C       client C greets the server
+  begin C       client C begins a transaction
+  read C P      client C reads page P
+  peek C P      the bytes of client C's copy of page P, without a read
+  want C P      client C wants to write page P
+  write C P B   client C writes page P: every byte is B, 0 to 255
+  finish C      client C's transaction ends, to be committed
+  drop C        client C's transaction is dropped
+  restart C     client C is new, with its next incarnation
+  take N        packet N arrives (packets are numbered from 0)
+  again C       client C sends again what is unanswered
+  again server  the server sends again what is unanswered
+  flush         all that was committed is on the disk
+  flush N       the commits up to N are on the disk
 
 Statuses:
   0  done

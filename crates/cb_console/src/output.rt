@@ -7,7 +7,7 @@ ghost use Rattle.cb_console.specs.Output.{packet_text, word_text};
 ghost use Rattle.cb_settings.specs.Escaped.{two_digits};
 
 use cb_page::Page;
-use cb_schedule::{Answer, AnswerWord, SentPackets, TranscriptEntry};
+use cb_transcript::{Answer, AnswerWord, SentPackets, TranscriptEntry};
 use std::io;
 use std::io::Write;
 

@@ -1,8 +1,6 @@
 //! Plays a schedule over a store of zeros, and prints what became of it.
 ghost use Rattle.std.specs.Prelude.{◌≡◌, ◌≢◌, List, [], ◌++◌, length, codes, IfOk, IfErr, OnOk};
 ghost use Rattle.std.specs.Io.KnownBytes.{Appends};
-ghost use Rattle.std.specs.List.{AllByRecursion};
-ghost use Rattle.cb_event.specs.Events.{IsPlayed};
 ghost use Rattle.cb_console.specs.Output.{lines_from};
 ghost use Rattle.cb_console.specs.Runs.{BecomesOfConfig, BecomesOfSchedule, Ends, IsPlay, IsPlayOf};
 ghost use Rattle.cb_console.specs.Runs.{IsRefusal, IsRun, PrintsAll, PrintsFault, PrintsOutcome};
@@ -12,9 +10,13 @@ ghost use Rattle.cb_console.specs.declared.play.ReadFault.TheVariants as fault;
 use crate::endings::{DONE, NO_MEMORY, NOT_SERIAL, WRONG_INPUT};
 use crate::output::{put_entries, put_verdict};
 use cb_commit::Store;
+use cb_event::{Event, ScheduleFault, read_schedule};
 use cb_page::Limits;
-use cb_schedule::{Event, ScheduleFault, Transcript, Verdict, World, check_serial, read_schedule};
+use cb_serial::{Verdict, check_serial};
 use cb_settings::{ConfigFault, read_config};
+use cb_transcript::Transcript;
+use cb_twoq::TwoQ;
+use cb_world::World;
 use std::alloc::{AllocError, Global};
 use std::error::Error;
 use std::io::Write;
@@ -113,11 +115,10 @@ pub fn read_and_play(alloc: Global, config: &[u8], schedule: &[u8]) -> Result<Pl
 
 /// Plays events over a store of zeros.
 fn play_from_zeros(alloc: Global, limits: &Limits, events: &[Event]) -> Result<Play, AllocError>
-    requires { AllByRecursion IsPlayed events.now }
     ensures { IfOk result (IsPlayOf limits.now events.now) }
 {
     let store = Store::zeros(alloc, limits)?;
-    let world = World::new(alloc, limits, store)?;
+    let world: World<TwoQ> = World::new(alloc, limits, store)?;
     match world.play(events) {
         Ok(transcript) => Ok(Play::Whole(transcript)),
         Err(fault) => Ok(Play::Part(fault.transcript)),
