@@ -1,5 +1,5 @@
 -- The serial check says no of no play.
-use Rattle.std.proofs.Common.{◌≡◌, ◌≢◌, ◌⊎◌, inl, inr, ℕ, List, [], Option, Result, Ok, Err, refl, arith, tt}
+use Rattle.std.proofs.Common.{◌≡◌, ◌≢◌, ◌⊎◌, inl, inr, ℕ, List, [], Option, Result, Ok, Err, refl, arith}
 use Rattle.std.specs.Prelude.{IfOk}
 use Rattle.cb_console.specs.Runs.{IsOutcome, IsRun, PrintsOutcome}
 use Rattle.cb_console.specs.declared.play.Play.{Play}
