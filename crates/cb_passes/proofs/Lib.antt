@@ -1,0 +1,4 @@
+pub mod Backed
+pub mod Followed
+pub mod ReadVersions
+pub mod LockedPages
