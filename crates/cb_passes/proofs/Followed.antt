@@ -7,9 +7,9 @@ use Rattle.cb_protocol.proofs.ClientTakes.{Apt, apt, takes_may}
 use Rattle.cb_protocol.proofs.DoneOnDisk.{FromDisk, again_from_disk, flushed_to_disk, taken_from_disk}
 use Rattle.cb_protocol.proofs.Invariant.{Invariant}
 use Rattle.cb_protocol.proofs.InvariantKept.{up_to_date}
-use Rattle.cb_protocol.proofs.Machine.{ClientRestarts, Machine, MachineMay, MachineMayRun, MachineStep, WasSent, happens, present_cache, run}
+use Rattle.cb_protocol.proofs.Machine.{ClientRestarts, Machine, MachineMay, MachineMayRun, MachineStep, WasSent, happens, present_cache, run, start}
 use Rattle.cb_protocol.proofs.MachineSteps.{present_good, safe_happens}
-use Rattle.cb_protocol.proofs.Mirrors.{Mirrors, SentBy, client_step, only_step, restart_step, server_step}
+use Rattle.cb_protocol.proofs.Mirrors.{Mirrors, SentBy, client_step, mirrors_start, only_step, restart_step, server_step}
 use Rattle.cb_protocol.proofs.ServerOrder.{StepsRight}
 use Rattle.cb_protocol.proofs.ServerSteps.{server_machine_steps, server_steps_leave, server_steps_more}
 use Rattle.cb_protocol.proofs.ServerTakes.{right_again, right_flushes, right_server_take}
@@ -21,13 +21,14 @@ use Rattle.cb_protocol.specs.Client.{ClientStep, client_after, new_client}
 use Rattle.cb_protocol.specs.ClientCalls.{Call, CallAgain, CallBegin, CallDrop, CallFinish, CallHello, CallPeek, CallRead, CallWant, CallWrite, client_call}
 use Rattle.cb_protocol.specs.ClientMessages.{ChoiceAllowed, client_take}
 use Rattle.cb_protocol.specs.Flush.{can_flush, server_flush}
+use Rattle.cb_protocol.specs.Headline.{SoundOpening}
 use Rattle.cb_protocol.specs.Messages.{Body, Message, to_server}
 use Rattle.cb_protocol.specs.Resend.{server_again}
 use Rattle.cb_protocol.specs.Server.{DeadlockTest, ServerStep}
 use Rattle.cb_protocol.specs.ServerMessages.{is_exhausted, server_take}
 use Rattle.cb_protocol.specs.Session.{Store}
 use Rattle.cb_protocol.specs.Transcript.{call_operation, incarnation_at, transaction_at, transcript_operations}
-use Rattle.cb_protocol.specs.World.{Answer, Becomes, ClientCalls, Event, EventChoiceAllowed, FlushAll, FlushTo, MessageChoiceAllowed, Moment, Opening, Plays, Restart, ServerAgain, StepResult, TakePacket, World, answer_only, answer_with, client_does, deliver, flush_up_to, packet_at, restart_client, server_does, step, take_packet, world_after}
+use Rattle.cb_protocol.specs.World.{Answer, Becomes, ClientCalls, Event, EventChoiceAllowed, FlushAll, FlushTo, MessageChoiceAllowed, Moment, Opening, Plays, ReachedWorld, Restart, ServerAgain, StepResult, TakePacket, World, answer_only, answer_with, client_does, deliver, flush_up_to, new_world, packet_at, restart_client, server_does, step, take_packet, world_after}
 
 -- the world is the image of a machine that w becomes by allowed steps
 pub record Follows (L : Limits) (o : Opening) (w : Machine) (v : World) : Type 0 where
@@ -188,3 +189,9 @@ kept_along L cycle o P k v [] r p = r
 kept_along L cycle o P k v (m ∷ ms) r p =
     let f : Follows L o r.0 m.world = becomes_follows L cycle o v r.0 m.event m.answer m.world r.1 p.0 in
     kept_along L cycle o P k m.world ms (run f.steps r.0, f.mirrors, kept_by_run P k f.steps r.0 r.1.safe f.allowed r.2) p.1
+
+-- so it holds of each world that is reached
+pub reached_mirrors : (L : Limits) (cycle : DeadlockTest) (o : Opening) (P : Machine → Type 0) → Keeps P → P (start L o) → (v : World) → SoundOpening o → ReachedWorld L cycle o v → MirrorsSome L o P v
+reached_mirrors L cycle o P k p v s r =
+    let first : MirrorsSome L o P (new_world L o) = (start L o, mirrors_start L o s, p) in
+    subst (λ (x : World). MirrorsSome L o P x) r.2 (kept_along L cycle o P k (new_world L o) r.0 first r.1)

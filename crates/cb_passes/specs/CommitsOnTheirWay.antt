@@ -5,6 +5,7 @@ use Rattle.cb_protocol.specs.AnyMessages.{committed_names}
 use Rattle.cb_protocol.specs.Basics.{IsIn, Limits}
 use Rattle.cb_protocol.specs.Cache.{Committing}
 use Rattle.cb_protocol.specs.Headline.{Holds, SoundOpening}
+use Rattle.cb_protocol.specs.Messages.{Commit, PageWrite, write_of_page}
 use Rattle.cb_protocol.specs.Serial.{TransactionName}
 use Rattle.cb_protocol.specs.Server.{DeadlockTest}
 use Rattle.cb_protocol.specs.World.{Moment, Opening, Plays, ReachedWorld, World, world_after}
@@ -41,3 +42,21 @@ CommitsKeepTheirRows limits cycle = (opening : Opening) (finished : World)
     → HasFinished finished name → HasLocked finished name.client page grant read_at
     → Plays limits cycle finished moments → IsOnItsWay (world_after finished moments) name
     → RowStands (world_after finished moments) name.client page grant read_at
+
+-- Each page that a commit writes has its row, with the grant that the commit names, and its
+-- permission: the client is the page's write holder.
+pub record WritesAreBacked (world : World) (client : ℕ) (writes : List PageWrite) : Type 0 where
+  pub row : (page : ℕ) (write : PageWrite) → write_of_page writes page ≡ Some write
+      → (world.server.session client).row page ≡ Some write.grant
+  pub permission : (page : ℕ) (write : PageWrite) → write_of_page writes page ≡ Some write
+      → world.server.store.holder page ≡ Some client
+
+-- Each Commit that was sent and is on its way finds the rows and permissions that it needs.
+abbrev pub CommitsFindTheirRows : World → Type 0
+CommitsFindTheirRows world = (name : TransactionName) (writes : List PageWrite)
+    → IsIn (record {
+      client = name.client;
+      incarnation = name.incarnation;
+      body = Commit name.txn writes;
+    }) world.packets
+    → IsOnItsWay world name → WritesAreBacked world name.client writes
