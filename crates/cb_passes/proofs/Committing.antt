@@ -1,11 +1,11 @@
 -- A client's committing transaction: what a step of the machine leaves of it until it is applied.
-use Rattle.std.proofs.Common.{Bool, List, None, Some, arith, false, if◌then◌else◌, inl, inr, refl, subst, sym, true, ℕ, ◌==◌, ◌∙◌, ◌≡◌, ◌≢◌, ◌⊎◌}
+use Rattle.std.proofs.Common.{Bool, None, Some, arith, false, if◌then◌else◌, inl, inr, refl, subst, sym, true, ℕ, ◌==◌, ◌≡◌, ◌≢◌, ◌⊎◌}
 use Rattle.cb_protocol.proofs.Invariant.{Invariant, MessageFact}
 use Rattle.cb_protocol.proofs.Machine.{ClientChanges, ClientMayChange, ClientRestarts, ClientSays, Machine, MachineMay, MachineStep, ServerChanges, ServerSends, WasSent, happens, present_cache}
 use Rattle.cb_protocol.proofs.MachineSteps.{mover_current, present_now}
 use Rattle.cb_protocol.specs.Cache.{Abandon, Begin, Cache, CacheChange, Committing, Fill, Finish, Install, LetGo, Lock, MakeBare, Read, RefuseGrant, TakeDone, TakePermission, TakeWelcome, WriteBytes, YieldPermission, cache_after}
 use Rattle.cb_protocol.specs.Messages.{Body, Done}
-use Rattle.cb_protocol.specs.Session.{Session, SessionChange, Store, store_after}
+use Rattle.cb_protocol.specs.Session.{Session, Store, store_after}
 
 -- the client's transaction x is committing
 abbrev pub Awaits : Cache → ℕ → Type 0

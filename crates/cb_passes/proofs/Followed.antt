@@ -18,11 +18,11 @@ use Rattle.cb_protocol.specs.Answers.{AnswerWord, AnsweredOk, Exhausted, Flushed
 use Rattle.cb_protocol.specs.Basics.{IsIn, Limits, max_number, update}
 use Rattle.cb_protocol.specs.Cache.{Cache}
 use Rattle.cb_protocol.specs.Client.{ClientStep, client_after, new_client}
-use Rattle.cb_protocol.specs.ClientCalls.{Call, CallAgain, CallBegin, CallDrop, CallFinish, CallHello, CallPeek, CallRead, CallWant, CallWrite, client_call}
+use Rattle.cb_protocol.specs.ClientCalls.{Call, client_call}
 use Rattle.cb_protocol.specs.ClientMessages.{ChoiceAllowed, client_take}
 use Rattle.cb_protocol.specs.Flush.{can_flush, server_flush}
 use Rattle.cb_protocol.specs.Headline.{SoundOpening}
-use Rattle.cb_protocol.specs.Messages.{Body, Message, to_server}
+use Rattle.cb_protocol.specs.Messages.{Message, to_server}
 use Rattle.cb_protocol.specs.Resend.{server_again}
 use Rattle.cb_protocol.specs.Server.{DeadlockTest, ServerStep}
 use Rattle.cb_protocol.specs.ServerMessages.{is_exhausted, server_take}

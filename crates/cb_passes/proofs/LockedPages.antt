@@ -5,13 +5,12 @@ use Rattle.cb_passes.proofs.Followed.{Keeps, MirrorsSome, kept_along, reached_mi
 use Rattle.cb_passes.proofs.ReadVersions.{AllRead, ReadFacts, read_at_start, read_kept}
 use Rattle.cb_passes.specs.CommitsOnTheirWay.{CommitsFindTheirRows, CommitsKeepTheirRows, HasFinished, HasLocked, IsOnItsWay, RowStands, WritesAreBacked}
 use Rattle.cb_protocol.proofs.Invariant.{MessageFact, SessionFacts, cache_at_session}
-use Rattle.cb_protocol.proofs.Machine.{ClientChanges, ClientMaySay, ClientRestarts, ClientSays, ListsWrites, Machine, MachineMay, ServerChanges, ServerMaySend, ServerSends, WasSent, happens, present_cache, start}
+use Rattle.cb_protocol.proofs.Machine.{ClientChanges, ClientMaySay, ClientRestarts, ClientSays, ListsWrites, Machine, ServerChanges, ServerMaySend, ServerSends, WasSent, present_cache}
 use Rattle.cb_protocol.proofs.MachineSteps.{came_now}
 use Rattle.cb_protocol.proofs.Mirrors.{Mirrors}
 use Rattle.cb_protocol.specs.AnyMessages.{IsCommit, committed_names}
 use Rattle.cb_protocol.specs.Basics.{IsIn, Limits}
 use Rattle.cb_protocol.specs.Cache.{Cache}
-use Rattle.cb_protocol.specs.Headline.{SoundOpening}
 use Rattle.cb_protocol.specs.Laws.{Always}
 use Rattle.cb_protocol.specs.Messages.{Body, Commit, Message, PageWrite, write_of_page}
 use Rattle.cb_protocol.specs.Serial.{TransactionName}

@@ -1,15 +1,15 @@
 -- Until a transaction has ended at the server, each copy has the version that was read, also where
 -- it was written; and a committing transaction ends at the server by its commit alone.
-use Rattle.std.proofs.Common.{List, None, Some, arith, inl, inr, refl, subst, sym, true, ℕ, ◌<◌, ◌≡◌, ◌≢◌, ◌≤◌}
+use Rattle.std.proofs.Common.{List, None, Some, arith, refl, subst, sym, ℕ, ◌<◌, ◌≡◌, ◌≢◌, ◌≤◌}
 use Rattle.cb_passes.proofs.Followed.{Keeps}
-use Rattle.cb_protocol.proofs.Invariant.{Invariant, MessageFact, SessionFacts, cache_at_session}
+use Rattle.cb_protocol.proofs.Invariant.{MessageFact, SessionFacts, cache_at_session}
 use Rattle.cb_protocol.proofs.InvariantKept.{put_client_each, put_each}
-use Rattle.cb_protocol.proofs.Machine.{ClientChanges, ClientMayChange, ClientRestarts, ClientSays, Machine, MachineMay, NamesTransaction, ServerChanges, ServerSends, WasSent, present_cache, start}
+use Rattle.cb_protocol.proofs.Machine.{ClientChanges, ClientMayChange, ClientRestarts, ClientSays, Machine, ServerChanges, ServerSends, WasSent, present_cache, start}
 use Rattle.cb_protocol.proofs.MachineSteps.{came_now, mover_current, named, present_good, present_now}
 use Rattle.cb_protocol.specs.Basics.{Limits, update}
 use Rattle.cb_protocol.specs.Cache.{Abandon, Begin, Cache, CacheChange, Committing, Fill, Finish, Install, LetGo, Lock, MakeBare, Read, RefuseGrant, TakeDone, TakePermission, TakeWelcome, WriteBytes, YieldPermission, cache_after, new_cache}
 use Rattle.cb_protocol.specs.Messages.{Body, Commit, Drop, PageWrite, write_of_page}
-use Rattle.cb_protocol.specs.Session.{Admit, ApplyCommit, BeginTransaction, DropTransaction, EndPermission, GrantRow, PermitWrite, RemoveRow, Session, SessionChange, Store, session_after, store_after}
+use Rattle.cb_protocol.specs.Session.{Admit, ApplyCommit, BeginTransaction, DropTransaction, EndPermission, GrantRow, PermitWrite, RemoveRow, Session, Store, session_after, store_after}
 use Rattle.cb_protocol.specs.World.{Opening}
 
 -- what holds besides of a client at the server's current incarnation
