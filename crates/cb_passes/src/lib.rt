@@ -13,7 +13,6 @@
 //! what the laws take, and what a caller cites a law with.
 #![tactic(auto)]
 
-ghost use Rattle.std.specs.Prelude.{ℕ};
 ghost use Rattle.cb_protocol.specs.Basics.{Limits};
 ghost use Rattle.cb_protocol.specs.Laws.{Always};
 ghost use Rattle.cb_protocol.specs.Server.{DeadlockTest};
