@@ -3,7 +3,7 @@
 #
 #   scripts/schedules.sh FILE..   of each NAME.schedule (or NAME.schedule.gz) beside NAME.toml: what it prints is NAME.stdout
 #                                 (or NAME.stdout.gz), with status 0; says the processor time and the most memory of each
-#   scripts/schedules.sh          draws the seeds 0 to 99 with 2,000 events for 3 clients, 4 pages of 16 bytes and 2 slots, with
+#   scripts/schedules.sh          draws a hundred seeds, from 0 on, with 2,000 events each for 3 clients, 4 pages of 16 bytes and 2 slots, with
 #                                 keep_write 0 and 1, and plays each: the last line is `serial: yes`
 #
 # It builds the program first, by `rt run` (RT is the command that proves, `rt` if it isn't set), unless PROGRAM names a
