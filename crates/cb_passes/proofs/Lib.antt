@@ -1,0 +1,5 @@
+pub mod Backed
+pub mod Followed
+pub mod ReadVersions
+pub mod Committing
+pub mod LockedPages
