@@ -1,2 +1,4 @@
 pub mod Lines
 pub mod Checked
+pub mod PrintedDraws
+pub mod EventLines

@@ -1,3 +1,6 @@
 pub mod Output
+pub mod DrawnText
+pub mod EventMeaning
+pub mod DrawRuns
 pub mod Runs
 pub mod Endings

@@ -3,13 +3,10 @@
 use Rattle.std.specs.Prelude.{◌≡◌, ◌≢◌, ◌⊎◌, ℕ, Bool, true, false, Option, Some, None, option_map}
 use Rattle.std.specs.Prelude.{Result, Ok, Err, IfSome, List, [], ◌∷◌, ◌++◌, length, take, codes}
 use Rattle.std.specs.Io.KnownBytes.{Appends}
-use Rattle.cb_commit.specs.Stores.{zeros}
-use Rattle.cb_copies.specs.CopiesState.{limits_of}
-use Rattle.cb_holdings.specs.Holdings.{opening_of}
 use Rattle.cb_page.specs.Bounds.{Bounds}
-use Rattle.cb_protocol.specs.World.{new_world}
+use Rattle.cb_drawn.specs.Draws.{IsOpening}
 use Rattle.cb_world.specs.Plays.{Played}
-use Rattle.cb_world.specs.WorldState.{Represents, WorldState, told}
+use Rattle.cb_world.specs.WorldState.{WorldState}
 use Rattle.cb_event.specs.ScheduleText as text
 use Rattle.cb_transcript.specs.Transcripts.{IsSerialOnOpening, TranscriptState}
 use Rattle.cb_event.specs.declared.event.Event.{Event}
@@ -25,14 +22,8 @@ use Rattle.cb_console.specs.declared.play.Play.TheVariants as play
 use Rattle.cb_console.specs.declared.play.ReadFault.{ReadFault}
 use Rattle.cb_console.specs.declared.play.ReadFault.TheVariants as fault
 
--- The world over a store of zeros in which nothing has happened.
-pub record IsOpening (bounds : Bounds) (world : WorldState) : Type 0 where
-  pub limits : world.limits ≡ bounds
-  pub tells : told world ≡ record { opening = zeros bounds; entries = []; commits = [] }
-  pub packets : world.net.packets.sent ≡ []
-  pub shows : Represents world (new_world (limits_of bounds) (opening_of (zeros bounds)))
-
--- From there these events are played; the transcript tells of them, and is serial.
+-- These events are played in a world of zeros in which nothing had happened; the transcript tells of
+-- them, and is serial.
 pub record PlaysFromZeros (bounds : Bounds) (events : List Event) (transcript : TranscriptState)
     : Type 0 where
   pub world : WorldState

@@ -1,15 +1,25 @@
 //! The command line.
 
 use clap::error::ErrorKind;
-use clap::{Arg, ArgAction, ArgMatches, Command, Error};
+use clap::{Arg, ArgAction, ArgMatches, Command, Error, value_parser};
 use std::alloc::{AllocError, Global};
 use std::convert::AsStr;
+
+/// A schedule to be drawn: the path of the configuration, the seed, and how many events.
+#[derive(Clone, Copy, Debug, PartialEq, Eq)]
+pub struct DrawRequest<'a> {
+    pub config: &'a str,
+    pub seed: u64,
+    pub count: usize,
+}
 
 /// What the command line asks for.
 #[derive(Clone, Copy, Debug, PartialEq, Eq)]
 pub enum Request<'a> {
     /// Play a schedule: the paths of the configuration and of the schedule.
     Play { config: &'a str, schedule: &'a str },
+    /// Draw a schedule.
+    Draw(DrawRequest<'a>),
 }
 
 /// The program's version.
@@ -20,6 +30,15 @@ const ABOUT: &str =
 
 const PLAY_ABOUT: &str =
     "Plays a schedule on a store of zeros and prints what became of each event";
+
+const DRAW_ABOUT: &str =
+    "Draws a schedule by the words of a generator, and prints it, one event a line";
+
+/// Every seed is below this.
+const SEEDS: i64 = 1 << 62;
+
+/// The most events of a drawn schedule.
+const MOST_EVENTS: i64 = 1_000_000;
 
 const EXAMPLE: &str = "\
 Example:
@@ -76,6 +95,16 @@ Statuses:
   4  no memory
   5  cannot write";
 
+const DRAW_HELP: &str = "\
+The events are drawn while they are played, on a store of zeros: a packet to take was sent before.
+The same CONFIG, seed and number of events give the same schedule.
+
+Statuses:
+  0  done
+  2  wrong words or configuration
+  4  no memory
+  5  cannot write";
+
 fn path<'a>(alloc: Global, name: &'a str, help: &'a str) -> Arg<'a> {
     Arg::new(alloc, name)
         .required(true)
@@ -91,6 +120,38 @@ fn play_command<'a>(alloc: Global) -> Result<Command<'a>, AllocError> {
         .arg(path(alloc, "SCHEDULE", "File with the events, one a line"))
 }
 
+/// An option whose value is a whole number from 0 to the most.
+fn number<'a>(alloc: Global, name: &'a str, most: i64, help: &'a str) -> Arg<'a> {
+    Arg::new(alloc, name)
+        .long(name)
+        .required(true)
+        .action(ArgAction::Set)
+        .value_name("N")
+        .value_parser(value_parser!(u64).range(0..=most))
+        .help(help)
+}
+
+fn draw_command<'a>(alloc: Global) -> Result<Command<'a>, AllocError> {
+    let seed = number(
+        alloc,
+        "seed",
+        SEEDS - 1,
+        "Where the generator starts, below 2^62",
+    );
+    let events = number(
+        alloc,
+        "events",
+        MOST_EVENTS,
+        "How many events, up to 1,000,000",
+    );
+    Command::new(alloc, "draw")
+        .about(DRAW_ABOUT)
+        .after_help(DRAW_HELP)
+        .arg(path(alloc, "CONFIG", "File with the settings, as TOML"))?
+        .arg(seed)?
+        .arg(events)
+}
+
 fn command<'a>(alloc: Global) -> Result<Command<'a>, AllocError> {
     Command::new(alloc, "cb_play")
         .version(VERSION)
@@ -98,7 +159,8 @@ fn command<'a>(alloc: Global) -> Result<Command<'a>, AllocError> {
         .after_help(EXAMPLE)
         .subcommand_required(true)
         .arg_required_else_help(true)
-        .subcommand(play_command(alloc)?)
+        .subcommand(play_command(alloc)?)?
+        .subcommand(draw_command(alloc)?)
 }
 
 /// What a command line that was read asks for, if it asks for anything.
@@ -108,6 +170,11 @@ fn asked<'a>(matches: &ArgMatches<'a>) -> Option<Request<'a>> {
             config: matches.get_str("CONFIG")?,
             schedule: matches.get_str("SCHEDULE")?,
         }),
+        Some(("draw", matches)) => Some(Request::Draw(DrawRequest {
+            config: matches.get_str("CONFIG")?,
+            seed: matches.get_one("seed")?,
+            count: matches.get_one("events")?,
+        })),
         _ => None,
     }
 }

@@ -4,7 +4,8 @@ ghost use Rattle.std.specs.Io.KnownBytes.{Appends};
 ghost use Rattle.cb_console.specs.Endings.{IsAnswered, IsStatus};
 ghost use Rattle.cb_settings.specs.Escaped.{escaped};
 
-use crate::arguments::{Request, request_of};
+use crate::arguments::{DrawRequest, Request, request_of};
+use crate::drawn::draw_to;
 use crate::endings::{DONE, WRONG_INPUT, end_by};
 use crate::play::play_to;
 use cb_settings::Escaped;
@@ -69,6 +70,7 @@ fn answer_words<O: Write, E: Write>(
 {
     match request_of(rt.alloc(), words) {
         Ok(Request::Play { config, schedule }) => play_files(rt, config, schedule, out, err),
+        Ok(Request::Draw(request)) => draw_file(rt, &request, out, err),
         Err(error) if error.kind() == ErrorKind::OutOfMemory => {
             Err(io::Error::from(io::ErrorKind::OutOfMemory))
         }
@@ -113,6 +115,22 @@ fn play_files<O: Write, E: Write>(
         return Ok(WRONG_INPUT);
     };
     play_to(rt.alloc(), config.as_slice(), schedule.as_slice(), out, err)
+}
+
+/// Draws a schedule under the configuration of a file.
+fn draw_file<O: Write, E: Write>(
+    rt: &HostRuntime,
+    request: &DrawRequest<'_>,
+    out: &mut O,
+    err: &mut E,
+) -> io::Result<u8>
+    ensures { IfOk result IsAnswered }
+{
+    let Some(config) = read_file(rt, request.config, err)? else {
+        return Ok(WRONG_INPUT);
+    };
+    let (seed, count) = (request.seed, request.count);
+    draw_to(rt.alloc(), config.as_slice(), seed, count, out, err)
 }
 
 /// The bytes of a file. Where it can't be read that is said, and there are none; it fails where

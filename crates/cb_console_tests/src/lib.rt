@@ -4,6 +4,8 @@
 #[cfg(test)]
 mod config_tests;
 #[cfg(test)]
+mod draw_tests;
+#[cfg(test)]
 mod failing_writers;
 #[cfg(test)]
 mod large_tests;

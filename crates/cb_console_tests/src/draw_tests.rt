@@ -1,0 +1,116 @@
+//! What draws print, and how drawn schedules play.
+use cb_console::{draw_to, play_to, run};
+use std::alloc::Global;
+use std::test::Fail;
+
+const CONFIG: &str = "clients = 3\npages = 4\npage_size = 16\nslots = 2\n";
+
+const KEPT: &str = "clients = 3\npages = 4\npage_size = 16\nslots = 2\nkeep_write = 1\n";
+
+/// The schedule of a seed, of so many events; `None` where it isn't drawn.
+fn drawn(alloc: Global, config: &str, seed: u64, count: usize) -> Option<Vec<u8>> {
+    let mut out = Vec::new(alloc);
+    let mut err = Vec::new(alloc);
+    let status = draw_to(alloc, config.as_bytes(), seed, count, &mut out, &mut err).ok()?;
+    if status == 0 && err.is_empty() {
+        Some(out)
+    } else {
+        None
+    }
+}
+
+/// Seed, count, and the events.
+static DRAWN: [(u64, usize, &str); 3] = [
+    (0, 0, ""),
+    (4_611_686_018_427_387_903, 0, ""),
+    (
+        0,
+        7,
+        "want 1 3\nhello 0\ntake 0\nrestart 0\ndrop 2\ntake 0\nread 0 0\n",
+    ),
+];
+
+fn is_drawn(alloc: Global, seed: u64, count: usize, text: &str) -> bool {
+    drawn(alloc, CONFIG, seed, count).is_some_and(|out| out.as_slice() == text.as_bytes())
+}
+
+/// The events are those of the generator, and a packet to take is one that was sent.
+#[test]
+fn drawn_schedules(rt: HostRuntime) {
+    for (seed, count, text) in &DRAWN {
+        assert!(rt; is_drawn(rt.alloc(), *seed, *count, text));
+    }
+}
+
+/// Whether the schedule of a seed plays to its end, and is serial.
+fn plays_serially(alloc: Global, config: &str, seed: u64) -> Option<bool> {
+    let schedule = drawn(alloc, config, seed, 300)?;
+    let mut out = Vec::new(alloc);
+    let mut err = Vec::new(alloc);
+    let status = play_to(
+        alloc,
+        config.as_bytes(),
+        schedule.as_slice(),
+        &mut out,
+        &mut err,
+    );
+    Some(status.ok()? == 0 && err.is_empty() && out.as_slice().ends_with(b"serial: yes\n"))
+}
+
+/// The first of a few seeds whose schedule doesn't.
+fn first_not_serial(alloc: Global, config: &str) -> Option<u64> {
+    (0..6u64).find(|seed| plays_serially(alloc, config, *seed) != Some(true))
+}
+
+/// Drawn schedules play to their end and are serial, with kept permissions and without.
+#[test]
+fn drawn_schedules_are_serial(rt: HostRuntime) {
+    assert!(rt; first_not_serial(rt.alloc(), CONFIG) == None);
+    assert!(rt; first_not_serial(rt.alloc(), KEPT) == None);
+}
+
+/// A configuration with a fault draws nothing.
+#[test]
+fn config_refused(rt: HostRuntime) -> Result<(), Fail> {
+    let mut out = Vec::new(rt.alloc());
+    let mut err = Vec::new(rt.alloc());
+    let status = draw_to(rt.alloc(), b"clients = 1", 0, 3, &mut out, &mut err)?;
+    let line = b"config: missing pages\n".as_slice();
+    assert!(rt; status == 2 && out.is_empty() && err.as_slice() == line);
+    Ok(())
+}
+
+/// Wrong command lines.
+static REFUSALS: [&str; 8] = [
+    "cb_play draw /dev/null --seed=1",
+    "cb_play draw /dev/null --events 1",
+    "cb_play draw --seed=1 --events 1",
+    "cb_play draw /dev/null --seed=-1 --events 1",
+    "cb_play draw /dev/null --seed=4611686018427387904 --events 1",
+    "cb_play draw /dev/null --seed=1 --events 1000001",
+    "cb_play draw /dev/null --seed=one --events 1",
+    "cb_play draw /dev/null --seed=1 --events 1 more",
+];
+
+/// Whether clap refuses the words, with status 2.
+fn are_wrong_words(rt: &HostRuntime, line: &str) -> Result<bool, Fail> {
+    let mut words = Vec::new(rt.alloc());
+    for word in line.split(' ') {
+        words.push(String::from_str(rt.alloc(), word)?)?;
+    }
+    let mut out = Vec::new(rt.alloc());
+    let mut err = Vec::new(rt.alloc());
+    let status = run(rt, Ok(words), &mut out, &mut err);
+    let end = b"For more information, try '--help'.\n".as_slice();
+    Ok(status == 2 && out.is_empty() && err.as_slice().ends_with(end))
+}
+
+/// The seed and the number of events have to be there, and in range.
+#[test]
+fn command_lines_refused(rt: HostRuntime) -> Result<(), Fail> {
+    for line in &REFUSALS {
+        let wrong = are_wrong_words(&rt, line)?;
+        assert!(rt; wrong);
+    }
+    Ok(())
+}
