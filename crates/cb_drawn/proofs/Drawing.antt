@@ -1,9 +1,11 @@
 -- Events drawn so far, and one more.
-use Rattle.std.proofs.Common.{◌≡◌, List, [], ◌∷◌, ◌++◌, append_assoc, subst}
+use Rattle.std.proofs.Common.{◌≡◌, ℕ, List, [], ◌∷◌, ◌++◌, length, Result, Ok, Err, append_assoc, subst}
+use Rattle.std.specs.Prelude.{IfOk}
 use Rattle.std.proofs.lemmas.List.{append-nil}
-use Rattle.cb_draw.specs.Drawn.{DrawingState}
-use Rattle.cb_drawn.specs.Draws.{AreNext, IsNext}
+use Rattle.cb_draw.specs.Drawn.{DrawingState, starts}
+use Rattle.cb_drawn.specs.Draws.{AreDrawn, AreNext, IsNext, IsOpening}
 use Rattle.cb_event.specs.declared.event.Event.{Event}
+use Rattle.cb_page.specs.Bounds.{Bounds}
 use Rattle.cb_world.specs.WorldState.{WorldState}
 
 -- whatever is drawn from a drawing in a world continues these events, drawn from the first ones
@@ -22,3 +24,10 @@ drawn_more first first_world events drawing world event after world_after so_far
 pub drawn_all : (first : DrawingState) (first_world : WorldState) (events : List Event) (drawing : DrawingState) (world : WorldState)
     → DrawnTo first first_world events drawing world → AreNext first first_world events
 drawn_all first first_world events drawing world so_far = subst (λ (drawn : List Event). AreNext first first_world drawn) (append-nil events) (so_far.more [] tt)
+
+-- so many events that are drawn from the first drawing in an opening world are those of the seed
+pub are_drawn : {A E : Type 0} (result : Result A E) (items : A → List Event) (bounds : Bounds) (seed count : ℕ) (world : WorldState) → IsOpening bounds world
+    → IfOk result (λ drawn. length (items drawn) ≡ count) → IfOk result (λ drawn. AreNext (starts bounds seed) world (items drawn))
+    → IfOk result (λ drawn. AreDrawn bounds seed count (items drawn))
+are_drawn (Ok drawn) items bounds seed count world opening as_many next = record { as_many = as_many; world = world; is_opening = opening; are_next = next }
+are_drawn (Err e) items bounds seed count world opening as_many next = tt
