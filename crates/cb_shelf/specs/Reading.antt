@@ -121,8 +121,8 @@ LacksPage tables limits number db = (page : ℕ) × (page < limits.pages)
 -- The tables of a generation hold no store of these limits: an answer of theirs is no such store's.
 pub data Misfits (tables : Generation) (limits : Bounds) (db : Database) : Type 0 where
   mark : RepliesElse db (question (mark_text tables)) (IsMark limits) → Misfits tables limits db
-  pages : RepliesElse db (question (pages_text tables)) (λ values. values ≡ number_values limits.pages)
-      → Misfits tables limits db
+  pages : RepliesElse db (question (pages_text tables))
+      (λ values. values ≡ number_values limits.pages) → Misfits tables limits db
   parts : RepliesElse db (question (parts_text tables))
       (λ values. values ≡ number_values (limits.pages * part_count limits.page_size))
       → Misfits tables limits db

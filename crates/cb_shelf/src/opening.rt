@@ -1,6 +1,6 @@
 //! Which tables there are, and making those that aren't.
-ghost use Rattle.std.specs.Prelude.{◌≡◌, ◌≤◌, ◌<◌, ◌⊎◌, [], ◌∷◌, Bool, true, false, if◌then◌else◌, length, IsTrue};
-ghost use Rattle.std.specs.Prelude.{◌≢◌, Err, IfOk, OnOk, OnErr};
+ghost use Rattle.std.specs.Prelude.{◌≡◌, ◌≢◌, ◌≤◌, ◌<◌, ◌⊎◌, [], ◌∷◌, Bool, true, false, length};
+ghost use Rattle.std.specs.Prelude.{if◌then◌else◌, IsTrue, Err, IfOk, OnOk, OnErr};
 ghost use Rattle.sqlite.specs.State.{HasCleanDisk, Survives};
 ghost use Rattle.sqlite.specs.Effect.{Database};
 ghost use Rattle.sqlite.specs.Held.{state};
@@ -9,7 +9,8 @@ ghost use Rattle.cb_statements.specs.Statements.{MakesAll};
 ghost use Rattle.cb_statements.specs.Inside.{Inside, IsAny, IsSame, Tells};
 ghost use Rattle.cb_shelf.specs.Opening.{LaysOut, LaidBy, Opened, IsFound, table_statements};
 ghost use Rattle.cb_shelf.specs.Opening.{Has, HasOld, HasNew, HasRows, HasRowsIf, Uncounted};
-ghost use Rattle.cb_shelf.specs.Opening.{IsMixed, tables_of, IsFoundIn, Finds, MisfitsFor, Misshapen};
+ghost use Rattle.cb_shelf.specs.Opening.{IsMixed, tables_of, IsFoundIn, Finds, MisfitsFor};
+ghost use Rattle.cb_shelf.specs.Opening.{Misshapen};
 ghost use Rattle.cb_shelf.specs.Opening.{clear_statements, first_pages, laid, mark_row};
 
 use crate::reading::{Generation, ask_number, read_store};

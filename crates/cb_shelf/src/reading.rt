@@ -13,8 +13,9 @@ ghost use Rattle.cb_commit.specs.Stores.{IsOf, IsStored};
 ghost use Rattle.cb_statements.specs.Statements.{part_count};
 ghost use Rattle.cb_statements.specs.Inside.{Inside, IsAny, IsSame, Tells};
 ghost use Rattle.cb_statements.specs.Asking.{IsQuestion, IsRow, HasFrom, RepliesRow, RepliesElse};
-ghost use Rattle.cb_shelf.specs.Reading.{mark_text, pages_text, parts_text, version_text, part_text};
-ghost use Rattle.cb_shelf.specs.Reading.{question, version_of, part_of, mark_values, number_values};
+ghost use Rattle.cb_shelf.specs.Reading.{mark_text, pages_text, parts_text, version_text};
+ghost use Rattle.cb_shelf.specs.Reading.{part_text, question, version_of, part_of, mark_values};
+ghost use Rattle.cb_shelf.specs.Reading.{number_values};
 ghost use Rattle.cb_shelf.specs.Reading.{HasParts, HasPage, HasPages, Holds, IsMark, IsNumber};
 ghost use Rattle.cb_shelf.specs.Reading.{IsUpTo, IsBytes, part_length, LacksPart, HasNoPage};
 ghost use Rattle.cb_shelf.specs.Reading.{LacksPage, Misfits};
@@ -314,7 +315,8 @@ fn read_version<S: Alter>(
 fn bytes_of(value: ValueRef<'_>, count: usize) -> Result<&[u8], ShelfFault>
     ensures count { IfOk result (λ bytes. length bytes.now ≡ count) }
     ensures ok { IfOk result (λ bytes. owned value.entry ≡ Blob bytes.now) }
-    ensures err { OnErr result ((bytes : _) → length bytes ≡ count → owned value.entry ≢ Blob bytes) }
+    ensures err { OnErr result ((bytes : _) → length bytes ≡ count
+        → owned value.entry ≢ Blob bytes) }
 {
     match value {
         ValueRef::Blob(bytes) => {
@@ -400,7 +402,8 @@ fn read_bytes<S: Alter>(
     ensures same_reference { tx.new.conn.ghost_name ≡ tx.old.conn.ghost_name }
     ensures inside { Inside S.Store IsAny tx.old.conn.now tx.new.conn.now result }
     ensures size { IfOk result (λ bytes. length bytes.items ≡ size) }
-    ensures tells { Tells S.Store (λ db bytes. HasParts tables db page (part_count size) bytes.items)
+    ensures tells { Tells S.Store
+        (λ db bytes. HasParts tables db page (part_count size) bytes.items)
         (LacksPart tables page size) tx.old.conn.now tx.new.conn.now result }
 {
     let mut bytes = Vec::with_capacity(alloc, size)?;
