@@ -7,8 +7,8 @@ use Rattle.sqlite.proofs.StateLemmas.{survives_then}
 use Rattle.sqlite.proofs.Callers.{survives_begin}
 use Rattle.cb_statements.specs.Statements.{Statement, MakesAll}
 use Rattle.cb_statements.specs.Inside.{Inside, IsSame}
-use Rattle.cb_shelf.specs.Opening.{LaysOut, LaidBy, Opened, Has, laid}
-use Rattle.cb_shelf.specs.declared.opening.Tables.TheVariants.{Nothing as none, Old as older}
+use Rattle.cb_shelf.specs.Opening.{LaysOut, LaidBy, Opened, Finds, laid}
+use Rattle.cb_shelf.specs.declared.opening.Found.TheVariants.{Nothing, Old}
 use Rattle.cb_page.specs.Bounds.{Bounds}
 use Rattle.cb_commit.specs.Stores.{StoreState, IsOf, zeros}
 use Rattle.sqlite.specs.Effect.{Database}
@@ -31,45 +31,45 @@ module _ {S : Type 0} (g : Ghosts S) where
 
   -- what a crash leaves of a copy that follows a look
   pub copy_survives : (limits : Bounds) (store : StoreState) (old mid new : Held S) → IsOf limits store
-      → (HasCleanDisk (state g mid) → Has old.schema older)
+      → (HasCleanDisk (state g mid) → Finds limits (state g old).now (Old store))
       → (HasCleanDisk (state g mid) → IsSame (state g old) (state g mid))
       → Survives (state g old) (state g mid) (λ _. ⊥)
       → Survives (state g mid) (state g new) (LaidBy g (laid store true) mid)
       → Survives (state g old) (state g new) (Opened g limits old)
-  copy_survives limits store old mid new of has same look copy =
+  copy_survives limits store old mid new of found same look copy =
       survives_then (state g old) (state g mid) (state g new) (λ _. ⊥) (LaidBy g (laid store true) mid) (Opened g limits old)
       (λ _ db none. absurd none)
       (λ clean db laid_by.
       let early : HasCleanDisk (state g mid) = omega (arith, copy.clean) in
       let now = (same early).now laid_by.0 in
-      (laid_by.1, inr (inr (has early, store, of, subst (λ (d : Database). MakesAll g (laid store true) d laid_by.1) now laid_by.2)), laid_by.3)) look copy
+      (laid_by.1, inr (inr (store, found early, of, subst (λ (d : Database). MakesAll g (laid store true) d laid_by.1) now laid_by.2)), laid_by.3)) look copy
 
   -- what a crash leaves of zeros that follow a look
   pub zeros_survive : (limits : Bounds) (old mid new : Held S)
-      → (HasCleanDisk (state g mid) → Has old.schema none)
+      → (HasCleanDisk (state g mid) → Finds limits (state g old).now Nothing)
       → (HasCleanDisk (state g mid) → IsSame (state g old) (state g mid))
       → Survives (state g old) (state g mid) (λ _. ⊥)
       → Survives (state g mid) (state g new) (LaidBy g (laid (zeros limits) false) mid)
       → Survives (state g old) (state g new) (Opened g limits old)
-  zeros_survive limits old mid new has same look made =
+  zeros_survive limits old mid new found same look made =
       survives_then (state g old) (state g mid) (state g new) (λ _. ⊥) (LaidBy g (laid (zeros limits) false) mid) (Opened g limits old)
       (λ _ db nothing. absurd nothing)
       (λ clean db laid_by.
       let early : HasCleanDisk (state g mid) = omega (arith, made.clean) in
       let now = (same early).now laid_by.0 in
-      (laid_by.1, inr (inl (has early, subst (λ (d : Database). MakesAll g (laid (zeros limits) false) d laid_by.1) now laid_by.2)), laid_by.3)) look made
+      (laid_by.1, inr (inl (found early, subst (λ (d : Database). MakesAll g (laid (zeros limits) false) d laid_by.1) now laid_by.2)), laid_by.3)) look made
 
   -- zeros, or a copy, where a look found this
   pub lays_zeros : {X E : Type 0} (limits : Bounds) (old mid : Held S) (after : Database) (r : Result X E)
       → OnOk r (MakesAll g (laid (zeros limits) false) (state g mid).now after) → OnOk r (IsTrue (state g mid).is_open)
-      → Has old.schema none → IsSame (state g old) (state g mid) → OnOk r (LaysOut g limits (state g old).now after)
-  lays_zeros limits old mid after (Err e) made open_still has same = tt
-  lays_zeros limits old mid after (Ok x) made open_still has same =
-      inr (inl (has, subst (λ (d : Database). MakesAll g (laid (zeros limits) false) d after) (same.now open_still) made))
+      → Finds limits (state g old).now Nothing → IsSame (state g old) (state g mid) → OnOk r (LaysOut g limits (state g old).now after)
+  lays_zeros limits old mid after (Err e) made open_still found same = tt
+  lays_zeros limits old mid after (Ok x) made open_still found same =
+      inr (inl (found, subst (λ (d : Database). MakesAll g (laid (zeros limits) false) d after) (same.now open_still) made))
 
   pub lays_copy : {X E : Type 0} (limits : Bounds) (store : StoreState) (old mid : Held S) (after : Database) (r : Result X E)
       → OnOk r (MakesAll g (laid store true) (state g mid).now after) → OnOk r (IsTrue (state g mid).is_open)
-      → Has old.schema older → IsOf limits store → IsSame (state g old) (state g mid) → OnOk r (LaysOut g limits (state g old).now after)
-  lays_copy limits store old mid after (Err e) made open_still has of same = tt
-  lays_copy limits store old mid after (Ok x) made open_still has of same =
-      inr (inr (has, store, of, subst (λ (d : Database). MakesAll g (laid store true) d after) (same.now open_still) made))
+      → Finds limits (state g old).now (Old store) → IsOf limits store → IsSame (state g old) (state g mid) → OnOk r (LaysOut g limits (state g old).now after)
+  lays_copy limits store old mid after (Err e) made open_still found of same = tt
+  lays_copy limits store old mid after (Ok x) made open_still found of same =
+      inr (inr (store, found, of, subst (λ (d : Database). MakesAll g (laid store true) d after) (same.now open_still) made))

@@ -1,2 +1,4 @@
+pub mod Reading
 pub mod Opening
 pub mod Flushing
+pub mod Events

@@ -7,6 +7,7 @@ ghost use Rattle.cb_statements.specs.Statements.{MakesAll, batch_statements};
 ghost use Rattle.cb_statements.specs.Inside.{IsSame};
 ghost use Rattle.cb_statements.specs.Writing.{Wrote};
 ghost use Rattle.cb_shelf.specs.Flushing.{to_write, once_written, dones_of};
+ghost use Rattle.cb_shelf.specs.Events.{IsEvent};
 
 use crate::{Shelf, ShelfFault};
 use cb_commit::{Batch, Commits};
@@ -57,6 +58,8 @@ pub fn flush_once<S: Alter>(
         → OnOk result (IfSome (to_write held.old commits.old) (λ batch.
         MakesAll S.Store (batch_statements batch) (state S.Store shelf.old.conn).now
         (state S.Store shelf.new.conn).committed)) }
+    ensures event { HasCleanDisk (state S.Store shelf.new.conn)
+        → IsEvent S.Store commits.old commits.new held.old held.new shelf.old.conn shelf.new.conn }
     ensures crash { Survives (state S.Store shelf.old.conn) (state S.Store shelf.new.conn)
         (λ trees. IfSome (to_write held.old commits.old) (λ batch.
         Wrote S.Store batch shelf.old.conn trees)) }

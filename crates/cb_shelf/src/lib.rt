@@ -7,10 +7,12 @@
 #![tactic(auto)]
 
 mod flush;
+mod laws;
 mod opening;
 mod reading;
 mod shelf;
 
 pub use cb_statements::ShelfFault;
 pub use flush::flush_once;
+pub use laws::tables_follow_commits;
 pub use shelf::Shelf;

@@ -1,17 +1,19 @@
 //! Which tables there are, and making those that aren't.
-ghost use Rattle.std.specs.Prelude.{◌≡◌, ◌≤◌, [], ◌∷◌, false, if◌then◌else◌, length, IsTrue, IfOk};
-ghost use Rattle.std.specs.Prelude.{◌≢◌, IsErr, OnOk, OnErr};
+ghost use Rattle.std.specs.Prelude.{◌≡◌, ◌≢◌, ◌≤◌, ◌<◌, ◌⊎◌, [], ◌∷◌, Bool, true, false, length};
+ghost use Rattle.std.specs.Prelude.{if◌then◌else◌, IsTrue, Err, IfOk, OnOk, OnErr};
 ghost use Rattle.sqlite.specs.State.{HasCleanDisk, Survives};
+ghost use Rattle.sqlite.specs.Effect.{Database};
 ghost use Rattle.sqlite.specs.Held.{state};
 ghost use Rattle.cb_commit.specs.Stores.{IsOf, zeros};
 ghost use Rattle.cb_statements.specs.Statements.{MakesAll};
-ghost use Rattle.sqlite_schema.specs.declared.schema.Schema.{Schema};
 ghost use Rattle.cb_statements.specs.Inside.{Inside, IsAny, IsSame, Tells};
 ghost use Rattle.cb_shelf.specs.Opening.{LaysOut, LaidBy, Opened, IsFound, table_statements};
-ghost use Rattle.cb_shelf.specs.Opening.{Has, HasOld, HasNew, tables_of};
+ghost use Rattle.cb_shelf.specs.Opening.{Has, HasOld, HasNew, HasRows, HasRowsIf, Uncounted};
+ghost use Rattle.cb_shelf.specs.Opening.{IsMixed, tables_of, IsFoundIn, Finds, MisfitsFor};
+ghost use Rattle.cb_shelf.specs.Opening.{Misshapen};
 ghost use Rattle.cb_shelf.specs.Opening.{clear_statements, first_pages, laid, mark_row};
 
-use crate::reading::{OLD_TABLES, TABLES, ask_number, read_store};
+use crate::reading::{Generation, ask_number, read_store};
 use cb_commit::Store;
 use cb_page::{Limits, PageNo};
 use cb_statements::{ShelfFault, is_there, put_page, run};
@@ -38,7 +40,7 @@ pub(crate) enum Found {
 /// Whether both are there; it is refused where only one is.
 fn both_or_none(first: bool, second: bool) -> Result<bool, ShelfFault>
     ensures ok { IfOk result (λ both. (first ≡ both) × (second ≡ both)) }
-    ensures err { IsErr result → first ≢ second }
+    ensures err { OnErr result (first ≢ second) }
 {
     if first == second {
         Ok(first)
@@ -50,6 +52,8 @@ fn both_or_none(first: bool, second: bool) -> Result<bool, ShelfFault>
 /// Whether all three are there; it is refused where only some are.
 fn all_or_none(first: bool, second: bool, third: bool) -> Result<bool, ShelfFault>
     ensures ok { IfOk result (λ all. (first ≡ all) × (second ≡ all) × (third ≡ all)) }
+    ensures err { OnErr result ((all : Bool) → ¬ ((first ≡ all) × (second ≡ all)
+        × (third ≡ all))) }
 {
     let both = both_or_none(first, second)?;
     both_or_none(both, third)
@@ -59,7 +63,8 @@ fn all_or_none(first: bool, second: bool, third: bool) -> Result<bool, ShelfFaul
 fn old_there<S: Alter>(tx: &mut Transaction<'_, S>) -> Result<bool, ShelfFault>
     ensures same_reference { tx.new.conn.ghost_name ≡ tx.old.conn.ghost_name }
     ensures inside { Inside S.Store IsAny tx.old.conn.now tx.new.conn.now result }
-    ensures tells { Tells S.Store HasOld tx.old.conn.now tx.new.conn.now result }
+    ensures tells { Tells S.Store (λ db. HasOld db.schema)
+        (λ db. (there : _) → ¬ HasOld db.schema there) tx.old.conn.now tx.new.conn.now result }
 {
     let page = is_there(tx, "SELECT no, version, body FROM page")?;
     let mark = is_there(tx, "SELECT id, commits, page_size FROM mark")?;
@@ -70,7 +75,8 @@ fn old_there<S: Alter>(tx: &mut Transaction<'_, S>) -> Result<bool, ShelfFault>
 fn new_there<S: Alter>(tx: &mut Transaction<'_, S>) -> Result<bool, ShelfFault>
     ensures same_reference { tx.new.conn.ghost_name ≡ tx.old.conn.ghost_name }
     ensures inside { Inside S.Store IsAny tx.old.conn.now tx.new.conn.now result }
-    ensures tells { Tells S.Store HasNew tx.old.conn.now tx.new.conn.now result }
+    ensures tells { Tells S.Store (λ db. HasNew db.schema)
+        (λ db. (there : _) → ¬ HasNew db.schema there) tx.old.conn.now tx.new.conn.now result }
 {
     let mark = is_there(tx, "SELECT id, commits, page_size, pages FROM mark2")?;
     let page = is_there(tx, "SELECT no, version FROM page2")?;
@@ -78,23 +84,44 @@ fn new_there<S: Alter>(tx: &mut Transaction<'_, S>) -> Result<bool, ShelfFault>
     all_or_none(mark, page, part)
 }
 
-/// Whether the old tables have a row.
+/// Whether either count has a row.
+fn any_row(pages: u64, marks: u64) -> bool
+    ensures none { result ≡ false → (pages ≡ 0) × (marks ≡ 0) }
+    ensures some { result ≡ true → (0 < pages) ⊎ (0 < marks) }
+{
+    pages > 0 || marks > 0
+}
+
+/// Whether the older tables have a row.
+fn count_rows<S: Alter>(tx: &mut Transaction<'_, S>) -> Result<bool, ShelfFault>
+    ensures same_reference { tx.new.conn.ghost_name ≡ tx.old.conn.ghost_name }
+    ensures inside { Inside S.Store IsAny tx.old.conn.now tx.new.conn.now result }
+    ensures tells { Tells S.Store HasRows Uncounted tx.old.conn.now tx.new.conn.now result }
+{
+    let pages = ask_number(tx, "SELECT count(*) FROM page", &[])?;
+    let marks = ask_number(tx, "SELECT count(*) FROM mark", &[])?;
+    Ok(any_row(pages, marks))
+}
+
+/// Whether there are older tables with a row.
 fn old_rows<S: Alter>(tx: &mut Transaction<'_, S>, there: bool) -> Result<bool, ShelfFault>
     ensures same_reference { tx.new.conn.ghost_name ≡ tx.old.conn.ghost_name }
     ensures inside { Inside S.Store IsAny tx.old.conn.now tx.new.conn.now result }
+    ensures tells { Tells S.Store (HasRowsIf there) (λ db. IsTrue there × Uncounted db)
+        tx.old.conn.now tx.new.conn.now result }
 {
     if !there {
         return Ok(false);
     }
-    let pages = ask_number(tx, "SELECT count(*) FROM page", &[])?;
-    let marks = ask_number(tx, "SELECT count(*) FROM mark", &[])?;
-    Ok(pages > 0 || marks > 0)
+    count_rows(tx)
 }
 
 /// Which of the three cases it is, if any.
 fn judged(old: bool, rows: bool, new: bool) -> Result<Tables, ShelfFault>
-    ensures { IfOk result (λ tables. (schema : Schema) → HasOld schema old → HasNew schema new
-        → Has schema tables) }
+    ensures ok { IfOk result (λ tables. (db : Database) → HasOld db.schema old
+        → HasRowsIf old db rows → HasNew db.schema new → Has db tables) }
+    ensures err { OnErr result ((db : Database) → HasOld db.schema old
+        → HasRowsIf old db rows → HasNew db.schema new → IsMixed db) }
 {
     match (old, rows, new) {
         (false, _, false) => Ok(Tables::Nothing),
@@ -108,8 +135,7 @@ fn judged(old: bool, rows: bool, new: bool) -> Result<Tables, ShelfFault>
 fn find_tables<S: Alter>(tx: &mut Transaction<'_, S>) -> Result<Tables, ShelfFault>
     ensures same_reference { tx.new.conn.ghost_name ≡ tx.old.conn.ghost_name }
     ensures inside { Inside S.Store IsAny tx.old.conn.now tx.new.conn.now result }
-    ensures told { HasCleanDisk (state S.Store tx.new.conn.now)
-        → IfOk result (Has tx.old.conn.now.schema) }
+    ensures tells { Tells S.Store Has IsMixed tx.old.conn.now tx.new.conn.now result }
 {
     let old = old_there(tx)?;
     let new = new_there(tx)?;
@@ -128,15 +154,17 @@ fn find_store<S: Alter>(
     ensures inside { Inside S.Store IsAny tx.old.conn.now tx.new.conn.now result }
     ensures of { IfOk result (IsFound limits.now) }
     ensures tables { IfOk result (λ found. tables_of found ≡ tables) }
+    ensures tells { Tells S.Store (IsFoundIn limits.now) (MisfitsFor tables limits.now)
+        tx.old.conn.now tx.new.conn.now result }
 {
     match tables {
         Tables::Nothing => Ok(Found::Nothing),
         Tables::Old => {
-            let old = read_store(alloc, tx, limits, &OLD_TABLES)?;
+            let old = read_store(alloc, tx, limits, Generation::Older)?;
             Ok(Found::Old(old))
         }
         Tables::New => {
-            let _new = read_store(alloc, tx, limits, &TABLES)?;
+            let _new = read_store(alloc, tx, limits, Generation::Newer)?;
             Ok(Found::New)
         }
     }
@@ -151,8 +179,8 @@ fn find<S: Alter>(
     ensures same_reference { tx.new.conn.ghost_name ≡ tx.old.conn.ghost_name }
     ensures inside { Inside S.Store IsAny tx.old.conn.now tx.new.conn.now result }
     ensures of { IfOk result (IsFound limits.now) }
-    ensures told { HasCleanDisk (state S.Store tx.new.conn.now)
-        → IfOk result (λ found. Has tx.old.conn.now.schema (tables_of found)) }
+    ensures tells { Tells S.Store (Finds limits.now) (Misshapen limits.now)
+        tx.old.conn.now tx.new.conn.now result }
 {
     let tables = find_tables(tx)?;
     find_store(alloc, tx, limits, tables)
@@ -166,7 +194,9 @@ fn look<S: Alter>(
 ) -> Result<Found, ShelfFault>
     ensures of { IfOk result (IsFound limits.now) }
     ensures told { HasCleanDisk (state S.Store conn.new)
-        → IfOk result (λ found. Has conn.old.schema (tables_of found)) }
+        → IfOk result (Finds limits.now (state S.Store conn.old).now) }
+    ensures shape { HasCleanDisk (state S.Store conn.new) → result ≡ Err ShelfFault.Shape
+        → Misshapen limits.now (state S.Store conn.old).now }
     ensures same { HasCleanDisk (state S.Store conn.new)
         → IsSame (state S.Store conn.old) (state S.Store conn.new) }
     ensures settled { HasCleanDisk (state S.Store conn.new)
@@ -191,6 +221,7 @@ fn create_tables<S: Alter>(tx: &mut Transaction<'_, S>) -> Result<(), ShelfFault
     ensures open { HasCleanDisk (state S.Store tx.new.conn.now)
         → IsTrue tx.old.conn.now.in_transaction
         → OnOk result (IsTrue (state S.Store tx.old.conn.now).is_open) }
+    ensures fault { result ≢ Err ShelfFault.Shape }
 {
     run(
         tx,
@@ -222,6 +253,7 @@ fn put_store<S: Alter>(
     ensures same_reference { tx.new.conn.ghost_name ≡ tx.old.conn.ghost_name }
     ensures inside { Inside S.Store (MakesAll S.Store (first_pages store.now count))
         tx.old.conn.now tx.new.conn.now result }
+    ensures fault { result ≢ Err ShelfFault.Shape }
 {
     for place in 0..count {
         let page = PageNo::new(place);
@@ -240,6 +272,7 @@ fn put_row<S: Alter>(
     ensures same_reference { tx.new.conn.ghost_name ≡ tx.old.conn.ghost_name }
     ensures inside { Inside S.Store (MakesAll S.Store (mark_row store.now ∷ []))
         tx.old.conn.now tx.new.conn.now result }
+    ensures fault { result ≢ Err ShelfFault.Shape }
 {
     run(
         tx,
@@ -258,6 +291,7 @@ fn clear_old<S: Alter>(tx: &mut Transaction<'_, S>, copied: bool) -> Result<(), 
     ensures inside { Inside S.Store
         (MakesAll S.Store (if copied then clear_statements else []))
         tx.old.conn.now tx.new.conn.now result }
+    ensures fault { result ≢ Err ShelfFault.Shape }
 {
     if !copied {
         return Ok(());
@@ -280,6 +314,7 @@ fn put_tables<S: Alter>(
     ensures open { HasCleanDisk (state S.Store tx.new.conn.now)
         → IsTrue tx.old.conn.now.in_transaction
         → OnOk result (IsTrue (state S.Store tx.old.conn.now).is_open) }
+    ensures fault { result ≢ Err ShelfFault.Shape }
 {
     create_tables(tx)?;
     put_store(tx, store, limits.pages())?;
@@ -305,6 +340,7 @@ fn make_tables<S: Alter>(
         → OnErr result (IsSame (state S.Store conn.old) (state S.Store conn.new)) }
     ensures crash { Survives (state S.Store conn.old) (state S.Store conn.new)
         (LaidBy S.Store (laid store.now copied) conn.old) }
+    ensures fault { result ≢ Err ShelfFault.Shape }
 {
     if !conn.is_autocommit() {
         return Err(ShelfFault::Store);
@@ -330,6 +366,7 @@ fn make_zeros<S: Alter>(
         → OnErr result (IsSame (state S.Store conn.old) (state S.Store conn.new)) }
     ensures crash { Survives (state S.Store conn.old) (state S.Store conn.new)
         (LaidBy S.Store (laid (zeros limits.now) false) conn.old) }
+    ensures fault { result ≢ Err ShelfFault.Shape }
 {
     let store = Store::zeros(alloc, limits)?;
     make_tables(conn, &store, limits, false)
@@ -347,6 +384,8 @@ pub(crate) fn open_tables<S: Alter>(
         (state S.Store conn.new).committed) }
     ensures neither { HasCleanDisk (state S.Store conn.new)
         → OnErr result (IsSame (state S.Store conn.old) (state S.Store conn.new)) }
+    ensures shape { HasCleanDisk (state S.Store conn.new) → result ≡ Err ShelfFault.Shape
+        → Misshapen limits.now (state S.Store conn.old).now }
     ensures crash { Survives (state S.Store conn.old) (state S.Store conn.new)
         (Opened S.Store limits.now conn.old) }
 {

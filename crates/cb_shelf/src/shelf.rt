@@ -1,12 +1,14 @@
 //! The shelf.
-ghost use Rattle.std.specs.Prelude.{◌≡◌, ◌==◌, if◌then◌else◌, Some, None, Err, IsTrue, IfOk, IfErr};
-ghost use Rattle.std.specs.Prelude.{OnOk, OnErr};
+ghost use Rattle.std.specs.Prelude.{◌≡◌, ◌==◌, ◌↔◌, if◌then◌else◌, Some, None, Err, IsTrue};
+ghost use Rattle.std.specs.Prelude.{IfOk, IfErr, OnOk, OnErr};
 ghost use Rattle.sqlite.specs.State.{HasCleanDisk, Survives};
 ghost use Rattle.sqlite.specs.Held.{state};
 ghost use Rattle.cb_commit.specs.Stores.{IsOf};
 ghost use Rattle.cb_statements.specs.Statements.{MakesAll, batch_statements};
 ghost use Rattle.cb_statements.specs.Inside.{IsSame};
-ghost use Rattle.cb_shelf.specs.Opening.{LaysOut, Opened};
+ghost use Rattle.cb_shelf.specs.Opening.{LaysOut, Opened, Misshapen};
+ghost use Rattle.cb_shelf.specs.Reading.{Holds, Misfits};
+ghost use Rattle.cb_shelf.specs.declared.reading.Generation.TheVariants.{Newer};
 ghost use Rattle.cb_statements.specs.Writing.{Fits, Wrote};
 
 use crate::opening::open_tables;
@@ -43,6 +45,9 @@ impl<S: Alter> Shelf<S> {
             (state S.Store shelf.conn).committed) }
         ensures neither { IfErr result (λ refused. HasCleanDisk (state S.Store refused.1)
             → IsSame (state S.Store conn) (state S.Store refused.1)) }
+        ensures shape { IfErr result (λ refused. HasCleanDisk (state S.Store refused.1)
+            → refused.0 ≡ ShelfFault.Shape
+            → Misshapen limits.now (state S.Store conn).now) }
         ensures crash { IfOk result (λ shelf.
             Survives (state S.Store conn) (state S.Store shelf.conn)
             (Opened S.Store limits.now conn)) }
@@ -80,6 +85,10 @@ impl<S: Alter> Shelf<S> {
     /// The store that the tables hold.
     pub fn load(&mut self, alloc: Global) -> Result<Store, ShelfFault>
         ensures of { IfOk result (IsOf self.old.limits) }
+        ensures holds { HasCleanDisk (state S.Store self.new.conn)
+            → IfOk result (Holds Newer (state S.Store self.old.conn).now) }
+        ensures shape { HasCleanDisk (state S.Store self.new.conn) → result ≡ Err ShelfFault.Shape
+            → Misfits Newer self.old.limits (state S.Store self.old.conn).now }
         ensures limits { self.new.limits ≡ self.old.limits }
         ensures same { HasCleanDisk (state S.Store self.new.conn)
             → IsSame (state S.Store self.old.conn) (state S.Store self.new.conn) }
@@ -93,8 +102,8 @@ impl<S: Alter> Shelf<S> {
     pub fn write(&mut self, batch: &Batch) -> Result<(), ShelfFault>
         ensures limits { self.new.limits ≡ self.old.limits }
         ensures fits { OnOk result (Fits self.old.limits batch.now) }
-        ensures shape { ¬ Fits self.old.limits batch.now
-            → (result ≡ Err ShelfFault.Shape) × (self.new ≡ self.old) }
+        ensures shape { (result ≡ Err ShelfFault.Shape) ↔ ¬ Fits self.old.limits batch.now }
+        ensures untouched { result ≡ Err ShelfFault.Shape → self.new ≡ self.old }
         ensures both { HasCleanDisk (state S.Store self.new.conn)
             → OnOk result (MakesAll S.Store (batch_statements batch.now)
             (state S.Store self.old.conn).now (state S.Store self.new.conn).committed) }

@@ -1,5 +1,5 @@
 -- Steps in a transaction, and what follows from several in a row.
-use Rattle.std.proofs.Common.{◌≡◌, ◌⊎◌, inl, inr, ℕ, ◌+◌, List, [], ◌∷◌, ◌++◌, Bool, true, false, cond, is_ok, IfOk, Option, Some, None, Result, Ok, Err, IsTrue, IsErrAnd, OnOk, refl, sym, ap, subst, ◌∙◌, arith}
+use Rattle.std.proofs.Common.{◌≡◌, ◌≢◌, ◌⊎◌, inl, inr, ℕ, ◌+◌, List, [], ◌∷◌, ◌++◌, Bool, true, false, cond, is_ok, IfOk, Option, Some, None, Result, Ok, Err, IsTrue, IsErrAnd, OnOk, refl, sym, ap, subst, ◌∙◌, arith}
 use Rattle.sqlite_schema.specs.declared.command.Returning.{Returning}
 use Rattle.sqlite_resolve.specs.declared.compiled.Compiled.{Compiled}
 use Rattle.std.specs.List.{flat_map, range_with_len}
@@ -23,7 +23,9 @@ use Rattle.sqlite.specs.Steps.{Outlines}
 use Rattle.sqlite.specs.Outline.{Outline}
 use Rattle.sqlite.specs.Listing.{understood}
 use Rattle.sqlite_schema.specs.declared.schema.Schema.{Schema}
-use Rattle.cb_statements.specs.Inside.{Inside, IsAny, IsOfText, Tells, can_answer}
+use Rattle.cb_statements.specs.Inside.{Inside, IsAny, IsNever, IsOfText, Tells, can_answer}
+use Rattle.cb_statements.specs.declared.fault.ShelfFault.{ShelfFault}
+use Rattle.cb_statements.specs.declared.fault.ShelfFault.TheVariants.{Shape}
 
 module _ (old new : State) where
   shows_kept : (sql : List ℕ) (c : Compiled) (params : Row) (rows : List Row) (o : Option Returning) → ShowsRows old new sql c params rows o → IsTrue old.in_transaction
@@ -192,13 +194,14 @@ can_be : (r : Result Compiled CompileError) (outline : Outline) → Outlines r o
 can_be (Ok c) outline h = refl
 can_be (Err e) outline h = absurd h
 
-pub prepared_tells : {S E : Type 0} (g : Ghosts S) (text : List ℕ) (a b : Held S) (outline : Outline)
+pub prepared_tells : {S : Type 0} (g : Ghosts S) (text : List ℕ) (a b : Held S) (outline : Outline)
     → (HasCleanDisk (state g b) → IsUnchanged (state g a) (state g b))
     → (HasCleanDisk (state g b) → Outlines (understood a.schema text) outline)
-    → Tells {X = Bool} {E = E} g (λ schema there. there ≡ can_answer schema text) a b (Ok true)
+    → Tells {X = Bool} g (λ db there. there ≡ can_answer db.schema text) IsNever a b (Ok true)
 prepared_tells g text a b outline same shape = record {
   told = λ clean. can_be (understood a.schema text) outline (shape clean);
-  schema = λ clean. ap (λ (d : Database). d.schema) (same clean).0.now_is;
+  same = λ clean. (same clean).0.now_is;
+  blamed = λ _ wrong. cc;
 }
 
 not_answered : (s : State) (text : List ℕ) (params : Row) (e : Error) → IsNoStatement s text params e → IsOfText e → false ≡ is_ok (understood s.now.schema text)
@@ -218,15 +221,16 @@ module _ (old new : State) where
   text_same : (text : List ℕ) (e : Error) → IsNotRun old new text [] e → IsOfText e → new.now ≡ old.now
   text_same text e h is = (text_refused old new text [] e h is).0.now_is
 
-pub refused_tells : {S E : Type 0} (g : Ghosts S) (text : List ℕ) (a b : Held S) (e : Error) (r : Result Bool E)
+pub refused_tells : {S : Type 0} (g : Ghosts S) (text : List ℕ) (a b : Held S) (e : Error) (r : Result Bool ShelfFault)
     → (HasCleanDisk (state g b) → IsNotRun (state g a) (state g b) text [] e)
-    → OnOk r (IsOfText e) → IfOk r (λ there. there ≡ false)
-    → Tells g (λ schema there. there ≡ can_answer schema text) a b r
-refused_tells g text a b e (Ok there) refused of_text absent = record {
+    → OnOk r (IsOfText e) → IfOk r (λ there. there ≡ false) → r ≢ Err Shape
+    → Tells g (λ db there. there ≡ can_answer db.schema text) IsNever a b r
+refused_tells g text a b e (Ok there) refused of_text absent never = record {
   told = λ clean. absent ∙ text_unanswered (state g a) (state g b) text e (refused clean) of_text;
-  schema = λ clean. ap (λ (d : Database). d.schema) (text_same (state g a) (state g b) text e (refused clean) of_text);
+  same = λ clean. text_same (state g a) (state g b) text e (refused clean) of_text;
+  blamed = λ _ wrong. cc;
 }
-refused_tells g text a b e (Err fault) refused of_text absent = record { told = λ _. tt; schema = λ _. tt }
+refused_tells g text a b e (Err fault) refused of_text absent never = record { told = λ _. tt; same = λ _. tt; blamed = λ _ is. never is }
 
 pub two_bound : {v w x y : Value} → v ≡ x → w ≡ y → bound_value v ∷ bound_value w ∷ [] ≡ bound_value x ∷ bound_value y ∷ []
 two_bound is also = rw (is, also)

@@ -1,5 +1,5 @@
 -- What a step inside a transaction does, and what a connection keeps.
-use Rattle.std.specs.Prelude.{◌≡◌, ℕ, Bool, List, IsTrue, IfOk, OnOk, Result, is_ok}
+use Rattle.std.specs.Prelude.{◌≡◌, ℕ, Bool, List, IsTrue, IfOk, OnOk, Result, Err, is_ok}
 use Rattle.sqlite_schema.specs.declared.schema.Schema.{Schema}
 use Rattle.sqlite.specs.Store.{Ghosts}
 use Rattle.sqlite.specs.declared.error.Error.{Error}
@@ -8,6 +8,8 @@ use Rattle.sqlite.specs.Effect.{Database}
 use Rattle.sqlite.specs.State.{State, HasCleanDisk, KeepsCommit, Survives}
 use Rattle.sqlite.specs.Held.{Held, state}
 use Rattle.sqlite.specs.Listing.{understood}
+use Rattle.cb_statements.specs.declared.fault.ShelfFault.{ShelfFault}
+use Rattle.cb_statements.specs.declared.fault.ShelfFault.TheVariants.{Shape}
 
 -- A step inside a transaction: where it is answered the database becomes another one and the
 -- transaction goes on; nothing is committed, and no crash leaves anything new.
@@ -19,11 +21,18 @@ pub record Inside {S X E : Type 0} (g : Ghosts S) (Becomes : Database → Databa
       → KeepsCommit (state g before) (state g after)
   pub survives : Survives (state g before) (state g after) (λ _. ⊥)
 
--- A question about the schema: where it is answered the answer is so of it, and it is as it was.
-pub record Tells {S X E : Type 0} (g : Ghosts S) (Told : Schema → X → Type 0)
-    (before after : Held S) (result : Result X E) : Type 0 where
-  pub told : HasCleanDisk (state g after) → IfOk result (Told before.schema)
-  pub schema : HasCleanDisk (state g after) → OnOk result (after.schema ≡ before.schema)
+-- A question about the database: where it is answered the answer is so of it, and it is as it was;
+-- where the tables are blamed, they are amiss.
+pub record Tells {S X : Type 0} (g : Ghosts S) (Told : Database → X → Type 0)
+    (Amiss : Database → Type 0) (before after : Held S) (result : Result X ShelfFault) :
+    Type 0 where
+  pub told : HasCleanDisk (state g after) → IfOk result (Told (state g before).now)
+  pub same : HasCleanDisk (state g after) → OnOk result ((state g after).now ≡ (state g before).now)
+  pub blamed : HasCleanDisk (state g after) → result ≡ Err Shape → Amiss (state g before).now
+
+-- the tables are never blamed
+abbrev pub IsNever : Database → Type 0
+IsNever db = ⊥
 
 -- whatever the database becomes
 abbrev pub IsAny : Database → Database → Type 0

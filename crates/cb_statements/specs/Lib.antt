@@ -2,3 +2,4 @@ pub mod Faults
 pub mod Statements
 pub mod Inside
 pub mod Writing
+pub mod Asking

@@ -1,10 +1,11 @@
 //! One statement inside a transaction.
-ghost use Rattle.std.specs.Prelude.{◌≡◌, [], ◌∷◌, false, IsTrue, IfOk, OnOk};
+ghost use Rattle.std.specs.Prelude.{◌≡◌, ◌≢◌, [], ◌∷◌, false, IsTrue, IfOk, OnOk, Err};
 ghost use Rattle.sqlite.specs.Values.{bound};
 ghost use Rattle.sqlite.specs.State.{HasCleanDisk};
 ghost use Rattle.sqlite.specs.Held.{state};
 ghost use Rattle.cb_statements.specs.Statements.{MakesAll};
-ghost use Rattle.cb_statements.specs.Inside.{Inside, IsAny, IsOfText, Tells, can_answer};
+ghost use Rattle.cb_statements.specs.Inside.{Inside, IsAny, IsNever, IsOfText, Tells, can_answer};
+ghost use Rattle.cb_statements.specs.Asking.{IsQuestion, Replies};
 
 use crate::ShelfFault;
 use sqlite::types::ValueRef;
@@ -23,6 +24,7 @@ pub fn run<S: Alter>(
     ensures open { HasCleanDisk (state S.Store tx.new.conn.now)
         → IsTrue tx.old.conn.now.in_transaction
         → OnOk result (IsTrue (state S.Store tx.old.conn.now).is_open) }
+    ensures fault { result ≢ Err ShelfFault.Shape }
 {
     tx.execute(text, params)?;
     Ok(())
@@ -36,6 +38,9 @@ pub fn ask<S: Alter>(
 ) -> Result<Vec<Row>, ShelfFault>
     ensures same_reference { tx.new.conn.ghost_name ≡ tx.old.conn.ghost_name }
     ensures inside { Inside S.Store IsAny tx.old.conn.now tx.new.conn.now result }
+    ensures tells { IsQuestion text.now → Tells S.Store
+        (λ db rows. Replies db (record { text = text.now; params = bound params.now }) rows.items)
+        IsNever tx.old.conn.now tx.new.conn.now result }
 {
     let rows = tx.query_all(text, params)?;
     Ok(rows)
@@ -45,7 +50,7 @@ pub fn ask<S: Alter>(
 pub fn is_there<S: Alter>(tx: &mut Transaction<'_, S>, text: &str) -> Result<bool, ShelfFault>
     ensures same_reference { tx.new.conn.ghost_name ≡ tx.old.conn.ghost_name }
     ensures inside { Inside S.Store IsAny tx.old.conn.now tx.new.conn.now result }
-    ensures tells { Tells S.Store (λ schema there. there ≡ can_answer schema text.now)
+    ensures tells { Tells S.Store (λ db there. there ≡ can_answer db.schema text.now) IsNever
         tx.old.conn.now tx.new.conn.now result }
 {
     let Err(error) = tx.prepare(text) else {
@@ -58,6 +63,7 @@ pub fn is_there<S: Alter>(tx: &mut Transaction<'_, S>, text: &str) -> Result<boo
 fn absent(error: Error) -> Result<bool, ShelfFault>
     ensures text { OnOk result (IsOfText error) }
     ensures absent { IfOk result (λ there. there ≡ false) }
+    ensures fault { result ≢ Err ShelfFault.Shape }
 {
     match error {
         Error::SqlInputError(_) => Ok(false),

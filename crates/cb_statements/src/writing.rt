@@ -1,5 +1,5 @@
 //! The statements that write a batch or a whole store.
-ghost use Rattle.std.specs.Prelude.{◌≡◌, [], ◌∷◌, ◌<◌, ◌↔◌, length, IsTrue, OnOk, OnErr};
+ghost use Rattle.std.specs.Prelude.{◌≡◌, ◌≢◌, [], ◌∷◌, ◌<◌, ◌↔◌, length, Err, IsTrue, OnOk, OnErr};
 ghost use Rattle.sqlite.specs.State.{HasCleanDisk, Survives};
 ghost use Rattle.sqlite.specs.Held.{state};
 ghost use Rattle.cb_statements.specs.Statements.{MakesAll, part_at, part_count, part_statement};
@@ -50,6 +50,7 @@ fn put_part<S: Alter>(
     ensures same_reference { tx.new.conn.ghost_name ≡ tx.old.conn.ghost_name }
     ensures inside { Inside S.Store (MakesAll S.Store (part_statement page bytes.now place ∷ []))
         tx.old.conn.now tx.new.conn.now result }
+    ensures fault { result ≢ Err ShelfFault.Shape }
 {
     let body = part(bytes, place);
     run(
@@ -69,6 +70,7 @@ fn put_parts<S: Alter>(
     ensures inside { Inside S.Store
         (MakesAll S.Store (part_statements page bytes.now (part_count (length bytes.now))))
         tx.old.conn.now tx.new.conn.now result }
+    ensures fault { result ≢ Err ShelfFault.Shape }
 {
     for place in 0..part_count(bytes.len()) {
         put_part(tx, page, bytes, place)?;
@@ -85,6 +87,7 @@ fn put_version<S: Alter>(
     ensures same_reference { tx.new.conn.ghost_name ≡ tx.old.conn.ghost_name }
     ensures inside { Inside S.Store (MakesAll S.Store (page_statement page version ∷ []))
         tx.old.conn.now tx.new.conn.now result }
+    ensures fault { result ≢ Err ShelfFault.Shape }
 {
     run(
         tx,
@@ -103,6 +106,7 @@ pub fn put_page<S: Alter>(
     ensures same_reference { tx.new.conn.ghost_name ≡ tx.old.conn.ghost_name }
     ensures inside { Inside S.Store (MakesAll S.Store (page_statements page version bytes.now))
         tx.old.conn.now tx.new.conn.now result }
+    ensures fault { result ≢ Err ShelfFault.Shape }
 {
     put_version(tx, page, version)?;
     put_parts(tx, page, bytes)
@@ -113,6 +117,7 @@ fn put_pages<S: Alter>(tx: &mut Transaction<'_, S>, pages: &[BatchPage]) -> Resu
     ensures same_reference { tx.new.conn.ghost_name ≡ tx.old.conn.ghost_name }
     ensures inside { Inside S.Store (MakesAll S.Store (pages_statements pages.now))
         tx.old.conn.now tx.new.conn.now result }
+    ensures fault { result ≢ Err ShelfFault.Shape }
 {
     for page in pages {
         put_page(tx, page.page, page.version, page.bytes.as_slice())?;
@@ -125,6 +130,7 @@ fn put_mark<S: Alter>(tx: &mut Transaction<'_, S>, number: CommitNo) -> Result<(
     ensures same_reference { tx.new.conn.ghost_name ≡ tx.old.conn.ghost_name }
     ensures inside { Inside S.Store (MakesAll S.Store (mark_statement number ∷ []))
         tx.old.conn.now tx.new.conn.now result }
+    ensures fault { result ≢ Err ShelfFault.Shape }
 {
     run(
         tx,
@@ -138,6 +144,7 @@ fn put_batch<S: Alter>(tx: &mut Transaction<'_, S>, batch: &Batch) -> Result<(),
     ensures same_reference { tx.new.conn.ghost_name ≡ tx.old.conn.ghost_name }
     ensures inside { Inside S.Store (MakesAll S.Store (batch_statements batch.now))
         tx.old.conn.now tx.new.conn.now result }
+    ensures fault { result ≢ Err ShelfFault.Shape }
 {
     put_pages(tx, batch.pages())?;
     put_mark(tx, batch.number())
@@ -160,6 +167,7 @@ pub fn write_batch<S: Alter>(conn: &mut Connection<S>, batch: &Batch) -> Result<
         → OnErr result (IsSame (state S.Store conn.old) (state S.Store conn.new)) }
     ensures crash { Survives (state S.Store conn.old) (state S.Store conn.new)
         (Wrote S.Store batch.now conn.old) }
+    ensures fault { result ≢ Err ShelfFault.Shape }
 {
     if !conn.is_autocommit() {
         return Err(ShelfFault::Store);

@@ -2,6 +2,7 @@ use Rattle.std.proofs.Common.{◌≡◌, subst, rules}
 use Rattle.sqlite.specs.State.{Survives}
 use Rattle.sqlite.specs.Held.{Held, state}
 use Rattle.cb_shelf.specs.Opening.{laid, LaidBy}
+use Rattle.cb_statements.proofs.Asking.{never_from}
 use Rattle.cb_shelf.proofs.Settling.{commit_survives}
 use Rattle.cb_shelf.proofs.opening.make_tables.Goals as goal
 
@@ -20,3 +21,6 @@ returns-clause-crash g c =
     subst (λ (h : Held g.row.S.Denot). Survives (state g.S.Store c.args.conn.now) (state g.S.Store h) (LaidBy g.S.Store (laid c.args.store.now c.args.copied) c.args.conn.now)) same
     (commit_survives g.S.Store (laid c.args.store.now c.args.copied) c.args.conn.now c.put_tables.new.tx.conn.now c.commit.new.self.0
     (rw begun at c.in_ok-put_tables.ensures.inside) (rw begun at c.in_ok-put_tables.ensures.open) c.commit.ensures.survives)
+
+pub returns-in_err-commit-clause-fault : goal.returns-in_err-commit-clause-fault
+returns-in_err-commit-clause-fault g c = never_from _ c.from_residual-in_err-commit.result c.from_residual-in_err-commit.ensures.1

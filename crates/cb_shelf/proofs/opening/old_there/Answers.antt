@@ -1,14 +1,22 @@
-use Rattle.cb_shelf.specs.Opening.{HasOld}
-use Rattle.cb_shelf.proofs.Telling.{tells_then, tells_nothing, both_told}
+use Rattle.std.proofs.Common.{◌≡◌, Err, rules}
+use Rattle.cb_statements.specs.Inside.{IsNever}
+use Rattle.cb_statements.proofs.Asking.{tells_then, tells_refused, tells_stops}
+use Rattle.cb_shelf.proofs.Telling.{both_told, both_missed}
 use Rattle.cb_shelf.proofs.opening.old_there.Goals as goal
 
 pub returns-in_err-page-clause-tells : goal.returns-in_err-page-clause-tells
-returns-in_err-page-clause-tells g c = tells_nothing HasOld _ _ _ _ c.from_residual.ensures.1
+returns-in_err-page-clause-tells g c =
+    let same : c.from_residual.result ≡ Err c.in_err-page.field-0.0 = search rules in
+    tells_refused g.S.Store _ _ _ _ IsNever _ _ _ same (λ db wrong. absurd wrong) c.in_err-page.ensures.tells
 
 pub returns-in_err-mark-clause-tells : goal.returns-in_err-mark-clause-tells
-returns-in_err-mark-clause-tells g c = tells_nothing HasOld _ _ _ _ c.from_residual-in_err-mark.ensures.1
+returns-in_err-mark-clause-tells g c =
+    let same : c.from_residual-in_err-mark.result ≡ Err c.in_err-mark.field-0.0 = search rules in
+    tells_stops g.S.Store _ _ _ _ _ _ _ IsNever _ _ _ _ same (λ db first wrong. absurd wrong) c.in_ok-page.ensures.tells c.in_err-mark.ensures.tells c.in_err-mark.ensures.inside.survives
 
 pub returns-clause-tells : goal.returns-clause-tells
 returns-clause-tells g c =
-    tells_then g.S.Store _ _ _ _ _ HasOld _ _ _ (λ schema first second. both_told c.both_or_none.result _ _ _ _ c.both_or_none.ensures.ok first second)
+    tells_then g.S.Store _ _ _ _ _ _ _ _ _ _ _ c.both_or_none.result
+    (λ db first second. both_told c.both_or_none.result _ _ _ _ c.both_or_none.ensures.ok first second)
+    (λ db first second. both_missed c.both_or_none.result _ _ _ _ c.both_or_none.ensures.err first second)
     c.in_ok-page.ensures.tells c.in_ok-mark.ensures.tells c.in_ok-mark.ensures.inside.survives

@@ -10,4 +10,4 @@ returns-clause-inside g c =
 pub returns-clause-tells : goal.returns-clause-tells
 returns-clause-tells g c =
     refused_tells g.S.Store c.args.text.now c.args.tx.now.conn.now c.prepare.new.self.conn.now c.in-Err.error c.absent.result
-    (λ clean. c.in-Err.ensures.err clean []) c.absent.ensures.text c.absent.ensures.absent
+    (λ clean. c.in-Err.ensures.err clean []) c.absent.ensures.text c.absent.ensures.absent c.absent.ensures.fault
