@@ -1,9 +1,12 @@
 //! A client alone, as a list plays it: number 0 at incarnation 1, over 2Q of the limits.
+//!
+//! A call that memory was refused for is made once more: it changed nothing, so that where one
+//! growth of the client's is refused the same is printed as where none is.
 
 use crate::frames::{put_digits, put_frame, put_frames};
 use crate::words::{bytes, is_opening, limits, not_a_line, page};
 use cb_client::{Client, ClientFault, Outcome, ReadAnswer, WantAnswer};
-use cb_frame::Frame;
+use cb_frame::{BytesFault, Frame, FrameFault};
 use cb_page::{ClientNo, Incarnation, Limits, PageNo};
 use cb_twoq::{Chooser, TwoQ};
 use std::alloc::Global;
@@ -74,6 +77,20 @@ fn take<O: Write>(
     take_bytes(alloc, client, bytes.as_slice(), out)
 }
 
+/// What the client answers to the frame that the bytes begin with.
+fn taken(
+    alloc: Global,
+    client: &mut Client<TwoQ>,
+    bytes: &[u8],
+) -> Result<(Vec<Frame>, usize), BytesFault<ClientFault>> {
+    match client.take_bytes(alloc, bytes) {
+        Err(BytesFault::Taker(ClientFault::Memory) | BytesFault::Frame(FrameFault::Memory)) => {
+            client.take_bytes(alloc, bytes)
+        }
+        answer => answer,
+    }
+}
+
 /// A frame of these bytes comes.
 fn take_bytes<O: Write>(
     alloc: Global,
@@ -81,7 +98,7 @@ fn take_bytes<O: Write>(
     bytes: &[u8],
     out: &mut O,
 ) -> io::Result<()> {
-    match client.take_bytes(alloc, bytes) {
+    match taken(alloc, client, bytes) {
         Ok((frames, _)) => put_frames(alloc, client.limits(), frames.as_slice(), out),
         Err(fault) => writeln!(out, "! {fault:?}"),
     }
@@ -90,7 +107,11 @@ fn take_bytes<O: Write>(
 /// What is unanswered is sent again.
 fn say_again<O: Write>(alloc: Global, client: &Client<TwoQ>, out: &mut O) -> io::Result<()> {
     writeln!(out, "again")?;
-    match client.again(alloc) {
+    let said = match client.again(alloc) {
+        Err(ClientFault::Memory) => client.again(alloc),
+        said => said,
+    };
+    match said {
         Ok(frames) => put_frames(alloc, client.limits(), frames.as_slice(), out),
         Err(fault) => refused("again", fault, out),
     }
@@ -111,7 +132,11 @@ fn begin<O: Write>(client: &mut Client<TwoQ>, out: &mut O) -> io::Result<()> {
 
 /// The transaction is committed.
 fn finish<O: Write>(alloc: Global, client: &mut Client<TwoQ>, out: &mut O) -> io::Result<()> {
-    match client.finish(alloc) {
+    let finished = match client.finish(alloc) {
+        Err(ClientFault::Memory) => client.finish(alloc),
+        finished => finished,
+    };
+    match finished {
         Ok(frame) => put_finished(alloc, client.limits(), &frame, out),
         Err(fault) => refused("finish", fault, out),
     }
@@ -130,7 +155,11 @@ fn put_finished<O: Write>(
 
 /// The transaction is dropped.
 fn drop_txn<O: Write>(alloc: Global, client: &mut Client<TwoQ>, out: &mut O) -> io::Result<()> {
-    match client.drop_txn(alloc) {
+    let dropped = match client.drop_txn(alloc) {
+        Err(ClientFault::Memory) => client.drop_txn(alloc),
+        dropped => dropped,
+    };
+    match dropped {
         Ok(frames) => put_dropped(alloc, client.limits(), frames.as_slice(), out),
         Err(fault) => refused("drop", fault, out),
     }

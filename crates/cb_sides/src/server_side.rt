@@ -1,12 +1,15 @@
 //! A server alone, as a list plays it, over a store of zeros.
+//!
+//! A call that memory was refused for is made once more: it changed nothing, so that where one
+//! growth of the server's is refused the same is printed as where none is.
 
 use crate::frames::{put_digits, put_frames};
 use crate::words::{bytes, is_opening, limits, not_a_line, number};
 use cb_commit::{Batch, Store};
-use cb_frame::BytesFault;
+use cb_frame::{BytesFault, Frame, FrameFault};
 use cb_page::{CommitNo, Limits};
-use cb_server::Server;
-use std::alloc::Global;
+use cb_server::{Server, ServerFault};
+use std::alloc::{AllocError, Global};
 use std::io;
 use std::io::Write;
 
@@ -72,6 +75,20 @@ fn take<O: Write>(alloc: Global, server: &mut Server, digits: &str, out: &mut O)
     take_bytes(alloc, server, bytes.as_slice(), out)
 }
 
+/// What the server answers to the frame that the bytes begin with.
+fn taken(
+    alloc: Global,
+    server: &mut Server,
+    bytes: &[u8],
+) -> Result<(Vec<Frame>, usize), BytesFault<ServerFault>> {
+    match server.take_bytes(alloc, bytes) {
+        Err(BytesFault::Taker(ServerFault::Memory) | BytesFault::Frame(FrameFault::Memory)) => {
+            server.take_bytes(alloc, bytes)
+        }
+        answer => answer,
+    }
+}
+
 /// A frame of these bytes comes.
 fn take_bytes<O: Write>(
     alloc: Global,
@@ -79,7 +96,7 @@ fn take_bytes<O: Write>(
     bytes: &[u8],
     out: &mut O,
 ) -> io::Result<()> {
-    match server.take_bytes(alloc, bytes) {
+    match taken(alloc, server, bytes) {
         Ok((frames, _)) => put_frames(alloc, server.limits(), frames.as_slice(), out),
         Err(BytesFault::Taker(fault)) => writeln!(out, "! {fault:?}"),
         Err(BytesFault::Frame(fault)) => writeln!(out, "! {fault:?}"),
@@ -89,13 +106,20 @@ fn take_bytes<O: Write>(
 /// What is unanswered is sent again.
 fn say_again<O: Write>(alloc: Global, server: &mut Server, out: &mut O) -> io::Result<()> {
     writeln!(out, "again")?;
-    let frames = server.again(alloc)?;
+    let frames = match server.again(alloc) {
+        Err(AllocError) => server.again(alloc)?,
+        Ok(frames) => frames,
+    };
     put_frames(alloc, server.limits(), frames.as_slice(), out)
 }
 
 /// What there is to write to the disk.
 fn batch<O: Write>(alloc: Global, server: &Server, out: &mut O) -> io::Result<()> {
-    match server.batch(alloc)? {
+    let batch = match server.batch(alloc) {
+        Err(AllocError) => server.batch(alloc)?,
+        Ok(batch) => batch,
+    };
+    match batch {
         Some(batch) => put_batch(alloc, &batch, out),
         None => writeln!(out, "batch none"),
     }
@@ -118,7 +142,10 @@ fn flush<O: Write>(alloc: Global, server: &mut Server, number: u64, out: &mut O)
     match CommitNo::checked(number) {
         Some(commit) if server.can_flush(commit) => {
             writeln!(out, "flushed {number}")?;
-            let frames = server.flushed(alloc, commit)?;
+            let frames = match server.flushed(alloc, commit) {
+                Err(AllocError) => server.flushed(alloc, commit)?,
+                Ok(frames) => frames,
+            };
             put_frames(alloc, server.limits(), frames.as_slice(), out)
         }
         _ => writeln!(out, "cannot flush {number}"),

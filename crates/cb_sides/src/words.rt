@@ -1,6 +1,7 @@
 //! The words of a line.
 
 use cb_page::{Limits, PageNo};
+use hex::FromHexError;
 use std::alloc::Global;
 use std::io;
 use std::str::SplitWhitespace;
@@ -38,7 +39,11 @@ pub(crate) fn page(words: &mut SplitWhitespace<'_>) -> io::Result<PageNo> {
 
 /// The bytes that a word of hexadecimal digits spells.
 pub(crate) fn bytes(alloc: Global, digits: &str) -> io::Result<Vec<u8>> {
-    hex::decode(alloc, digits).map_err(|_| not_a_line())
+    match hex::decode(alloc, digits) {
+        Ok(bytes) => Ok(bytes),
+        Err(FromHexError::OutOfMemory) => Err(io::Error::from(io::ErrorKind::OutOfMemory)),
+        Err(_) => Err(not_a_line()),
+    }
 }
 
 /// The number behind the next word, which is its name.

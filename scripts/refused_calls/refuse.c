@@ -1,0 +1,48 @@
+// Counts the growths of a program, refuses one of them, and tells at the end how many there were.
+//
+// Loaded before the C library (LD_PRELOAD). REFUSED is the number of the growth that is refused,
+// counted from 1; with 0 none is. The last line on the standard error is the count.
+#define _GNU_SOURCE
+#include <dlfcn.h>
+#include <errno.h>
+#include <stdio.h>
+#include <stdlib.h>
+#include <unistd.h>
+
+static unsigned long growths, refused;
+
+__attribute__((constructor)) static void begin(void) {
+  const char *number = getenv("REFUSED");
+  refused = number ? strtoul(number, NULL, 10) : 0;
+  growths = 0;
+}
+
+__attribute__((destructor)) static void end(void) {
+  char line[32];
+  int length = snprintf(line, sizeof line, "%lu\n", growths);
+  if (write(2, line, length) != length) _exit(9);
+}
+
+static int is_refused(void) {
+  if (++growths != refused) return 0;
+  errno = ENOMEM;
+  return 1;
+}
+
+void *malloc(size_t size) {
+  static void *(*real)(size_t);
+  if (!real) real = dlsym(RTLD_NEXT, "malloc");
+  return is_refused() ? NULL : real(size);
+}
+
+void *realloc(void *old, size_t size) {
+  static void *(*real)(void *, size_t);
+  if (!real) real = dlsym(RTLD_NEXT, "realloc");
+  return is_refused() ? NULL : real(old, size);
+}
+
+void *aligned_alloc(size_t alignment, size_t size) {
+  static void *(*real)(size_t, size_t);
+  if (!real) real = dlsym(RTLD_NEXT, "aligned_alloc");
+  return is_refused() ? NULL : real(alignment, size);
+}
