@@ -1,0 +1,2 @@
+pub mod Posting
+pub mod Dispatching

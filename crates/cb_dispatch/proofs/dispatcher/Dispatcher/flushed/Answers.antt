@@ -1,0 +1,29 @@
+use Rattle.std.proofs.Common.{◌≡◌, ◌<◌, ℕ, [], length, ◌∙◌, ap, sym, subst}
+use Rattle.std.proofs.lemmas.List.{length-set}
+use Rattle.cb_dispatch.proofs.Dispatching.{by_server, on_err, posts, unchanged, unchanged_too}
+use Rattle.cb_dispatch.specs.Dispatching.{DispatcherState, Everybody, IsUnchanged, Others, Posts, emptied, outbox_of, server_of, without_oldest}
+use Rattle.cb_dispatch.specs.Outboxes.{AsBefore, OutboxesState, current_in, outbox_in}
+use Rattle.cb_protocol.specs.AnyMessages.{MessageComes, ReachesDisk}
+use Rattle.cb_protocol.specs.Messages.{Hello}
+use Rattle.cb_server.specs.Taking.{input_of}
+use Rattle.cb_dispatch.proofs.dispatcher.Dispatcher.flushed.Goals as goal
+
+pub returns-in_err-make_ready-clause-unchanged : goal.returns-in_err-make_ready-clause-unchanged
+returns-in_err-make_ready-clause-unchanged c =
+    let d : DispatcherState = record { server = c.self.inside.server; outboxes = c.self.inside.outboxes } in
+    let ready = by_server c.self.inside.server c.holdings.result.now c.self.inside.outboxes c.make_ready.new.self c.holdings.ensures.value c.make_ready.ensures.as_before in
+    on_err c.from_residual.result _ (subst (λ (v : DispatcherState). IsUnchanged v (record { server = c.self.inside.server; outboxes = c.make_ready.new.self })) c.self.view_is (unchanged d c.make_ready.new.self ready))
+
+pub returns-in_err-said-clause-unchanged : goal.returns-in_err-said-clause-unchanged
+returns-in_err-said-clause-unchanged c =
+    let d : DispatcherState = record { server = c.self.inside.server; outboxes = c.self.inside.outboxes } in
+    let ready = by_server c.self.inside.server c.holdings.result.now c.self.inside.outboxes c.make_ready.new.self c.holdings.ensures.value c.make_ready.ensures.as_before in
+    on_err c.from_residual-in_err-said.result _ (subst (λ (v : DispatcherState). IsUnchanged v (record { server = c.flushed.new.self; outboxes = c.make_ready.new.self })) c.self.view_is
+    (unchanged_too d c.make_ready.new.self c.flushed.new.self ready c.in_err-said.ensures.unchanged))
+
+pub returns-clause-ok : goal.returns-clause-ok
+returns-clause-ok c =
+    let d : DispatcherState = record { server = c.self.inside.server; outboxes = c.self.inside.outboxes } in
+    let ready = by_server c.self.inside.server c.holdings.result.now c.self.inside.outboxes c.make_ready.new.self c.holdings.ensures.value c.make_ready.ensures.as_before in
+    subst (λ (v : DispatcherState). Posts v (ReachesDisk c.args.number) (outbox_of v) Everybody (record { server = c.flushed.new.self; outboxes = c.put.new.self })) c.self.view_is
+    (posts d (ReachesDisk c.args.number) c.make_ready.new.self c.flushed.new.self c.in_ok-said.said.items ready c.in_ok-make_ready.ensures.ready c.in_ok-said.ensures.ok c.put.new.self c.put.ensures.boxes c.put.ensures.late)

@@ -1,0 +1,243 @@
+//! The type, its opening, what it takes, and what it shows.
+ghost use Rattle.std.specs.Prelude.{◌≡◌, ◌<◌, ℕ, [], slice_get, IfErr, IfOk, IfSome, OnErr, OnOk};
+ghost use Rattle.std.specs.Prelude.{true, false, not, ◌==◌};
+ghost use Rattle.std.specs.List.{AllByRecursion, filter};
+ghost use Rattle.std.specs.Option.{option_map};
+ghost use Rattle.cb_commit.specs.History.{CatchesUp};
+ghost use Rattle.cb_commit.specs.Stores.{IsOf};
+ghost use Rattle.cb_dispatch.specs.Dispatching.{Everybody, IsUnchanged, Others, Posts, emptied};
+ghost use Rattle.cb_dispatch.specs.Dispatching.{outbox_of, server_of, without_oldest};
+ghost use Rattle.cb_frame_types.specs.Grammar.{Fits};
+ghost use Rattle.cb_holdings.specs.Commits.{batch_of};
+ghost use Rattle.cb_outbox.specs.Messages.{body_of, messages_of};
+ghost use Rattle.cb_protocol.specs.AnyMessages.{MessageComes, ReachesDisk};
+ghost use Rattle.cb_protocol.specs.Flush.{can_flush, next_batch};
+ghost use Rattle.cb_protocol.specs.Messages.{Hello};
+ghost use Rattle.cb_protocol.specs.ServerMessages.{is_exhausted};
+ghost use Rattle.cb_server.specs.ServerState.{IsNew, IsServer, IsUnchanged as IsSame, commits_of};
+ghost use Rattle.cb_server.specs.Taking.{Does, input_of, is_exhaustion};
+
+use crate::outboxes::Outboxes;
+use cb_commit::{Batch, Store};
+use cb_frame::{Frame, ShortBody, ShortFrame};
+use cb_holdings::Holdings;
+use cb_page::{ClientNo, CommitNo, Incarnation, Limits};
+use cb_server::{Server, ServerFault};
+use std::alloc::{AllocError, Global};
+use std::marker::Model;
+
+/// A server, and an outbox for each of its clients.
+///
+/// Every call but `limits`, `holdings` and `can_flush` takes memory.
+#[derive(Drop)]
+pub struct Dispatcher {
+    server: Server,
+    outboxes: Outboxes,
+}
+
+impl Model for Dispatcher {
+    ghost use Rattle.std.specs.Prelude.{◌≡◌, length};
+    ghost use Rattle.cb_dispatch.specs.Dispatching.{DispatcherState};
+
+    ghost Value = { DispatcherState };
+
+    ghost view = { λ d. record { server = d.server; outboxes = d.outboxes } };
+
+    ghost invariant = { λ d. length d.outboxes.boxes ≡ d.server.limits.clients };
+}
+
+impl Dispatcher {
+    /// A server over a store, all of which counts as on disk. No client is known, and nothing is to
+    /// be sent.
+    ///
+    /// It copies the store. `AllocError` only where memory was refused.
+    pub fn new(alloc: Global, limits: &Limits, store: Store) -> Result<Dispatcher, AllocError>
+        requires { IsOf limits.now store }
+        ensures new { IfOk result (λ d. IsNew limits.now store d.server) }
+        ensures outbox { IfOk result (λ d. (client : ℕ) → outbox_of d client ≡ []) }
+        ensures arose { IfOk result (λ d. IsServer d.server) }
+    {
+        let outboxes = Outboxes::new(alloc, limits.clients())?;
+        let server = Server::new(alloc, limits, store)?;
+        // A new server has arisen.
+        let _arose = server.limits();
+        Ok(Dispatcher { server, outboxes })
+    }
+
+    /// The limits of its store and its clients.
+    pub fn limits(&self) -> &Limits
+        ensures value { result.now ≡ self.now.server.limits }
+        ensures arose { IsServer self.now.server }
+    {
+        self.server.limits()
+    }
+
+    /// What the server has of its clients and pages.
+    pub fn holdings(&self) -> &Holdings
+        ensures { result.now ≡ self.now.server.tables.holdings }
+    {
+        self.server.holdings()
+    }
+
+    /// The server takes a frame. `Exhausted` only where the server has no number left for it; and
+    /// `Memory` only where a growth was refused, which may be so where no number is left too.
+    pub fn take(&mut self, alloc: Global, frame: Frame) -> Result<(), ServerFault>
+        requires { Fits self.old.server.limits frame }
+        ensures ok { OnOk result
+            (Posts self.old (input_of frame) (outbox_of self.old) Everybody self.new) }
+        ensures taken { OnOk result (is_exhausted (server_of self.old) frame.client
+            frame.incarnation (body_of frame.body) ≡ false) }
+        ensures arose { OnOk result (IsServer self.new.server) }
+        ensures exhausted { IfErr result (λ fault. is_exhaustion fault ≡ true
+            → is_exhausted (server_of self.old) frame.client frame.incarnation
+            (body_of frame.body) ≡ true) }
+        ensures unchanged { OnErr result (IsUnchanged self.old self.new) }
+    {
+        self.outboxes.make_ready(self.server.holdings())?;
+        let said = self.server.take(alloc, frame)?;
+        self.outboxes.put(said);
+        // The server still arises by the protocol's steps.
+        let _arose = self.server.limits();
+        Ok(())
+    }
+
+    /// The server takes the Hello of a client's incarnation. What was to be sent to the client goes
+    /// before.
+    ///
+    /// `AllocError` only where memory was refused.
+    pub fn greet(
+        &mut self,
+        alloc: Global,
+        client: ClientNo,
+        incarnation: Incarnation,
+    ) -> Result<(), AllocError>
+        requires { client < self.old.server.limits.clients }
+        ensures ok { OnOk result (Posts self.old (MessageComes client incarnation Hello)
+            (emptied (outbox_of self.old) client) Everybody self.new) }
+        ensures arose { OnOk result (IsServer self.new.server) }
+        ensures unchanged { OnErr result (IsUnchanged self.old self.new) }
+    {
+        self.outboxes.make_ready(self.server.holdings())?;
+        let said = hello(&mut self.server, alloc, client, incarnation)?;
+        self.outboxes.clear(client);
+        self.outboxes.put(said);
+        // The server still arises by the protocol's steps.
+        let _arose = self.server.limits();
+        Ok(())
+    }
+
+    /// As `greet`, and nothing is sent to the client: nobody is that incarnation.
+    ///
+    /// `AllocError` only where memory was refused.
+    pub fn dismiss(
+        &mut self,
+        alloc: Global,
+        client: ClientNo,
+        incarnation: Incarnation,
+    ) -> Result<(), AllocError>
+        requires { client < self.old.server.limits.clients }
+        ensures ok { OnOk result (Posts self.old (MessageComes client incarnation Hello)
+            (outbox_of self.old) (Others client) self.new) }
+        ensures silent { OnOk result (outbox_of self.new client ≡ []) }
+        ensures arose { OnOk result (IsServer self.new.server) }
+        ensures unchanged { OnErr result (IsUnchanged self.old self.new) }
+    {
+        self.outboxes.make_ready(self.server.holdings())?;
+        let mut said = hello(&mut self.server, alloc, client, incarnation)?;
+        keep_others(&mut said, client);
+        self.outboxes.clear(client);
+        self.outboxes.put(said);
+        // The server still arises by the protocol's steps.
+        let _arose = self.server.limits();
+        Ok(())
+    }
+
+    /// The oldest frame to the client; `None` exactly where its outbox is empty.
+    ///
+    /// `AllocError` only where memory was refused; nothing is taken then.
+    pub fn collect(&mut self, client: ClientNo) -> Result<Option<Frame>, AllocError>
+        requires { client < self.old.server.limits.clients }
+        ensures oldest { IfOk result (λ frame.
+            frame ≡ slice_get (outbox_of self.old client) 0) }
+        ensures rest { OnOk result ((other : ℕ) → outbox_of self.new other
+            ≡ without_oldest (outbox_of self.old) client other) }
+        ensures server { self.new.server ≡ self.old.server }
+        ensures unchanged { OnErr result (IsUnchanged self.old self.new) }
+    {
+        self.outboxes.make_ready(self.server.holdings())?;
+        Ok(self.outboxes.collect(client))
+    }
+
+    /// What is to be written to disk next; `None` where every commit is on disk.
+    ///
+    /// `AllocError` only where memory was refused.
+    pub fn batch(&self, alloc: Global) -> Result<Option<Batch>, AllocError>
+        ensures batch { IfOk result (λ batch.
+            option_map batch_of batch ≡ next_batch (server_of self.now)) }
+        ensures catches_up { IfOk result (λ batch.
+            IfSome batch (CatchesUp (commits_of self.now.server))) }
+        ensures can_flush { IfOk result (λ batch.
+            IfSome batch (λ b. can_flush (server_of self.now) b.number ≡ true)) }
+    {
+        self.server.batch(alloc)
+    }
+
+    /// Whether that commit was made and isn't on disk yet.
+    pub fn can_flush(&self, number: CommitNo) -> bool
+        ensures { result ≡ can_flush (server_of self.now) number }
+    {
+        self.server.can_flush(number)
+    }
+
+    /// The commits up to this number are on disk now.
+    ///
+    /// `AllocError` only where memory was refused.
+    pub fn flushed(&mut self, alloc: Global, number: CommitNo) -> Result<(), AllocError>
+        requires { can_flush (server_of self.old) number ≡ true }
+        ensures ok { OnOk result
+            (Posts self.old (ReachesDisk number) (outbox_of self.old) Everybody self.new) }
+        ensures arose { OnOk result (IsServer self.new.server) }
+        ensures unchanged { OnErr result (IsUnchanged self.old self.new) }
+    {
+        self.outboxes.make_ready(self.server.holdings())?;
+        let said = self.server.flushed(alloc, number)?;
+        self.outboxes.put(said);
+        // The server still arises by the protocol's steps.
+        let _arose = self.server.limits();
+        Ok(())
+    }
+}
+
+/// The server takes the Hello of a client's incarnation, for which no number is ever lacking.
+fn hello(
+    server: &mut Server,
+    alloc: Global,
+    client: ClientNo,
+    incarnation: Incarnation,
+) -> Result<Vec<Frame>, AllocError>
+    requires { client < server.old.limits.clients }
+    ensures ok { IfOk result (λ said. Does server.old (MessageComes client incarnation Hello)
+        (messages_of said.items) server.new) }
+    ensures fits { IfOk result (λ said. AllByRecursion (Fits server.old.limits) said.items) }
+    ensures unchanged { OnErr result (IsSame server.old server.new) }
+{
+    // In range by its type: `get` says so.
+    let _in_range = incarnation.get();
+    let frame = Frame::from(ShortFrame {
+        client,
+        incarnation,
+        body: ShortBody::Hello,
+    });
+    match server.take(alloc, frame) {
+        Ok(said) => Ok(said),
+        Err(_) => Err(AllocError),
+    }
+}
+
+/// Only what is for other clients stays.
+fn keep_others(said: &mut Vec<Frame>, client: ClientNo)
+    ensures { said.new.items
+        ≡ filter (λ frame. not (frame.client == client)) said.old.items }
+{
+    said.retain(|frame| frame.client != client);
+}

@@ -1,0 +1,12 @@
+//! A page server with an outbox for each of its clients.
+//!
+//! What the server says at a frame is put behind what its clients have not collected yet: to each
+//! client what is for its current incarnation, in order. A step costs what it says, whatever the
+//! outboxes hold.
+#![tactic(auto)]
+
+mod dispatcher;
+mod outboxes;
+mod queue;
+
+pub use dispatcher::Dispatcher;

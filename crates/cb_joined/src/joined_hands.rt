@@ -1,0 +1,162 @@
+//! The table, and the changes of a hand that it follows.
+ghost use Rattle.std.specs.Prelude.{◌≡◌, ◌↔◌, ◌<◌, None, Some, length, replicate, slice_set};
+ghost use Rattle.std.specs.Prelude.{IfOk, IsTrue};
+ghost use Rattle.std.specs.Option.{is_some};
+ghost use Rattle.cb_hands.specs.Hands.{empty_hand, permitted, restamped, with_copy};
+ghost use Rattle.cb_hands.specs.Hands.{without_copy, without_permissions};
+ghost use Rattle.cb_joined.specs.Joined.{Follow, IsHeld, stored_at};
+
+use cb_hands::{Hand, Held, StoredHand};
+use cb_page::{ClientNo, GrantNo, Incarnation, PageNo, TxnNo, Version};
+use std::alloc::{AllocError, Global};
+use std::marker::Model;
+
+/// What is stored of each client's hand, by client. Only `new` takes memory.
+///
+/// A change of a hand costs what it changes, and a comparison the pages that it holds.
+#[derive(Debug, Drop)]
+pub struct JoinedHands {
+    entries: Vec<Option<StoredHand>>,
+}
+
+impl Model for JoinedHands {
+    ghost use Rattle.std.specs.Prelude.{List, Option};
+    ghost use Rattle.cb_hands.specs.Hands.{HandState};
+
+    ghost Value = { List (Option HandState) };
+
+    ghost view = { λ joined. joined.entries.items };
+}
+
+impl JoinedHands {
+    /// Of so many clients, none of which has joined.
+    ///
+    /// `AllocError` only where memory was refused.
+    pub fn new(alloc: Global, clients: u16) -> Result<JoinedHands, AllocError>
+        ensures { IfOk result (λ joined. joined ≡ replicate clients None) }
+    {
+        let mut entries: Vec<Option<StoredHand>> = Vec::new(alloc);
+        for _client in 0..clients {
+            entries.push(None)?;
+        }
+        Ok(JoinedHands { entries })
+    }
+
+    /// Whether the client has joined; `false` for one past the end.
+    pub fn has(&self, client: ClientNo) -> bool
+        ensures { result ≡ is_some (stored_at self.now client) }
+    {
+        let client = client.index();
+        client < self.entries.len() && self.entries[client].is_some()
+    }
+
+    /// Whether the hand is what is stored of its client.
+    pub fn knows(&self, hand: &Hand) -> bool
+        ensures { IsTrue result ↔ IsHeld self.now hand.now }
+    {
+        let client = hand.client().index();
+        if client < self.entries.len() {
+            match &self.entries[client] {
+                Some(stored) => stored.is_of(hand),
+                None => false,
+            }
+        } else {
+            false
+        }
+    }
+
+    /// Stores this of its client's hand; what was stored before goes.
+    pub fn put(&mut self, stored: StoredHand)
+        requires { stored.client < length self.old }
+        ensures { self.new ≡ slice_set self.old stored.client (Some stored) }
+    {
+        let client = stored.client().index();
+        self.entries[client] = Some(stored);
+    }
+
+    /// Nothing is stored of that client's hand any more.
+    pub fn remove(&mut self, client: ClientNo)
+        requires { client < length self.old }
+        ensures { self.new ≡ slice_set self.old client None }
+    {
+        self.entries[client.index()] = None;
+    }
+
+    /// A copy of the page comes into the hand, by that grant and of that version.
+    pub fn receive(&mut self, hand: &mut Hand, page: PageNo, grant: GrantNo, version: Version)
+        requires held { IsHeld self.old hand.old }
+        requires page { page < length hand.old.held }
+        ensures hand { hand.new
+            ≡ with_copy hand.old page (record { grant = grant; version = version }) }
+        ensures stored { Follow self.old self.new hand.old hand.new }
+    {
+        hand.receive(page, Held { grant, version });
+        if let Some(stored) = &mut self.entries[hand.client().index()] {
+            stored.receive(page, Held { grant, version });
+        }
+    }
+
+    /// The copy of the page goes from the hand.
+    pub fn give_back(&mut self, hand: &mut Hand, page: PageNo)
+        requires held { IsHeld self.old hand.old }
+        requires page { page < length hand.old.held }
+        ensures hand { hand.new ≡ without_copy hand.old page }
+        ensures stored { Follow self.old self.new hand.old hand.new }
+    {
+        hand.give_back(page);
+        if let Some(stored) = &mut self.entries[hand.client().index()] {
+            stored.give_back(page);
+        }
+    }
+
+    /// The hand's transaction is told that it may write the page.
+    pub fn permit(&mut self, hand: &mut Hand, page: PageNo, txn: TxnNo)
+        requires held { IsHeld self.old hand.old }
+        requires page { page < length hand.old.held }
+        ensures hand { hand.new ≡ permitted hand.old page txn }
+        ensures stored { Follow self.old self.new hand.old hand.new }
+    {
+        hand.permit(page, txn);
+        if let Some(stored) = &mut self.entries[hand.client().index()] {
+            stored.permit(page, txn);
+        }
+    }
+
+    /// The hand's transaction has ended.
+    pub fn end_permissions(&mut self, hand: &mut Hand)
+        requires { IsHeld self.old hand.old }
+        ensures hand { hand.new ≡ without_permissions hand.old }
+        ensures stored { Follow self.old self.new hand.old hand.new }
+    {
+        hand.end_permissions();
+        if let Some(stored) = &mut self.entries[hand.client().index()] {
+            stored.end_permissions();
+        }
+    }
+
+    /// What the hand holds of the page is of that version now.
+    pub fn restamp(&mut self, hand: &mut Hand, page: PageNo, version: Version)
+        requires held { IsHeld self.old hand.old }
+        requires page { page < length hand.old.held }
+        ensures hand { hand.new ≡ restamped hand.old page version }
+        ensures stored { Follow self.old self.new hand.old hand.new }
+    {
+        hand.restamp(page, version);
+        if let Some(stored) = &mut self.entries[hand.client().index()] {
+            stored.restamp(page, version);
+        }
+    }
+
+    /// The client's next incarnation begins: its hand holds nothing.
+    pub fn renew(&mut self, hand: &mut Hand, incarnation: Incarnation)
+        requires { IsHeld self.old hand.old }
+        ensures hand { hand.new
+            ≡ empty_hand hand.old.client incarnation (length hand.old.held) }
+        ensures stored { Follow self.old self.new hand.old hand.new }
+    {
+        hand.renew(incarnation);
+        if let Some(stored) = &mut self.entries[hand.client().index()] {
+            stored.renew(incarnation);
+        }
+    }
+}

@@ -1,0 +1,56 @@
+-- A hand and what is stored of it, through several changes.
+use Rattle.std.proofs.Common.{◌≡◌, ◌<◌, ◌≤◌, ℕ, suc, ◌+◌, List, ◌∷◌, length, drop, drop-cons, refl, sym, ◌∙◌, ap, arith, Option, Some, None, inl, inr, slice_index_or, slice_set, get_or, set}
+use Rattle.std.proofs.lemmas.Bool.{cases_lt}
+use Rattle.std.proofs.lemmas.List.{get_or_past, get_or-set_same, length-set, set-get_or, set-set}
+use Rattle.cb_agreement.specs.OwnHand.{all_restamped, pages_written}
+use Rattle.cb_frame_types.specs.declared.writes.Write.{Write}
+use Rattle.cb_hands.specs.Hands.{HandState, held_at, restamped}
+use Rattle.cb_hands.specs.declared.grant.Held.{Held}
+use Rattle.cb_joined.specs.Joined.{Follow, IsHeld, stored_at}
+use Rattle.cb_outbox.specs.Messages.{page_writes}
+
+-- who is stored has a place
+pub has_place : (hands : List (Option HandState)) (client : ℕ) (hand : HandState) → stored_at hands client ≡ Some hand → client < length hands
+has_place hands client hand e = elim (cases_lt client (length hands)) [
+  | inl lt ↦ lt
+  | inr le ↦ absurd (let z : None ≡ Some hand = sym (get_or_past hands client None le) ∙ e in cc)
+]
+
+-- nothing changes
+pub follow_same : (hands : List (Option HandState)) (hand : HandState) → IsHeld hands hand → Follow hands hands hand hand
+follow_same hands hand held = record {
+  hands = sym (set-get_or hands hand.client None) ∙ ap (λ (o : Option HandState). slice_set hands hand.client o) held;
+  held = held;
+}
+
+-- one change after another
+pub follow_then : (a b c : List (Option HandState)) (one two three : HandState) → Follow a b one two → Follow b c two three → two.client ≡ one.client → Follow a c one three
+follow_then a b c one two three first second name = record {
+  hands = second.hands ∙ ap (λ (k : ℕ). slice_set b k (Some three)) name ∙ ap (λ (l : List (Option HandState)). slice_set l one.client (Some three)) first.hands
+      ∙ set-set a one.client (Some two) (Some three);
+  held = second.held;
+}
+
+-- as many clients
+pub follow_length : (a b : List (Option HandState)) (one two : HandState) → Follow a b one two → length b ≡ length a
+follow_length a b one two follow = ap length follow.hands ∙ length-set a one.client (Some two)
+
+-- what is held has a place
+pub held_place : (held : List (Option Held)) (page : ℕ) (copy : Held) → held_at held page ≡ Some copy → page < length held
+held_place held page copy e = elim (cases_lt page (length held)) [
+  | inl lt ↦ lt
+  | inr le ↦ absurd (let z : None ≡ Some copy = sym (get_or_past held page None le) ∙ e in cc)
+]
+
+-- one write more is restamped
+pub restamp_left : (before after all : HandState) (writes : List Write) (i version : ℕ) (write : Write) → i < length writes → write ≡ get_or writes i write → after ≡ restamped before write.page version
+    → all_restamped before (pages_written (page_writes (drop i writes))) version ≡ all → all_restamped after (pages_written (page_writes (drop (i + 1) writes))) version ≡ all
+restamp_left before after all writes i version write lt is e left =
+    ap (λ (h : HandState). all_restamped h (pages_written (page_writes (drop (i + 1) writes))) version) e
+    ∙ ap (λ (ws : List Write). all_restamped before (pages_written (page_writes ws)) version) (sym first) ∙ left
+  where
+    next : suc i ≡ i + 1
+    next = omega arith
+
+    first : drop i writes ≡ write ∷ drop (i + 1) writes
+    first = drop-cons writes i write lt ∙ ap (λ (w : Write). w ∷ drop (suc i) writes) (sym is) ∙ ap (λ (k : ℕ). write ∷ drop k writes) next

@@ -1,0 +1,7 @@
+pub mod Onward
+pub mod Reached
+pub mod Keeping
+pub mod Following
+pub mod PagesRead
+pub mod Stations
+pub mod Calls
