@@ -10,6 +10,7 @@ ghost use Rattle.cb_twoq.specs.Places.{ArePlaces};
 use crate::chooser::ChooseFault;
 use crate::twoq::places::{Place, come_in};
 use crate::twoq::queues::IndexedQueues;
+use crate::twoq::steps::is_in;
 use cb_page::{PageNo, PageSet};
 
 /// Brings a page that is in no slot in, and answers the page let go for it, if any.
@@ -44,7 +45,7 @@ pub(crate) fn bring_in(
     let Some(slot) = queues.reclaim(fixed) else {
         return Err(ChooseFault::Full);
     };
-    let was_remembered = queues.remembers(page);
+    let was_remembered = is_in(&queues.a1out, page);
     let gone = queues.enter(page, slot, was_remembered)?;
     come_in(places, page, was_remembered, &gone);
     Ok(gone)

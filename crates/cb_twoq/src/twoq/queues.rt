@@ -10,9 +10,7 @@ ghost use Rattle.cb_twoq.specs.Places.{place_in};
 
 use crate::slot::Slot;
 use crate::twoq::places::Place;
-use crate::twoq::steps::{
-    add, first_unfixed, is_in, last_unfixed, pop, put, remember, renew, take_off,
-};
+use crate::twoq::steps::{add, first_unfixed, last_unfixed, pop, put, remember, renew, take_off};
 use cb_page::{PageNo, PageSet};
 use indexmap::IndexSet;
 use lru::LruCache;
@@ -73,13 +71,6 @@ impl IndexedQueues {
                 true
             }
         }
-    }
-
-    /// Whether a page is remembered.
-    pub(crate) fn remembers(&self, page: PageNo) -> bool
-        ensures { result ≡ has (queues_of self.now).a1out page }
-    {
-        is_in(&self.a1out, page)
     }
 
     /// The slot for a page that comes in, if there is one.

@@ -22,4 +22,3 @@ returns-then-renew-clause-ok c =
 pub returns-then-renew-clause-within : goal.returns-then-renew-clause-within
 returns-then-renew-clause-within c =
     (referred_member c.args.fixed.now _ _ c.args.page c.self.invariant.0 (sym c.renew.ensures.there ∙ c.if-renew.true) c.renew.ensures.queues).within
-

@@ -50,5 +50,5 @@ returns-clause-places c =
     subst (λ (q : TwoQState). ArePlaces c.come_in.new.places.items q) (sym c.in_ok-gone.ensures.ok)
     (entered_places (queues_of c.args.queues.now) c.args.page c.requires.queues c.args.places.now.items c.come_in.new.places.items c.requires.places off.0 off.1
     c.in-Some.slot slot
-    (subst (λ b. ComesIn c.args.places.now.items c.args.page b (page_of c.in-Some.slot) c.come_in.new.places.items) c.remembers-was_remembered.ensures
-    (subst (λ g. ComesIn c.args.places.now.items c.args.page c.remembers-was_remembered.result g c.come_in.new.places.items) c.in_ok-gone.ensures.gone c.come_in.ensures)))
+    (subst (λ b. ComesIn c.args.places.now.items c.args.page b (page_of c.in-Some.slot) c.come_in.new.places.items) c.is_in-was_remembered.ensures
+    (subst (λ g. ComesIn c.args.places.now.items c.args.page c.is_in-was_remembered.result g c.come_in.new.places.items) c.in_ok-gone.ensures.gone c.come_in.ensures)))
