@@ -32,14 +32,14 @@ module _ (q : TwoQState) (page : ℕ) (queues : AreQueues q) where
     remembered = queues.remembered;
   }
 
-  others_off : (xs : List ℕ) (p : ℕ) → p ≢ page → times p (without page xs) ≡ times p xs
+  pub others_off : (xs : List ℕ) (p : ℕ) → p ≢ page → times p (without page xs) ≡ times p xs
   others_off xs p ne = by (has xs page) refl
     where
       by : (b : Bool) → has xs page ≡ b → times p (without page xs) ≡ times p xs
       by true h = let w = times_without page xs p h in let o = one_other p page ne in omega arith
       by false h = ap (times p) (without_absent page xs h)
 
-  own_off : (xs : List ℕ) → times page xs ≤ 1 → times page (without page xs) ≡ 0
+  pub own_off : (xs : List ℕ) → times page xs ≤ 1 → times page (without page xs) ≡ 0
   own_off xs le = by (has xs page) refl
     where
       by : (b : Bool) → has xs page ≡ b → times page (without page xs) ≡ 0

@@ -9,3 +9,4 @@ pub mod Orders
 pub mod Placed
 pub mod Indexing
 pub mod Running
+pub mod Placing

@@ -3,4 +3,5 @@ pub mod Pages
 pub mod Law
 pub mod Queues
 pub mod Indexed
+pub mod Places
 pub mod Runs

@@ -1,5 +1,7 @@
 //! 2Q on an `lru` cache and two `indexmap` sets.
 
+mod newcomers;
+mod places;
 mod queues;
 mod steps;
 
@@ -12,6 +14,8 @@ ghost use Rattle.cb_twoq.specs.Indexed.{cached};
 
 use crate::chooser::{ChooseFault, Chooser};
 use crate::lists::Lists;
+use crate::twoq::newcomers::bring_in;
+use crate::twoq::places::{Place, no_places, place_of, put_place};
 use crate::twoq::queues::IndexedQueues;
 use crate::twoq::steps::{copied, reversed};
 use cb_page::{Limits, PageNo, PageSet};
@@ -38,19 +42,22 @@ pub struct Parts<'a> {
 #[derive(Debug, Drop)]
 pub struct TwoQ {
     queues: IndexedQueues,
+    places: Vec<Place>,
 }
 
 impl Model for TwoQ {
     ghost use Rattle.std.specs.Prelude.{◌≡◌, ◌+◌};
     ghost use Rattle.cb_twoq.specs.Queues.{TwoQState, AreQueues};
     ghost use Rattle.cb_twoq.specs.Indexed.{queues_of};
+    ghost use Rattle.cb_twoq.specs.Places.{ArePlaces};
 
     ghost Value = { TwoQState };
 
     ghost view = { λ two_q. queues_of two_q.queues };
 
     ghost invariant = { λ two_q. AreQueues (queues_of two_q.queues)
-        × (two_q.queues.am.cap ≡ two_q.queues.slots + 1) };
+        × (two_q.queues.am.cap ≡ two_q.queues.slots + 1)
+        × ArePlaces two_q.places.items (queues_of two_q.queues) };
 }
 
 impl TwoQ {
@@ -61,6 +68,7 @@ impl TwoQ {
     {
         Ok(TwoQ {
             queues: IndexedQueues::new(alloc, slots, kin, kout)?,
+            places: no_places(alloc)?,
         })
     }
 
@@ -120,13 +128,11 @@ impl Chooser for TwoQ {
         ensures within { length (members_of self.new) ≤ self.new.slots }
         ensures slots { self.new.slots ≡ self.old.slots }
     {
-        if self.queues.renew(page) {
+        let place = place_of(&self.places, page);
+        if self.queues.renew(page, place) {
             return Ok(None);
         }
-        match self.queues.reclaim(fixed) {
-            Some(slot) => Ok(self.queues.enter(page, slot)?),
-            None => Err(ChooseFault::Full),
-        }
+        bring_in(&mut self.queues, &mut self.places, page, fixed)
     }
 
     fn forget(&mut self, page: PageNo)
@@ -135,5 +141,6 @@ impl Chooser for TwoQ {
         ensures slots { self.new.slots ≡ self.old.slots }
     {
         self.queues.forget(page);
+        put_place(&mut self.places, page, Place::Out);
     }
 }

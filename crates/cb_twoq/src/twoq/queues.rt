@@ -6,11 +6,11 @@ ghost use Rattle.cb_twoq.specs.Pages.{has};
 ghost use Rattle.cb_twoq.specs.Queues.{TwoQState, AreQueues, empty, reclaim, page_of, let_go};
 ghost use Rattle.cb_twoq.specs.Queues.{enter, renew, forget, members_of};
 ghost use Rattle.cb_twoq.specs.Indexed.{queues_of, place, IsSlotOf, IsOff};
+ghost use Rattle.cb_twoq.specs.Places.{place_in};
 
 use crate::slot::Slot;
-use crate::twoq::steps::{
-    add, first_unfixed, is_in, last_unfixed, pop, put, remember, renew, take_off,
-};
+use crate::twoq::places::Place;
+use crate::twoq::steps::{add, first_unfixed, last_unfixed, pop, put, remember, renew, take_off};
 use cb_page::{PageNo, PageSet};
 use indexmap::IndexSet;
 use lru::LruCache;
@@ -55,17 +55,22 @@ impl IndexedQueues {
     }
 
     /// Moves a page of Am to its head, and says whether the page is in a slot.
-    pub(crate) fn renew(&mut self, page: PageNo) -> bool
+    pub(crate) fn renew(&mut self, page: PageNo, place: Place) -> bool
+        requires { place ≡ place_in (queues_of self.old) page }
         ensures there { result
             ≡ (has (queues_of self.old).am page || has (queues_of self.old).a1in page) }
         ensures queues { queues_of self.new ≡ renew page (queues_of self.old) }
         ensures cap { self.new.am.cap ≡ self.old.am.cap }
         ensures slots { self.new.slots ≡ self.old.slots }
     {
-        if renew(&mut self.am, page) {
-            return true;
+        match place {
+            Place::Out => false,
+            Place::A1in => true,
+            Place::Am => {
+                renew(&mut self.am, page);
+                true
+            }
         }
-        is_in(&self.a1in, page)
     }
 
     /// The slot for a page that comes in, if there is one.
@@ -90,7 +95,8 @@ impl IndexedQueues {
     }
 
     /// Places a page before another is let go, and makes room on A1out. All growths are here.
-    fn place(&mut self, page: PageNo) -> Result<(), AllocError>
+    fn place(&mut self, page: PageNo, was_remembered: bool) -> Result<(), AllocError>
+        requires remembered { was_remembered ≡ has (queues_of self.old).a1out page }
         requires a1in { has (queues_of self.old).a1in page ≡ false }
         requires am { has (queues_of self.old).am page ≡ false }
         requires cap { length (queues_of self.old).am < self.old.am.cap }
@@ -101,7 +107,7 @@ impl IndexedQueues {
         ensures slots { self.new.slots ≡ self.old.slots }
     {
         self.a1out.reserve(1)?;
-        if is_in(&self.a1out, page) {
+        if was_remembered {
             put(&mut self.am, page)?;
             take_off(&mut self.a1out, page);
         } else {
@@ -135,7 +141,13 @@ impl IndexedQueues {
     }
 
     /// Brings a page in, and answers the page let go.
-    pub(crate) fn enter(&mut self, page: PageNo, slot: Slot) -> Result<Option<PageNo>, AllocError>
+    pub(crate) fn enter(
+        &mut self,
+        page: PageNo,
+        slot: Slot,
+        was_remembered: bool,
+    ) -> Result<Option<PageNo>, AllocError>
+        requires remembered { was_remembered ≡ has (queues_of self.old).a1out page }
         requires queues { AreQueues (queues_of self.old) }
         requires cap { self.old.am.cap ≡ self.old.slots + 1 }
         requires a1in { has (queues_of self.old).a1in page ≡ false }
@@ -147,7 +159,7 @@ impl IndexedQueues {
         ensures cap { self.new.am.cap ≡ self.old.am.cap }
         ensures slots { self.new.slots ≡ self.old.slots }
     {
-        self.place(page)?;
+        self.place(page, was_remembered)?;
         Ok(self.let_go(slot))
     }
 

@@ -70,6 +70,9 @@ pub(crate) fn first_unfixed(pages: &[PageNo], fixed: &PageSet) -> Option<PageNo>
 }
 
 /// Moves a page of a cache to its head, and says whether it is there.
+///
+/// It stays a call of its own, so that a reference to a page of A1in is short.
+#[inline(never)]
 pub(crate) fn renew(cache: &mut LruCache<PageNo, ()>, page: PageNo) -> bool
     ensures there { result ≡ has (cached cache.old) page }
     ensures pages { cached cache.new ≡ renewed page (cached cache.old) }
