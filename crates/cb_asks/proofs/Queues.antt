@@ -1,5 +1,5 @@
 -- What a step makes of a queue's counts.
-use Rattle.std.proofs.Common.{◌≡◌, ℕ, ◌+◌, ◌<◌, ◌≤◌, ◌==◌, if◌then◌else◌, List, [], ◌∷◌, ◌++◌, length, Some, None, zero, suc, ◌||◌, take, refl, arith}
+use Rattle.std.proofs.Common.{◌≡◌, ℕ, ◌+◌, ◌<◌, ◌≤◌, ◌==◌, if◌then◌else◌, List, [], ◌∷◌, ◌++◌, length, Some, None, zero, suc, ◌||◌, take, slice_get, refl, arith}
 use Rattle.cb_protocol.specs.Basics.{is_none}
 use Rattle.cb_protocol.specs.Deadlock.{ask_count}
 use Rattle.cb_protocol.specs.Server.{WaitingAsk, has_ask, set_called_back, set_downgrade_sent, without_client}
@@ -85,8 +85,15 @@ someone_at (first ∷ queue) zero within = refl
 someone_at (first ∷ queue) (suc place) within = someone_at queue place (omega arith)
 
 -- one place more from the front
-pub taken : (client : ℕ) (queue : List WaitingAsk) (place who : ℕ) → client_at queue place ≡ Some who
+pub taken : (client : ℕ) (queue : List WaitingAsk) (place : ℕ) (ask : WaitingAsk) → slice_get queue place ≡ Some ask
+    → has_ask client (take (suc place) queue) ≡ (has_ask client (take place queue) || (ask.client == client))
+taken client [] place ask is = grind arith
+taken client (first ∷ queue) zero ask is = grind arith
+taken client (first ∷ queue) (suc place) ask is = grind (arith, taken client queue place ask is)
+
+-- the same by the client that is there
+pub taken_by : (client : ℕ) (queue : List WaitingAsk) (place who : ℕ) → client_at queue place ≡ Some who
     → has_ask client (take (suc place) queue) ≡ (has_ask client (take place queue) || (who == client))
-taken client [] place who is = grind arith
-taken client (first ∷ queue) zero who is = grind arith
-taken client (first ∷ queue) (suc place) who is = grind (arith, taken client queue place who is)
+taken_by client [] place who is = grind arith
+taken_by client (first ∷ queue) zero who is = grind arith
+taken_by client (first ∷ queue) (suc place) who is = grind (arith, taken_by client queue place who is)
