@@ -42,7 +42,7 @@ reads_cons first queue = go (is_none first.write_grant)
     go false = omega arith
 
 -- one number's count is at most the sum
-sum_has : (counted : ℕ → ℕ) (at end : ℕ) → at < end → counted at ≤ sum_below counted end
+pub sum_has : (counted : ℕ → ℕ) (at end : ℕ) → at < end → counted at ≤ sum_below counted end
 sum_has counted at zero within = absurd (omega arith)
 sum_has counted at (suc end) within = by (sum_has counted at end) (cases_eq at end)
   where
@@ -64,7 +64,7 @@ new_is queues places few empty new = record {
 }
 
 -- whose ask is counted nowhere has no place
-no_place : (state : AsksState) → IsAsks state → (client : ℕ) → ((page : ℕ) → ask_count client (queue_at state page) ≡ 0) → place_of state.places client ≡ None
+pub no_place : (state : AsksState) → IsAsks state → (client : ℕ) → ((page : ℕ) → ask_count client (queue_at state page) ≡ 0) → place_of state.places client ≡ None
 no_place state is client none = by (place_of state.places client) refl
   where
     by : (place : Option ℕ) → place_of state.places client ≡ place → place_of state.places client ≡ None

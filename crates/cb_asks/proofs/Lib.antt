@@ -5,3 +5,4 @@ pub mod Steps
 pub mod Marking
 pub mod Calls
 pub mod Others
+pub mod Maps

@@ -1,5 +1,5 @@
 -- Sums over numbered things.
-use Rattle.std.proofs.Common.{◌≡◌, ◌≢◌, ℕ, ◌+◌, ◌<◌, ◌≤◌, Bool, true, false, zero, suc, refl, ap, arith, inl, inr}
+use Rattle.std.proofs.Common.{◌≡◌, ◌≢◌, ℕ, ◌+◌, ◌<◌, ◌≤◌, Bool, true, false, zero, suc, refl, ap, ◌∙◌, arith, inl, inr}
 use Rattle.std.proofs.lemmas.Bool.{cases_eq, cases_lt}
 use Rattle.cb_asks.specs.Sums.{one_if, sum_below}
 
@@ -32,6 +32,18 @@ sum_ones test zero = omega arith
 sum_ones test (suc end) = go (sum_ones test end) (test end)
   where
     go : sum_below (λ number. one_if (test number)) end ≤ end → (b : Bool) → sum_below (λ number. one_if (test number)) end + one_if b ≤ suc end
+    go e true = omega arith
+    go e false = omega arith
+
+-- fewer where one isn't counted
+pub sum_ones_but : (test : ℕ → Bool) (at end : ℕ) → at < end → test at ≡ false → sum_below (λ number. one_if (test number)) end + 1 ≤ end
+sum_ones_but test at zero within none = absurd (omega arith)
+sum_ones_but test at (suc end) within none = elim (cases_eq end at) [
+  | inl here ↦ (let e = sum_ones test end in let f = ap one_if (ap test here ∙ none) in omega (arith, e, f))
+  | inr apart ↦ go (sum_ones_but test at end (omega arith) none) (test end)
+]
+  where
+    go : sum_below (λ number. one_if (test number)) end + 1 ≤ end → (b : Bool) → sum_below (λ number. one_if (test number)) end + one_if b + 1 ≤ suc end
     go e true = omega arith
     go e false = omega arith
 

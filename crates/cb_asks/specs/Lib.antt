@@ -4,3 +4,4 @@ pub mod Sums
 pub mod Places
 pub mod Asks
 pub mod Marks
+pub mod Maps

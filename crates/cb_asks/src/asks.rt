@@ -17,6 +17,7 @@ ghost use Rattle.cb_asks.specs.Sums.{one_if};
 use crate::ask::Ask;
 use crate::places::Places;
 use crate::queue::Queue;
+use crate::spare::Spare;
 use cb_clients::ClientSet;
 use cb_page::{ClientNo, GrantNo, Limits, PageNo, TxnNo};
 use std::alloc::{AllocError, Global};
@@ -28,16 +29,20 @@ pub struct Asks {
     /// By page.
     queues: Vec<Queue>,
     places: Places,
+    /// The maps that no queue has.
+    spare: Spare,
 }
 
 impl Model for Asks {
     ghost use Rattle.cb_asks.specs.Asks.{AsksState, IsAsks};
+    ghost use Rattle.cb_asks.specs.Maps.{HasMaps};
 
     ghost Value = { AsksState };
 
     ghost view = { λ a. record { queues = a.queues.items; places = a.places } };
 
-    ghost invariant = { λ a. IsAsks (record { queues = a.queues.items; places = a.places }) };
+    ghost invariant = { λ a. IsAsks (record { queues = a.queues.items; places = a.places })
+        × HasMaps a.queues.items a.spare };
 }
 
 impl Asks {
@@ -51,6 +56,7 @@ impl Asks {
         Ok(Asks {
             queues: empty_queues(alloc, limits.pages() as usize)?,
             places: Places::new(),
+            spare: Spare::new(alloc)?,
         })
     }
 
@@ -156,8 +162,8 @@ impl Asks {
         requires new { (other : ℕ) → ask_count client (queue_at self.old other) ≡ 0 }
         ensures { Enters self.old page client write_grant self.new }
     {
-        self.queues[page.index()].enter(client, write_grant);
         self.places.enter(client, page, write_grant.is_none());
+        self.queues[page.index()].enter(&mut self.spare, client, write_grant);
     }
 
     /// The first ask for the page leaves.
@@ -167,7 +173,7 @@ impl Asks {
         ensures ask { option_map asked (slice_get (queue_at self.old page) 0) ≡ Some result }
         ensures leaves { Leaves self.old page self.new }
     {
-        let Some(first) = self.queues[page.index()].leave() else {
+        let Some(first) = self.queues[page.index()].leave(&mut self.spare) else {
             unreachable!();
         };
         self.places.leave(first.client, first.write_grant.is_none());
@@ -183,7 +189,7 @@ impl Asks {
         ensures removes { Removes self.old client self.new }
     {
         let page = self.places.get(client)?;
-        let ask = self.queues[page.index()].remove(client)?;
+        let ask = self.queues[page.index()].remove(&mut self.spare, client)?;
         self.places.leave(client, ask.write_grant.is_none());
         Some(Ask::new(client, ask.write_grant))
     }
@@ -212,7 +218,7 @@ fn empty_queues(alloc: Global, pages: usize) -> Result<Vec<Queue>, AllocError>
 {
     let mut queues = Vec::with_capacity(alloc, pages)?;
     for _ in 0..pages {
-        queues.push(Queue::new(alloc))?;
+        queues.push(Queue::new())?;
     }
     Ok(queues)
 }

@@ -12,6 +12,7 @@ mod key;
 mod marks;
 mod places;
 mod queue;
+mod spare;
 
 pub use ask::Ask;
 pub use asks::Asks;

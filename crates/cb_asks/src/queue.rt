@@ -1,19 +1,22 @@
 //! The queue of a page.
-ghost use Rattle.std.specs.Prelude.{◌≡◌, ◌++◌, ◌∷◌, [], ◌<◌, ◌≤◌, ℕ, length, OnOk, MatchOption};
+ghost use Rattle.std.specs.Prelude.{◌≡◌, ◌++◌, ◌∷◌, [], ◌<◌, ◌≤◌, ◌+◌, ℕ, length, OnOk};
+ghost use Rattle.std.specs.Prelude.{MatchOption};
 ghost use Rattle.cb_clients.specs.Clients.{has};
 ghost use Rattle.cb_protocol.specs.Deadlock.{ask_count};
 ghost use Rattle.cb_protocol.specs.Server.{after_first, has_ask, set_called_back};
 ghost use Rattle.cb_protocol.specs.Server.{set_downgrade_sent, without_client};
 ghost use Rattle.cb_protocol.specs.ServerMessages.{is_empty, new_ask};
 ghost use Rattle.std.specs.Option.{option_map};
-ghost use Rattle.cb_asks.specs.Entries.{ask_of_entry};
+ghost use Rattle.cb_asks.specs.Entries.{ask_of_entry, asks_of};
+ghost use Rattle.cb_asks.specs.Maps.{HasRoom, used};
 ghost use Rattle.cb_asks.specs.Queues.{ask_by, client_at, waiting_ask};
 
 use crate::key::Key;
+use crate::spare::Spare;
 use cb_clients::ClientSet;
 use cb_page::{ClientNo, GrantNo, TxnNo};
 use indexmap::IndexMap;
-use std::alloc::{AllocError, Global};
+use std::alloc::AllocError;
 use std::marker::Model;
 
 /// An ask that waits.
@@ -55,41 +58,44 @@ impl Entry {
 /// The first costs the same however many wait; taking one out shifts those behind it.
 #[derive(Debug, Drop)]
 pub struct Queue {
-    entries: IndexMap<Key, Entry>,
+    /// By client. `None`: nobody waits.
+    entries: Option<Box<IndexMap<Key, Entry>>>,
 }
 
 impl Model for Queue {
-    ghost use Rattle.indexmap.specs.IndexMap.{spare};
     ghost use Rattle.cb_asks.specs.Queues.{QueueState};
-    ghost use Rattle.cb_asks.specs.Entries.{asks_of};
+    ghost use Rattle.cb_asks.specs.Maps.{IsKept, asks_in, room_in};
 
     ghost Value = { QueueState };
 
-    ghost view = { λ q. record { asks = asks_of q.entries.entries; room = spare q.entries } };
+    ghost view = { λ q. record { asks = asks_in q.entries; room = room_in q.entries } };
+
+    ghost invariant = { λ q. IsKept q.entries };
 }
 
 impl Queue {
     /// Nobody waits. It takes no memory.
-    pub(crate) fn new(alloc: Global) -> Queue
+    pub(crate) fn new() -> Queue
         ensures { result.asks ≡ [] }
     {
-        Queue {
-            entries: IndexMap::new(alloc),
-        }
+        Queue { entries: None }
     }
 
     /// How many wait.
     pub fn len(&self) -> usize
         ensures { result ≡ length self.now.asks }
     {
-        self.entries.len()
+        match &self.entries {
+            Some(entries) => entries.len(),
+            None => 0,
+        }
     }
 
     /// Whether nobody waits.
     pub fn is_empty(&self) -> bool
         ensures { result ≡ is_empty self.now.asks }
     {
-        self.entries.is_empty()
+        self.entries.is_none()
     }
 
     /// The first ask.
@@ -97,7 +103,10 @@ impl Queue {
         ensures { MatchOption result (self.now.asks ≡ [])
             (λ first. self.now.asks ≡ waiting_ask first ∷ after_first self.now.asks) }
     {
-        let (key, entry) = self.entries.first()?;
+        let Some(entries) = &self.entries else {
+            return None;
+        };
+        let (key, entry) = entries.first()?;
         Some(entry.of(key.client()))
     }
 
@@ -105,7 +114,10 @@ impl Queue {
     pub fn client_at(&self, place: usize) -> Option<ClientNo>
         ensures { result ≡ client_at self.now.asks place }
     {
-        let (key, _) = self.entries.get_index(place)?;
+        let Some(entries) = &self.entries else {
+            return None;
+        };
+        let (key, _) = entries.get_index(place)?;
         Some(key.client())
     }
 
@@ -113,68 +125,133 @@ impl Queue {
     pub fn ask_of(&self, client: ClientNo) -> Option<Waiting>
         ensures { option_map waiting_ask result ≡ ask_by client self.now.asks }
     {
-        let entry = self.entries.get(&Key::of(client))?;
+        let Some(entries) = &self.entries else {
+            return None;
+        };
+        let entry = entries.get(&Key::of(client))?;
         Some(entry.of(client))
     }
 
     /// The clients that wait.
+    #[tactic(auto, using(crate::proofs::Queues::someone_at))]
     pub fn clients(&self) -> ClientSet
         ensures { (client : ℕ) → has result client ≡ has_ask client self.now.asks }
     {
         let mut clients = ClientSet::empty();
-        for place in 0..self.entries.len() {
-            let (key, _) = self.entries.get_index(place).unwrap();
-            clients.insert(key.client());
+        for place in 0..self.len() {
+            clients.insert(self.client_at(place).unwrap());
         }
         clients
     }
 
-    /// Makes room for one more ask.
+    /// Makes room for one more ask. Where nobody waits there is room.
     pub(crate) fn reserve(&mut self) -> Result<(), AllocError>
         ensures asks { self.new.asks ≡ self.old.asks }
         ensures kept { self.old.room ≤ self.new.room }
         ensures ok { OnOk result (0 < self.new.room) }
     {
-        self.entries.reserve(1)
+        match &mut self.entries {
+            Some(entries) => entries.reserve(1),
+            None => Ok(()),
+        }
     }
 
-    /// An ask of a client goes to the end.
-    pub(crate) fn enter(&mut self, client: ClientNo, write_grant: Option<GrantNo>)
+    /// An ask of a client goes to the end: of a spare map where nobody waits.
+    pub(crate) fn enter(
+        &mut self,
+        spare: &mut Spare,
+        client: ClientNo,
+        write_grant: Option<GrantNo>,
+    )
         requires room { 0 < self.old.room }
+        requires spare { self.old.asks ≡ [] → 0 < spare.old }
         requires new { ask_count client self.old.asks ≡ 0 }
-        ensures { self.new.asks ≡ self.old.asks ++ new_ask client write_grant ∷ [] }
+        ensures asks { self.new.asks ≡ self.old.asks ++ new_ask client write_grant ∷ [] }
+        ensures maps { used self.new.asks + spare.new ≡ used self.old.asks + spare.old }
     {
+        let mut entries = self.take_map(spare);
         let entry = Entry {
             write_grant,
             called_back: false,
             downgrade_sent: None,
         };
-        match self.entries.insert(Key::of(client), entry) {
+        match entries.insert(Key::of(client), entry) {
             Ok(_) => {}
             Err(_) => unreachable!(),
         }
+        self.entries = Some(entries);
     }
 
-    /// The first ask leaves.
-    pub(crate) fn leave(&mut self) -> Option<Waiting>
+    /// The queue's map, or a spare one where it has none.
+    #[tactic(auto, using(crate::proofs::Maps::used_some, crate::proofs::Maps::room_some))]
+    fn take_map(&mut self, spare: &mut Spare) -> Box<IndexMap<Key, Entry>>
+        requires room { 0 < self.old.room }
+        requires spare { self.old.asks ≡ [] → 0 < spare.old }
+        ensures asks { asks_of result.value.entries ≡ self.old.asks }
+        ensures room { HasRoom result }
+        ensures maps { 1 + spare.new ≡ used self.old.asks + spare.old }
+    {
+        match self.entries.take() {
+            Some(entries) => entries,
+            None => spare.take(),
+        }
+    }
+
+    /// The first ask leaves; with the last one the map is a spare one again.
+    pub(crate) fn leave(&mut self, spare: &mut Spare) -> Option<Waiting>
+        requires { used self.old.asks + spare.old ≤ 32 }
         ensures first { MatchOption result (self.old.asks ≡ [])
             (λ first. self.old.asks ≡ waiting_ask first ∷ after_first self.old.asks) }
         ensures asks { self.new.asks ≡ after_first self.old.asks }
         ensures room { self.old.room ≤ self.new.room }
+        ensures maps { used self.new.asks + spare.new ≡ used self.old.asks + spare.old }
     {
-        let (key, entry) = self.entries.shift_remove_index(0)?;
+        if self.len() == 1 {
+            let first = self.first();
+            self.close(spare);
+            return first;
+        }
+        let Some(entries) = &mut self.entries else {
+            return None;
+        };
+        let (key, entry) = entries.shift_remove_index(0)?;
         Some(entry.of(key.client()))
     }
 
-    /// The ask of a client goes, wherever it stands.
-    pub(crate) fn remove(&mut self, client: ClientNo) -> Option<Waiting>
+    /// The ask of a client goes, wherever it stands; with the last one the map is a spare one
+    /// again.
+    pub(crate) fn remove(&mut self, spare: &mut Spare, client: ClientNo) -> Option<Waiting>
+        requires { used self.old.asks + spare.old ≤ 32 }
         ensures ask { option_map waiting_ask result ≡ ask_by client self.old.asks }
         ensures asks { ask_count client self.old.asks ≤ 1
             → self.new.asks ≡ without_client client self.old.asks }
         ensures room { self.old.room ≤ self.new.room }
+        ensures maps { used self.new.asks + spare.new ≡ used self.old.asks + spare.old }
     {
-        let entry = self.entries.shift_remove(&Key::of(client))?;
+        if self.len() == 1 {
+            let ask = self.ask_of(client)?;
+            self.close(spare);
+            return Some(ask);
+        }
+        let Some(entries) = &mut self.entries else {
+            return None;
+        };
+        let entry = entries.shift_remove(&Key::of(client))?;
         Some(entry.of(client))
+    }
+
+    /// The only ask goes, and the map is a spare one again.
+    #[tactic(auto, using(crate::proofs::Maps::used_some, crate::proofs::Maps::room_most))]
+    fn close(&mut self, spare: &mut Spare)
+        requires some { used self.old.asks ≡ 1 }
+        requires few { spare.old < 32 }
+        ensures asks { self.new.asks ≡ [] }
+        ensures room { self.old.room ≤ self.new.room }
+        ensures maps { spare.new ≡ spare.old + 1 }
+    {
+        if let Some(entries) = self.entries.take() {
+            spare.put(entries);
+        }
     }
 
     /// The Callbacks for the first ask were sent.
@@ -182,7 +259,10 @@ impl Queue {
         ensures asks { self.new.asks ≡ set_called_back self.old.asks }
         ensures room { self.new.room ≡ self.old.room }
     {
-        let Some(entry) = self.entries.first_mut() else {
+        let Some(entries) = &mut self.entries else {
+            return;
+        };
+        let Some(entry) = entries.first_mut() else {
             return;
         };
         entry.called_back = true;
@@ -193,7 +273,10 @@ impl Queue {
         ensures asks { self.new.asks ≡ set_downgrade_sent tag self.old.asks }
         ensures room { self.new.room ≡ self.old.room }
     {
-        let Some(entry) = self.entries.first_mut() else {
+        let Some(entries) = &mut self.entries else {
+            return;
+        };
+        let Some(entry) = entries.first_mut() else {
             return;
         };
         entry.downgrade_sent = Some(tag);

@@ -19,7 +19,7 @@ loop-client-preserved c = record {
     state = c.args.self.now
 
     is_asks : IsAsks state
-    is_asks = rw (← c.self.view_is) c.self.invariant
+    is_asks = rw (← c.self.view_is) c.self.invariant.0
 
     own : c.get.result ≡ place_of state.places c.in-Some.client
     own = rw (← c.self.view_is) c.get.ensures
@@ -39,7 +39,7 @@ loop-client-preserved c = record {
     found (inr new) = subst Found (sym new.0) (if_found state is_asks c.args.from c.in-Some.client c.get.result own new.1)
 
 pub returns : goal.returns
-returns c = next_found c.args.self.now (rw (← c.self.view_is) c.self.invariant) c.args.from c.loop-client.next
+returns c = next_found c.args.self.now (rw (← c.self.view_is) c.self.invariant.0) c.args.from c.loop-client.next
     (λ client page waits at le. c.loop-client.invariant.least client page
     (not_in_difference _ _ _ (c.difference.ensures client) (c.in_default.ensures client) (ap (λ (set : Clients). has set client) same ∙ waits)) at le)
     c.loop-client.invariant.found

@@ -1,6 +1,5 @@
-use Rattle.std.proofs.Common.{◌≡◌, ◌∙◌, ◌+◌, ◌<◌, ◌≤◌, ℕ, List, length, suc, ap, arith, refl, rules, subst, sym, inl, inr}
+use Rattle.std.proofs.Common.{◌≡◌, ◌∙◌, ◌+◌, ◌<◌, length, suc, ap, arith, rules, sym}
 use Rattle.cb_clients.specs.Clients.{Clients, has}
-use Rattle.cb_protocol.specs.Server.{WaitingAsk}
 use Rattle.cb_asks.specs.Asks.{AsksState, IsAsks, queue_at}
 use Rattle.cb_asks.specs.Sums.{one_if, sum_below}
 use Rattle.cb_asks.proofs.Steps.{asks_summed}
@@ -33,7 +32,7 @@ returns-clause-asks c = λ server h. asks_summed server state h server.pages ∙
     state = c.args.self.now
 
     is : IsAsks state
-    is = rw (← c.self.view_is) c.self.invariant
+    is = rw (← c.self.view_is) c.self.invariant.0
 
     same : c.waiting-waiting.result ≡ state.places.waiting
     same = rw (← c.self.view_is) c.waiting-waiting.ensures
