@@ -1,5 +1,5 @@
 //! What draws print, and how drawn schedules play.
-use cb_console::{draw_to, play_to, run};
+use cb_console::{draw_to, play_to};
 use std::alloc::Global;
 use std::test::Fail;
 
@@ -77,40 +77,5 @@ fn config_refused(rt: HostRuntime) -> Result<(), Fail> {
     let status = draw_to(rt.alloc(), b"clients = 1", 0, 3, &mut out, &mut err)?;
     let line = b"config: missing pages\n".as_slice();
     assert!(rt; status == 2 && out.is_empty() && err.as_slice() == line);
-    Ok(())
-}
-
-/// Wrong command lines.
-static REFUSALS: [&str; 8] = [
-    "cb_play draw /dev/null --seed=1",
-    "cb_play draw /dev/null --events 1",
-    "cb_play draw --seed=1 --events 1",
-    "cb_play draw /dev/null --seed=-1 --events 1",
-    "cb_play draw /dev/null --seed=4611686018427387904 --events 1",
-    "cb_play draw /dev/null --seed=1 --events 1000001",
-    "cb_play draw /dev/null --seed=one --events 1",
-    "cb_play draw /dev/null --seed=1 --events 1 more",
-];
-
-/// Whether clap refuses the words, with status 2.
-fn are_wrong_words(rt: &HostRuntime, line: &str) -> Result<bool, Fail> {
-    let mut words = Vec::new(rt.alloc());
-    for word in line.split(' ') {
-        words.push(String::from_str(rt.alloc(), word)?)?;
-    }
-    let mut out = Vec::new(rt.alloc());
-    let mut err = Vec::new(rt.alloc());
-    let status = run(rt, Ok(words), &mut out, &mut err);
-    let end = b"For more information, try '--help'.\n".as_slice();
-    Ok(status == 2 && out.is_empty() && err.as_slice().ends_with(end))
-}
-
-/// The seed and the number of events have to be there, and in range.
-#[test]
-fn command_lines_refused(rt: HostRuntime) -> Result<(), Fail> {
-    for line in &REFUSALS {
-        let wrong = are_wrong_words(&rt, line)?;
-        assert!(rt; wrong);
-    }
     Ok(())
 }

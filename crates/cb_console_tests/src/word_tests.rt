@@ -82,6 +82,35 @@ fn command_lines_refused(rt: HostRuntime) -> Result<(), Fail> {
     Ok(())
 }
 
+/// Wrong command lines of draws: the seed and the number of events have to be there, and in range.
+static DRAW_REFUSALS: [&str; 8] = [
+    "cb_play draw /dev/null --seed=1",
+    "cb_play draw /dev/null --events 1",
+    "cb_play draw --seed=1 --events 1",
+    "cb_play draw /dev/null --seed=-1 --events 1",
+    "cb_play draw /dev/null --seed=4611686018427387904 --events 1",
+    "cb_play draw /dev/null --seed=1 --events 1000001",
+    "cb_play draw /dev/null --seed=one --events 1",
+    "cb_play draw /dev/null --seed=1 --events 1 more",
+];
+
+/// Whether clap refuses the words, with status 2.
+fn are_wrong_words(rt: &HostRuntime, line: &str) -> Result<bool, Fail> {
+    let printed = run_line(rt, line)?;
+    let end = b"For more information, try '--help'.\n".as_slice();
+    Ok(printed.status == 2 && printed.out.is_empty() && printed.err.as_slice().ends_with(end))
+}
+
+/// Wrong words of a draw are said to be so.
+#[test]
+fn draws_refused(rt: HostRuntime) -> Result<(), Fail> {
+    for line in &DRAW_REFUSALS {
+        let wrong = are_wrong_words(&rt, line)?;
+        assert!(rt; wrong);
+    }
+    Ok(())
+}
+
 /// Whether what is printed goes to the standard output with status 0 and ends so.
 fn is_answered(rt: &HostRuntime, line: &str, end: &[u8]) -> Result<bool, Fail> {
     let printed = run_line(rt, line)?;

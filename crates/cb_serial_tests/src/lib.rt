@@ -2,4 +2,6 @@
 #![tactic(auto)]
 
 #[cfg(test)]
+mod greatest;
+#[cfg(test)]
 mod histories;
