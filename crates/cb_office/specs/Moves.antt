@@ -134,8 +134,8 @@ reads_below hand reads zero = []
 reads_below hand reads (suc page) =
     reads_below hand reads page ++ (if has reads page then read_of hand page else [])
 
--- The entry is of that transaction of the hand's: it has these pages as reads, at the versions that the hand shows,
--- and these writes.
+-- The entry is of that transaction of the hand's: it has these pages as reads, at the versions that
+-- the hand shows, and these writes.
 pub record IsEntryOf (hand : HandState) (number : ℕ) (written : List Write) (pages : List Bool)
     (entry : Entry) : Type 0 where
   pub client : entry.client ≡ hand.client

@@ -1,5 +1,5 @@
 //! A client collects what was sent to it.
-ghost use Rattle.std.specs.Prelude.{◌≡◌, ◌↔◌, ◌<◌, ◌⊎◌, ◌&&◌, ℕ, Err, None, Some, drop};
+ghost use Rattle.std.specs.Prelude.{◌≡◌, ◌↔◌, ◌<◌, ◌⊎◌, ◌&&◌, ℕ, Err, None, Some};
 ghost use Rattle.std.specs.Prelude.{length, IfErr, IfOk, OnErr, OnOk, slice_get};
 ghost use Rattle.cb_dispatch.specs.Dispatching.{without_oldest};
 ghost use Rattle.cb_holdings.specs.Holdings.{HasClient, HasPage};

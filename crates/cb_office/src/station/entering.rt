@@ -1,6 +1,6 @@
 //! Clients join, begin another incarnation, and leave.
-ghost use Rattle.std.specs.Prelude.{◌≡◌, ◌≢◌, ◌↔◌, ◌+◌, ◌<◌, ◌≤◌, ℕ, None, Some, Ok, Err, true};
-ghost use Rattle.std.specs.Prelude.{false, [], IfErr, IfOk, IsSome, OnErr, OnOk, slice_set};
+ghost use Rattle.std.specs.Prelude.{◌≡◌, ◌≢◌, ◌↔◌, ◌+◌, ◌<◌, ◌≤◌, None, Some, Ok, Err, true};
+ghost use Rattle.std.specs.Prelude.{◌⊎◌, [], IfErr, IfOk, OnErr, OnOk, slice_set};
 ghost use Rattle.std.specs.Option.{is_some};
 ghost use Rattle.cb_dispatch.specs.Dispatching.{Everybody, Others, Posts, emptied};
 ghost use Rattle.cb_hands.specs.Hands.{empty_hand};
@@ -97,6 +97,8 @@ impl Station {
             (refused.0 ≡ office.Foreign) ↔ (IsHeld self.old.hands hand → ⊥)) }
         ensures old { IfErr result (λ refused. (refused.0 ≡ office.Old)
             ↔ (IsHeld self.old.hands hand × (incarnation ≤ hand.incarnation))) }
+        ensures faults { IfErr result (λ refused. (refused.0 ≡ office.Foreign)
+            ⊎ (refused.0 ≡ office.Old) ⊎ (refused.0 ≡ office.Memory)) }
         ensures ok { OnOk result
             (IsHeld self.old.hands hand × (hand.incarnation < incarnation)) }
         ensures hand { IfOk result (λ next.
@@ -136,6 +138,8 @@ impl Station {
             (refused.0 ≡ office.Foreign) ↔ (IsHeld self.old.hands hand → ⊥)) }
         ensures exhausted { IfErr result (λ refused. (refused.0 ≡ office.Exhausted)
             ↔ (IsHeld self.old.hands hand × (max_number ≤ hand.incarnation))) }
+        ensures faults { IfErr result (λ refused. (refused.0 ≡ office.Foreign)
+            ⊎ (refused.0 ≡ office.Exhausted) ⊎ (refused.0 ≡ office.Memory)) }
         ensures ok { OnOk result
             (IsHeld self.old.hands hand × (hand.incarnation < max_number)) }
         ensures posts { OnOk result (Posts self.old.dispatcher

@@ -1,6 +1,6 @@
 //! The frames of a client, and what is flushed.
-ghost use Rattle.std.specs.Prelude.{◌≡◌, ◌↔◌, ◌⊎◌, ◌≢◌, ◌<◌, ℕ, true, false, IfErr, IfOk, Ok};
-ghost use Rattle.std.specs.Prelude.{Err, IsTrue, OnErr, OnOk, length};
+ghost use Rattle.std.specs.Prelude.{◌≡◌, ◌↔◌, ◌⊎◌, ◌<◌, true, false, IfErr, Ok};
+ghost use Rattle.std.specs.Prelude.{Err, OnErr, OnOk};
 ghost use Rattle.cb_dispatch.specs.Dispatching.{Everybody, Posts};
 ghost use Rattle.cb_holdings.specs.Holdings.{HasClient};
 ghost use Rattle.cb_holdings.specs.Holdings.{server_of as server_in};
