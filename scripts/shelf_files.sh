@@ -4,35 +4,13 @@
 #
 #   scripts/shelf_files.sh [PROGRAM]
 #
-# It builds the program of scripts/shelf_files first, in a copy of the crates below it (RT is the command that proves, `rt`
-# if it isn't set), unless PROGRAM names one that was built. Nothing of this is in the gate.
+# It builds the program of scripts/shelf_files first (scripts/shelf_program.sh), unless PROGRAM names one that was built.
+# Nothing of this is in the gate.
 set -u
 top=$(cd "$(dirname "$0")/.." && pwd)
 room=$(mktemp -d)
 trap 'rm -rf "$room"' EXIT
-crates="cb_page cb_frame_types cb_frame cb_protocol cb_commit cb_statements cb_shelf"
 bad=0
-
-# builds the program beside copies of the crates that it stands on
-build() {
-  local at=$room/copy crate
-  mkdir -p "$at/crates/cb_shelf_files/src" "$at/crates/cb_shelf_files/proofs/bench"
-  git init -q "$at"
-  cp "$top/HANDLES" "$at/"
-  for crate in $crates; do
-    cp -r --preserve=timestamps "$top/crates/$crate" "$at/crates/"
-    grep "^$crate:" "$top/crates.txt" >>"$at/crates.txt"
-  done
-  echo "cb_shelf_files: cb_page cb_frame_types cb_frame cb_commit cb_shelf sqlite sqlite_disk sqlite_store anyhow" \
-    >>"$at/crates.txt"
-  cp "$top/crates/cb_shelf_tests/src/bench.rt" "$at/crates/cb_shelf_files/src/"
-  cp "$top/scripts/shelf_files/main.txt" "$at/crates/cb_shelf_files/src/main.rt"
-  cp -r "$top/crates/cb_shelf_tests/proofs/bench/apply" "$at/crates/cb_shelf_files/proofs/bench/"
-  sed -i 's/cb_shelf_tests/cb_shelf_files/g' "$at"/crates/cb_shelf_files/proofs/bench/apply/*
-  (cd "$at/crates/cb_shelf_files" && "${RT:-rt}" run -- none none >"$room/build" 2>&1)
-  program=$at/crates/cb_shelf_files/out/cb_shelf_files
-  [ -x "$program" ] || { tail -n 20 "$room/build"; echo "the program isn't built"; exit 2; }
-}
 
 # what the program says, but for how long it took
 say() { timeout 60 "$program" "$@" 2>&1 | grep -v '^connect [0-9]'; }
@@ -85,7 +63,8 @@ refused() {
   wanted "$1, the file" "$before" "$after"
 }
 
-if [ $# -gt 0 ]; then program=$1; else build; fi
+program=${1:-$room/copy/crates/shelf_files/out/shelf_files}
+[ $# -gt 0 ] || "$top/scripts/shelf_program.sh" "$room/copy" || exit 2
 
 # written by the shelf, read by sqlite3
 say fill "$room/w.db" 2 8208 1 9 >"$room/said"
