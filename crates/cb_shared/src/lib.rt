@@ -1,0 +1,12 @@
+//! The office: a station that the threads of a running program share.
+//!
+//! An [`Office`] is the station under one lock, with a condition on which threads wait until it has
+//! changed. What holds of the station whenever the lock is free, and of the flags beside it,
+//! `lock` says.
+#![tactic(auto)]
+
+mod office;
+mod shared_station;
+
+pub use office::Office;
+pub use shared_station::SharedStation;

@@ -1,0 +1,74 @@
+//! The lock.
+ghost use Rattle.std.specs.Sync.Mutex.{mutex_guard_value};
+ghost use Rattle.cb_office.specs.Stations.{IsStation};
+ghost use Rattle.cb_shared.specs.Shared.{AreFlags};
+
+use crate::shared_station::SharedStation;
+use cb_office::Station;
+use std::sync::{Condvar, Mutex, MutexGuard, Wait};
+
+/// A station under one lock. Who changes it tells those that wait.
+///
+/// What a call that takes the lock itself does with the station no contract can say: it is shown by
+/// tests.
+#[derive(Drop)]
+pub struct Office {
+    shared: Mutex<SharedStation>,
+    changed: Condvar,
+}
+
+impl Office {
+    /// An office over a station. The last of so many calls of `work` to end closes it.
+    pub fn new(station: Station, workers: usize) -> Office {
+        Office {
+            shared: Mutex::new(SharedStation::new(station, workers)),
+            changed: Condvar::new(),
+        }
+    }
+
+    /// Takes the lock, and lends what lies under it until the guard is let go. Whatever threads did
+    /// before, the station is one: its history is legal and is what its server did, and what it has
+    /// stored of each hand the server has.
+    pub fn lock<R: Wait>(&self, rt: &R) -> MutexGuard<'_, SharedStation>
+        ensures sound { IsStation (mutex_guard_value result).station }
+        ensures flags { AreFlags (mutex_guard_value result) }
+    {
+        let shared = self.shared.lock(rt);
+        // What holds of every station under the lock, `station` says.
+        let _sound = shared.station();
+        shared
+    }
+
+    /// Lets the lock go until somebody tells of a change, and takes it again. It may return for no
+    /// reason.
+    pub fn wait<'a, R: Wait>(
+        &'a self,
+        rt: &R,
+        shared: MutexGuard<'a, SharedStation>,
+    ) -> MutexGuard<'a, SharedStation>
+        ensures sound { IsStation (mutex_guard_value result).station }
+        ensures flags { AreFlags (mutex_guard_value result) }
+    {
+        let shared = self.changed.wait(rt, shared);
+        // What holds of every station under the lock, `station` says.
+        let _sound = shared.station();
+        shared
+    }
+
+    /// Tells those that wait of a change.
+    pub fn tell(&self) {
+        self.changed.notify_all();
+    }
+
+    /// No more jobs come: the flusher ends when all is written.
+    pub fn close<R: Wait>(&self, rt: &R) {
+        self.lock(rt).close();
+        self.tell();
+    }
+
+    /// Closes the office, and every call that waits for it gives up.
+    pub fn halt<R: Wait>(&self, rt: &R) {
+        self.lock(rt).halt();
+        self.tell();
+    }
+}
