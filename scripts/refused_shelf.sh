@@ -3,9 +3,9 @@
 #
 #   scripts/refused_shelf.sh            over a new file, and over one with tables of the older generation
 #
-# Each call that is refused answers Memory and leaves the tables as they were (a flush that can't report has written its batch, and
-# holds it); called again it answers as if nothing had been refused. The program is built first (scripts/shelf_program.sh), unless
-# PROGRAM names a built one. Nothing of this is in the gate.
+# Each call that is refused answers Memory and leaves the tables as they were (a flush that can't report has written its
+# batch, and holds it); called again it answers as if nothing had been refused. The program is built first
+# (scripts/shelf_program.sh), unless PROGRAM names a built one. Nothing of this is in the gate.
 set -u
 top=$(cd "$(dirname "$0")/.." && pwd)
 room=$(mktemp -d)
