@@ -126,7 +126,7 @@ fn has_all<R: Wait>(rt: &R, office: &Office, client: ClientNo) -> bool {
     let mut next = 1;
     for entry in shared.station().history() {
         if entry.client == client {
-            if entry.txn != TxnNo::new(next) || entry.reads.len() != 1 || next > COUNT {
+            if entry.txn.get() != next || entry.reads.len() != 1 || next > COUNT {
                 return false;
             }
             next += 1;
