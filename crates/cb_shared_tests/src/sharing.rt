@@ -84,7 +84,7 @@ fn read_often<R: Wait>(
 
 /// A client joins, commits its transactions, and leaves.
 fn visit<R: Wait>(rt: &R, alloc: Global, office: &Office, number: u16) -> Result<(), OfficeFault> {
-    let client = ClientNo::new(number);
+    let client = ClientNo::new(number % 4);
     let mut hand = office.lock(rt).station_mut().join(alloc, client)?;
     let read = read_often(rt, alloc, office, &mut hand);
     match office.lock(rt).station_mut().leave(alloc, hand) {
