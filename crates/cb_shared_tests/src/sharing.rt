@@ -84,7 +84,7 @@ fn read_often<R: Wait>(
 
 /// A client joins, commits its transactions, and leaves.
 fn visit<R: Wait>(rt: &R, alloc: Global, office: &Office, number: u16) -> Result<(), OfficeFault> {
-    let client = ClientNo::new(number);
+    let client = ClientNo::new(number % 4);
     let mut hand = office.lock(rt).station_mut().join(alloc, client)?;
     let read = read_often(rt, alloc, office, &mut hand);
     match office.lock(rt).station_mut().leave(alloc, hand) {
@@ -126,7 +126,7 @@ fn has_all<R: Wait>(rt: &R, office: &Office, client: ClientNo) -> bool {
     let mut next = 1;
     for entry in shared.station().history() {
         if entry.client == client {
-            if entry.txn != TxnNo::new(next) || entry.reads.len() != 1 || next > COUNT {
+            if entry.txn.get() != next || entry.reads.len() != 1 || next > COUNT {
                 return false;
             }
             next += 1;
