@@ -1,5 +1,6 @@
 -- Room for settling, once a message is answered.
-use Rattle.std.proofs.Common.{◌≡◌, ℕ, ◌+◌, ◌≤◌, false, List, [], ◌∷◌, ◌++◌, length, sym, ap, ◌∙◌, subst, arith}
+use Rattle.std.proofs.Common.{◌≡◌, ℕ, ◌+◌, ◌*◌, ◌≤◌, min, false, List, [], ◌∷◌, ◌++◌, length, sym, ap, ◌∙◌, subst, arith}
+use Rattle.std.proofs.Math.Nat.{le-min, le_trans, min-eq_left, min-le_left, min-le_right}
 use Rattle.std.proofs.lemmas.List.{length-append}
 use Rattle.cb_outbox.proofs.Saying.{after_append, copies_append, sent_append}
 use Rattle.cb_protocol.proofs.GrantNumbers.{left_at_admission, left_at_answer, left_at_begin}
@@ -11,7 +12,7 @@ use Rattle.cb_protocol.specs.ServerMessages.{begin_transaction, direct_answer, n
 use Rattle.cb_protocol.specs.Session.{Admit}
 use Rattle.cb_protocol.specs.WaitsFor.{on_cycle}
 use Rattle.cb_protocol.specs.World.{messages_sent}
-use Rattle.cb_server.specs.Answering.{CanAnswer, CanSettle, LacksNumber, Makes, answer_to, server_in}
+use Rattle.cb_server.specs.Answering.{asks_in_all, CanAnswer, CanSettle, LacksNumber, Makes, answer_to, server_in}
 use Rattle.cb_server.specs.declared.engine.Engine.{Engine}
 use Rattle.cb_server.proofs.Counting.{Costs, answer_costs, begins_quietly, begins_with_fewer, begins_with_fewer_asks, begins_with_no_copy, reads, waiting, waits_fewer, without}
 
@@ -19,14 +20,23 @@ use Rattle.cb_server.proofs.Counting.{Costs, answer_costs, begins_quietly, begin
 abbrev Leaves : Server → List ServerStep → Type 0
 Leaves s ds = (length (messages_sent ds) ≤ 1) × (copies_sent ds + reads (server_after s ds) ≤ reads s + 1) × (waiting (server_after s ds) ≤ waiting s + 1)
 
+-- fewer asks want no more room
+fewer_most : (few many : ℕ) → few ≤ many → min few 32 ≤ min many 32
+fewer_most few many le = le-min (le_trans (min-le_left few 32) le) (min-le_right few 32)
+
+-- where at most 32 asks wait there is room for each
+pub all_fit : (e : Engine) → CanSettle e → asks_in_all e ≤ 32 → length e.outbox.sent + 33 * asks_in_all e ≤ e.outbox.room
+all_fit e room few = subst (λ (n : ℕ). length e.outbox.sent + 33 * n ≤ e.outbox.room) (min-eq_left few) room.frames
+
 settles_by : (old new : Engine) (f : Server → List ServerStep) → CanAnswer old → Makes old f new → Leaves (server_in old) (f (server_in old))
     → HasGrantsLeft (server_after (server_in old) (f (server_in old))) → CanSettle new
 settles_by old new f room m l grants = record {
   frames =
       let more = ap (λ (x : List Message). length x) m.says.sends ∙ length-append old.outbox.sent (messages_sent (f (server_in old))) in
       let one = l.0 in let same = m.says.room in let had = room.frames in
-      let now = ap waiting m.says.becomes in let asks = l.2 in
-      omega (arith, more, one, same, had, now, asks);
+      let now = ap waiting m.says.becomes in
+      let asks = fewer_most (waiting (server_in new)) (waiting (server_in old) + 1) (let le : waiting (server_in new) ≤ waiting (server_in old) + 1 = (let l2 = l.2 in omega (arith, now, l2)) in le) in
+      omega (arith, more, one, same, had, asks);
   copies_of_pages =
       let now = ap reads m.says.becomes in
       let cost = l.1 in let spare = m.says.spare in let had = room.copies_of_pages in

@@ -1,7 +1,7 @@
 -- What a server's engine does for a message, and the room that it has for it.
 use Rattle.std.specs.Prelude.{◌≡◌, ◌≤◌, ◌<◌, ◌+◌, ◌*◌, ◌&&◌, ℕ, Bool, true, false, List}
 use Rattle.std.specs.Prelude.{[], ◌++◌}
-use Rattle.std.specs.Prelude.{length, ⊤}
+use Rattle.std.specs.Prelude.{length, min, ⊤}
 use Rattle.cb_asks.specs.Asks.{asks_below, room_at}
 use Rattle.cb_callbacks.specs.Numbers as numbers
 use Rattle.cb_callbacks.specs.Numbers.{IsLiveOne}
@@ -46,13 +46,15 @@ abbrev pub asks_in_all : Engine → ℕ
 asks_in_all engine = asks_below (server_in engine) (server_in engine).pages
 
 -- Room for all that settling sends: for each ask that waits at most a message to each of 32 clients
--- and one more to its own, and a copy for each ask to read (this project's rule).
+-- and one more to its own, and a copy for each ask to read; 32 asks wait at most, one of each client
+-- (this project's rule).
 abbrev pub CanSettle : Engine → Type 0
-CanSettle engine = HasRoom engine (33 * asks_in_all engine) (read_asks_in_all engine)
+CanSettle engine = HasRoom engine (33 * min (asks_in_all engine) 32) (read_asks_in_all engine)
 
 -- So much with one ask more, and one message and one copy for an answer.
 abbrev pub CanAnswer : Engine → Type 0
-CanAnswer engine = HasRoom engine (33 * (asks_in_all engine + 1) + 1) (read_asks_in_all engine + 1)
+CanAnswer engine =
+    HasRoom engine (33 * min (asks_in_all engine + 1) 32 + 1) (read_asks_in_all engine + 1)
 
 -- Room for one answer, with a copy of a page.
 pub record CanSay (engine : Engine) : Type 0 where

@@ -173,12 +173,14 @@ impl Engine {
         ensures callbacks { self.new.callbacks ≡ self.old.callbacks }
         ensures left { IsLeft self.old self.new }
     {
-        let messages = 33 * (self.callbacks.waiting_asks() + 1) + 1;
+        let asks = (self.callbacks.waiting_asks() + 1).min(32);
+        let messages = 33 * asks + 1;
         let copies = self.callbacks.read_asks() + 1;
         self.outbox.reserve(alloc, messages, copies)
     }
 
     /// Every page with asks is settled.
+    #[tactic(auto, using(crate::proofs::Rooms::all_fit))]
     fn settle(&mut self)
         requires { CanSettle self.old }
         ensures { Makes self.old (λ server. settle_pages on_cycle server server.pages) self.new }

@@ -45,20 +45,23 @@ impl Callbacks {
     }
 
     /// Settling sends at most 33 messages for each ask that waits (to each of 32 clients, and one
-    /// more to its own), and a copy for each ask to read.
+    /// more to its own), and a copy for each ask to read; and at most 32 asks wait, one of each
+    /// client.
     ///
-    /// It does nothing: who is to settle cites it for the room that is needed.
+    /// It changes nothing: who is to settle cites it for the room that is needed.
     pub fn settling_is_bounded(&self)
-        ensures { (outbox : OutboxState) → length outbox.sent
+        ensures room { (outbox : OutboxState) → length outbox.sent
             + 33 * asks_below (server_of self.now.tables) (server_of self.now.tables).pages
             ≤ outbox.room
             → read_asks_below (server_of self.now.tables) (server_of self.now.tables).pages
             ≤ outbox.spare
             → HasRoomFor (settle_pages on_cycle (server_of self.now.tables)
             (server_of self.now.tables).pages) outbox }
+        ensures few { asks_below (server_of self.now.tables) (server_of self.now.tables).pages
+            ≤ 32 }
     {
-        // To look at a field shows the invariant.
-        let _ = &self.tables;
+        // To look at a field shows the invariant; that few asks wait their count says.
+        let _ = self.tables.asks.waiting_asks();
     }
 
     /// The page is settled, in so many decisions at most and one.

@@ -1,4 +1,4 @@
-use Rattle.std.proofs.Common.{◌≤◌, ◌+◌, ◌*◌, length, subst}
+use Rattle.std.proofs.Common.{rules, ◌≤◌, ◌+◌, ◌*◌, length, subst}
 use Rattle.cb_asks.specs.Asks.{asks_below}
 use Rattle.cb_outbox.specs.Saying.{HasRoomFor, OutboxState}
 use Rattle.cb_callbacks.specs.Callbacks.{CallbacksState}
@@ -9,8 +9,11 @@ use Rattle.cb_protocol.specs.Settling.{settle_pages}
 use Rattle.cb_protocol.specs.WaitsFor.{on_cycle}
 use Rattle.cb_callbacks.proofs.callbacks.Callbacks.settling_is_bounded.Goals as goal
 
-pub returns : goal.returns
-returns c = subst (λ (v : CallbacksState). (outbox : OutboxState) → length outbox.sent + 33 * asks_below (server_of v.tables) (server_of v.tables).pages ≤ outbox.room
+pub returns-clause-room : goal.returns-clause-room
+returns-clause-room c = subst (λ (v : CallbacksState). (outbox : OutboxState) → length outbox.sent + 33 * asks_below (server_of v.tables) (server_of v.tables).pages ≤ outbox.room
     → read_asks_below (server_of v.tables) (server_of v.tables).pages ≤ outbox.spare
     → HasRoomFor (settle_pages on_cycle (server_of v.tables) (server_of v.tables).pages) outbox) c.self.view_is
     (λ outbox room spare. settling_bounded (server_of c.self.inside.tables) outbox c.self.invariant.few room spare)
+
+pub returns-clause-few : goal.returns-clause-few
+returns-clause-few c = search rules
