@@ -1,0 +1,304 @@
+//! Drawn calls of three clients; all pairs of hands are shown to meet after each.
+use crate::frames::{ask_read, ask_write, commit, insert, no_writes, said, short_body, write};
+use cb_commit::Store;
+use cb_frame::ShortBody;
+use cb_hands::Hand;
+use cb_office::{OfficeFault, Station};
+use cb_page::{ClientNo, GrantNo, Limits, PageNo, PageSet, TxnNo};
+use std::alloc::Global;
+use std::test::Fail;
+
+/// A generator of numbers (Knuth's linear congruential one).
+#[derive(Drop)]
+struct Draws {
+    state: u64,
+}
+
+impl Draws {
+    fn draw(&mut self) -> u64 {
+        self.state = self
+            .state
+            .wrapping_mul(6364136223846793005)
+            .wrapping_add(1442695040888963407);
+        self.state >> 33
+    }
+}
+
+/// What was done in all.
+#[derive(Clone, Copy, Debug, Default, PartialEq, Eq)]
+struct Tally {
+    commits: u32,
+    refused: u32,
+    permitted: u32,
+    doomed: u32,
+}
+
+/// The station of three clients, and what is drawn.
+#[derive(Drop)]
+struct Play {
+    station: Station,
+    draws: Draws,
+    tally: Tally,
+}
+
+impl Play {
+    /// One drawn call of one client, in its transaction; `false` where something is wrong.
+    fn drawn(
+        &mut self,
+        alloc: Global,
+        hand: &mut Hand,
+        txn: &mut TxnNo,
+    ) -> Result<bool, OfficeFault> {
+        let page = PageNo::new((self.draws.draw() % 4) as u32);
+        match self.draws.draw() % 16 {
+            0 | 1 => {
+                let ask = ask_read(hand, *txn, page);
+                self.station.take(alloc, &ask, hand)?;
+                Ok(true)
+            }
+            2 | 3 | 4 => {
+                if let Some(held) = hand.held(page) {
+                    let ask = ask_write(hand, *txn, page, held.grant);
+                    self.station.take(alloc, &ask, hand)?;
+                }
+                Ok(true)
+            }
+            5 => self.gives_back(alloc, hand, page),
+            6 => self.drops(alloc, hand, txn),
+            7 => self.commits(alloc, hand, txn),
+            8 => self.flushes(alloc),
+            _ => self.collects(alloc, hand, txn),
+        }
+    }
+
+    fn gives_back(
+        &mut self,
+        alloc: Global,
+        hand: &mut Hand,
+        page: PageNo,
+    ) -> Result<bool, OfficeFault> {
+        if let Some(held) = hand.held(page) {
+            let grant = held.grant;
+            let frame = said(hand, ShortBody::GiveBack { page, grant });
+            self.station.take(alloc, &frame, hand)?;
+        }
+        Ok(hand.held(page).is_none())
+    }
+
+    fn drops(
+        &mut self,
+        alloc: Global,
+        hand: &mut Hand,
+        txn: &mut TxnNo,
+    ) -> Result<bool, OfficeFault> {
+        let frame = said(hand, ShortBody::Drop { txn: *txn });
+        self.station.take(alloc, &frame, hand)?;
+        *txn = txn.next().unwrap_or(*txn);
+        Ok(hand.txn().is_none())
+    }
+
+    fn flushes(&mut self, alloc: Global) -> Result<bool, OfficeFault> {
+        let number = match self.station.batch(alloc)? {
+            Some(batch) => batch.number(),
+            None => return Ok(true),
+        };
+        self.station.flushed(alloc, number)?;
+        Ok(self.station.batch(alloc)?.is_none())
+    }
+
+    fn collects(
+        &mut self,
+        alloc: Global,
+        hand: &mut Hand,
+        txn: &mut TxnNo,
+    ) -> Result<bool, OfficeFault> {
+        if let Some(frame) = self.station.collect(hand)? {
+            if let Some(told) = short_body(&frame) {
+                self.hears(alloc, hand, txn, told)?;
+            }
+        }
+        Ok(true)
+    }
+
+    /// Answers a Callback by giving back or by InUse, an AbortNow by Drop.
+    fn hears(
+        &mut self,
+        alloc: Global,
+        hand: &mut Hand,
+        txn: &mut TxnNo,
+        told: ShortBody,
+    ) -> Result<(), OfficeFault> {
+        match told {
+            ShortBody::Callback { page, grant } => self.is_called(alloc, hand, *txn, page, grant),
+            ShortBody::AbortNow { txn: doomed } => self.is_doomed(alloc, hand, txn, doomed),
+            ShortBody::MayWrite { page, .. } => {
+                self.is_permitted(hand, page);
+                Ok(())
+            }
+            _ => Ok(()),
+        }
+    }
+
+    fn is_called(
+        &mut self,
+        alloc: Global,
+        hand: &mut Hand,
+        txn: TxnNo,
+        page: PageNo,
+        grant: GrantNo,
+    ) -> Result<(), OfficeFault> {
+        let body = match self.draws.draw() % 2 {
+            0 => ShortBody::GiveBack { page, grant },
+            _ => ShortBody::InUse { txn, page, grant },
+        };
+        let answer = said(hand, body);
+        self.station.take(alloc, &answer, hand)
+    }
+
+    fn is_doomed(
+        &mut self,
+        alloc: Global,
+        hand: &mut Hand,
+        txn: &mut TxnNo,
+        doomed: TxnNo,
+    ) -> Result<(), OfficeFault> {
+        self.tally.doomed = self.tally.doomed.wrapping_add(1);
+        let answer = said(hand, ShortBody::Drop { txn: doomed });
+        self.station.take(alloc, &answer, hand)?;
+        if doomed == *txn {
+            *txn = txn.next().unwrap_or(*txn);
+        }
+        Ok(())
+    }
+
+    fn is_permitted(&mut self, hand: &Hand, page: PageNo) {
+        if let Some(shown) = hand.shows(page) {
+            if shown.may_write {
+                self.tally.permitted = self.tally.permitted.wrapping_add(1);
+            }
+        }
+    }
+
+    /// Commits what it may write, having read all that it holds.
+    fn commits(
+        &mut self,
+        alloc: Global,
+        hand: &mut Hand,
+        txn: &mut TxnNo,
+    ) -> Result<bool, OfficeFault> {
+        let mut pages = PageSet::new(alloc, 4)?;
+        let mut writes = no_writes(alloc);
+        for page in 0..4u32 {
+            let page = PageNo::new(page);
+            if let Some(shown) = hand.shows(page) {
+                insert(&mut pages, page);
+                if shown.may_write {
+                    write(alloc, &mut writes, page, shown.grant)?;
+                }
+            }
+        }
+        let count = writes.len();
+        let frame = commit(hand, *txn, writes);
+        let before = self.station.history().len();
+        match self.station.commit(alloc, &frame, &pages, hand) {
+            Ok(_) => {
+                self.tally.commits = self.tally.commits.wrapping_add(1);
+                *txn = txn.next().unwrap_or(*txn);
+                Ok(hand.txn().is_none() && wrote(&self.station, before, count))
+            }
+            Err(OfficeFault::NotLive) => {
+                self.tally.refused = self.tally.refused.wrapping_add(1);
+                Ok(true)
+            }
+            Err(OfficeFault::NotHeld) => {
+                self.tally.refused = self.tally.refused.wrapping_add(1);
+                Ok(count != 0)
+            }
+            Err(fault) => Err(fault),
+        }
+    }
+
+    /// Whether these two meet, and what they show of one page doesn't clash.
+    fn meets(&self, one: &Hand, other: &Hand) -> bool {
+        if self.station.meet(one, other) != Ok(()) {
+            return false;
+        }
+        for page in 0..4u32 {
+            let page = PageNo::new(page);
+            if let (Some(a), Some(b)) = (one.shows(page), other.shows(page)) {
+                if a.version != b.version || a.may_write || b.may_write {
+                    return false;
+                }
+            }
+        }
+        true
+    }
+}
+
+/// The history has one entry more, which writes so many pages.
+fn wrote(station: &Station, before: usize, count: usize) -> bool {
+    match station.history().get(before) {
+        Some(entry) => entry.writes.len() == count,
+        None => false,
+    }
+}
+
+/// Three thousand calls.
+fn plays(
+    alloc: Global,
+    play: &mut Play,
+    one: &mut Hand,
+    two: &mut Hand,
+    three: &mut Hand,
+) -> Result<bool, OfficeFault> {
+    let mut first = TxnNo::new(1);
+    let mut second = TxnNo::new(1);
+    let mut third = TxnNo::new(1);
+    for _step in 0..3000 {
+        let fine = match play.draws.draw() % 3 {
+            0 => play.drawn(alloc, one, &mut first)?,
+            1 => play.drawn(alloc, two, &mut second)?,
+            _ => play.drawn(alloc, three, &mut third)?,
+        };
+        let meet = play.meets(one, two) && play.meets(one, three) && play.meets(two, three);
+        if !fine || !meet {
+            return Ok(false);
+        }
+    }
+    Ok(true)
+}
+
+#[test]
+fn two_hands_meet(rt: HostRuntime) -> Result<(), Fail> {
+    let alloc = rt.alloc();
+    let Ok(limits) = Limits::new(3, 4, 16, 4, 1, 2) else {
+        return Err("limits".into());
+    };
+    let store = Store::zeros(alloc, &limits)?;
+    let mut play = Play {
+        station: Station::new(alloc, &limits, store)?,
+        draws: Draws { state: 7 },
+        tally: Tally::default(),
+    };
+    let Ok(mut one) = play.station.join(alloc, ClientNo::new(0)) else {
+        return Err("join".into());
+    };
+    let Ok(mut two) = play.station.join(alloc, ClientNo::new(1)) else {
+        one.abandon();
+        return Err("join".into());
+    };
+    let Ok(mut three) = play.station.join(alloc, ClientNo::new(2)) else {
+        one.abandon();
+        two.abandon();
+        return Err("join".into());
+    };
+    let good = plays(alloc, &mut play, &mut one, &mut two, &mut three).unwrap_or(false);
+    one.abandon();
+    two.abandon();
+    three.abandon();
+    assert!(rt; good);
+    assert!(rt; play.tally.commits > 100);
+    assert!(rt; play.tally.permitted > 0);
+    assert!(rt; play.tally.doomed > 0);
+    Ok(())
+}

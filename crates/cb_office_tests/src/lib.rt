@@ -1,0 +1,13 @@
+//! Tests of a station, by public calls.
+#![tactic(auto)]
+
+#[cfg(test)]
+mod case;
+#[cfg(test)]
+mod drawn;
+#[cfg(test)]
+mod frames;
+#[cfg(test)]
+mod growths;
+#[cfg(test)]
+mod refusals;
