@@ -232,7 +232,12 @@ static DOOMED_WRITER_KEEPS_ITS_PERMISSION: &[Row] = &[
 /// A doomed writer keeps its permission until it says so.
 #[test]
 fn doomed_writer_keeps_its_permission(rt: HostRuntime) {
-    let parts = [GREETED, SECOND_GREETED, THIRD_GREETED, DOOMED_WRITER_KEEPS_ITS_PERMISSION];
+    let parts = [
+        GREETED,
+        SECOND_GREETED,
+        THIRD_GREETED,
+        DOOMED_WRITER_KEEPS_ITS_PERMISSION,
+    ];
     assert!(rt; answers(rt.alloc(), limits(3, 8, 4), &parts, 0));
 }
 
@@ -433,6 +438,11 @@ static STALE_DOWNGRADED_IGNORED: &[Row] = &[
 /// A Downgraded of an earlier permission ends no later one.
 #[test]
 fn stale_downgraded_ignored(rt: HostRuntime) {
-    let parts = [GREETED, SECOND_GREETED, PERMISSION_KEPT_AND_CALLED_BACK, STALE_DOWNGRADED_IGNORED];
+    let parts = [
+        GREETED,
+        SECOND_GREETED,
+        PERMISSION_KEPT_AND_CALLED_BACK,
+        STALE_DOWNGRADED_IGNORED,
+    ];
     assert!(rt; answers(rt.alloc(), keeping(2, 8, 4), &parts, 3));
 }
