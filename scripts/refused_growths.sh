@@ -32,7 +32,6 @@ cb_frame_tests pages::refused_growths frames::refused_growths
 cb_pool_tests twoq_tests::refused_growths_change_nothing pool_tests::calls_of_a_pool
 cb_client_tests growths::refused_growths
 cb_event_tests schedules::schedule_without_memory
-cb_office_tests growths::refused_growths
 cb_console_tests play_tests::play_without_memory
 cb_served_tests rows::callbacks_at_the_server rows::commits_at_the_server rows::cycle_of_three rows::hostile_frames
 LIST

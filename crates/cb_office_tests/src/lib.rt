@@ -8,6 +8,4 @@ mod drawn;
 #[cfg(test)]
 mod frames;
 #[cfg(test)]
-mod growths;
-#[cfg(test)]
 mod refusals;
