@@ -2,13 +2,12 @@
 use crate::frames::{
     ask_read, ask_write, commit, commit_one, insert, is_granted, is_told, no_writes, shown,
 };
-use cb_commit::Store;
+use crate::stations::over_zeros;
 use cb_frame::ShortBody;
 use cb_hands::Hand;
 use cb_office::{OfficeFault, Station};
-use cb_page::{ClientNo, CommitNo, GrantNo, Incarnation, Limits, PageNo, PageSet, TxnNo, Version};
+use cb_page::{ClientNo, CommitNo, GrantNo, Incarnation, PageNo, PageSet, TxnNo, Version};
 use std::alloc::{AllocError, Global};
-use std::test::Fail;
 
 /// The first client reads page 0 and may write it.
 pub(crate) fn prepare(alloc: Global, station: &mut Station, one: &mut Hand) -> bool {
@@ -149,32 +148,33 @@ fn leaves(alloc: Global, station: &mut Station, hand: Hand) -> bool {
     }
 }
 
-#[test]
-fn station_grants(rt: HostRuntime) -> Result<(), Fail> {
-    let alloc = rt.alloc();
-    let Ok(limits) = Limits::new(2, 4, 16, 4, 1, 2) else {
-        return Err("limits".into());
-    };
-    let store = Store::zeros(alloc, &limits)?;
-    let mut station = Station::new(alloc, &limits, store)?;
+/// The whole case.
+fn grants_and_commits(alloc: Global, station: &mut Station) -> bool {
     let Ok(mut one) = station.join(alloc, ClientNo::new(0)) else {
-        return Err("join".into());
+        return false;
     };
     let Ok(mut two) = station.join(alloc, ClientNo::new(1)) else {
         one.abandon();
-        return Err("join".into());
+        return false;
     };
-    let mut good = prepare(alloc, &mut station, &mut one);
-    good = commits(alloc, &mut station, &mut one).unwrap_or(false) && good;
-    good = follows(alloc, &mut station, &one, &mut two) && good;
-    good = is_noted(&station) && good;
-    good = flushes(alloc, &mut station, &mut one).unwrap_or(false) && good;
+    let mut good = prepare(alloc, station, &mut one);
+    good = commits(alloc, station, &mut one).unwrap_or(false) && good;
+    good = follows(alloc, station, &one, &mut two) && good;
+    good = is_noted(station) && good;
+    good = flushes(alloc, station, &mut one).unwrap_or(false) && good;
     two.abandon();
-    let ended = match restarts(alloc, &mut station, one) {
-        Some(hand) => leaves(alloc, &mut station, hand),
+    match restarts(alloc, station, one) {
+        Some(hand) => leaves(alloc, station, hand) && good,
+        None => false,
+    }
+}
+
+#[test]
+fn station_grants(rt: HostRuntime) {
+    let alloc = rt.alloc();
+    let good = match over_zeros(alloc) {
+        Some(mut station) => grants_and_commits(alloc, &mut station),
         None => false,
     };
     assert!(rt; good);
-    assert!(rt; ended);
-    Ok(())
 }

@@ -1,12 +1,11 @@
 //! Drawn calls of three clients; all pairs of hands are shown to meet after each.
 use crate::frames::{ask_read, ask_write, commit, insert, no_writes, said, short_body, write};
-use cb_commit::Store;
+use crate::stations::over_zeros;
 use cb_frame::ShortBody;
 use cb_hands::Hand;
 use cb_office::{OfficeFault, Station};
-use cb_page::{ClientNo, GrantNo, Limits, PageNo, PageSet, TxnNo};
+use cb_page::{ClientNo, GrantNo, PageNo, PageSet, TxnNo};
 use std::alloc::Global;
-use std::test::Fail;
 
 /// A generator of numbers (Knuth's linear congruential one).
 #[derive(Drop)]
@@ -268,37 +267,45 @@ fn plays(
     Ok(true)
 }
 
-#[test]
-fn two_hands_meet(rt: HostRuntime) -> Result<(), Fail> {
-    let alloc = rt.alloc();
-    let Ok(limits) = Limits::new(3, 4, 16, 4, 1, 2) else {
-        return Err("limits".into());
-    };
-    let store = Store::zeros(alloc, &limits)?;
-    let mut play = Play {
-        station: Station::new(alloc, &limits, store)?,
-        draws: Draws { state: 7 },
-        tally: Tally::default(),
-    };
+/// Three clients join, and play.
+fn three_play(alloc: Global, play: &mut Play) -> bool {
     let Ok(mut one) = play.station.join(alloc, ClientNo::new(0)) else {
-        return Err("join".into());
+        return false;
     };
     let Ok(mut two) = play.station.join(alloc, ClientNo::new(1)) else {
         one.abandon();
-        return Err("join".into());
+        return false;
     };
     let Ok(mut three) = play.station.join(alloc, ClientNo::new(2)) else {
         one.abandon();
         two.abandon();
-        return Err("join".into());
+        return false;
     };
-    let good = plays(alloc, &mut play, &mut one, &mut two, &mut three).unwrap_or(false);
+    let good = plays(alloc, play, &mut one, &mut two, &mut three).unwrap_or(false);
     one.abandon();
     two.abandon();
     three.abandon();
-    assert!(rt; good);
-    assert!(rt; play.tally.commits > 100);
-    assert!(rt; play.tally.permitted > 0);
-    assert!(rt; play.tally.doomed > 0);
-    Ok(())
+    good
+}
+
+/// What was done in all, where all was right.
+fn done(alloc: Global) -> Option<Tally> {
+    let mut play = Play {
+        station: over_zeros(alloc)?,
+        draws: Draws { state: 7 },
+        tally: Tally::default(),
+    };
+    if three_play(alloc, &mut play) {
+        Some(play.tally)
+    } else {
+        None
+    }
+}
+
+#[test]
+fn two_hands_meet(rt: HostRuntime) {
+    let tally = done(rt.alloc()).unwrap_or_default();
+    assert!(rt; tally.commits > 100);
+    assert!(rt; tally.permitted > 0);
+    assert!(rt; tally.doomed > 0);
 }

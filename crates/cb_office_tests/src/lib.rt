@@ -9,3 +9,5 @@ mod drawn;
 mod frames;
 #[cfg(test)]
 mod refusals;
+#[cfg(test)]
+mod stations;

@@ -1,13 +1,12 @@
 //! Bad input: each has its fault, and everything stays as it was.
 use crate::case::prepare;
 use crate::frames::{ask_read, commit, commit_one, insert, no_writes, said, shown};
-use cb_commit::Store;
+use crate::stations::over_zeros;
 use cb_frame::{Frame, ShortBody};
 use cb_hands::Hand;
 use cb_office::{OfficeFault, Station};
-use cb_page::{ClientNo, GrantNo, Incarnation, Limits, PageNo, PageSet, TxnNo, Version};
+use cb_page::{ClientNo, GrantNo, Incarnation, PageNo, PageSet, TxnNo, Version};
 use std::alloc::{AllocError, Global};
-use std::test::Fail;
 
 /// Whether the frame is refused by `take` for this, and nothing of the hand changed.
 fn refused(
@@ -141,38 +140,50 @@ fn strangers(
     }
 }
 
-#[test]
-fn bad_input(rt: HostRuntime) -> Result<(), Fail> {
-    let alloc = rt.alloc();
-    let Ok(limits) = Limits::new(2, 4, 16, 4, 1, 2) else {
-        return Err("limits".into());
-    };
-    let store = Store::zeros(alloc, &limits)?;
-    let mut station = Station::new(alloc, &limits, store)?;
-    let store = Store::zeros(alloc, &limits)?;
-    let mut other = Station::new(alloc, &limits, store)?;
+/// All of them, with the hand of another station.
+fn all_refused(alloc: Global, station: &mut Station, other: &mut Station) -> bool {
     let Ok(mut one) = station.join(alloc, ClientNo::new(0)) else {
-        return Err("join".into());
+        return false;
     };
     let Ok(mut two) = station.join(alloc, ClientNo::new(1)) else {
         one.abandon();
-        return Err("join".into());
+        return false;
     };
-    let mut good = prepare(alloc, &mut station, &mut one);
-    good = foreign_frames(alloc, &mut station, &mut one, &mut two).unwrap_or(false) && good;
-    good = commits_not_held(alloc, &mut station, &mut one).unwrap_or(false) && good;
-    good = strangers(alloc, &mut station, &mut other, &one).unwrap_or(false) && good;
-    good = other_calls(alloc, &mut station, &mut one, &two).unwrap_or(false) && good;
-    let past = match station.join(alloc, ClientNo::new(2)) {
+    let mut good = prepare(alloc, station, &mut one);
+    good = foreign_frames(alloc, station, &mut one, &mut two).unwrap_or(false) && good;
+    good = commits_not_held(alloc, station, &mut one).unwrap_or(false) && good;
+    good = strangers(alloc, station, other, &one).unwrap_or(false) && good;
+    good = other_calls(alloc, station, &mut one, &two).unwrap_or(false) && good;
+    one.abandon();
+    two.abandon();
+    good && is_refused(alloc, station, ClientNo::new(3))
+}
+
+/// Whether the client is none of the station's.
+fn is_refused(alloc: Global, station: &mut Station, client: ClientNo) -> bool {
+    match station.join(alloc, client) {
         Ok(hand) => {
             hand.abandon();
             false
         }
         Err(fault) => fault == OfficeFault::Foreign,
+    }
+}
+
+/// So it is at a station of its own.
+fn refused_beside(alloc: Global, other: &mut Station) -> bool {
+    match over_zeros(alloc) {
+        Some(mut station) => all_refused(alloc, &mut station, other),
+        None => false,
+    }
+}
+
+#[test]
+fn bad_input(rt: HostRuntime) {
+    let alloc = rt.alloc();
+    let good = match over_zeros(alloc) {
+        Some(mut other) => refused_beside(alloc, &mut other),
+        None => false,
     };
-    one.abandon();
-    two.abandon();
     assert!(rt; good);
-    assert!(rt; past);
-    Ok(())
 }
