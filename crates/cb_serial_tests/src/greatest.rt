@@ -45,7 +45,13 @@ fn tell_change(
     let seen = AnswerWord::Bytes(page_of(alloc, byte)?);
     tell(alloc, entries, client, Call::Read { page }, seen)?;
     let bytes = page_of(alloc, byte.wrapping_add(1))?;
-    tell(alloc, entries, client, Call::Write { page, bytes }, AnswerWord::Ok)
+    tell(
+        alloc,
+        entries,
+        client,
+        Call::Write { page, bytes },
+        AnswerWord::Ok,
+    )
 }
 
 /// The transaction of that number begins, and changes its sixteen pages.
