@@ -2,6 +2,6 @@
 #![tactic(auto)]
 
 #[cfg(test)]
-mod steps;
+mod lines;
 #[cfg(test)]
 mod worked;
