@@ -9,14 +9,15 @@ ghost use Rattle.cb_dispatch.specs.Dispatching.{Everybody, IsUnchanged, Others, 
 ghost use Rattle.cb_dispatch.specs.Dispatching.{outbox_of, server_of, without_oldest};
 ghost use Rattle.cb_frame_types.specs.Grammar.{Fits};
 ghost use Rattle.cb_holdings.specs.Commits.{batch_of};
-ghost use Rattle.cb_outbox.specs.Messages.{body_of, messages_of};
+ghost use Rattle.cb_dispatch.specs.Outboxes.{AsBefore, current_in};
+ghost use Rattle.cb_outbox.specs.Messages.{messages_of};
 ghost use Rattle.cb_protocol.specs.AnyMessages.{MessageComes, ReachesDisk};
 ghost use Rattle.cb_protocol.specs.Flush.{can_flush, next_batch};
 ghost use Rattle.cb_protocol.specs.Messages.{Hello};
-ghost use Rattle.cb_protocol.specs.ServerMessages.{is_exhausted};
 ghost use Rattle.cb_server.specs.ServerState.{IsNew, IsServer, IsUnchanged as IsSame, commits_of};
-ghost use Rattle.cb_server.specs.Taking.{Does, input_of, is_exhaustion};
+ghost use Rattle.cb_server.specs.Taking.{Does, Refuses, input_of, lacks_number_for};
 
+use crate::copying::copy_of;
 use crate::outboxes::Outboxes;
 use cb_commit::{Batch, Store};
 use cb_frame::{Frame, ShortBody, ShortFrame};
@@ -79,26 +80,50 @@ impl Dispatcher {
         self.server.holdings()
     }
 
-    /// The server takes a frame. `Exhausted` only where the server has no number left for it; and
-    /// `Memory` only where a growth was refused, which may be so where no number is left too.
-    pub fn take(&mut self, alloc: Global, frame: Frame) -> Result<(), ServerFault>
-        requires { Fits self.old.server.limits frame }
+    /// The server takes a frame. `Exhausted` exactly where the server has no number left for it,
+    /// also where a growth is refused; `Memory` only where a growth was refused.
+    pub fn take(&mut self, alloc: Global, frame: &Frame) -> Result<(), ServerFault>
+        requires { Fits self.old.server.limits frame.now }
         ensures ok { OnOk result
-            (Posts self.old (input_of frame) (outbox_of self.old) Everybody self.new) }
-        ensures taken { OnOk result (is_exhausted (server_of self.old) frame.client
-            frame.incarnation (body_of frame.body) ≡ false) }
+            (Posts self.old (input_of frame.now) (outbox_of self.old) Everybody self.new) }
+        ensures taken { OnOk result (lacks_number_for self.old.server frame.now ≡ false) }
         ensures arose { OnOk result (IsServer self.new.server) }
-        ensures exhausted { IfErr result (λ fault. is_exhaustion fault ≡ true
-            → is_exhausted (server_of self.old) frame.client frame.incarnation
-            (body_of frame.body) ≡ true) }
+        ensures err { IfErr result (Refuses self.old.server frame.now) }
         ensures unchanged { OnErr result (IsUnchanged self.old self.new) }
     {
-        self.outboxes.make_ready(self.server.holdings())?;
-        let said = self.server.take(alloc, frame)?;
+        let Ok(copy) = self.make_ready_for(alloc, frame) else {
+            return Err(self.refusal(frame));
+        };
+        let said = self.server.take(alloc, copy)?;
         self.outboxes.put(said);
         // The server still arises by the protocol's steps.
         let _arose = self.server.limits();
         Ok(())
+    }
+
+    /// Makes ready to take a frame, and copies it for the server.
+    fn make_ready_for(&mut self, alloc: Global, frame: &Frame) -> Result<Frame, AllocError>
+        ensures copy { IfOk result (λ copy. copy ≡ frame.now) }
+        ensures ready { OnOk result (self.new.outboxes.late ≡ []) }
+        ensures server { self.new.server ≡ self.old.server }
+        ensures outboxes { AsBefore (current_in (server_of self.old)) self.old.outboxes
+            self.new.outboxes }
+    {
+        self.outboxes.make_ready(self.server.holdings())?;
+        copy_of(alloc, frame)
+    }
+
+    /// Why a frame is refused for which a growth was refused: want of a number goes before want of
+    /// memory.
+    fn refusal(&self, frame: &Frame) -> ServerFault
+        requires { Fits self.now.server.limits frame.now }
+        ensures { Refuses self.now.server frame.now result }
+    {
+        if self.server.is_exhausted_by(frame) {
+            ServerFault::Exhausted
+        } else {
+            ServerFault::Memory
+        }
     }
 
     /// The server takes the Hello of a client's incarnation. What was to be sent to the client goes

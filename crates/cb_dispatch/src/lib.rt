@@ -5,8 +5,10 @@
 //! outboxes hold.
 #![tactic(auto)]
 
+mod copying;
 mod dispatcher;
 mod outboxes;
 mod queue;
 
+pub use copying::copy_of;
 pub use dispatcher::Dispatcher;

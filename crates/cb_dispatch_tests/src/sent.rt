@@ -22,7 +22,7 @@ fn take(
     if !frame.fits(dispatcher.limits()) {
         return Err(ServerFault::Exhausted);
     }
-    dispatcher.take(alloc, frame)
+    dispatcher.take(alloc, &frame)
 }
 
 /// The next frame to the client, as its kind's name.
@@ -120,7 +120,7 @@ fn commits(dispatcher: &mut Dispatcher, alloc: Global) -> Result<bool, ServerFau
     if !frame.fits(dispatcher.limits()) {
         return Ok(false);
     }
-    dispatcher.take(alloc, frame)?;
+    dispatcher.take(alloc, &frame)?;
     let number = CommitNo::new(1);
     good = dispatcher.batch(alloc)?.is_some() && good;
     if !dispatcher.can_flush(number) {

@@ -5,7 +5,6 @@
 //! client's hand: one that isn't the hand that the station stores is refused as `Foreign`.
 #![tactic(auto)]
 
-mod copying;
 mod office_fault;
 mod reading;
 mod station;

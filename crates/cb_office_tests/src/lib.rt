@@ -8,6 +8,8 @@ mod drawn;
 #[cfg(test)]
 mod frames;
 #[cfg(test)]
+mod limits;
+#[cfg(test)]
 mod refusals;
 #[cfg(test)]
 mod stations;

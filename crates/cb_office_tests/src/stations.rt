@@ -6,7 +6,16 @@ use std::alloc::Global;
 
 /// A station over zeros, of three clients and four pages of 16 bytes.
 pub(crate) fn over_zeros(alloc: Global) -> Option<Station> {
-    let Ok(limits) = Limits::new(3, 4, 16, 4, 1, 2) else {
+    zeros_of(alloc, 3, 4)
+}
+
+/// A station over zeros at the greatest limits: 32 clients and 4,096 pages, of 16 bytes.
+pub(crate) fn greatest(alloc: Global) -> Option<Station> {
+    zeros_of(alloc, 32, 4096)
+}
+
+fn zeros_of(alloc: Global, clients: u64, pages: u64) -> Option<Station> {
+    let Ok(limits) = Limits::new(clients, pages, 16, 4, 1, 2) else {
         return None;
     };
     let store = Store::zeros(alloc, &limits).ok()?;

@@ -94,6 +94,22 @@ impl Engine {
         Ok(())
     }
 
+    /// Whether no number is left for a message of the client's incarnation.
+    pub(crate) fn is_exhausted_by(
+        &self,
+        client: ClientNo,
+        incarnation: Incarnation,
+        body: &Body,
+    ) -> bool
+        requires client { HasClient self.now.callbacks.tables client }
+        requires fits { FitsIn self.now body.now }
+        ensures { result
+            ≡ is_exhausted (server_in self.now) client incarnation (body_of body.now) }
+    {
+        self.callbacks.holdings().admission(client, incarnation) == Admission::Current
+            && self.lacks_number(client, body)
+    }
+
     /// Whether no number would be left for the message, once its transaction has begun.
     fn lacks_number(&self, client: ClientNo, body: &Body) -> bool
         requires client { HasClient self.now.callbacks.tables client }

@@ -12,6 +12,7 @@ ghost use Rattle.cb_protocol.specs.AnyMessages.{ReachesDisk, SendsAgain};
 ghost use Rattle.cb_protocol.specs.Flush.{can_flush, next_batch};
 ghost use Rattle.cb_server.specs.ServerState.{IsNew, IsServer, IsUnchanged, commits_of, server_of};
 ghost use Rattle.cb_server.specs.Taking.{Does, IsBytesFault, Refuses, Takes, TakesBytes};
+ghost use Rattle.cb_server.specs.Taking.{lacks_number_for};
 ghost use Rattle.cb_waits.specs.Follows.{Follows};
 
 use crate::engine::Engine;
@@ -100,6 +101,15 @@ impl Server {
         } = frame;
         self.engine.take(alloc, client, incarnation, body)?;
         Ok(self.engine.outbox.take(alloc))
+    }
+
+    /// Whether no number is left for the frame: exactly then `take` answers `Exhausted`.
+    pub fn is_exhausted_by(&self, frame: &Frame) -> bool
+        requires { Fits self.now.limits frame.now }
+        ensures { result ≡ lacks_number_for self.now frame.now }
+    {
+        self.engine
+            .is_exhausted_by(frame.client, frame.incarnation, &frame.body)
     }
 
     /// Takes the frame that the bytes begin with, whatever follows it; answers what is said to it

@@ -16,7 +16,6 @@ ghost use Rattle.cb_page.specs.Numbers.{max_number};
 ghost use Rattle.cb_protocol.specs.CommitLaws.{IsApplied};
 ghost use Rattle.cb_server.specs.Taking.{input_of};
 
-use crate::copying::copy_of;
 use crate::office_fault::OfficeFault;
 use crate::reading::{holds_all, may_write_all, pages_of, reads_of};
 use crate::station::Station;
@@ -92,10 +91,9 @@ impl Station {
             return Err(OfficeFault::Exhausted);
         };
         let entry = entry_of(alloc, hand, *txn, reads, writes.as_slice())?;
-        let copy = copy_of(alloc, frame)?;
         self.history.reserve(1)?;
         // A number is left: it is refused only where memory is.
-        if self.dispatcher.take(alloc, copy).is_err() {
+        if self.dispatcher.take(alloc, frame).is_err() {
             return Err(OfficeFault::Memory);
         }
         let version = Version::new(number.get());

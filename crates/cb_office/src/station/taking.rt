@@ -8,13 +8,10 @@ ghost use Rattle.cb_joined.specs.Joined.{Follow, IsHeld};
 ghost use Rattle.cb_office.specs.Moves.{IsOwn, ended_if_over, given_back, is_plain, is_stray};
 ghost use Rattle.cb_office.specs.Stations.{IsUnchanged, outbox_of, server_of};
 ghost use Rattle.cb_office.specs.declared.office_fault.OfficeFault.TheVariants as office;
-ghost use Rattle.cb_outbox.specs.Messages.{body_of};
 ghost use Rattle.cb_protocol.specs.AnyMessages.{ReachesDisk};
 ghost use Rattle.cb_protocol.specs.Flush.{can_flush};
-ghost use Rattle.cb_protocol.specs.ServerMessages.{is_exhausted};
-ghost use Rattle.cb_server.specs.Taking.{input_of};
+ghost use Rattle.cb_server.specs.Taking.{input_of, lacks_number_for};
 
-use crate::copying::copy_of;
 use crate::office_fault::OfficeFault;
 use crate::station::Station;
 use cb_frame::{Body, Frame, ShortBody};
@@ -32,14 +29,14 @@ impl Station {
     /// whose transaction has ended by the frame loses its permissions to write.
     ///
     /// `Foreign` exactly where the frame isn't the hand's or isn't taken here, or the hand isn't the
-    /// one stored. `Exhausted` only where the server has no number left for it; `Memory` only where
-    /// a growth was refused, also where no number is left.
+    /// one stored; else `Exhausted` exactly where the server has no number left for it; else
+    /// `Memory`, only where a growth was refused.
     pub fn take(&mut self, alloc: Global, frame: &Frame, hand: &mut Hand) -> Result<(), OfficeFault>
         ensures foreign { (result ≡ Err office.Foreign) ↔ (IsOwn self.old frame.now hand.old
             × (is_plain frame.now.body ≡ true) → ⊥) }
-        ensures exhausted { result ≡ Err office.Exhausted
-            → is_exhausted (server_of self.old) frame.now.client frame.now.incarnation
-            (body_of frame.now.body) ≡ true }
+        ensures exhausted { (result ≡ Err office.Exhausted) ↔ (IsOwn self.old frame.now hand.old
+            × (is_plain frame.now.body ≡ true)
+            × (lacks_number_for self.old.dispatcher.server frame.now ≡ true)) }
         ensures faults { IfErr result (λ fault. (fault ≡ office.Foreign)
             ⊎ (fault ≡ office.Exhausted) ⊎ (fault ≡ office.Memory)) }
         ensures err { OnErr result (IsUnchanged self.old self.new × (hand.new ≡ hand.old)) }
@@ -48,9 +45,8 @@ impl Station {
         ensures posts { OnOk result (is_stray hand.old frame.now.body ≡ false
             → Posts self.old.dispatcher (input_of frame.now) (outbox_of self.old) Everybody
             self.new.dispatcher) }
-        ensures taken { OnOk result (is_stray hand.old frame.now.body ≡ false
-            → is_exhausted (server_of self.old) frame.now.client frame.now.incarnation
-            (body_of frame.now.body) ≡ false) }
+        ensures taken { OnOk result
+            (lacks_number_for self.old.dispatcher.server frame.now ≡ false) }
         ensures hand { OnOk result (is_stray hand.old frame.now.body ≡ false
             → hand.new
             ≡ ended_if_over (server_of self.new) (given_back hand.old frame.now.body)) }
@@ -63,8 +59,7 @@ impl Station {
         if is_stray(hand, &frame.body) {
             return Ok(());
         }
-        let copy = copy_of(alloc, frame)?;
-        match self.dispatcher.take(alloc, copy) {
+        match self.dispatcher.take(alloc, frame) {
             Ok(()) => {}
             Err(ServerFault::Exhausted) => return Err(OfficeFault::Exhausted),
             Err(ServerFault::Memory) => return Err(OfficeFault::Memory),

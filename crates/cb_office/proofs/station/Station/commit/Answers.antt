@@ -59,8 +59,7 @@ invariant_of-self-2 c =
     let alive : is_live (server_of c.args.self.now) c.args.hand.now.client c.in-Commit.txn ≡ true = search rules in
     let live = subst (λ (v : StationState). is_live (server_of v) c.args.hand.now.client c.in-Commit.txn ≡ true) (sym c.self.view_is) alive in
     let number : c.in-Some.number ≡ (server_of (record { dispatcher = c.self.inside.dispatcher; hands = c.self.inside.hands; history = c.self.inside.history.items })).store.last_commit + 1 = c.in-Some.ensures.value refl ∙ ap (λ (h : HoldingsState). (holdings_in h).store.last_commit + 1) c.holdings.ensures in
-    let does_frame = subst (λ (f : Frame). Does c.self.inside.dispatcher.server (input_of f) (messages_of posts.said) c.take.new.self.server) c.in_ok-copy.ensures posts.does in
-    let does = subst (λ (b : Body). Does c.self.inside.dispatcher.server (MessageComes c.args.frame.now.client c.args.frame.now.incarnation (body_of b)) (messages_of posts.said) c.take.new.self.server) is does_frame in
+    let does = subst (λ (b : Body). Does c.self.inside.dispatcher.server (MessageComes c.args.frame.now.client c.args.frame.now.incarnation (body_of b)) (messages_of posts.said) c.take.new.self.server) is posts.does in
     let becomes : c.end_permissions.new.hand ≡ committed c.args.hand.now c.in-Commit.writes ((server_of (record { dispatcher = c.self.inside.dispatcher; hands = c.self.inside.hands; history = c.self.inside.history.items })).store.last_commit + 1) = c.end_permissions.ensures.hand ∙ ap (λ (h : HandState). without_permissions h)
     (restamped ∙ ap (λ (n : ℕ). all_restamped c.args.hand.now (pages_written (page_writes c.in-Commit.writes)) n) (c.new-version.ensures ∙ c.get.ensures.value ∙ number)) in
     let whole = commits_by (record { dispatcher = c.self.inside.dispatcher; hands = c.self.inside.hands; history = c.self.inside.history.items }) (record { dispatcher = c.take.new.self; hands = c.end_permissions.new.self; history = c.push_reserved.new.self.items }) c.self.invariant (ok_fact c.take.result _ done c.take.ensures.arose) c.args.frame.now c.in-Commit.txn c.in-Commit.writes (messages_of posts.said) c.args.hand.now
@@ -83,7 +82,7 @@ returns-clause-posts c =
     let done : is_err c.take.result ≡ false = sym c.is_err.ensures.value ∙ c.if-is_err.false in
     let posts = ok_fact c.take.result _ done c.take.ensures.ok in
     subst (λ (v : StationState). Posts v.dispatcher (input_of c.args.frame.now) (outbox_of v) Everybody c.take.new.self) c.self.view_is
-    (subst (λ (f : Frame). Posts c.self.inside.dispatcher (input_of f) (dispatching.outbox_of c.self.inside.dispatcher) Everybody c.take.new.self) c.in_ok-copy.ensures posts)
+    posts
 
 pub returns-clause-applied : goal.returns-clause-applied
 returns-clause-applied c =
@@ -103,8 +102,7 @@ returns-clause-applied c =
     let alive : is_live (server_of c.args.self.now) c.args.hand.now.client c.in-Commit.txn ≡ true = search rules in
     let live = subst (λ (v : StationState). is_live (server_of v) c.args.hand.now.client c.in-Commit.txn ≡ true) (sym c.self.view_is) alive in
     let number : c.in-Some.number ≡ (server_of (record { dispatcher = c.self.inside.dispatcher; hands = c.self.inside.hands; history = c.self.inside.history.items })).store.last_commit + 1 = c.in-Some.ensures.value refl ∙ ap (λ (h : HoldingsState). (holdings_in h).store.last_commit + 1) c.holdings.ensures in
-    let does_frame = subst (λ (f : Frame). Does c.self.inside.dispatcher.server (input_of f) (messages_of posts.said) c.take.new.self.server) c.in_ok-copy.ensures posts.does in
-    let does = subst (λ (b : Body). Does c.self.inside.dispatcher.server (MessageComes c.args.frame.now.client c.args.frame.now.incarnation (body_of b)) (messages_of posts.said) c.take.new.self.server) is does_frame in
+    let does = subst (λ (b : Body). Does c.self.inside.dispatcher.server (MessageComes c.args.frame.now.client c.args.frame.now.incarnation (body_of b)) (messages_of posts.said) c.take.new.self.server) is posts.does in
     let becomes : c.end_permissions.new.hand ≡ committed c.args.hand.now c.in-Commit.writes ((server_of (record { dispatcher = c.self.inside.dispatcher; hands = c.self.inside.hands; history = c.self.inside.history.items })).store.last_commit + 1) = c.end_permissions.ensures.hand ∙ ap (λ (h : HandState). without_permissions h)
     (restamped ∙ ap (λ (n : ℕ). all_restamped c.args.hand.now (pages_written (page_writes c.in-Commit.writes)) n) (c.new-version.ensures ∙ c.get.ensures.value ∙ number)) in
     let whole = commits_by (record { dispatcher = c.self.inside.dispatcher; hands = c.self.inside.hands; history = c.self.inside.history.items }) (record { dispatcher = c.take.new.self; hands = c.end_permissions.new.self; history = c.push_reserved.new.self.items }) c.self.invariant (ok_fact c.take.result _ done c.take.ensures.arose) c.args.frame.now c.in-Commit.txn c.in-Commit.writes (messages_of posts.said) c.args.hand.now

@@ -32,8 +32,7 @@ invariant_of-self-2 c =
     let back : c.give_back.new.hand.client ≡ c.args.hand.now.client = ap (λ (h : HandState). h.client) c.give_back.ensures.hand ∙ same_client c.args.hand.now c.args.frame.now.body in
     let follow = follow_then c.self.inside.hands c.give_back.new.hands c.end_if_over.new.hands c.args.hand.now c.give_back.new.hand c.end_if_over.new.hand c.give_back.ensures.stored c.end_if_over.ensures.stored back in
     let posts = c.in-Ok.ensures.ok in
-    let does : Does c.self.inside.dispatcher.server (input_of c.args.frame.now) (messages_of posts.said) c.take.new.self.server =
-    subst (λ (f : Frame). Does c.self.inside.dispatcher.server (input_of f) (messages_of posts.said) c.take.new.self.server) c.in_ok-copy.ensures posts.does in
+    let does = posts.does in
     takes_station (record { dispatcher = c.self.inside.dispatcher; hands = c.self.inside.hands; history = c.self.inside.history.items }) (record { dispatcher = c.take.new.self; hands = c.end_if_over.new.hands; history = c.self.inside.history.items }) c.self.invariant c.in-Ok.ensures.arose c.args.frame.now (messages_of posts.said) c.args.hand.now c.end_if_over.new.hand does own.held own.client plain there
     (c.end_if_over.ensures.hand ∙ ended_by c.take.new.self.server c.holdings.result.now c.give_back.new.hand c.holdings.ensures
     ∙ ap (λ (h : HandState). ended_if_over (server_of (record { dispatcher = c.take.new.self; hands = c.end_if_over.new.hands; history = c.self.inside.history.items })) h) c.give_back.ensures.hand) follow refl

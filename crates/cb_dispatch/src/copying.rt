@@ -1,4 +1,4 @@
-//! Copies of frames: the server takes a frame by value, and the caller of a station keeps its own.
+//! Copies of frames: a server takes a frame by value, and a caller keeps its own.
 ghost use Rattle.std.specs.Prelude.{◌≡◌, IfOk};
 
 use cb_frame::{Body, Frame, ShortFrame, Write, Writes};
@@ -8,7 +8,7 @@ use std::alloc::{AllocError, Global};
 /// A copy of the frame, with its pages.
 ///
 /// `AllocError` only where memory was refused.
-pub(crate) fn copy_of(alloc: Global, frame: &Frame) -> Result<Frame, AllocError>
+pub fn copy_of(alloc: Global, frame: &Frame) -> Result<Frame, AllocError>
     ensures { IfOk result (λ copy. copy ≡ frame.now) }
 {
     let client = frame.client;
