@@ -94,12 +94,8 @@ impl Server {
         ensures err { IfErr result (Refuses self.old frame) }
         ensures unchanged { OnErr result (IsUnchanged self.old self.new) }
     {
-        let Frame {
-            client,
-            incarnation,
-            body,
-        } = frame;
-        self.engine.take(alloc, client, incarnation, body)?;
+        self.engine
+            .take(alloc, frame.client, frame.incarnation, frame.body)?;
         Ok(self.engine.outbox.take(alloc))
     }
 

@@ -34,8 +34,7 @@ impl Begun {
             → has_not_ended server client txn ≡ result }
     {
         match self {
-            Begun::Live => true,
-            Begun::Doomed => true,
+            Begun::Live | Begun::Doomed => true,
             Begun::Ended => false,
         }
     }
