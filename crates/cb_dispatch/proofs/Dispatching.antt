@@ -1,5 +1,5 @@
 -- A dispatcher before and after its calls.
-use Rattle.std.proofs.Common.{◌≡◌, ◌≢◌, ◌<◌, ℕ, not, ◌==◌, List, [], length, reverse, filter, slice_index_or, slice_set, refl, sym, ◌∙◌, ap, subst, Result, Ok, Err, OnErr, All}
+use Rattle.std.proofs.Common.{◌≡◌, ◌<◌, ℕ, not, ◌==◌, List, [], length, reverse, filter, slice_index_or, slice_set, refl, sym, ◌∙◌, ap, subst, Result, Ok, Err, OnErr, All}
 use Rattle.std.proofs.lemmas.List.Elements.{All-filter, All-from_recursion}
 use Rattle.std.specs.List.{AllByRecursion}
 use Rattle.cb_dispatch.proofs.Posting.{posted, posted_anew, posted_nothing, posted_to_others}

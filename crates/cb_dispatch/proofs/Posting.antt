@@ -1,16 +1,14 @@
 -- What is to be sent stays so while late frames are put into their outboxes.
-use Rattle.std.proofs.Common.{◌≡◌, ◌≢◌, ◌<◌, ℕ, Bool, true, false, true≢false, ◌&&◌, ◌==◌, nat_lt, if◌then◌else◌, cond, ◌-◌, ◌+◌, take, slice_get, Some, List, [], ◌∷◌, ◌++◌, length, reverse, slice_index_or, slice_set, get_or, set, filter, drop, not, refl, sym, ap, ◌∙◌, subst, arith, inl, inr, append_assoc, ◌⊎◌}
+use Rattle.std.proofs.Common.{◌≡◌, ◌≢◌, ◌<◌, ℕ, Bool, true, false, ◌&&◌, ◌==◌, nat_lt, if◌then◌else◌, cond, ◌-◌, ◌+◌, take, slice_get, Some, List, [], ◌∷◌, ◌++◌, length, reverse, slice_index_or, slice_set, filter, drop, not, refl, sym, ap, ◌∙◌, subst, arith, inl, inr, append_assoc, ◌⊎◌}
 use Rattle.std.proofs.Math.Seq.{take-length}
 use Rattle.std.proofs.lemmas.Bool.{cases_eq}
 use Rattle.std.proofs.lemmas.Option.{get_or_from_slice_get, slice_get_within}
-use Rattle.std.proofs.lemmas.Grind.{common_steps}
 use Rattle.std.proofs.lemmas.Bool.Decides.{nat_tests}
 use Rattle.std.proofs.lemmas.List.{take_more, reverse-append, reverse-reverse, append-nil, length-set, get_or-set_same, get_or-set_other}
 use Rattle.cb_dispatch.specs.Dispatching.{emptied, without_oldest}
 use Rattle.cb_dispatch.specs.Outboxes.{AsBefore, Moves, OutboxesState, addressed, is_for, outbox_in}
 use Rattle.cb_frame_types.specs.declared.frame.Frame.{Frame}
 use Rattle.cb_holdings.specs.Questions.{admission_in}
-use Rattle.cb_links.specs.declared.sessions.Admission.{Admission}
 use Rattle.cb_links.specs.declared.sessions.Admission.TheVariants.{Stale, Current, Unknown}
 use Rattle.cb_protocol.specs.Server.{Server}
 

@@ -1,18 +1,18 @@
 -- What holds of every station holds after each call, by what the call did.
-use Rattle.std.proofs.Common.{◌≡◌, ◌≢◌, true≢false, ◌<◌, ◌≤◌, ◌+◌, ◌==◌, ℕ, Bool, true, false, not, List, [], ◌∷◌, ◌++◌, length, replicate, reverse, refl, sym, ◌∙◌, ap, subst, arith, Option, Some, None, inl, inr, ◌⊎◌, slice_set, Result, Ok, Err, OnOk, OnErr, is_err}
+use Rattle.std.proofs.Common.{◌≡◌, ◌≢◌, true≢false, ◌<◌, ◌≤◌, ◌+◌, ℕ, Bool, true, false, not, List, [], ◌∷◌, ◌++◌, length, replicate, refl, sym, ◌∙◌, ap, subst, arith, Option, Some, None, inl, inr, ◌⊎◌, slice_set, Result, Ok, Err, OnOk, OnErr, is_err}
 use Rattle.std.proofs.lemmas.Bool.{cases_eq, cases_lt}
 use Rattle.std.proofs.lemmas.List.{get_or_past, get_or-replicate, get_or-set_other, get_or-set_same, length-replicate, length-set}
 use Rattle.std.specs.List.{AllByRecursion}
 use Rattle.cb_agreement.proofs.Agreeing.{hands_meet}
 use Rattle.cb_agreement.specs.Agreement.{Meet}
-use Rattle.cb_commit.specs.History.{CommitsState, begun}
+use Rattle.cb_commit.specs.History.{CommitsState}
 use Rattle.cb_commit.specs.Stores.{StoreState}
 use Rattle.cb_frame_types.specs.declared.frame.Body.{Body}
 use Rattle.cb_frame_types.specs.declared.frame.Body.TheVariants as body
 use Rattle.cb_frame_types.specs.declared.frame.Frame.{Frame}
 use Rattle.cb_frame_types.specs.declared.frame.ShortBody.TheVariants as short
 use Rattle.cb_frame_types.specs.declared.writes.Write.{Write}
-use Rattle.cb_hands.specs.Hands.{HandState, empty_hand, held_at, without_copy}
+use Rattle.cb_hands.specs.Hands.{HandState, empty_hand, held_at}
 use Rattle.cb_hands.specs.declared.grant.Held.{Held}
 use Rattle.cb_history.proofs.Noting.{new_server_is_noted}
 use Rattle.cb_history.specs.Running.{Replays}
@@ -22,10 +22,10 @@ use Rattle.cb_joined.specs.Joined.{Follow, IsHeld, stored_at}
 use Rattle.cb_office.proofs.Following.{follow_length, has_place}
 use Rattle.cb_office.proofs.Keeping.{Step, commit_others_stored, commit_stored, follow_stored, goes_stored, new_stored, others_stored, own_stored_by, received_stored, told_stored}
 use Rattle.cb_office.proofs.Reached.{rules}
-use Rattle.cb_office.proofs.Stations.{AreStored, Steps, all_permitted, commits_station, keeps_station, may_be_applied}
+use Rattle.cb_office.proofs.Stations.{Steps, all_permitted, commits_station, keeps_station, may_be_applied}
 use Rattle.cb_office.specs.Commits.{is_live}
 use Rattle.cb_office.specs.Moves.{IsEntryOf, MayWriteAll, collected, committed, ended_if_over, given_back, is_by, is_plain, is_stray, received_of}
-use Rattle.cb_office.specs.Stations.{IsStation, IsStored, StationState, opening_of, server_of}
+use Rattle.cb_office.specs.Stations.{IsStation, IsStored, StationState, server_of}
 use Rattle.cb_outbox.specs.Messages.{body_of, page_writes}
 use Rattle.cb_page.specs.Bounds.{Bounds}
 use Rattle.cb_protocol.proofs.CommitsApplied.{applied_where_it_may}
@@ -37,10 +37,9 @@ use Rattle.cb_protocol.specs.Basics.{IsIn}
 use Rattle.cb_protocol.specs.CommitLaws.{IsApplied}
 use Rattle.cb_protocol.specs.Messages as protocol
 use Rattle.cb_protocol.specs.Messages.{Commit, GiveBack, Hello, Message, PageWrite}
-use Rattle.cb_protocol.specs.Server.{Server, new_server}
+use Rattle.cb_protocol.specs.Server.{Server}
 use Rattle.cb_protocol.specs.StepsKeep.{KeepsClient}
 use Rattle.cb_protocol.specs.WaitsFor.{on_cycle}
-use Rattle.cb_protocol.specs.World.{Opening, opening_store}
 use Rattle.cb_server.specs.ServerState.{IsNew, IsServer, ServerState, commits_of, server_of as server_in}
 use Rattle.cb_server.specs.Taking.{Does}
 

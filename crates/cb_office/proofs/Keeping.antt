@@ -1,8 +1,7 @@
 -- What is stored of a hand stays as the server has it, by each step and each change.
-use Rattle.std.proofs.Common.{◌≡◌, ◌≢◌, true≢false, ◌<◌, ◌≤◌, ◌+◌, ◌&&◌, ◌==◌, ℕ, Bool, true, false, not, nat_lt, if◌then◌else◌, List, [], ◌∷◌, length, replicate, refl, sym, ◌∙◌, ap, subst, arith, Option, Some, None, IsSome, inl, inr, ◌⊎◌, slice_index_or, slice_set, get_or, set}
+use Rattle.std.proofs.Common.{◌≡◌, ◌≢◌, true≢false, ◌<◌, ◌+◌, ◌&&◌, ◌==◌, ℕ, Bool, true, false, not, nat_lt, if◌then◌else◌, List, [], ◌∷◌, length, replicate, refl, sym, ◌∙◌, ap, subst, arith, Option, Some, None, IsSome, inl, inr, ◌⊎◌, slice_set}
 use Rattle.std.proofs.lemmas.Bool.{cases_eq, cases_lt}
 use Rattle.std.proofs.lemmas.Bool.Decides.{nat_tests}
-use Rattle.std.proofs.lemmas.Grind.{common_steps}
 use Rattle.std.proofs.lemmas.List.{get_or_past, get_or-replicate, length-replicate, length-set, get_or-set_other, get_or-set_same}
 use Rattle.cb_agreement.proofs.Agreeing.{commit_leaves_others, copy_comes, copy_goes, empty_hand as empty_agrees, others_stay, permission_comes, permissions_end}
 use Rattle.cb_agreement.proofs.Own.{own_stays}
@@ -15,20 +14,18 @@ use Rattle.cb_frame_types.specs.declared.writes.Write.{Write}
 use Rattle.cb_hands.specs.Hands.{HandState, IsHand, at_version, empty_hand, held_at, permitted, restamped, with_copy, without_copy, without_permissions}
 use Rattle.cb_hands.specs.declared.grant.Held.{Held}
 use Rattle.cb_holdings.specs.Holdings.{opening_of}
-use Rattle.cb_joined.specs.Joined.{Follow, IsHeld, stored_at}
+use Rattle.cb_joined.specs.Joined.{Follow, stored_at}
 use Rattle.cb_office.proofs.Onward.{Onward, goes_on}
 use Rattle.cb_office.proofs.Reached.{in_order, keeps_none, rules}
 use Rattle.cb_office.specs.Moves.{committed, ended_if_over, is_by, is_lasting, is_over, received, told}
 use Rattle.cb_office.specs.Stations.{IsStored}
 use Rattle.cb_outbox.specs.Messages.{page_writes}
 use Rattle.cb_page.specs.Flags.{has}
-use Rattle.cb_protocol.proofs.LivePermissions.{AnyMessage}
-use Rattle.cb_protocol.proofs.ServerOrder.{Orderly}
 use Rattle.cb_protocol.specs.AnyMessages.{Ledger}
 use Rattle.cb_protocol.specs.Basics.{IsIn, is_exactly, is_none}
 use Rattle.cb_protocol.specs.CommitLaws.{IsApplied}
 use Rattle.cb_protocol.specs.Messages.{Body, Commit, GiveBack, Hello, PageWrite}
-use Rattle.cb_protocol.specs.Server.{Server, has_not_ended, has_row, is_write_holder, server_after}
+use Rattle.cb_protocol.specs.Server.{Server, has_row, is_write_holder, server_after}
 use Rattle.cb_protocol.specs.ServerMessages.{server_take}
 use Rattle.cb_protocol.specs.StepsKeep.{KeepsClient}
 use Rattle.cb_protocol.specs.WaitsFor.{on_cycle}

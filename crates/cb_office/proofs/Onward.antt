@@ -1,5 +1,5 @@
 -- What a message other than Hello leaves of its own client's incarnation and transaction.
-use Rattle.std.proofs.Common.{◌≡◌, ◌≢◌, ◌<◌, ◌≤◌, ◌==◌, ◌&&◌, ℕ, Bool, true, false, nat_le, nat_lt, if◌then◌else◌, List, [], ◌∷◌, refl, sym, ◌∙◌, subst, arith, Option, Some, None}
+use Rattle.std.proofs.Common.{◌≡◌, ◌≢◌, ◌≤◌, ◌==◌, ◌&&◌, ℕ, Bool, true, false, nat_le, nat_lt, if◌then◌else◌, [], ◌∷◌, refl, sym, ◌∙◌, subst, arith, Option, Some, None}
 use Rattle.cb_protocol.proofs.Cases.{server_after_append}
 use Rattle.cb_protocol.proofs.OthersKeep.{gentle_ask_read, gentle_ask_write, gentle_live, gentle_settles, leaves_all}
 use Rattle.cb_protocol.specs.Basics.{is_exactly}

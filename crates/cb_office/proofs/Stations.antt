@@ -1,28 +1,25 @@
 -- What holds of every station holds after each call.
-use Rattle.std.proofs.Common.{◌≡◌, ◌≢◌, true≢false, ◌<◌, ◌≤◌, ◌+◌, ◌-◌, ◌&&◌, ◌||◌, ◌++◌, ℕ, zero, suc, Bool, true, false, not, nat_lt, if◌then◌else◌, List, [], ◌∷◌, length, map, reverse, refl, sym, ◌∙◌, ap, subst, arith, Option, Some, None, inl, inr, ◌⊎◌, slice_set}
-use Rattle.std.proofs.lemmas.Bool.{cases_eq, cases_lt}
+use Rattle.std.proofs.Common.{◌≡◌, true≢false, ◌<◌, ◌≤◌, ◌&&◌, ◌||◌, ◌++◌, ℕ, zero, suc, Bool, true, false, not, nat_lt, if◌then◌else◌, List, [], ◌∷◌, length, map, reverse, refl, sym, ◌∙◌, ap, subst, arith, Option, Some, None, inl, inr, ◌⊎◌}
+use Rattle.std.proofs.lemmas.Bool.{cases_lt}
 use Rattle.std.proofs.lemmas.Bool.Decides.{nat_tests}
-use Rattle.std.proofs.lemmas.Grind.{common_steps}
-use Rattle.std.proofs.lemmas.List.{get_or_past, length-set, reverse-append}
-use Rattle.std.specs.List.{AllByRecursion}
-use Rattle.cb_agreement.specs.Agreement.{Agrees, HasRows}
+use Rattle.std.proofs.lemmas.List.{get_or_past, reverse-append}
+use Rattle.cb_agreement.specs.Agreement.{HasRows}
 use Rattle.cb_commit.specs.Stores.{StoreState}
-use Rattle.cb_dispatch.specs.Dispatching as dispatching
 use Rattle.cb_frame_types.specs.Grammar.{page_of}
 use Rattle.cb_frame_types.specs.declared.writes.Write.{Write}
 use Rattle.cb_hands.specs.Hands.{HandState, held_at}
 use Rattle.cb_hands.specs.declared.grant.Held.{Held}
 use Rattle.cb_history.proofs.Noting.{no_other_changes, noted_commit_follows}
-use Rattle.cb_history.specs.Running.{IsLegal, Noted, Replays, noted, pages_of}
+use Rattle.cb_history.specs.Running.{IsLegal, Replays, noted, pages_of}
 use Rattle.cb_history.specs.declared.entry.Entry.{Entry}
 use Rattle.cb_history.specs.declared.entry.Read.{Read}
 use Rattle.cb_holdings.specs.Holdings.{AreOf, HoldingsState, limits_of, opening_of as opening_in}
 use Rattle.cb_joined.specs.Joined.{stored_at}
 use Rattle.cb_office.proofs.Keeping.{Step, ledgers}
 use Rattle.cb_office.specs.Commits.{is_live}
-use Rattle.cb_office.specs.Moves.{HoldsAll, IsEntryOf, MayWrite, MayWriteAll, is_by, read_of, reads_below}
+use Rattle.cb_office.specs.Moves.{IsEntryOf, MayWrite, MayWriteAll, is_by, read_of, reads_below}
 use Rattle.cb_office.specs.Stations.{IsStation, IsStored, IsUnchanged, StationState, opening_of, server_of}
-use Rattle.cb_outbox.specs.Messages.{page_write, page_writes}
+use Rattle.cb_outbox.specs.Messages.{page_writes}
 use Rattle.cb_page.specs.Bounds.{Bounds}
 use Rattle.cb_page.specs.Flags.{has}
 use Rattle.cb_protocol.specs.AnyMessages.{ReachedBy}

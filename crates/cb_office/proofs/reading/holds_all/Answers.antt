@@ -1,4 +1,4 @@
-use Rattle.std.proofs.Common.{rules, ◌≡◌, false, None, subst}
+use Rattle.std.proofs.Common.{rules}
 use Rattle.cb_hands.specs.Hands.{held_at}
 use Rattle.cb_office.proofs.PagesRead.{holds_next, not_none}
 use Rattle.cb_office.proofs.reading.holds_all.Goals as goal

@@ -1,11 +1,7 @@
-use Rattle.std.proofs.Common.{◌≡◌, ◌<◌, ℕ, [], length, ◌∙◌, ap, sym, subst}
-use Rattle.std.proofs.lemmas.List.{length-set}
+use Rattle.std.proofs.Common.{◌≡◌, ◌<◌, ℕ, length, ◌∙◌, sym, subst}
 use Rattle.cb_dispatch.proofs.Dispatching.{by_server, on_err, unchanged}
-use Rattle.cb_dispatch.specs.Dispatching.{DispatcherState, Everybody, IsUnchanged, Others, Posts, emptied, outbox_of, server_of, without_oldest}
-use Rattle.cb_dispatch.specs.Outboxes.{AsBefore, OutboxesState, current_in, outbox_in}
-use Rattle.cb_protocol.specs.AnyMessages.{MessageComes, ReachesDisk}
-use Rattle.cb_protocol.specs.Messages.{Hello}
-use Rattle.cb_server.specs.Taking.{input_of}
+use Rattle.cb_dispatch.specs.Dispatching.{DispatcherState, IsUnchanged, outbox_of, server_of, without_oldest}
+use Rattle.cb_dispatch.specs.Outboxes.{current_in}
 use Rattle.cb_dispatch.proofs.Posting.{collected_one}
 use Rattle.cb_dispatch.proofs.dispatcher.Dispatcher.collect.Goals as goal
 

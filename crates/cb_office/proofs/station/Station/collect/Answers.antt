@@ -1,18 +1,12 @@
-use Rattle.std.proofs.Common.{rules, ◌≡◌, ◌<◌, ◌+◌, ℕ, List, Option, Some, None, true, false, is_err, length, drop, refl, sym, ap, ◌∙◌, subst, arith, slice_set}
-use Rattle.cb_office.proofs.Calls.{collected_stored, err_fact, hand_station, received_by, store_pages}
+use Rattle.std.proofs.Common.{rules, ◌≡◌, Some, refl, sym, ap, ◌∙◌, subst}
+use Rattle.cb_office.proofs.Calls.{collected_stored, hand_station, received_by, store_pages}
 use Rattle.cb_office.proofs.Stations.{unchanged_station}
-use Rattle.cb_office.proofs.Following.{follow_same, follow_then, has_place}
-use Rattle.cb_office.specs.Stations.{IsStation, IsStored, IsUnchanged, StationState, opening_of, outbox_of, server_of}
-use Rattle.cb_dispatch.specs.Dispatching as dispatching
-use Rattle.cb_dispatch.specs.Dispatching.{Everybody, Others, Posts, emptied, without_oldest}
-use Rattle.cb_hands.specs.Hands.{HandState, empty_hand, held_at}
-use Rattle.cb_holdings.specs.Holdings.{HoldingsState}
-use Rattle.cb_joined.specs.Joined.{Follow, IsHeld, stored_at}
-use Rattle.cb_outbox.specs.Messages.{messages_of}
-use Rattle.cb_protocol.specs.AnyMessages.{MessageComes}
-use Rattle.cb_protocol.specs.Messages.{Hello}
-use Rattle.cb_server.specs.ServerState.{IsServer, ServerState}
-use Rattle.cb_office.specs.Moves.{collected, received_of}
+use Rattle.cb_office.proofs.Following.{follow_same}
+use Rattle.cb_office.specs.Stations.{IsStored, server_of}
+use Rattle.cb_hands.specs.Hands.{HandState}
+use Rattle.cb_joined.specs.Joined.{IsHeld}
+use Rattle.cb_server.specs.ServerState.{ServerState}
+use Rattle.cb_office.specs.Moves.{collected}
 use Rattle.cb_office.proofs.station.Station.collect.Goals as goal
 
 pub invariant_of-self : goal.invariant_of-self

@@ -1,4 +1,4 @@
-use Rattle.std.proofs.Common.{rules, ◌++◌, ◌∷◌, [], ◌≤◌, ◌≡◌, ◌<◌, ◌+◌, ℕ, List, Option, Some, None, true, false, is_err, length, drop, refl, sym, ap, ◌∙◌, subst, arith, slice_set}
+use Rattle.std.proofs.Common.{rules, ◌++◌, ◌∷◌, [], ◌≡◌, ◌+◌, ℕ, List, true, false, is_err, refl, sym, ap, ◌∙◌, subst}
 use Rattle.std.proofs.lemmas.List.Elements.{All-from_recursion}
 use Rattle.cb_agreement.specs.OwnHand.{all_restamped, pages_written}
 use Rattle.cb_frame_types.specs.declared.frame.Body.{Body}
@@ -12,19 +12,15 @@ use Rattle.cb_office.proofs.Calls.{commits_by, err_fact, ok_fact, writes_within}
 use Rattle.cb_office.proofs.Keeping.{restamped_client}
 use Rattle.cb_office.specs.Commits.{is_live, txn_in, txn_of, writes_in, writes_of}
 use Rattle.cb_office.proofs.Stations.{unchanged_station}
-use Rattle.cb_office.proofs.Following.{follow_same, follow_then, has_place}
-use Rattle.cb_office.specs.Stations.{IsStation, IsStored, IsUnchanged, StationState, opening_of, outbox_of, server_of}
-use Rattle.cb_dispatch.specs.Dispatching as dispatching
-use Rattle.cb_dispatch.specs.Dispatching.{Everybody, Others, Posts, emptied, without_oldest}
-use Rattle.cb_hands.specs.Hands.{HandState, empty_hand, held_at}
+use Rattle.cb_office.proofs.Following.{follow_then}
+use Rattle.cb_office.specs.Stations.{StationState, outbox_of, server_of}
+use Rattle.cb_dispatch.specs.Dispatching.{Everybody, Posts}
+use Rattle.cb_hands.specs.Hands.{HandState}
 use Rattle.cb_holdings.specs.Holdings.{HoldingsState}
-use Rattle.cb_joined.specs.Joined.{Follow, IsHeld, stored_at}
+use Rattle.cb_joined.specs.Joined.{Follow}
 use Rattle.cb_outbox.specs.Messages.{messages_of}
 use Rattle.cb_protocol.specs.AnyMessages.{MessageComes}
-use Rattle.cb_protocol.specs.Messages.{Hello}
-use Rattle.cb_server.specs.ServerState.{IsServer, ServerState}
-use Rattle.cb_frame_types.specs.declared.frame.Frame.{Frame}
-use Rattle.cb_office.specs.Moves.{IsEntryOf, IsOwn, MayWrite, MayWriteAll, committed}
+use Rattle.cb_office.specs.Moves.{IsEntryOf, IsOwn, MayWriteAll, committed}
 use Rattle.cb_outbox.specs.Messages.{body_of, page_writes}
 use Rattle.cb_protocol.specs.CommitLaws.{IsApplied}
 use Rattle.cb_server.specs.Taking.{Does, input_of}

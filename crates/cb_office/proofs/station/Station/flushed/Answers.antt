@@ -1,5 +1,4 @@
 use Rattle.std.proofs.Common.{refl}
-use Rattle.cb_office.specs.Stations.{IsStation, IsUnchanged, StationState, opening_of, server_of}
 use Rattle.cb_office.proofs.Calls.{flushed_station}
 use Rattle.cb_office.proofs.Stations.{unchanged_station}
 use Rattle.cb_outbox.specs.Messages.{messages_of}

@@ -1,5 +1,4 @@
-use Rattle.std.proofs.Common.{rules, sym}
-use Rattle.cb_office.specs.Stations.{IsStation, IsUnchanged, StationState, opening_of, server_of}
+use Rattle.std.proofs.Common.{rules}
 use Rattle.cb_office.proofs.Calls.{meets}
 use Rattle.cb_office.proofs.station.Station.meet.Goals as goal
 

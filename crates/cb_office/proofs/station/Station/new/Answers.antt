@@ -1,5 +1,4 @@
-use Rattle.std.proofs.Common.{rules, refl}
-use Rattle.cb_office.specs.Stations.{IsStation, IsUnchanged, StationState, opening_of, server_of}
+use Rattle.std.proofs.Common.{rules}
 use Rattle.cb_office.proofs.Calls.{new_station}
 use Rattle.cb_office.proofs.station.Station.new.Goals as goal
 

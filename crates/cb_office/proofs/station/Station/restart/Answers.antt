@@ -1,17 +1,13 @@
-use Rattle.std.proofs.Common.{rules, ◌≡◌, ◌<◌, ◌+◌, ℕ, List, Option, Some, None, true, false, is_err, length, drop, refl, sym, ap, ◌∙◌, subst, arith, slice_set}
+use Rattle.std.proofs.Common.{rules, ◌≡◌, ◌<◌, ℕ, true, false, is_err, refl, sym, ap, ◌∙◌, subst}
 use Rattle.cb_office.proofs.Calls.{enters_station, err_fact, ok_fact}
 use Rattle.cb_office.proofs.Stations.{unchanged_station}
-use Rattle.cb_office.proofs.Following.{follow_same, follow_then, has_place}
-use Rattle.cb_office.specs.Stations.{IsStation, IsStored, IsUnchanged, StationState, opening_of, outbox_of, server_of}
-use Rattle.cb_dispatch.specs.Dispatching as dispatching
-use Rattle.cb_dispatch.specs.Dispatching.{Everybody, Others, Posts, emptied, without_oldest}
-use Rattle.cb_hands.specs.Hands.{HandState, empty_hand, held_at}
-use Rattle.cb_holdings.specs.Holdings.{HoldingsState}
-use Rattle.cb_joined.specs.Joined.{Follow, IsHeld, stored_at}
+use Rattle.cb_office.proofs.Following.{has_place}
+use Rattle.cb_office.specs.Stations.{StationState, server_of}
+use Rattle.cb_hands.specs.Hands.{empty_hand}
+use Rattle.cb_joined.specs.Joined.{IsHeld}
 use Rattle.cb_outbox.specs.Messages.{messages_of}
 use Rattle.cb_protocol.specs.AnyMessages.{MessageComes}
 use Rattle.cb_protocol.specs.Messages.{Hello}
-use Rattle.cb_server.specs.ServerState.{IsServer, ServerState}
 use Rattle.cb_server.specs.Taking.{Does}
 use Rattle.cb_office.proofs.station.Station.restart.Goals as goal
 

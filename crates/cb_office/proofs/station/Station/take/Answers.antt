@@ -1,21 +1,12 @@
-use Rattle.std.proofs.Common.{rules, ◌≡◌, ◌<◌, ◌+◌, ℕ, List, Option, Some, None, true, false, is_err, length, drop, refl, sym, ap, ◌∙◌, subst, arith, slice_set}
+use Rattle.std.proofs.Common.{rules, ◌≡◌, true, false, refl, sym, ap, ◌∙◌, subst}
 use Rattle.cb_office.proofs.Calls.{ended_by, same_client, takes_station}
 use Rattle.cb_office.proofs.Stations.{unchanged_station}
-use Rattle.cb_office.proofs.Following.{follow_same, follow_then, has_place}
-use Rattle.cb_office.specs.Stations.{IsStation, IsStored, IsUnchanged, StationState, opening_of, outbox_of, server_of}
-use Rattle.cb_dispatch.specs.Dispatching as dispatching
-use Rattle.cb_dispatch.specs.Dispatching.{Everybody, Others, Posts, emptied, without_oldest}
-use Rattle.cb_hands.specs.Hands.{HandState, empty_hand, held_at}
-use Rattle.cb_holdings.specs.Holdings.{HoldingsState}
-use Rattle.cb_joined.specs.Joined.{Follow, IsHeld, stored_at}
+use Rattle.cb_office.proofs.Following.{follow_then}
+use Rattle.cb_office.specs.Stations.{StationState, server_of}
+use Rattle.cb_hands.specs.Hands.{HandState}
+use Rattle.cb_joined.specs.Joined.{Follow}
 use Rattle.cb_outbox.specs.Messages.{messages_of}
-use Rattle.cb_protocol.specs.AnyMessages.{MessageComes}
-use Rattle.cb_protocol.specs.Messages.{Hello}
-use Rattle.cb_server.specs.ServerState.{IsServer, ServerState}
-use Rattle.cb_frame_types.specs.declared.frame.Frame.{Frame}
-use Rattle.cb_office.specs.Moves.{IsOwn, ended_if_over, given_back, is_plain, is_stray}
-use Rattle.cb_outbox.specs.Messages.{body_of}
-use Rattle.cb_server.specs.Taking.{Does, input_of}
+use Rattle.cb_office.specs.Moves.{IsOwn, ended_if_over, is_plain, is_stray}
 use Rattle.cb_office.proofs.station.Station.take.Goals as goal
 
 pub invariant_of-self : goal.invariant_of-self

@@ -1,4 +1,4 @@
-use Rattle.std.proofs.Common.{◌≡◌, ◌+◌, ◌≤◌, length, refl, subst, sym, ap, arith}
+use Rattle.std.proofs.Common.{length, refl, ap, arith}
 use Rattle.cb_protocol.specs.Resend.{server_again}
 use Rattle.cb_server.specs.declared.engine.Engine.{Engine}
 use Rattle.cb_server.proofs.Making.{serves, stays_same}
