@@ -21,20 +21,18 @@ fn has_joined(alloc: Global) -> Result<bool, AllocError> {
 
 /// The hand that was changed is known, and the one that was not is not.
 fn follows(alloc: Global, hand: &mut Hand, stale: &Hand) -> Result<bool, AllocError> {
-    let client = ClientNo::new(1);
+    let mut joined = JoinedHands::new(alloc, 2)?;
+    let stored = StoredHand::new(alloc, ClientNo::new(1), Incarnation::new(1), 4)?;
+    joined.put(stored);
+    Ok(is_followed(&mut joined, hand, stale))
+}
+
+fn is_followed(joined: &mut JoinedHands, hand: &mut Hand, stale: &Hand) -> bool {
     let page = PageNo::new(2);
     let grant = GrantNo::new(7);
     let version = Version::new(3);
-    let mut joined = JoinedHands::new(alloc, 2)?;
-    joined.put(StoredHand::new(alloc, client, Incarnation::new(1), 4)?);
-    if !joined.knows(stale) {
-        return Ok(false);
-    }
-    if hand.pages() != 4 {
-        return Ok(false);
-    }
-    if !joined.knows(hand) {
-        return Ok(false);
+    if !joined.knows(stale) || hand.pages() != 4 || !joined.knows(hand) {
+        return false;
     }
     joined.receive(hand, page, grant, version);
     let received = joined.knows(hand);
@@ -65,7 +63,7 @@ fn follows(alloc: Global, hand: &mut Hand, stale: &Hand) -> Result<bool, AllocEr
         renewed,
         !joined.knows(stale),
     ];
-    Ok(!changes.contains(&false) && !rest.contains(&false))
+    !changes.contains(&false) && !rest.contains(&false)
 }
 
 #[test]

@@ -5,7 +5,6 @@ use cb_frame::{Body, Frame, ShortBody, ShortFrame, Write, Writes};
 use cb_page::{ClientNo, CommitNo, GrantNo, Incarnation, Limits, Page, PageNo, TxnNo};
 use cb_server::ServerFault;
 use std::alloc::{AllocError, Global};
-use std::test::Fail;
 
 /// A frame of that client's first incarnation; one that doesn't fit is refused here.
 fn take(
@@ -95,6 +94,36 @@ fn grants(dispatcher: &mut Dispatcher, alloc: Global) -> Result<bool, ServerFaul
     Ok(next(dispatcher, two)? == None && good)
 }
 
+/// The Commit of page 0 by the second client.
+fn commit_of(alloc: Global, txn: TxnNo, page: PageNo, grant: GrantNo) -> Result<Frame, AllocError> {
+    let mut writes = Writes::from_vec(Vec::new(alloc));
+    let bytes = Page::zeros(alloc, 16)?;
+    writes.push(Write { page, grant, bytes })?;
+    Ok(Frame {
+        client: ClientNo::new(1),
+        incarnation: Incarnation::new(1),
+        body: Body::Commit { txn, writes },
+    })
+}
+
+/// It is taken, and gives a batch.
+fn is_committed(dispatcher: &mut Dispatcher, alloc: Global, frame: &Frame) -> bool {
+    frame.fits(dispatcher.limits())
+        && dispatcher.take(alloc, frame).is_ok()
+        && has_batch(dispatcher, alloc)
+}
+
+fn has_batch(dispatcher: &Dispatcher, alloc: Global) -> bool {
+    match dispatcher.batch(alloc) {
+        Ok(batch) => batch.is_some(),
+        Err(_) => false,
+    }
+}
+
+fn is_flushed(dispatcher: &mut Dispatcher, alloc: Global, number: CommitNo) -> bool {
+    dispatcher.can_flush(number) && dispatcher.flushed(alloc, number).is_ok()
+}
+
 /// The first gives back, the second is permitted; it commits, and the Done comes once it is on disk.
 fn commits(dispatcher: &mut Dispatcher, alloc: Global) -> Result<bool, ServerFault> {
     let one = ClientNo::new(0);
@@ -109,26 +138,15 @@ fn commits(dispatcher: &mut Dispatcher, alloc: Global) -> Result<bool, ServerFau
     take(dispatcher, alloc, one, gives_back)?;
     let permitted = ShortBody::MayWrite { txn, page, grant };
     let mut good = next(dispatcher, two)? == Some(permitted);
-    let mut writes = Writes::from_vec(Vec::new(alloc));
-    let bytes = Page::zeros(alloc, 16)?;
-    writes.push(Write { page, grant, bytes })?;
-    let frame = Frame {
-        client: two,
-        incarnation: Incarnation::new(1),
-        body: Body::Commit { txn, writes },
+    good = match commit_of(alloc, txn, page, grant) {
+        Ok(frame) => is_committed(dispatcher, alloc, &frame) && good,
+        Err(_) => false,
     };
-    if !frame.fits(dispatcher.limits()) {
-        return Ok(false);
-    }
-    dispatcher.take(alloc, &frame)?;
     let number = CommitNo::new(1);
-    good = dispatcher.batch(alloc)?.is_some() && good;
-    if !dispatcher.can_flush(number) {
-        return Ok(false);
-    }
-    dispatcher.flushed(alloc, number)?;
+    good = is_flushed(dispatcher, alloc, number) && good;
     good = next(dispatcher, two)? == Some(ShortBody::Done { txn, number }) && good;
-    Ok(dispatcher.batch(alloc)?.is_none() && next(dispatcher, two)? == None && good)
+    good = !has_batch(dispatcher, alloc) && good;
+    Ok(next(dispatcher, two)? == None && good)
 }
 
 /// What was to be sent goes before a greeting, and nothing is sent to one who left.
@@ -144,19 +162,27 @@ fn leaves(dispatcher: &mut Dispatcher, alloc: Global) -> Result<bool, ServerFaul
     Ok(next(dispatcher, one)? == None && good)
 }
 
+/// A dispatcher over zeros, of two clients and four pages of 16 bytes.
+fn over_zeros(alloc: Global) -> Option<Dispatcher> {
+    let limits = Limits::new(2, 4, 16, 4, 1, 2).ok()?;
+    let store = Store::zeros(alloc, &limits).ok()?;
+    Dispatcher::new(alloc, &limits, store).ok()
+}
+
+/// All three, one after the other.
+fn all(dispatcher: &mut Dispatcher, alloc: Global) -> bool {
+    let granted = grants(dispatcher, alloc).unwrap_or(false);
+    let committed = commits(dispatcher, alloc).unwrap_or(false);
+    let left = leaves(dispatcher, alloc).unwrap_or(false);
+    granted && committed && left
+}
+
 #[test]
-fn frames_come_in_order(rt: HostRuntime) -> Result<(), Fail> {
+fn frames_come_in_order(rt: HostRuntime) {
     let alloc = rt.alloc();
-    let Ok(limits) = Limits::new(2, 4, 16, 4, 1, 2) else {
-        return Err("limits".into());
+    let good = match over_zeros(alloc) {
+        Some(mut dispatcher) => all(&mut dispatcher, alloc),
+        None => false,
     };
-    let store = Store::zeros(alloc, &limits)?;
-    let mut dispatcher = Dispatcher::new(alloc, &limits, store)?;
-    let granted = grants(&mut dispatcher, alloc).unwrap_or(false);
-    let committed = commits(&mut dispatcher, alloc).unwrap_or(false);
-    let left = leaves(&mut dispatcher, alloc).unwrap_or(false);
-    assert!(rt; granted);
-    assert!(rt; committed);
-    assert!(rt; left);
-    Ok(())
+    assert!(rt; good);
 }

@@ -9,12 +9,6 @@ use std::alloc::Global;
 /// How many pages are written: the last one of each 64.
 const WRITTEN: u32 = 64;
 
-fn page_of(number: u32) -> PageNo
-    requires { number < 64 }
-{
-    PageNo::new(number * 64 + 63)
-}
-
 /// Reads the pages, and may write each.
 fn is_permitted(
     alloc: Global,
@@ -23,7 +17,7 @@ fn is_permitted(
     txn: TxnNo,
 ) -> Result<bool, OfficeFault> {
     for number in 0..WRITTEN {
-        let page = page_of(number);
+        let page = PageNo::new(number * 64 + 63);
         let read = ask_read(hand, txn, page);
         station.take(alloc, &read, hand)?;
         let _granted = station.collect(hand)?;
@@ -47,7 +41,7 @@ fn commits(
     let mut reads = PageSet::new(alloc, 4096)?;
     let mut writes = no_writes(alloc);
     for number in 0..WRITTEN {
-        let page = page_of(number);
+        let page = PageNo::new(number * 64 + 63);
         if let Some(shown) = hand.shows(page) {
             insert(&mut reads, page);
             write(alloc, &mut writes, page, shown.grant)?;
