@@ -69,34 +69,34 @@ fn is_copy(due: Option<CallbackDue>, page: PageNo, grant: GrantNo) -> bool {
     }
 }
 
+/// Whether the callback of a page that is in use is answered by that.
+fn is_in_use(locks: &mut ReadLocks, page: PageNo, grant: GrantNo, txn: TxnNo) -> bool
+    requires begun { IsSome locks.old.txn }
+    requires page { page < length locks.old.locked }
+    ensures begun { IsSome locks.new.txn }
+    ensures pages { length locks.new.locked ≡ length locks.old.locked }
+{
+    let body = ShortBody::InUse { txn, page, grant };
+    says(locks.called(page, grant).in_use(locks), body)
+}
+
 /// A page in use is given back at the end, once; one that isn't goes at once. The pages due rise.
 fn give_pages_back(alloc: Global, locks: &mut ReadLocks) -> bool
     requires { 8 ≤ length locks.old.locked }
 {
     let (txn, grant, other) = (TxnNo::new(7), GrantNo::new(11), GrantNo::new(12));
     let (low, high, free) = (PageNo::new(2), PageNo::new(5), PageNo::new(4));
-    let (used, given) = (
-        ShortBody::InUse {
-            txn,
-            page: high,
-            grant,
-        },
-        ShortBody::GiveBack {
-            page: free,
-            grant: other,
-        },
-    );
     locks.begin(txn);
     locks.lock(high);
     locks.lock(low);
-    let in_use = says(locks.called(high, grant).in_use(locks), used);
-    let again = says(locks.called(high, grant).in_use(locks), used);
-    let _low_in_use = locks.called(low, other).in_use(locks);
-    let at_once = says(locks.called(free, other).give_back(), given);
+    let in_use = is_in_use(locks, high, grant, txn);
+    let again = is_in_use(locks, high, grant, txn);
+    let low_in_use = is_in_use(locks, low, other, txn);
+    let at_once = is_copy(Some(locks.called(free, other)), free, other);
     let locked = locks.is_locked(low) && locks.is_locked(high) && !locks.is_locked(free);
     let due = locks.due().contains(low) && !locks.due().contains(free) && locks.due_count() == 2;
     let ends = end_with(alloc, locks, (low, other), (high, grant));
-    in_use && again && at_once && locked && due && ends
+    in_use && again && low_in_use && at_once && locked && due && ends
 }
 
 /// Whether the transaction ends with two copies given back, and nothing is locked or due then.
