@@ -173,20 +173,42 @@ fn is_aborted<Q: Chooser>(alloc: Global, client: &mut Client<Q>) -> bool {
         && says_again(alloc, client, &[ShortBody::Drop { txn }])
 }
 
+/// What is looked at over a new client.
+#[derive(Clone, Copy)]
+enum Case {
+    InUseThenAborted,
+    Cut,
+    Greatest,
+}
+
+/// Whether the client does as it should.
+fn does<Q: Chooser>(alloc: Global, client: &mut Client<Q>, limits: &Limits, case: Case) -> bool {
+    match case {
+        Case::InUseThenAborted => is_given_back_once(alloc, client) && is_aborted(alloc, client),
+        Case::Cut => are_cut(alloc, client),
+        Case::Greatest => has_memory(alloc, client, limits),
+    }
+}
+
+/// Whether a new client over a new chooser does.
+fn new_one_does<Q: Chooser>(alloc: Global, limits: &Limits, case: Case) -> bool {
+    // There is one client at least: `clients` says so.
+    let _in_range = limits.clients();
+    let Ok(pool) = Q::make(alloc, limits) else {
+        return false;
+    };
+    match Client::new(alloc, ClientNo::new(0), Incarnation::new(1), limits, pool) {
+        Ok(mut client) => does(alloc, &mut client, limits, case),
+        Err(_) => false,
+    }
+}
+
 /// A page in use is given back when its transaction is dropped, once; a grant that went is refused
 /// later, and an aborted transaction gives back what it wrote.
 #[test]
 fn client_in_use_then_aborted(rt: HostRuntime) -> anyhow::Result<()> {
-    let alloc = rt.alloc();
     let limits = Limits::new(2, 8, 16, 2, 1, 1)?;
-    let pool = TwoQ::make(alloc, &limits)?;
-    let seen = match Client::new(alloc, ClientNo::new(0), Incarnation::new(1), &limits, pool) {
-        Ok(mut client) => {
-            is_given_back_once(alloc, &mut client) && is_aborted(alloc, &mut client)
-        }
-        Err(_) => false,
-    };
-    assert!(rt; seen);
+    assert!(rt; new_one_does::<TwoQ>(rt.alloc(), &limits, Case::InUseThenAborted));
     Ok(())
 }
 
@@ -249,7 +271,7 @@ fn reads_of_the_next<Q: Chooser>(alloc: Global, client: &mut Client<Q>) -> bool 
 }
 
 /// Whether the chooser was called for these, in order.
-fn refers_as_wanted(alloc: Global, client: &mut Client<Recorder<TwoQ>>) -> bool {
+fn refers_as_wanted<Q: Chooser>(alloc: Global, client: &mut Client<Recorder<Q>>) -> bool {
     let (low, high, last) = (PageNo::new(0), PageNo::new(3), PageNo::new(2));
     let played = reads_of_one_transaction(alloc, client) && reads_of_the_next(alloc, client);
     let calls = [
@@ -265,18 +287,25 @@ fn refers_as_wanted(alloc: Global, client: &mut Client<Recorder<TwoQ>>) -> bool 
     played && client.chooser().calls() == calls.as_slice()
 }
 
+/// The same of a new client.
+fn new_one_refers<Q: Chooser>(alloc: Global, limits: &Limits) -> bool {
+    // There is one client at least: `clients` says so.
+    let _in_range = limits.clients();
+    let Ok(pool) = Recorder::<Q>::make(alloc, limits) else {
+        return false;
+    };
+    match Client::new(alloc, ClientNo::new(0), Incarnation::new(1), limits, pool) {
+        Ok(mut client) => refers_as_wanted(alloc, &mut client),
+        Err(_) => false,
+    }
+}
+
 /// A hit and an install are references; a refused read, an ask and a repeated Granted are not. A
 /// page is forgotten as its copy goes.
 #[test]
 fn references_of_a_client(rt: HostRuntime) -> anyhow::Result<()> {
-    let alloc = rt.alloc();
     let limits = Limits::new(2, 8, 16, 4, 1, 2)?;
-    let pool = Recorder::<TwoQ>::make(alloc, &limits)?;
-    let seen = match Client::new(alloc, ClientNo::new(0), Incarnation::new(1), &limits, pool) {
-        Ok(mut client) => refers_as_wanted(alloc, &mut client),
-        Err(_) => false,
-    };
-    assert!(rt; seen);
+    assert!(rt; new_one_refers::<TwoQ>(rt.alloc(), &limits));
     Ok(())
 }
 
@@ -371,14 +400,8 @@ fn are_cut<Q: Chooser>(alloc: Global, client: &mut Client<Q>) -> bool {
 /// Each kind for a client, and one for the server, cut at every length.
 #[test]
 fn frames_for_a_client_are_cut(rt: HostRuntime) -> anyhow::Result<()> {
-    let alloc = rt.alloc();
     let limits = Limits::new(2, 8, 16, 2, 1, 1)?;
-    let pool = TwoQ::make(alloc, &limits)?;
-    let seen = match Client::new(alloc, ClientNo::new(0), Incarnation::new(1), &limits, pool) {
-        Ok(mut client) => are_cut(alloc, &mut client),
-        Err(_) => false,
-    };
-    assert!(rt; seen);
+    assert!(rt; new_one_does::<TwoQ>(rt.alloc(), &limits, Case::Cut));
     Ok(())
 }
 
@@ -454,14 +477,8 @@ fn has_memory<Q: Chooser>(alloc: Global, client: &mut Client<Q>, limits: &Limits
 /// that can answer Memory has it.
 #[test]
 fn greatest_client(rt: HostRuntime) -> anyhow::Result<()> {
-    let alloc = rt.alloc();
     let limits = Limits::new(32, 4096, 4096, 1024, 256, 512)?;
-    let pool = TwoQ::make(alloc, &limits)?;
-    let seen = match Client::new(alloc, ClientNo::new(0), Incarnation::new(1), &limits, pool) {
-        Ok(mut client) => has_memory(alloc, &mut client, &limits),
-        Err(_) => false,
-    };
-    assert!(rt; seen);
+    assert!(rt; new_one_does::<TwoQ>(rt.alloc(), &limits, Case::Greatest));
     Ok(())
 }
 

@@ -243,19 +243,26 @@ fn copies_of<Q: Chooser>(alloc: Global, limits: &Limits) -> Result<Copies<Q>, Al
 /// Makes calls in turn, each of which has to answer what stands beside it.
 ///
 /// A call whose growth was refused is made again, and has to answer as if nothing had been refused.
-fn play<Q: Chooser>(rt: &impl Abort, alloc: Global, limits: &Limits, steps: &[(Step, Seen)])
+fn play<Q: Chooser>(rt: &impl Abort, alloc: Global, copies: &mut Copies<Q>, steps: &[(Step, Seen)])
+    requires pages { 8 ≤ copies.old.limits.pages }
+    requires size { copies.old.limits.page_size ≡ 16 }
+{
+    for &(step, wanted) in steps {
+        let mut seen = act(alloc, copies, step);
+        if seen == Memory {
+            seen = act(alloc, copies, step);
+        }
+        assert!(rt; seen == wanted);
+    }
+}
+
+/// The same over new copies, where memory is had for them.
+fn play_anew<Q: Chooser>(rt: &impl Abort, alloc: Global, limits: &Limits, steps: &[(Step, Seen)])
     requires pages { 8 ≤ limits.now.pages }
     requires size { limits.now.page_size ≡ 16 }
 {
-    let Ok(mut copies) = copies_of::<Q>(alloc, limits) else {
-        return;
-    };
-    for &(step, wanted) in steps {
-        let mut seen = act(alloc, &mut copies, step);
-        if seen == Memory {
-            seen = act(alloc, &mut copies, step);
-        }
-        assert!(rt; seen == wanted);
+    if let Ok(mut copies) = copies_of::<Q>(alloc, limits) {
+        play(rt, alloc, &mut copies, steps);
     }
 }
 
@@ -314,9 +321,9 @@ static STEPS: [(Step, Seen); 48] = [
 #[test]
 fn copies_over_any_chooser(rt: HostRuntime) -> Result<(), Fail> {
     let limits = Limits::new(1, 8, 16, 2, 1, 4)?;
-    play::<TwoQ>(&rt, rt.alloc(), &limits, &STEPS);
-    play::<PlainTwoQ>(&rt, rt.alloc(), &limits, &STEPS);
-    play::<Fifo>(&rt, rt.alloc(), &limits, &STEPS);
+    play_anew::<TwoQ>(&rt, rt.alloc(), &limits, &STEPS);
+    play_anew::<PlainTwoQ>(&rt, rt.alloc(), &limits, &STEPS);
+    play_anew::<Fifo>(&rt, rt.alloc(), &limits, &STEPS);
     Ok(())
 }
 
@@ -336,7 +343,7 @@ static KEPT: [(Step, Seen); 9] = [
 #[test]
 fn kept_permission(rt: HostRuntime) -> Result<(), Fail> {
     let limits = Limits::new(1, 8, 16, 2, 1, 4)?.keeping();
-    play::<TwoQ>(&rt, rt.alloc(), &limits, &KEPT);
+    play_anew::<TwoQ>(&rt, rt.alloc(), &limits, &KEPT);
     Ok(())
 }
 
@@ -366,12 +373,23 @@ fn takes_all<Q: Chooser>(alloc: Global, copies: &mut Copies<Q>) -> Result<bool, 
     Ok(true)
 }
 
+/// Whether each page is taken in twice by new copies.
+fn takes_all_twice<Q: Chooser>(alloc: Global, limits: &Limits) -> bool
+    requires pages { limits.now.pages ≡ 4096 }
+    requires size { limits.now.page_size ≡ 4096 }
+{
+    match copies_of::<Q>(alloc, limits) {
+        Ok(mut copies) => {
+            takes_all(alloc, &mut copies) == Ok(true) && takes_all(alloc, &mut copies) == Ok(true)
+        }
+        Err(_) => false,
+    }
+}
+
 /// At the greatest limits no call wants memory.
 #[test]
 fn greatest_copies(rt: HostRuntime) -> Result<(), Fail> {
     let limits = Limits::new(32, 4096, 4096, 1024, 1023, 4096)?;
-    let mut copies = copies_of::<TwoQ>(rt.alloc(), &limits)?;
-    assert!(rt; takes_all(rt.alloc(), &mut copies)?);
-    assert!(rt; takes_all(rt.alloc(), &mut copies)?);
+    assert!(rt; takes_all_twice::<TwoQ>(rt.alloc(), &limits));
     Ok(())
 }

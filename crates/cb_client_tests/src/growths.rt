@@ -338,24 +338,36 @@ fn play_both<Q: Chooser, R: Chooser>(
     Some(count)
 }
 
-fn made_once(alloc: Global, limits: &Limits) -> Option<Client<TwoQ>> {
+fn made_once<Q: Chooser>(alloc: Global, limits: &Limits) -> Option<Client<Q>> {
     // There is one client at least: `clients` says so.
     let _in_range = limits.clients();
-    let pool = TwoQ::make(alloc, limits).ok()?;
+    let pool = Q::make(alloc, limits).ok()?;
     Client::new(alloc, ClientNo::new(0), Incarnation::new(1), limits, pool).ok()
 }
 
-fn made(alloc: Global, limits: &Limits) -> Option<Client<TwoQ>> {
+fn made<Q: Chooser>(alloc: Global, limits: &Limits) -> Option<Client<Q>> {
     match made_once(alloc, limits) {
         Some(client) => Some(client),
         None => made_once(alloc, limits),
     }
 }
 
-/// Whether a client of its own says the same.
-fn has_twin<Q: Chooser>(alloc: Global, client: &mut Client<Q>, limits: &Limits) -> bool {
-    match made(alloc, limits) {
+/// Whether a client of its own, over a chooser of its own, says the same.
+fn has_twin<Q: Chooser, R: Chooser>(
+    alloc: Global,
+    client: &mut Client<Q>,
+    limits: &Limits,
+) -> bool {
+    match made::<R>(alloc, limits) {
         Some(mut twin) => play_both(alloc, client, &mut twin) == Some(FRAMES),
+        None => false,
+    }
+}
+
+/// Whether two new clients say the same.
+fn are_twins<Q: Chooser, R: Chooser>(alloc: Global, limits: &Limits) -> bool {
+    match made::<Q>(alloc, limits) {
+        Some(mut client) => has_twin::<Q, R>(alloc, &mut client, limits),
         None => false,
     }
 }
@@ -364,12 +376,7 @@ fn has_twin<Q: Chooser>(alloc: Global, client: &mut Client<Q>, limits: &Limits) 
 /// been: two clients play the same steps, of which a growth is refused in one at most.
 #[test]
 fn refused_growths(rt: HostRuntime) -> anyhow::Result<()> {
-    let alloc = rt.alloc();
     let limits = Limits::new(2, 8, 16, 3, 1, 1)?.keeping();
-    let seen = match made(alloc, &limits) {
-        Some(mut client) => has_twin(alloc, &mut client, &limits),
-        None => false,
-    };
-    assert!(rt; seen);
+    assert!(rt; are_twins::<TwoQ, TwoQ>(rt.alloc(), &limits));
     Ok(())
 }

@@ -1,6 +1,6 @@
 //! What no clause says of the commits: that each call succeeds, and what stands after a refused
 //! growth.
-ghost use Rattle.std.specs.Prelude.{◌≡◌};
+ghost use Rattle.std.specs.Prelude.{◌≡◌, ◌<◌, length, IfOk};
 ghost use Rattle.cb_commit.specs.Stores.{IsOf};
 
 use Step::{Apply, Flush, Pending};
@@ -192,19 +192,46 @@ fn play(rt: &impl Abort, alloc: Global, limits: &Limits, commits: &mut Commits)
     }
 }
 
+/// No commits yet, over zeros.
+pub(crate) fn made(alloc: Global, limits: &Limits) -> Result<Commits, AllocError>
+    ensures { IfOk result (λ commits. IsOf limits.now commits.store) }
+{
+    let store = Store::zeros(alloc, limits)?;
+    Commits::new(alloc, limits, store)
+}
+
+/// What can be seen of commits: the version of page 3, the opening number, how many there are and
+/// the last that is on disk.
+fn look(commits: &Commits) -> (u64, u64, usize, u64)
+    requires { 3 < length commits.now.store.pages }
+{
+    (
+        commits.store().version(PageNo::new(3)).get(),
+        commits.opening().number(),
+        commits.committed().len(),
+        commits.last_flushed(),
+    )
+}
+
+/// What can be seen of new commits after the steps; `None` where memory is refused before them.
+fn play_anew(rt: &impl Abort, alloc: Global, limits: &Limits) -> Option<(u64, u64, usize, u64)>
+    requires { limits.now.pages ≡ 4 }
+{
+    match made(alloc, limits) {
+        Ok(mut commits) => {
+            play(rt, alloc, limits, &mut commits);
+            Some(look(&commits))
+        }
+        Err(_) => None,
+    }
+}
+
 #[test]
 fn batches_and_dones(rt: HostRuntime) -> Result<(), Fail> {
     let limits = Limits::new(2, 4, 16, 2, 1, 1)?;
-    let Ok(store) = Store::zeros(rt.alloc(), &limits) else {
-        return Ok(());
-    };
-    let Ok(mut commits) = Commits::new(rt.alloc(), &limits, store) else {
-        return Ok(());
-    };
-    play(&rt, rt.alloc(), &limits, &mut commits);
-    assert!(rt; commits.store().version(PageNo::new(3)).get() == 5);
-    assert!(rt; commits.opening().number() == 0);
-    assert!(rt; commits.committed().len() == 5);
-    assert!(rt; commits.last_flushed() == 5);
+    match play_anew(&rt, rt.alloc(), &limits) {
+        Some(seen) => assert!(rt; seen == (5, 0, 5, 5)),
+        None => {}
+    }
     Ok(())
 }

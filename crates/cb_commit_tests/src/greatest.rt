@@ -3,8 +3,8 @@
 ghost use Rattle.std.specs.Prelude.{◌≡◌};
 ghost use Rattle.cb_commit.specs.Stores.{IsOf};
 
-use crate::commits::apply;
-use cb_commit::{Commits, Store};
+use crate::commits::{apply, made};
+use cb_commit::Commits;
 use cb_frame::{Body, Frame, Write, Writes};
 use cb_page::{ClientNo, GrantNo, Incarnation, Limits, Page, PageNo, TxnNo};
 use std::alloc::{AllocError, Global};
@@ -64,14 +64,29 @@ fn is_flushed(alloc: Global, commits: &mut Commits, pages: usize) -> Result<bool
     Ok(written == pages && dones.len() == made)
 }
 
+/// Whether a commit of all pages, and then 4,999 of one page, are applied and flushed.
+fn holds_all(alloc: Global, limits: &Limits, commits: &mut Commits) -> Result<bool, AllocError>
+    requires { IsOf limits.now commits.old.store }
+{
+    let all = commit_of(alloc, limits, TxnNo::new(1), 4096)?;
+    Ok(
+        apply(limits, commits, all)?
+            && are_applied(alloc, limits, commits, 5000)?
+            && is_flushed(alloc, commits, 4096)?,
+    )
+}
+
+/// Whether new commits over zeros do.
+fn new_ones_hold_all(alloc: Global, limits: &Limits) -> bool {
+    match made(alloc, limits) {
+        Ok(mut commits) => holds_all(alloc, limits, &mut commits) == Ok(true),
+        Err(_) => false,
+    }
+}
+
 #[test]
 fn commits_at_great_limits(rt: HostRuntime) -> anyhow::Result<()> {
     let limits = Limits::new(32, 4096, 4096, 1024, 1, 4096)?;
-    let store = Store::zeros(rt.alloc(), &limits)?;
-    let mut commits = Commits::new(rt.alloc(), &limits, store)?;
-    let all = commit_of(rt.alloc(), &limits, TxnNo::new(1), 4096)?;
-    assert!(rt; apply(&limits, &mut commits, all)?);
-    assert!(rt; are_applied(rt.alloc(), &limits, &mut commits, 5000)?);
-    assert!(rt; is_flushed(rt.alloc(), &mut commits, 4096)?);
+    assert!(rt; new_ones_hold_all(rt.alloc(), &limits));
     Ok(())
 }

@@ -1,12 +1,21 @@
 //! Each call of the holdings where their own questions allow it, as a server makes it.
-ghost use Rattle.std.specs.Prelude.{◌<◌};
+ghost use Rattle.std.specs.Prelude.{◌<◌, IfOk};
 ghost use Rattle.cb_holdings.specs.Holdings.{AreOf};
 
+use cb_commit::Store;
 use cb_frame::{Body, Frame, Write, Writes};
 use cb_holdings::Holdings;
 use cb_links::{Admission, Standing};
 use cb_page::{ClientNo, CommitNo, GrantNo, Incarnation, Limits, Page, PageNo, TxnNo};
 use std::alloc::{AllocError, Global};
+
+/// New holdings, over zeros.
+pub(crate) fn made(alloc: Global, limits: &Limits) -> Result<Holdings, AllocError>
+    ensures { IfOk result (λ holdings. AreOf limits.now holdings) }
+{
+    let store = Store::zeros(alloc, limits)?;
+    Holdings::new(alloc, limits, store)
+}
 
 /// The client greets; `false` where the incarnation is no greater one.
 pub(crate) fn greet(

@@ -3,8 +3,7 @@
 ghost use Rattle.std.specs.Prelude.{◌<◌};
 ghost use Rattle.cb_holdings.specs.Holdings.{AreOf};
 
-use crate::calls::{begin, commit, commit_of, grant, greet, permit};
-use cb_commit::Store;
+use crate::calls::{begin, commit, commit_of, grant, greet, made, permit};
 use cb_holdings::Holdings;
 use cb_page::{ClientNo, GrantNo, Incarnation, Limits, PageNo, TxnNo};
 use std::alloc::{AllocError, Global};
@@ -47,18 +46,48 @@ fn is_flushed(
     Ok(written == pages && frames.len() == dones && !holdings.can_flush(number))
 }
 
+/// Whether a commit of all pages is applied, which the last client may write.
+fn commits_all(
+    alloc: Global,
+    limits: &Limits,
+    holdings: &mut Holdings,
+    txn: TxnNo,
+) -> Result<bool, AllocError>
+    requires client { 31 < limits.now.clients }
+    requires of { AreOf limits.now holdings.old }
+{
+    let client = ClientNo::new(31);
+    let pages = take_pages(alloc, limits, holdings, client)?;
+    let frame = commit_of(alloc, limits, client, txn, &pages)?;
+    Ok(pages.len() == 4096 && commit(limits, holdings, frame)?.is_some())
+}
+
+/// Whether the last client commits all pages, and they are flushed.
+fn hold_all(alloc: Global, limits: &Limits, holdings: &mut Holdings) -> bool
+    requires client { 31 < limits.now.clients }
+    requires of { AreOf limits.now holdings.old }
+{
+    let (client, txn) = (ClientNo::new(31), TxnNo::new(1));
+    let begun = greet(limits, holdings, client, Incarnation::new(1))
+        && begin(limits, holdings, client, txn);
+    begun
+        && commits_all(alloc, limits, holdings, txn) == Ok(true)
+        && is_flushed(alloc, holdings, 4096, 1) == Ok(true)
+}
+
+/// Whether new holdings do.
+fn new_ones_hold_all(alloc: Global, limits: &Limits) -> bool
+    requires client { 31 < limits.now.clients }
+{
+    match made(alloc, limits) {
+        Ok(mut holdings) => hold_all(alloc, limits, &mut holdings),
+        Err(_) => false,
+    }
+}
+
 #[test]
 fn holdings_at_great_limits(rt: HostRuntime) -> anyhow::Result<()> {
     let limits = Limits::new(32, 4096, 4096, 1024, 1, 4096)?;
-    let store = Store::zeros(rt.alloc(), &limits)?;
-    let mut holdings = Holdings::new(rt.alloc(), &limits, store)?;
-    let (client, txn) = (ClientNo::new(31), TxnNo::new(1));
-    let begun = greet(&limits, &mut holdings, client, Incarnation::new(1))
-        && begin(&limits, &mut holdings, client, txn);
-    let pages = take_pages(rt.alloc(), &limits, &mut holdings, client)?;
-    let frame = commit_of(rt.alloc(), &limits, client, txn, &pages)?;
-    let committed = commit(&limits, &mut holdings, frame)?;
-    assert!(rt; begun && pages.len() == 4096 && committed.is_some());
-    assert!(rt; is_flushed(rt.alloc(), &mut holdings, 4096, 1)?);
+    assert!(rt; new_ones_hold_all(rt.alloc(), &limits));
     Ok(())
 }

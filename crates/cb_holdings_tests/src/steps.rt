@@ -2,9 +2,8 @@
 ghost use Rattle.std.specs.Prelude.{◌<◌};
 ghost use Rattle.cb_holdings.specs.Holdings.{AreOf};
 
-use crate::calls::{begin, commit, commit_of, doom, drop_transaction, grant, greet, permit};
+use crate::calls::{begin, commit, commit_of, doom, drop_transaction, grant, greet, made, permit};
 use Call::{Begin, Commit, Doom, DropTxn, EndPermission, Flush, GiveBack, Grant, Greet, Permit};
-use cb_commit::Store;
 use cb_holdings::Holdings;
 use cb_page::{ClientNo, CommitNo, GrantNo, Incarnation, Limits, PageNo, TxnNo};
 use std::alloc::{AllocError, Global};
@@ -214,8 +213,14 @@ fn act(alloc: Global, limits: &Limits, holdings: &mut Holdings, row: Row) -> Res
 }
 
 /// Each step answers what it has to; one whose growth was refused is made again, as if nothing had
-/// been refused.
-fn play(rt: &impl Abort, alloc: Global, limits: &Limits, holdings: &mut Holdings, rows: &[Row])
+/// been refused. It answers how many commits there are then, and the last that is on disk.
+fn play(
+    rt: &impl Abort,
+    alloc: Global,
+    limits: &Limits,
+    holdings: &mut Holdings,
+    rows: &[Row],
+) -> (usize, u64)
     requires { AreOf limits.now holdings.old }
 {
     for (at, row) in rows.iter().enumerate() {
@@ -225,23 +230,32 @@ fn play(rt: &impl Abort, alloc: Global, limits: &Limits, holdings: &mut Holdings
         };
         assert!(rt; answer == Ok(row.3), "step {at}");
     }
+    (holdings.committed().len(), holdings.last_flushed())
+}
+
+/// The same of new holdings, over zeros.
+fn play_anew(
+    rt: &impl Abort,
+    alloc: Global,
+    limits: &Limits,
+    rows: &[Row],
+) -> Option<(usize, u64)> {
+    match made(alloc, limits) {
+        Ok(mut holdings) => Some(play(rt, alloc, limits, &mut holdings, rows)),
+        Err(_) => None,
+    }
 }
 
 #[test]
 fn transactions_of_two_clients(rt: HostRuntime) -> anyhow::Result<()> {
     let limits = Limits::new(2, 8, 16, 4, 1, 2)?;
-    let store = Store::zeros(rt.alloc(), &limits)?;
-    let mut holdings = Holdings::new(rt.alloc(), &limits, store)?;
-    play(&rt, rt.alloc(), &limits, &mut holdings, STEPS.as_slice());
-    assert!(rt; holdings.committed().len() == 1 && holdings.last_flushed() == 1);
+    assert!(rt; play_anew(&rt, rt.alloc(), &limits, STEPS.as_slice()) == Some((1, 1)));
     Ok(())
 }
 
 #[test]
 fn permission_is_kept(rt: HostRuntime) -> anyhow::Result<()> {
     let limits = Limits::new(2, 8, 16, 4, 1, 2)?.keeping();
-    let store = Store::zeros(rt.alloc(), &limits)?;
-    let mut holdings = Holdings::new(rt.alloc(), &limits, store)?;
-    play(&rt, rt.alloc(), &limits, &mut holdings, KEEPING.as_slice());
+    assert!(rt; play_anew(&rt, rt.alloc(), &limits, KEEPING.as_slice()).is_some());
     Ok(())
 }

@@ -85,7 +85,22 @@ fn holds<Q: TwoForms>(
     }
 }
 
-/// Whether each step answers what it has to, from empty lists on.
+/// Whether each step answers what it has to.
+fn each_holds<Q: TwoForms>(
+    alloc: Global,
+    chooser: &mut Q,
+    fixed: &mut PageSet,
+    steps: &[Step],
+) -> Result<bool, AllocError> {
+    for &step in steps {
+        if !holds(alloc, chooser, fixed, step)? {
+            return Ok(false);
+        }
+    }
+    Ok(true)
+}
+
+/// The same from empty lists on.
 fn all_hold<Q: TwoForms>(
     alloc: Global,
     limits: &Limits,
@@ -93,12 +108,7 @@ fn all_hold<Q: TwoForms>(
 ) -> Result<bool, AllocError> {
     let mut chooser = Q::make(alloc, limits)?;
     let mut fixed = PageSet::new(alloc, 16)?;
-    for &step in steps {
-        if !holds(alloc, &mut chooser, &mut fixed, step)? {
-            return Ok(false);
-        }
-    }
-    Ok(true)
+    each_holds(alloc, &mut chooser, &mut fixed, steps)
 }
 
 /// The same on both forms.
@@ -244,22 +254,30 @@ fn go_on_alike<L: TwoForms, R: TwoForms>(
 }
 
 /// Whether both forms are alike after each of ten thousand drawn references.
-fn both_alike<L: TwoForms, R: TwoForms>(
+fn stay_alike<L: TwoForms, R: TwoForms>(
     alloc: Global,
-    limits: &Limits,
+    fixed: &mut PageSet,
+    left: &mut L,
+    right: &mut R,
 ) -> Result<bool, AllocError> {
     let mut draw = Draw::new(20);
-    let mut fixed = PageSet::new(alloc, 64)?;
-    let mut left = L::make(alloc, limits)?;
-    let mut right = R::make(alloc, limits)?;
     for _ in 0..10000 {
-        if !go_on_alike(&mut draw, &mut fixed, &mut left, &mut right)
-            || !alike(alloc, &left, &right)?
-        {
+        if !go_on_alike(&mut draw, fixed, left, right) || !alike(alloc, left, right)? {
             return Ok(false);
         }
     }
     Ok(true)
+}
+
+/// The same from empty lists on.
+fn both_alike<L: TwoForms, R: TwoForms>(
+    alloc: Global,
+    limits: &Limits,
+) -> Result<bool, AllocError> {
+    let mut left = L::make(alloc, limits)?;
+    let mut right = R::make(alloc, limits)?;
+    let mut fixed = PageSet::new(alloc, 64)?;
+    stay_alike(alloc, &mut fixed, &mut left, &mut right)
 }
 
 /// Ten thousand drawn references with drawn fixed pages: after each, both forms have the same
@@ -312,28 +330,54 @@ fn law_at_each_chooser(rt: HostRuntime) -> Result<(), Fail> {
     Ok(())
 }
 
-/// Each page of the greatest store twice: how many references were answered, 0 where a slot is free
-/// after.
-fn answered_at_most<Q: TwoForms>(alloc: Global, limits: &Limits) -> Result<usize, AllocError> {
-    let mut chooser = Q::make(alloc, limits)?;
+/// Each page of the greatest store twice, with no page fixed.
+fn all_twice(alloc: Global) -> Result<Vec<(PageNo, PageSet)>, AllocError> {
     let mut references = Vec::new(alloc);
     for i in 0..8192u32 {
         let fixed = PageSet::new(alloc, 4096)?;
         references.push((PageNo::new(i % 4096), fixed))?;
     }
-    let answers = run_refs(alloc, &mut chooser, &references)?;
+    Ok(references)
+}
+
+/// How many references are answered.
+fn answered<Q: TwoForms>(
+    alloc: Global,
+    chooser: &mut Q,
+    references: &[(PageNo, PageSet)],
+) -> Result<usize, AllocError> {
+    let answers = run_refs(alloc, chooser, references)?;
+    Ok(answers.iter().filter(|answer| answer.is_ok()).count())
+}
+
+/// How many pages are in slots.
+fn in_slots<Q: TwoForms>(alloc: Global, chooser: &Q) -> Result<usize, AllocError> {
     let lists = chooser.copied(alloc)?;
-    let in_slots = lists.a1in.len().saturating_add(lists.am.len());
-    let answered = answers.iter().filter(|answer| answer.is_ok()).count();
-    Ok(if in_slots == 1024 { answered } else { 0 })
+    Ok(lists.a1in.len().saturating_add(lists.am.len()))
+}
+
+/// Whether all references are answered, and no slot is free after.
+fn are_all_answered<Q: TwoForms>(
+    alloc: Global,
+    chooser: &mut Q,
+    references: &[(PageNo, PageSet)],
+) -> Result<bool, AllocError> {
+    Ok(answered(alloc, chooser, references)? == 8192 && in_slots(alloc, chooser)? == 1024)
+}
+
+/// The same of a new chooser, by each page of the greatest store twice.
+fn takes_all_twice<Q: TwoForms>(alloc: Global, limits: &Limits) -> Result<bool, AllocError> {
+    let references = all_twice(alloc)?;
+    let mut chooser = Q::make(alloc, limits)?;
+    are_all_answered(alloc, &mut chooser, &references)
 }
 
 /// At the greatest limits no call wants memory.
 #[test]
 fn greatest_limits(rt: HostRuntime) -> Result<(), Fail> {
     let limits = Limits::new(32, 4096, 4096, 1024, 1023, 4096)?;
-    assert!(rt; answered_at_most::<TwoQ>(rt.alloc(), &limits)? == 8192);
-    assert!(rt; answered_at_most::<PlainTwoQ>(rt.alloc(), &limits)? == 8192);
+    assert!(rt; takes_all_twice::<TwoQ>(rt.alloc(), &limits)?);
+    assert!(rt; takes_all_twice::<PlainTwoQ>(rt.alloc(), &limits)?);
     Ok(())
 }
 
@@ -377,16 +421,21 @@ static GO_ON: [(u32, bool); 8] = [
     (3, true),
 ];
 
+/// Whether the chooser goes on so.
+fn each_goes_on<Q: TwoForms>(alloc: Global, chooser: &mut Q, fixed: &PageSet) -> bool {
+    for &(page, goes) in &GO_ON {
+        if !goes_on(alloc, chooser, PageNo::new(page % 16), fixed, goes) {
+            return false;
+        }
+    }
+    true
+}
+
 /// Whether a chooser of two slots goes on so, as far as there is memory for it.
 fn all_go_on<Q: TwoForms>(alloc: Global, limits: &Limits) -> Result<bool, AllocError> {
     let fixed = PageSet::new(alloc, 16)?;
     let mut chooser = Q::make(alloc, limits)?;
-    for &(page, goes) in &GO_ON {
-        if !goes_on(alloc, &mut chooser, PageNo::new(page % 16), &fixed, goes) {
-            return Ok(false);
-        }
-    }
-    Ok(true)
+    Ok(each_goes_on(alloc, &mut chooser, &fixed))
 }
 
 /// With the Nth growth refused: what was refused is as before, and goes on as if nothing had been

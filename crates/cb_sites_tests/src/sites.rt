@@ -116,15 +116,28 @@ fn is_nobody<Q: Chooser>(alloc: Global, sites: &mut Sites<Q>) -> bool {
         && restarts(alloc, sites, nobody, Word::NoClient)
 }
 
+/// What is looked at over new clients.
+#[derive(Clone, Copy)]
+enum Case {
+    Restarted,
+    Greatest,
+}
+
+/// Whether new clients do as they should.
+fn new_ones_do<Q: Chooser>(alloc: Global, limits: &Limits, case: Case) -> bool {
+    match Sites::<Q>::new(alloc, limits) {
+        Ok(mut sites) => match case {
+            Case::Restarted => is_new_again(alloc, &mut sites) && is_nobody(alloc, &mut sites),
+            Case::Greatest => all_do(alloc, &mut sites),
+        },
+        Err(_) => false,
+    }
+}
+
 #[test]
 fn restarted_client_is_new(rt: HostRuntime) -> anyhow::Result<()> {
-    let alloc = rt.alloc();
     let limits = Limits::new(2, 8, 16, 4, 1, 2)?;
-    let seen = match Sites::<TwoQ>::new(alloc, &limits) {
-        Ok(mut sites) => is_new_again(alloc, &mut sites) && is_nobody(alloc, &mut sites),
-        Err(_) => false,
-    };
-    assert!(rt; seen);
+    assert!(rt; new_ones_do::<TwoQ>(rt.alloc(), &limits, Case::Restarted));
     Ok(())
 }
 
@@ -217,12 +230,7 @@ fn all_do<Q: Chooser>(alloc: Global, sites: &mut Sites<Q>) -> bool {
 /// At the greatest limits, each call that can answer want of memory has it.
 #[test]
 fn greatest_sites(rt: HostRuntime) -> anyhow::Result<()> {
-    let alloc = rt.alloc();
     let limits = Limits::new(32, 4096, 4096, 1024, 256, 512)?;
-    let seen = match Sites::<TwoQ>::new(alloc, &limits) {
-        Ok(mut sites) => all_do(alloc, &mut sites),
-        Err(_) => false,
-    };
-    assert!(rt; seen);
+    assert!(rt; new_ones_do::<TwoQ>(rt.alloc(), &limits, Case::Greatest));
     Ok(())
 }

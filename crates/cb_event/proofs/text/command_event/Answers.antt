@@ -1,0 +1,5 @@
+use Rattle.std.proofs.Common.{rules}
+use Rattle.cb_event.proofs.text.command_event.Goals as goal
+
+pub returns : goal.returns
+returns c = search rules
