@@ -1,0 +1,9 @@
+use Rattle.std.proofs.Common.{arith}
+use Rattle.std.proofs.lemmas.Grind.{common_steps}
+use Rattle.cb_joined.proofs.joined_hands.JoinedHands.end_permissions.Goals as goal
+
+pub returns-clause-stored : goal.returns-clause-stored
+returns-clause-stored c = record {
+  hands = grind (arith, common_steps);
+  held = grind (arith, common_steps);
+}
