@@ -1,0 +1,5 @@
+use Rattle.std.proofs.Common.{rules}
+use Rattle.cb_holdings.proofs.holdings.Holdings.grant_row.Goals as goal
+
+pub returns-clause-does : goal.returns-clause-does
+returns-clause-does c = search rules
