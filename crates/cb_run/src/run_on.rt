@@ -1,0 +1,239 @@
+//! Workers and the flusher, to their end.
+use crate::ending::{Ending, of_shelf, of_worker};
+use cb_page::{ClientNo, Limits};
+use cb_shared::Office;
+use cb_shelf::Shelf;
+use cb_twoq::{Chooser, TwoQ};
+use cb_flusher::{FlushStop, flush_again, flush_loop};
+use cb_jobs::{Gate, JobDone, Tally, counter_sum};
+use cb_work::work;
+use cb_worker::{Worker, WorkerFault};
+use crossbeam_channel::{Receiver, Sender};
+use sqlite::Alter;
+use std::alloc::{AllocError, Global};
+use std::io;
+use std::io::Write;
+use std::sync::Wait;
+use std::thread;
+use std::thread::Threads;
+
+/// How often a batch is tried in all.
+const TRIES: u64 = 3;
+
+/// Starts a worker for each client, with so many jobs each, runs the flusher, and says what came of
+/// it: on `out` how many jobs were committed and the sum of the counters, else on `err` why not. The
+/// answer is the status.
+pub fn run_on<R, G, S, O, E>(
+    rt: &R,
+    alloc: Global,
+    limits: &Limits,
+    office: &Office,
+    shelf: &mut Shelf<S>,
+    jobs: u64,
+    gate: &G,
+    out: &mut O,
+    err: &mut E,
+) -> io::Result<u8>
+where
+    R: Threads + Wait + Sync,
+    G: Gate + Sync,
+    S: Alter,
+    O: Write,
+    E: Write,
+{
+    match counted(rt, alloc, limits, office, shelf, jobs, gate) {
+        Ok((committed, sum)) => {
+            write!(out, "committed {committed}\nsum {sum}\n")?;
+            Ok(0)
+        }
+        Err(ending) => {
+            let line = ending.line();
+            writeln!(err, "{line}")?;
+            Ok(ending.status())
+        }
+    }
+}
+
+/// How many jobs were committed, and the sum of the counters as the tables have them.
+fn counted<R, G, S>(
+    rt: &R,
+    alloc: Global,
+    limits: &Limits,
+    office: &Office,
+    shelf: &mut Shelf<S>,
+    jobs: u64,
+    gate: &G,
+) -> Result<(u64, u64), Ending>
+where
+    R: Threads + Wait + Sync,
+    G: Gate + Sync,
+    S: Alter,
+{
+    let Ok((results, answers)) = crossbeam_channel::unbounded(alloc) else {
+        return Err(Ending::Memory);
+    };
+    let ran = run_all(rt, alloc, limits, office, shelf, jobs, gate, &results);
+    drop(results);
+    ran?;
+    let committed = tally(rt, alloc, limits, jobs, &answers)?;
+    match shelf.load(alloc) {
+        Ok(store) => Ok((committed, counter_sum(&store))),
+        Err(fault) => Err(of_shelf(fault)),
+    }
+}
+
+/// Runs the workers on threads of their own, and the flusher on this one.
+fn run_all<R, G, S>(
+    rt: &R,
+    alloc: Global,
+    limits: &Limits,
+    office: &Office,
+    shelf: &mut Shelf<S>,
+    jobs: u64,
+    gate: &G,
+    results: &Sender<JobDone>,
+) -> Result<(), Ending>
+where
+    R: Threads + Wait + Sync,
+    G: Gate + Sync,
+    S: Alter,
+{
+    thread::scope(thread::scope_env(), rt, |scope| {
+        let mut workers = Vec::new(alloc);
+        let mut ending = None;
+        for client in 0..limits.clients() {
+            let started = match job_list(rt, alloc, jobs) {
+                Ok(list) => scope.spawn(move || run_client(rt, alloc, office, limits, client, &list, results, gate)).ok(),
+                Err(_) => None,
+            };
+            let kept = match started {
+                Some(worker) => workers.push(worker).is_ok(),
+                None => false,
+            };
+            if !kept {
+                ending = Some(Ending::Memory);
+                office.halt(rt);
+            }
+        }
+        let flushed = flush(rt, alloc, office, shelf);
+        if let Err(fault) = flushed {
+            return Err(of_shelf(fault));
+        }
+        for worker in workers {
+            if let Err(fault) = worker.join(rt) {
+                if ending.is_none() {
+                    ending = of_worker(fault);
+                }
+            }
+        }
+        match ending {
+            Some(ending) => Err(ending),
+            None => Ok(()),
+        }
+    })
+}
+
+/// A channel that holds the jobs, with no sender left.
+fn job_list<R: Wait>(rt: &R, alloc: Global, jobs: u64) -> Result<Receiver<u64>, AllocError> {
+    let (to, from) = crossbeam_channel::unbounded(alloc)?;
+    for job in 0..jobs {
+        if to.send(rt, job).is_err() {
+            return Err(AllocError);
+        }
+    }
+    Ok(from)
+}
+
+/// A client joins and works; where it can't go on the office is halted.
+fn run_client<R: Wait, G: Gate>(
+    rt: &R,
+    alloc: Global,
+    office: &Office,
+    limits: &Limits,
+    client: u16,
+    jobs: &Receiver<u64>,
+    results: &Sender<JobDone>,
+    gate: &G,
+) -> Result<(), WorkerFault> {
+    let worked = join_and_work(rt, alloc, office, limits, client, jobs, results, gate);
+    if worked.is_err() {
+        office.halt(rt);
+    }
+    worked
+}
+
+fn join_and_work<R: Wait, G: Gate>(
+    rt: &R,
+    alloc: Global,
+    office: &Office,
+    limits: &Limits,
+    client: u16,
+    jobs: &Receiver<u64>,
+    results: &Sender<JobDone>,
+    gate: &G,
+) -> Result<(), WorkerFault> {
+    let Ok(chooser) = TwoQ::make(alloc, limits) else {
+        return Err(WorkerFault::Client(cb_client::ClientFault::Memory));
+    };
+    let client = ClientNo::new(client % 32);
+    let worker: Worker<TwoQ> = Worker::join(rt, alloc, office, limits, client, chooser)?;
+    work(rt, alloc, office, worker, jobs, results, gate)
+}
+
+/// Runs the flusher. A batch that is refused is tried again, so often in all; then the office is
+/// halted.
+fn flush<R: Wait, S: Alter>(
+    rt: &R,
+    alloc: Global,
+    office: &Office,
+    shelf: &mut Shelf<S>,
+) -> Result<(), cb_shelf::ShelfFault> {
+    let mut stopped = flush_loop(rt, alloc, office, shelf);
+    let mut tries = 1;
+    let mut last = None;
+    for _ in rt.forever() {
+        let stop = match stopped {
+            Ok(()) => return Ok(()),
+            Err(stop) => stop,
+        };
+        let number = batch_number(&stop);
+        tries = if number == last { tries + 1 } else { 1 };
+        last = number;
+        if tries >= TRIES {
+            office.halt(rt);
+            return Err(stop.fault);
+        }
+        stopped = flush_again(rt, alloc, office, shelf, stop);
+    }
+    unreachable!()
+}
+
+/// The number of the batch that is still to be written; 0 where there is none.
+fn batch_number(stop: &FlushStop) -> Option<u64> {
+    match &stop.batch {
+        Some(batch) => Some(batch.number().get()),
+        None => Some(0),
+    }
+}
+
+/// Counts the results, each job once.
+fn tally<R: Wait>(
+    rt: &R,
+    alloc: Global,
+    limits: &Limits,
+    jobs: u64,
+    answers: &Receiver<JobDone>,
+) -> Result<u64, Ending> {
+    let Ok(count) = u32::try_from(jobs) else {
+        return Err(Ending::Memory);
+    };
+    let Ok(mut tally) = Tally::new(alloc, limits.clients(), count) else {
+        return Err(Ending::Memory);
+    };
+    for done in answers.iter(rt) {
+        if tally.add(done).is_err() {
+            return Err(Ending::Worker);
+        }
+    }
+    Ok(tally.committed())
+}

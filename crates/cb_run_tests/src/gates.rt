@@ -1,0 +1,51 @@
+//! Workers that wait for each other at their gate.
+use crate::run::ran;
+use cb_page::ClientNo;
+use cb_jobs::{Gate, Turn};
+use std::sync::atomic::{AtomicU64, Ordering};
+use std::test::Fail;
+use std::thread;
+
+/// How often a gate says `Later` in all.
+const TURNS: u64 = 10_000_000;
+
+/// A second job waits for the other client's first commit.
+#[derive(Drop)]
+struct Mutual {
+    /// How often each client's first job was committed: by client.
+    first: [AtomicU64; 2],
+    spent: AtomicU64,
+}
+
+impl Gate for Mutual {
+    fn before_job(&self, client: ClientNo, job: u64) -> Turn {
+        let other = (client.index() + 1) % 2;
+        if job == 0 || self.first[other].load(Ordering::SeqCst) > 0 {
+            return Turn::Go;
+        }
+        if self.spent.fetch_add(1, Ordering::SeqCst) >= TURNS {
+            return Turn::Go;
+        }
+        thread::yield_now();
+        Turn::Later
+    }
+
+    fn after_commit(&self, client: ClientNo, job: u64) {
+        if job == 0 {
+            self.first[client.index() % 2].fetch_add(1, Ordering::SeqCst);
+        }
+    }
+}
+
+#[test]
+fn two_at_once(rt: HostRuntime) -> Result<(), Fail> {
+    let gate = Mutual {
+        first: [AtomicU64::new(0), AtomicU64::new(0)],
+        spent: AtomicU64::new(0),
+    };
+    let ran = ran(&rt, rt.alloc(), 2, 2, 0, &gate)?;
+    assert!(rt; ran.out.as_slice() == b"committed 4\nsum 8\n".as_slice());
+    let spent = gate.spent.load(Ordering::SeqCst);
+    assert!(rt; spent < TURNS);
+    Ok(())
+}
