@@ -105,11 +105,11 @@ pub fn flush_again<R: Wait, S: Alter>(
     ensures limits { shelf.new.limits ≡ shelf.old.limits }
     ensures stops { IfErr result (Stops shelf.old.limits) }
 {
-    if let Some(batch) = stop.batch {
-        if let Err(fault) = write_and_report(rt, alloc, office, shelf, &batch) {
+    if let Some(held) = stop.batch {
+        if let Err(fault) = write_and_report(rt, alloc, office, shelf, &held) {
             return Err(FlushStop {
                 fault,
-                batch: Some(batch),
+                batch: Some(held),
             });
         }
     }

@@ -8,8 +8,6 @@
 mod counters;
 mod gate;
 mod tally;
-#[cfg(test)]
-mod tests;
 
 pub use counters::{count_up, counter, counter_sum};
 pub use gate::{Gate, Turn};

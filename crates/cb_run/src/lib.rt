@@ -2,6 +2,7 @@
 #![tactic(auto)]
 
 mod ending;
+mod first_fault;
 mod run_on;
 
 pub use ending::Ending;

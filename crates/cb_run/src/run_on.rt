@@ -1,8 +1,10 @@
 //! Workers and the flusher, to their end.
 use crate::ending::{Ending, of_shelf, of_worker};
+use crate::first_fault::{ClientEnding, FirstFault};
+use cb_client::ClientFault;
 use cb_page::{ClientNo, Limits};
 use cb_shared::Office;
-use cb_shelf::Shelf;
+use cb_shelf::{Shelf, ShelfFault};
 use cb_twoq::{Chooser, TwoQ};
 use cb_flusher::{FlushStop, flush_again, flush_loop};
 use cb_jobs::{Gate, JobDone, Tally, counter_sum};
@@ -13,7 +15,7 @@ use sqlite::Alter;
 use std::alloc::{AllocError, Global};
 use std::io;
 use std::io::Write;
-use std::sync::Wait;
+use std::sync::{Mutex, Wait};
 use std::thread;
 use std::thread::Threads;
 
@@ -72,9 +74,17 @@ where
     let Ok((results, answers)) = crossbeam_channel::unbounded(alloc) else {
         return Err(Ending::Memory);
     };
-    let ran = run_all(rt, alloc, limits, office, shelf, jobs, gate, &results);
+    let faults = Mutex::new(FirstFault::none());
+    let flushed = run_all(
+        rt, alloc, limits, office, shelf, jobs, gate, &results, &faults,
+    );
     drop(results);
-    ran?;
+    if let Err(fault) = flushed {
+        return Err(of_shelf(fault));
+    }
+    if let Some(told) = faults.lock(rt).first {
+        return Err(told.ending);
+    }
     let committed = tally(rt, alloc, limits, jobs, &answers)?;
     match shelf.load(alloc) {
         Ok(store) => Ok((committed, counter_sum(&store))),
@@ -82,7 +92,7 @@ where
     }
 }
 
-/// Runs the workers on threads of their own, and the flusher on this one.
+/// Runs the workers on threads of their own, and the flusher on this one, until all have ended.
 fn run_all<R, G, S>(
     rt: &R,
     alloc: Global,
@@ -92,45 +102,43 @@ fn run_all<R, G, S>(
     jobs: u64,
     gate: &G,
     results: &Sender<JobDone>,
-) -> Result<(), Ending>
+    faults: &Mutex<FirstFault>,
+) -> Result<(), ShelfFault>
 where
     R: Threads + Wait + Sync,
     G: Gate + Sync,
     S: Alter,
 {
     thread::scope(thread::scope_env(), rt, |scope| {
-        let mut workers = Vec::new(alloc);
-        let mut ending = None;
         for client in 0..limits.clients() {
             let started = match job_list(rt, alloc, jobs) {
-                Ok(list) => scope.spawn(move || run_client(rt, alloc, office, limits, client, &list, results, gate)).ok(),
-                Err(_) => None,
+                Ok(list) => scope
+                    .spawn(move || {
+                        run_client(
+                            rt, alloc, office, limits, client, &list, results, gate, faults,
+                        )
+                    })
+                    .is_ok(),
+                Err(_) => false,
             };
-            let kept = match started {
-                Some(worker) => workers.push(worker).is_ok(),
-                None => false,
-            };
-            if !kept {
-                ending = Some(Ending::Memory);
-                office.halt(rt);
+            if !started {
+                give_up(rt, office, faults, client, Ending::Memory);
             }
         }
-        let flushed = flush(rt, alloc, office, shelf);
-        if let Err(fault) = flushed {
-            return Err(of_shelf(fault));
-        }
-        for worker in workers {
-            if let Err(fault) = worker.join(rt) {
-                if ending.is_none() {
-                    ending = of_worker(fault);
-                }
-            }
-        }
-        match ending {
-            Some(ending) => Err(ending),
-            None => Ok(()),
-        }
+        flush(rt, alloc, office, shelf)
     })
+}
+
+/// Notes how a client's run ended, and halts the office.
+fn give_up<R: Wait>(
+    rt: &R,
+    office: &Office,
+    faults: &Mutex<FirstFault>,
+    client: u16,
+    ending: Ending,
+) {
+    faults.lock(rt).note(ClientEnding { client, ending });
+    office.halt(rt);
 }
 
 /// A channel that holds the jobs, with no sender left.
@@ -144,7 +152,8 @@ fn job_list<R: Wait>(rt: &R, alloc: Global, jobs: u64) -> Result<Receiver<u64>, 
     Ok(from)
 }
 
-/// A client joins and works; where it can't go on the office is halted.
+/// A client joins and works; where it can't go on the office is halted. A client that was halted
+/// says nothing of why.
 fn run_client<R: Wait, G: Gate>(
     rt: &R,
     alloc: Global,
@@ -154,12 +163,15 @@ fn run_client<R: Wait, G: Gate>(
     jobs: &Receiver<u64>,
     results: &Sender<JobDone>,
     gate: &G,
-) -> Result<(), WorkerFault> {
+    faults: &Mutex<FirstFault>,
+) {
     let worked = join_and_work(rt, alloc, office, limits, client, jobs, results, gate);
-    if worked.is_err() {
-        office.halt(rt);
+    if let Err(fault) = worked {
+        match of_worker(fault) {
+            Some(ending) => give_up(rt, office, faults, client, ending),
+            None => {}
+        }
     }
-    worked
 }
 
 fn join_and_work<R: Wait, G: Gate>(
@@ -173,7 +185,7 @@ fn join_and_work<R: Wait, G: Gate>(
     gate: &G,
 ) -> Result<(), WorkerFault> {
     let Ok(chooser) = TwoQ::make(alloc, limits) else {
-        return Err(WorkerFault::Client(cb_client::ClientFault::Memory));
+        return Err(WorkerFault::Client(ClientFault::Memory));
     };
     let client = ClientNo::new(client % 32);
     let worker: Worker<TwoQ> = Worker::join(rt, alloc, office, limits, client, chooser)?;
@@ -187,7 +199,7 @@ fn flush<R: Wait, S: Alter>(
     alloc: Global,
     office: &Office,
     shelf: &mut Shelf<S>,
-) -> Result<(), cb_shelf::ShelfFault> {
+) -> Result<(), ShelfFault> {
     let mut stopped = flush_loop(rt, alloc, office, shelf);
     let mut tries = 1;
     let mut last = None;

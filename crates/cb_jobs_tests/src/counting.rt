@@ -1,5 +1,5 @@
 //! Counters by hand, and a tally.
-use crate::{JobDone, Tally, TallyFault, count_up, counter, counter_sum};
+use cb_jobs::{JobDone, Tally, TallyFault, count_up, counter, counter_sum};
 use cb_commit::Store;
 use cb_page::{ClientNo, CommitNo, Limits};
 use std::test::Fail;
@@ -45,5 +45,14 @@ fn each_job_once(rt: HostRuntime) -> Result<(), Fail> {
     assert_eq!(rt; tally.add(done(0, 3)), Err(TallyFault::Stranger));
     assert_eq!(rt; tally.add(done(2, 0)), Err(TallyFault::Stranger));
     assert_eq!(rt; tally.committed(), 2);
+    Ok(())
+}
+
+/// Every client and job that a configuration allows.
+#[test]
+fn greatest_tally(rt: HostRuntime) -> Result<(), Fail> {
+    let mut tally = Tally::new(rt.alloc(), 32, 100_000)?;
+    assert_eq!(rt; tally.add(done(31, 99_999)), Ok(()));
+    assert_eq!(rt; tally.add(done(31, 100_000)), Err(TallyFault::Stranger));
     Ok(())
 }

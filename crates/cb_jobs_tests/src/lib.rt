@@ -1,0 +1,5 @@
+//! Tests of jobs and their counts, by public calls.
+#![tactic(auto)]
+
+#[cfg(test)]
+mod counting;
