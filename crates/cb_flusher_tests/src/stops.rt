@@ -185,7 +185,7 @@ fn stop<R: Wait>(rt: &R, alloc: Global, limits: &Limits, calls: u64) -> Option<R
 
 /// How many runs had a stop before one ended, each stopped one call later.
 fn stops<R: Wait>(rt: &R, alloc: Global, limits: &Limits) -> Option<u64> {
-    for calls in 0..100 {
+    for calls in 20..24 {
         if stop(rt, alloc, limits, calls)? == Reached::Ended {
             return Some(calls);
         }

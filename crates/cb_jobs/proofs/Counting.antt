@@ -1,9 +1,7 @@
 -- How many jobs are done once one more is.
 use Rattle.std.proofs.Common.{◌≡◌, ℕ, ◌+◌, ◌*◌, ◌^◌, ◌<◌, ◌≤◌, Bool, true, false, List, [], length, arith}
 use Rattle.std.specs.Prelude.{if◌then◌else◌, slice_index_or, slice_set}
-use Rattle.std.specs.List.{All, count_by, sum_by}
 use Rattle.std.proofs.Math.Nat.{mul-le-mul_right}
-use Rattle.std.proofs.lemmas.Grind.{common_steps}
 use Rattle.std.proofs.lemmas.List.{length-set}
 use Rattle.std.proofs.lemmas.List.Elements.{All-set, All-weaker}
 use Rattle.std.proofs.lemmas.List.Sums.{count_by-le-length, sum_by-le, sum_by-set}
@@ -40,5 +38,5 @@ pub tally_fits : (committed : ℕ) (tally : List (List Bool)) → IsTally commit
 tally_fits committed tally is =
     let few = All-weaker (λ (flags : List Bool). length flags < 2 ^ 32) (λ (flags : List Bool). flags_set flags ≤ 2 ^ 32) (λ flags short. let all = count_by-le-length (λ (flag : Bool). flag) flags in omega (arith, all, short)) tally is.jobs in
     let all = sum_by-le flags_set (2 ^ 32) tally few in
-    let most : length tally * 2 ^ 32 ≤ 2 ^ 16 * 2 ^ 32 = mul-le-mul_right (2 ^ 32) (omega (arith, is.clients)) in
+    let most : length tally * 2 ^ 32 ≤ 2 ^ 16 * 2 ^ 32 = mul-le-mul_right {n = 2 ^ 16} (2 ^ 32) (omega (arith, is.clients)) in
     omega (arith, all, most, is.counted)

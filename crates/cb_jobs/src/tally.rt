@@ -101,6 +101,7 @@ impl Tally {
     }
 
     /// Counts a job that was committed, if it is one of these and wasn't counted before.
+    #[tactic(auto, using(crate::proofs::Counting::tally_fits, crate::proofs::Counting::tally_more))]
     pub fn add(&mut self, done: JobDone) -> Result<(), TallyFault>
         ensures stranger { (result ≡ Err TallyFault.Stranger)
             ↔ (length (jobs_of self.old done.client) ≤ done.job) }
