@@ -1,6 +1,6 @@
 //! A store that refuses, and one that stops at each call in turn.
 use crate::bench::{committed, holds, is_reported, two_pages};
-use cb_flusher::{FlushStop, flush_again, flush_loop};
+use cb_flusher::{FlushStop, flush_again, flush_in_tries, flush_loop};
 use cb_page::Limits;
 use cb_shared::Office;
 use cb_shelf::{Shelf, ShelfFault};
@@ -42,8 +42,24 @@ fn is_written_at_last<R: Wait, S: Alter>(
     refused && again && before && written && holds(alloc, limits, shelf, 2)
 }
 
-/// The same over a new shelf, the office closed.
-fn writes_again<R: Wait>(rt: &R, alloc: Global, limits: &Limits) -> bool {
+/// Whether three tries are refused under that limit, then the office is halted, and nothing was
+/// written or reported.
+fn is_given_up<R: Wait, S: Alter>(
+    rt: &R,
+    alloc: Global,
+    limits: &Limits,
+    office: &Office,
+    shelf: &mut Shelf<S>,
+) -> bool {
+    shelf.limit_steps(1);
+    let refused = flush_in_tries(rt, alloc, office, shelf) == Err(ShelfFault::Store);
+    shelf.limit_steps(0);
+    let halted = office.lock(rt).is_halted();
+    refused && halted && !is_reported(rt, alloc, office) && holds(alloc, limits, shelf, 0)
+}
+
+/// Whether a new shelf, over which two commits are to be written, gives up and then writes them.
+fn refuses_and_writes<R: Wait>(rt: &R, alloc: Global, limits: &Limits) -> bool {
     let Some(office) = committed(alloc, limits, 2) else {
         return false;
     };
@@ -53,8 +69,9 @@ fn writes_again<R: Wait>(rt: &R, alloc: Global, limits: &Limits) -> bool {
     };
     match Shelf::open(alloc, conn, limits) {
         Ok(mut shelf) => {
+            let given_up = is_given_up(rt, alloc, limits, &office, &mut shelf);
             let written = is_written_at_last(rt, alloc, limits, &office, &mut shelf);
-            written && is_reported(rt, alloc, &office)
+            given_up && written && is_reported(rt, alloc, &office)
         }
         Err(_) => false,
     }
@@ -65,7 +82,7 @@ fn refused_batch_is_written_first(rt: HostRuntime) -> Result<(), Fail> {
     let Some(limits) = two_pages() else {
         return Err("limits".into());
     };
-    assert!(rt; writes_again(&rt, rt.alloc(), &limits));
+    assert!(rt; refuses_and_writes(&rt, rt.alloc(), &limits));
     Ok(())
 }
 
@@ -183,14 +200,20 @@ fn stop<R: Wait>(rt: &R, alloc: Global, limits: &Limits, calls: u64) -> Option<R
     }
 }
 
-/// How many runs had a stop before one ended, each stopped one call later.
-fn stops<R: Wait>(rt: &R, alloc: Global, limits: &Limits) -> Option<u64> {
-    for calls in 20..24 {
-        if stop(rt, alloc, limits, calls)? == Reached::Ended {
-            return Some(calls);
+/// Whether a run ends without a stop, after runs that stopped one call earlier each. The first of
+/// them stops before the flusher begins.
+fn stops_at_each_call<R: Wait>(rt: &R, alloc: Global, limits: &Limits) -> bool {
+    if stop(rt, alloc, limits, 20) != Some(Reached::Nothing) {
+        return false;
+    }
+    for calls in 21..100 {
+        match stop(rt, alloc, limits, calls) {
+            Some(Reached::Ended) => return true,
+            Some(_) => {}
+            None => return false,
         }
     }
-    None
+    false
 }
 
 #[test]
@@ -198,7 +221,6 @@ fn a_stop_leaves_all_commits_or_none(rt: HostRuntime) -> Result<(), Fail> {
     let Some(limits) = two_pages() else {
         return Err("limits".into());
     };
-    let stops = stops(&rt, rt.alloc(), &limits);
-    assert!(rt; stops.is_some());
+    assert!(rt; stops_at_each_call(&rt, rt.alloc(), &limits));
     Ok(())
 }

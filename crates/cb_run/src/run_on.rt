@@ -1,13 +1,16 @@
 //! Workers and the flusher, to their end.
-use crate::ending::{Ending, of_shelf, of_worker};
-use crate::first_fault::{ClientEnding, FirstFault};
+ghost use Rattle.std.specs.Prelude.{IfOk};
+ghost use Rattle.cb_outcome.specs.Outcomes.{PrintsSome};
+
+use crate::faults::{of_shelf, of_worker};
 use cb_client::ClientFault;
+use cb_flusher::flush_in_tries;
+use cb_jobs::{Gate, JobDone, Tally, counter_sum};
+use cb_outcome::{Counted, Ending, FirstEnding, print_run};
 use cb_page::{ClientNo, Limits};
 use cb_shared::Office;
 use cb_shelf::{Shelf, ShelfFault};
 use cb_twoq::{Chooser, TwoQ};
-use cb_flusher::{FlushStop, flush_again, flush_loop};
-use cb_jobs::{Gate, JobDone, Tally, counter_sum};
 use cb_work::work;
 use cb_worker::{Worker, WorkerFault};
 use crossbeam_channel::{Receiver, Sender};
@@ -18,9 +21,6 @@ use std::io::Write;
 use std::sync::{Mutex, Wait};
 use std::thread;
 use std::thread::Threads;
-
-/// How often a batch is tried in all.
-const TRIES: u64 = 3;
 
 /// Starts a worker for each client, with so many jobs each, runs the flusher, and says what came of
 /// it: on `out` how many jobs were committed and the sum of the counters, else on `err` why not. The
@@ -42,18 +42,11 @@ where
     S: Alter,
     O: Write,
     E: Write,
+    ensures { IfOk result (λ status. PrintsSome status
+        (O.contents out.old) (O.contents out.new) (E.contents err.old) (E.contents err.new)) }
 {
-    match counted(rt, alloc, limits, office, shelf, jobs, gate) {
-        Ok((committed, sum)) => {
-            write!(out, "committed {committed}\nsum {sum}\n")?;
-            Ok(0)
-        }
-        Err(ending) => {
-            let line = ending.line();
-            writeln!(err, "{line}")?;
-            Ok(ending.status())
-        }
-    }
+    let outcome = counted(rt, alloc, limits, office, shelf, jobs, gate);
+    print_run(outcome, out, err)
 }
 
 /// How many jobs were committed, and the sum of the counters as the tables have them.
@@ -65,7 +58,7 @@ fn counted<R, G, S>(
     shelf: &mut Shelf<S>,
     jobs: u64,
     gate: &G,
-) -> Result<(u64, u64), Ending>
+) -> Result<Counted, Ending>
 where
     R: Threads + Wait + Sync,
     G: Gate + Sync,
@@ -74,7 +67,7 @@ where
     let Ok((results, answers)) = crossbeam_channel::unbounded(alloc) else {
         return Err(Ending::Memory);
     };
-    let faults = Mutex::new(FirstFault::none());
+    let faults = Mutex::new(FirstEnding::none());
     let flushed = run_all(
         rt, alloc, limits, office, shelf, jobs, gate, &results, &faults,
     );
@@ -82,12 +75,15 @@ where
     if let Err(fault) = flushed {
         return Err(of_shelf(fault));
     }
-    if let Some(told) = faults.lock(rt).first {
+    if let Some(told) = faults.lock(rt).told {
         return Err(told.ending);
     }
     let committed = tally(rt, alloc, limits, jobs, &answers)?;
     match shelf.load(alloc) {
-        Ok(store) => Ok((committed, counter_sum(&store))),
+        Ok(store) => Ok(Counted {
+            committed,
+            sum: counter_sum(&store),
+        }),
         Err(fault) => Err(of_shelf(fault)),
     }
 }
@@ -102,7 +98,7 @@ fn run_all<R, G, S>(
     jobs: u64,
     gate: &G,
     results: &Sender<JobDone>,
-    faults: &Mutex<FirstFault>,
+    faults: &Mutex<FirstEnding>,
 ) -> Result<(), ShelfFault>
 where
     R: Threads + Wait + Sync,
@@ -125,7 +121,7 @@ where
                 give_up(rt, office, faults, client, Ending::Memory);
             }
         }
-        flush(rt, alloc, office, shelf)
+        flush_in_tries(rt, alloc, office, shelf)
     })
 }
 
@@ -133,11 +129,11 @@ where
 fn give_up<R: Wait>(
     rt: &R,
     office: &Office,
-    faults: &Mutex<FirstFault>,
+    faults: &Mutex<FirstEnding>,
     client: u16,
     ending: Ending,
 ) {
-    faults.lock(rt).note(ClientEnding { client, ending });
+    faults.lock(rt).note(client, ending);
     office.halt(rt);
 }
 
@@ -163,7 +159,7 @@ fn run_client<R: Wait, G: Gate>(
     jobs: &Receiver<u64>,
     results: &Sender<JobDone>,
     gate: &G,
-    faults: &Mutex<FirstFault>,
+    faults: &Mutex<FirstEnding>,
 ) {
     let worked = join_and_work(rt, alloc, office, limits, client, jobs, results, gate);
     if let Err(fault) = worked {
@@ -190,42 +186,6 @@ fn join_and_work<R: Wait, G: Gate>(
     let client = ClientNo::new(client % 32);
     let worker: Worker<TwoQ> = Worker::join(rt, alloc, office, limits, client, chooser)?;
     work(rt, alloc, office, worker, jobs, results, gate)
-}
-
-/// Runs the flusher. A batch that is refused is tried again, so often in all; then the office is
-/// halted.
-fn flush<R: Wait, S: Alter>(
-    rt: &R,
-    alloc: Global,
-    office: &Office,
-    shelf: &mut Shelf<S>,
-) -> Result<(), ShelfFault> {
-    let mut stopped = flush_loop(rt, alloc, office, shelf);
-    let mut tries = 1;
-    let mut last = None;
-    for _ in rt.forever() {
-        let stop = match stopped {
-            Ok(()) => return Ok(()),
-            Err(stop) => stop,
-        };
-        let number = batch_number(&stop);
-        tries = if number == last { tries + 1 } else { 1 };
-        last = number;
-        if tries >= TRIES {
-            office.halt(rt);
-            return Err(stop.fault);
-        }
-        stopped = flush_again(rt, alloc, office, shelf, stop);
-    }
-    unreachable!()
-}
-
-/// The number of the batch that is still to be written; 0 where there is none.
-fn batch_number(stop: &FlushStop) -> Option<u64> {
-    match &stop.batch {
-        Some(batch) => Some(batch.number().get()),
-        None => Some(0),
-    }
 }
 
 /// Counts the results, each job once.
