@@ -1,5 +1,5 @@
 -- Why a flusher stops.
-use Rattle.std.specs.Prelude.{◌≡◌, ◌↔◌, ¬◌, None, IfSome}
+use Rattle.std.specs.Prelude.{◌≡◌, ◌↔◌, None, IfSome}
 use Rattle.cb_page.specs.Bounds.{Bounds}
 use Rattle.cb_statements.specs.declared.fault.ShelfFault.TheVariants.{Shape, Memory}
 use Rattle.cb_statements.specs.Writing.{Fits}
