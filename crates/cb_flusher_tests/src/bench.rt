@@ -72,7 +72,12 @@ fn commit_page(
         return Err(OfficeFault::NotHeld);
     };
     let grant = shown.grant;
-    say(alloc, station, hand, ShortBody::AskWrite { txn, page, grant })?;
+    say(
+        alloc,
+        station,
+        hand,
+        ShortBody::AskWrite { txn, page, grant },
+    )?;
     let frame = commit(alloc, hand, txn, grant)?;
     let mut reads = PageSet::new(alloc, 2)?;
     reads.insert(page);
@@ -138,9 +143,7 @@ pub(crate) fn holds<S: Alter>(
 fn is_at(limits: &Limits, store: &Store, number: u64) -> bool {
     match PageNo::in_store(limits, 0) {
         Some(page) => {
-            store.is_of(limits)
-                && store.number() == number
-                && store.version(page).get() == number
+            store.is_of(limits) && store.number() == number && store.version(page).get() == number
         }
         None => false,
     }

@@ -1,6 +1,6 @@
 //! Counters by hand, and a tally.
-use cb_jobs::{JobDone, Tally, TallyFault, count_up, counter, counter_sum};
 use cb_commit::Store;
+use cb_jobs::{JobDone, Tally, TallyFault, count_up, counter, counter_sum};
 use cb_page::{ClientNo, CommitNo, Limits};
 use std::test::Fail;
 

@@ -16,11 +16,10 @@ use cb_worker::{Worker, WorkerFault};
 use crossbeam_channel::{Receiver, Sender};
 use sqlite::Alter;
 use std::alloc::{AllocError, Global};
-use std::io;
 use std::io::Write;
 use std::sync::{Mutex, Wait};
-use std::thread;
 use std::thread::Threads;
+use std::{io, thread};
 
 /// Starts a worker for each client, with so many jobs each, runs the flusher, and says what came of
 /// it: on `out` how many jobs were committed and the sum of the counters, else on `err` why not. The

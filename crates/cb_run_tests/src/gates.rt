@@ -1,7 +1,7 @@
 //! Workers that wait for each other at their gate.
 use crate::run::ran;
-use cb_page::ClientNo;
 use cb_jobs::{Gate, Turn};
+use cb_page::ClientNo;
 use std::sync::atomic::{AtomicU64, Ordering};
 use std::test::Fail;
 use std::thread;

@@ -1,11 +1,11 @@
 //! Whole runs over stores in memory.
 use cb_commit::Store;
+use cb_jobs::{Gate, Turn};
 use cb_office::Station;
 use cb_page::Limits;
 use cb_run::run_on;
 use cb_shared::Office;
 use cb_shelf::Shelf;
-use cb_jobs::{Gate, Turn};
 use sqlite::Connection;
 use std::alloc::Global;
 use std::sync::Wait;
@@ -58,9 +58,16 @@ pub(crate) fn ran<R: Threads + Wait + Sync, G: Gate + Sync>(
     let office = Office::new(Station::new(alloc, &limits, store)?, usize::from(clients));
     let mut out = Vec::new(alloc);
     let mut err = Vec::new(alloc);
-    let status = run_on(rt, alloc, &limits, &office, &mut shelf, jobs, gate, &mut out, &mut err)?;
+    let status = run_on(
+        rt, alloc, &limits, &office, &mut shelf, jobs, gate, &mut out, &mut err,
+    )?;
     let whole = entries(rt, &office);
-    Ok(Printed { out, err, status, whole })
+    Ok(Printed {
+        out,
+        err,
+        status,
+        whole,
+    })
 }
 
 /// How many entries have both pages read and written, and how many there are.

@@ -53,7 +53,11 @@ fn run_jobs<R: Wait, Q: Chooser, G: Gate>(
         let number = run_job(rt, alloc, office, worker)?;
         let client = worker.client();
         gate.after_commit(client, job);
-        let done = JobDone { client, job, number };
+        let done = JobDone {
+            client,
+            job,
+            number,
+        };
         if results.send(rt, done).is_err() {
             return Err(WorkerFault::Client(ClientFault::Memory));
         }
