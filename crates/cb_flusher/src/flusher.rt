@@ -18,11 +18,7 @@ pub struct FlushStop {
 }
 
 /// The next batch; `None` once the office is closed and nothing is left.
-fn next_batch<R: Wait>(
-    rt: &R,
-    alloc: Global,
-    office: &Office,
-) -> Result<Option<Batch>, ShelfFault>
+fn next_batch<R: Wait>(rt: &R, alloc: Global, office: &Office) -> Result<Option<Batch>, ShelfFault>
     ensures { IfErr result (λ fault. fault ≡ ShelfFault.Memory) }
 {
     let mut shared = office.lock(rt);
@@ -54,10 +50,7 @@ fn write_and_report<R: Wait, S: Alter>(
     ensures shape { (result ≡ Err ShelfFault.Shape) ↔ ¬ Fits shelf.old.limits batch.now }
 {
     shelf.write(batch)?;
-    let reported = office
-        .lock(rt)
-        .station_mut()
-        .flushed(alloc, batch.number());
+    let reported = office.lock(rt).station_mut().flushed(alloc, batch.number());
     office.tell();
     match reported {
         Ok(()) => Ok(()),
