@@ -61,7 +61,7 @@ fn write_and_report<R: Wait, S: Alter>(
 /// Writes what is committed, a batch at a time, until the office is closed and nothing is left.
 ///
 /// It holds no lock while it writes. Which batches it writes no contract says, since it takes the
-/// lock itself: tests show that it is each commit once, in order.
+/// lock itself.
 pub fn flush_loop<R: Wait, S: Alter>(
     rt: &R,
     alloc: Global,

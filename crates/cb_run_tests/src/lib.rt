@@ -1,7 +1,0 @@
-//! Tests of whole runs, by public calls.
-#![tactic(auto)]
-
-#[cfg(test)]
-mod gates;
-#[cfg(test)]
-mod run;

@@ -1,6 +1,0 @@
-pub mod Workers
-pub mod Calls
-pub mod Turns
-pub mod Committing
-pub mod Waiting
-pub mod Lending
