@@ -8,7 +8,7 @@ use std::alloc::{AllocError, Global};
 /// A copy of the frame, with its pages.
 ///
 /// `AllocError` only where memory was refused.
-pub(crate) fn copy_of(alloc: Global, frame: &Frame) -> Result<Frame, AllocError>
+pub fn copy_of(alloc: Global, frame: &Frame) -> Result<Frame, AllocError>
     ensures { IfOk result (λ copy. copy ≡ frame.now) }
 {
     let client = frame.client;

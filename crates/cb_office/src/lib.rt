@@ -10,5 +10,6 @@ mod office_fault;
 mod reading;
 mod station;
 
+pub use copying::copy_of;
 pub use office_fault::OfficeFault;
 pub use station::Station;
