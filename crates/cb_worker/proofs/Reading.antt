@@ -15,6 +15,7 @@ use Rattle.cb_protocol.specs.Basics.{Bytes, is_none}
 use Rattle.cb_protocol.specs.Client.{bodies_said}
 use Rattle.cb_protocol.specs.ClientCalls.{CallPeek, CallRead, Reply, call_fault, client_call, peek_word, read_page}
 use Rattle.cb_protocol.specs.Serial.{Operation}
+use Rattle.cb_worker.specs.Waiting.{HasRead}
 use Rattle.cb_worker.specs.Workers.{Hit, Hits, WorkerState, after_hit, is_same, may_hit, may_read, shows_copy, with_client}
 
 and_false : (b : Bool) → (b && false) ≡ false
@@ -105,3 +106,17 @@ hits w page (Some bytes) m e =
     let parts = three _ _ _ m in
     let copy = shown_copy _ _ parts.0 in
     record { may = m; held = copy.0; in_hand = copy.1; same = copy.2; answers = answers w.client page bytes parts.2 (sym e) }
+
+-- a read changes no bytes
+same_bytes : (w : WorkerState) (page : ℕ) → may_hit w page ≡ true → content_at (after_hit w page).client.copies page ≡ content_at w.client.copies page
+same_bytes w page m = rw m refl
+
+-- a page that was just read is in the pool, and was read so
+pub not_bare : (w : WorkerState) (page : ℕ) → HasRead w page → None ≡ content_at w.client.copies page → ⊥
+not_bare w page r e =
+    let out : may_hit r.0 page ≡ false = hits r.0 page None r.1 (e ∙ ap (λ (v : WorkerState). content_at v.client.copies page) r.2 ∙ same_bytes r.0 page r.1) in
+    let z : true ≡ false = sym r.1 ∙ out in cc
+
+pub fetches : (w : WorkerState) (page : ℕ) (bytes : Bytes) → HasRead w page → Some bytes ≡ content_at w.client.copies page
+    → (before : WorkerState) × Hit before page bytes × (w ≡ after_hit before page)
+fetches w page bytes r e = (r.0, hits r.0 page (Some bytes) r.1 (e ∙ ap (λ (v : WorkerState). content_at v.client.copies page) r.2 ∙ same_bytes r.0 page r.1), r.2)

@@ -11,6 +11,3 @@ mod worker_fault;
 pub use answers::{Fetched, Finished, Wanted};
 pub use worker::Worker;
 pub use worker_fault::WorkerFault;
-
-#[test]
-fn compiles() {}

@@ -1,5 +1,5 @@
 //! Workers join, begin another incarnation, and end.
-ghost use Rattle.std.specs.Prelude.{◌≡◌, [], IfErr, None};
+ghost use Rattle.std.specs.Prelude.{◌≡◌, [], true, IfErr, IfOk, None, OnOk};
 
 use crate::worker::Worker;
 use crate::worker_fault::WorkerFault;
@@ -24,6 +24,7 @@ impl<Q: Chooser> Worker<Q> {
     ) -> Result<Worker<Q>, WorkerFault>
         requires members { Q.members chooser ≡ [] }
         requires slots { Q.slots chooser ≡ limits.now.slots }
+        ensures { IfOk result (λ worker. worker.client.welcomed ≡ true) }
     {
         if !limits.has_client(client.get()) {
             return Err(WorkerFault::Office(OfficeFault::Foreign));
@@ -35,7 +36,7 @@ impl<Q: Chooser> Worker<Q> {
             unjoin(rt, alloc, office, hand);
             return Err(WorkerFault::Client(ClientFault::Memory));
         };
-        match Worker::new(alloc, client, hand).served(rt, alloc, office) {
+        match Worker::new(alloc, client, hand).welcomed(rt, alloc, office) {
             Ok(worker) => Ok(worker),
             Err((fault, worker)) => {
                 unjoin(rt, alloc, office, worker.into_hand());
@@ -53,7 +54,9 @@ impl<Q: Chooser> Worker<Q> {
         alloc: Global,
         office: &Office,
         incarnation: Incarnation,
-    ) -> Result<Worker<Q>, (WorkerFault, Worker<Q>)> {
+    ) -> Result<Worker<Q>, (WorkerFault, Worker<Q>)>
+        ensures { IfOk result (λ worker. worker.client.welcomed ≡ true) }
+    {
         let renewed = match self.renewed(alloc, incarnation) {
             Ok(renewed) => renewed,
             Err(fault) => return Err((fault, self)),
@@ -70,7 +73,7 @@ impl<Q: Chooser> Worker<Q> {
             .restart(alloc, hand, incarnation);
         office.tell();
         match restarted {
-            Ok(hand) => Worker::new(alloc, renewed, hand).served(rt, alloc, office),
+            Ok(hand) => Worker::new(alloc, renewed, hand).welcomed(rt, alloc, office),
             Err((fault, hand)) => {
                 let worker = Worker {
                     client,
@@ -149,17 +152,39 @@ impl<Q: Chooser> Worker<Q> {
         Ok(Client::new(alloc, client, incarnation, limits, chooser)?)
     }
 
-    /// The worker, once it has served.
-    fn served<R: Wait>(
+    /// The worker, once its client is welcomed.
+    fn welcomed<R: Wait>(
         mut self,
         rt: &R,
         alloc: Global,
         office: &Office,
-    ) -> Result<Worker<Q>, (WorkerFault, Worker<Q>)> {
-        match self.serve(rt, alloc, office) {
+    ) -> Result<Worker<Q>, (WorkerFault, Worker<Q>)>
+        ensures { IfOk result (λ worker. worker.client.welcomed ≡ true) }
+    {
+        match self.wait_for_welcome(rt, alloc, office) {
             Ok(()) => Ok(self),
             Err(fault) => Err((fault, self)),
         }
+    }
+
+    /// Serves until the client is welcomed.
+    fn wait_for_welcome<R: Wait>(
+        &mut self,
+        rt: &R,
+        alloc: Global,
+        office: &Office,
+    ) -> Result<(), WorkerFault>
+        ensures { OnOk result (self.new.client.welcomed ≡ true) }
+    {
+        let mut shared = office.lock(rt);
+        for _ in rt.forever() {
+            self.serve_at(rt, alloc, office, &mut shared)?;
+            if self.is_welcomed() {
+                return Ok(());
+            }
+            shared = office.wait(rt, shared);
+        }
+        unreachable!()
     }
 
     /// Its hand; all else is let go.

@@ -1,5 +1,5 @@
 //! What the client says of its transaction.
-ghost use Rattle.std.specs.Prelude.{◌≡◌, IfSome, IsSome, IsTrue};
+ghost use Rattle.std.specs.Prelude.{◌≡◌, true, IfSome, IsSome, IsTrue};
 ghost use Rattle.cb_protocol.specs.Client as protocol;
 ghost use Rattle.cb_worker.specs.Committing.{IsCommitting};
 ghost use Rattle.cb_worker.specs.Waiting.{Finishes, HasNoneOpen};
@@ -11,6 +11,13 @@ use cb_client::{ClientStatus, Outcome};
 use cb_twoq::Chooser;
 
 impl<Q: Chooser> Worker<Q> {
+    /// Whether the client is welcomed.
+    pub(super) fn is_welcomed(&self) -> bool
+        ensures { IsTrue result → self.now.client.welcomed ≡ true }
+    {
+        self.client.status() != ClientStatus::NotWelcome
+    }
+
     /// Whether a transaction isn't over yet: it is open, or its commit is out.
     pub(super) fn has_transaction(&self) -> bool {
         match self.client.status() {

@@ -33,7 +33,7 @@ impl<Q: Chooser> Worker<Q> {
     }
 
     /// Makes turns until there is nothing to do, and tells the others where a frame was handed in.
-    fn serve_at<R: Wait>(
+    pub(super) fn serve_at<R: Wait>(
         &mut self,
         rt: &R,
         alloc: Global,
