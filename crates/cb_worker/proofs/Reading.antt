@@ -1,9 +1,12 @@
 -- What a worker's read of a page rests on.
-use Rattle.std.proofs.Common.{◌≡◌, ◌==◌, ◌&&◌, ℕ, Bool, true, false, List, [], Option, Some, None, Result, Ok, Err, refl, sym, ◌∙◌, ap, arith, rules}
-use Rattle.std.specs.Option.{is_some}
-use lemmas.Bool.Decides.{nat_tests}
+use Rattle.std.proofs.Common.{◌≡◌, ◌==◌, ◌&&◌, ℕ, Bor, Bool, true, false, List, [], Option, Some, None, Result, Ok, Err, refl, sym, ◌∙◌, ap, arith, rules}
+use Rattle.std.specs.Option.{is_some, option_copied}
+use Rattle.std.specs.Result.{is_ok}
+use Rattle.std.proofs.lemmas.Bool.Decides.{nat_tests}
 use Rattle.cb_client.specs.ByTable.{Calls, IsRefused, as_before, limits_at, messages_from}
-use Rattle.cb_client.specs.CallAnswers.{Answers, after_read, held_copy, page_read}
+use Rattle.cb_client.specs.CallAnswers.{Answers, AnswersRead, after_read, held_copy, page_read}
+use Rattle.cb_client.specs.declared.answers.ReadAnswer.{ReadAnswer}
+use Rattle.cb_client.specs.declared.answers.ReadAnswer.TheVariants as read
 use Rattle.cb_client.specs.declared.client_fault.ClientFault.{ClientFault}
 use Rattle.cb_client_engine.specs.ClientState.{ClientState, client_of}
 use Rattle.cb_copies.specs.CopiesState.{content_at}
@@ -41,20 +44,44 @@ module _ (w : WorkerState) (page : ℕ) where
   pub reads : may_hit w page ≡ true → with_client w (page_read w.client page) ≡ after_hit w page
   reads e = rw e refl
 
--- a read that is answered bytes isn't refused
-pub not_refused : (v : ClientState) (page : ℕ) (bytes : Bytes) → Answers v (CallRead page) (table.AnsweredBytes bytes) [] → may_read v page ≡ true
-not_refused v page bytes a = go (call_fault (limits_at v) (client_of v []) (CallRead page)) refl
+-- a read that is answered so isn't refused
+abbrev is_refusal : table.AnswerWord → Bool
+is_refusal (table.Refused f) = true
+is_refusal _ = false
+
+abbrev client_call_word : ClientState → (page : ℕ) → table.AnswerWord
+client_call_word v page = (client_call (limits_at v) (client_of v []) (CallRead page)).word
+
+not_refused : (v : ClientState) (page : ℕ) (word : table.AnswerWord) → is_refusal word ≡ false → client_call_word v page ≡ word → may_read v page ≡ true
+not_refused v page word n a = go (call_fault (limits_at v) (client_of v []) (CallRead page)) refl
   where
     go : (f : Option table.ClientFault) → call_fault (limits_at v) (client_of v []) (CallRead page) ≡ f → may_read v page ≡ true
     go None e = rw e refl
-    go (Some f) e = absurd (let w = ap (λ (r : Reply). r.word) (call_refused _ _ _ f e) in let b = a.word [] in cc)
+    go (Some f) e = absurd (let w : word ≡ table.Refused f = sym a ∙ ap (λ (r : Reply). r.word) (call_refused _ _ _ f e) in let z : true ≡ false = sym (ap is_refusal w) ∙ n in cc)
 
 -- one that is refused is refused
 pub is_refused : (v : ClientState) (page : ℕ) (f : ClientFault) → IsRefused v (CallRead page) f → may_read v page ≡ false
 is_refused v page f r = rw (r.refuses []) refl
 
+-- whether it is
+pub read_so : (v : ClientState) (page : ℕ) (r : Result ReadAnswer ClientFault) → AnswersRead v page r → is_ok r ≡ may_read v page
+read_so v page (Ok (read.Bytes b)) a = sym (not_refused v page (table.AnsweredBytes b.now) refl (a.word []))
+read_so v page (Ok read.Asked) a = sym (not_refused v page table.Asked refl (a.word []))
+read_so v page (Err f) a = sym (is_refused v page f a)
+
 pub after_read_is : (v : ClientState) (page : ℕ) → may_read v page ≡ true → is_some (content_at v.copies page) ≡ true → after_read v page ≡ page_read v page
 after_read_is v page r h = rw (r, h) refl
+
+-- a read of a page that the hand shows, with its bytes in the pool, leaves the worker so
+pub touches : (w : WorkerState) (page : ℕ) → shows_copy w page ≡ true → is_some (content_at w.client.copies page) ≡ true → with_client w (after_read w.client page) ≡ after_hit w page
+touches w page s h = go (may_read w.client page) refl
+  where
+    go : (b : Bool) → may_read w.client page ≡ b → with_client w (after_read w.client page) ≡ after_hit w page
+    go true r = ap (with_client w) (after_read_is w.client page r h) ∙ reads w page (may w page s h r)
+    go false r = ap (with_client w) (rw r refl) ∙ stays w page (barred w page s h r)
+
+pub touched : (w : WorkerState) (page : ℕ) (r : Result ReadAnswer ClientFault) → shows_copy w page ≡ true → is_some (content_at w.client.copies page) ≡ true → AnswersRead w.client page r → is_ok r ≡ may_hit w page
+touched w page r s h a = read_so w.client page r a ∙ rw (s, h) refl
 
 -- a copy that the hand shows
 pub shown_copy : (copy : Option (ℕ × ℕ)) (held : Option Held) → is_same copy held ≡ true → (x : Held) × (held ≡ Some x) × (copy ≡ Some (x.grant, x.version))
@@ -72,6 +99,14 @@ peeked v page o calls = same o (content_at v.copies page) (sym (calls.word []) �
     same None (Some y) e = absurd cc
     same (Some x) None e = absurd cc
     same (Some x) (Some y) e = cc
+
+copied_some : {T : Type 0} (o : Option (Bor T)) → is_some (option_copied o) ≡ is_some o
+copied_some None = refl
+copied_some (Some b) = refl
+
+-- whether the pool has the page, by what is lent of it
+pub lent_so : (v : ClientState) (page : ℕ) (o : Option (Bor Bytes)) (b : Bool) → Calls v (CallPeek page) (peek_word (option_copied o)) [] as_before v → is_some o ≡ b → is_some (content_at v.copies page) ≡ b
+lent_so v page o b calls e = ap is_some (sym (peeked v page (option_copied o) calls)) ∙ copied_some o ∙ e
 
 -- whether a read is refused doesn't hang on what the transaction did
 same_fault : (v : ClientState) (page : ℕ) (ops : List Operation) → call_fault (limits_at v) (client_of v ops) (CallRead page) ≡ call_fault (limits_at v) (client_of v []) (CallRead page)
@@ -108,7 +143,7 @@ hits w page (Some bytes) m e =
     record { may = m; held = copy.0; in_hand = copy.1; same = copy.2; answers = answers w.client page bytes parts.2 (sym e) }
 
 -- a read changes no bytes
-same_bytes : (w : WorkerState) (page : ℕ) → may_hit w page ≡ true → content_at (after_hit w page).client.copies page ≡ content_at w.client.copies page
+pub same_bytes : (w : WorkerState) (page : ℕ) → may_hit w page ≡ true → content_at (after_hit w page).client.copies page ≡ content_at w.client.copies page
 same_bytes w page m = rw m refl
 
 -- a page that was just read is in the pool, and was read so

@@ -29,7 +29,7 @@ pub record Took (before : StationState) (frame : Frame) (hand : HandState)
       → IsUnchanged before after × (next ≡ hand))
   pub posts : OnOk result (is_stray hand frame.body ≡ false
       → Posts before.dispatcher (input_of frame) (outbox_of before) Everybody after.dispatcher)
-  pub hand : OnOk result (is_stray hand frame.body ≡ false
+  pub moved : OnOk result (is_stray hand frame.body ≡ false
       → next ≡ ended_if_over (server_of after) (given_back hand frame.body))
   pub stored : OnOk result (Follow before.hands after.hands hand next)
   pub history : after.history ≡ before.history
@@ -45,7 +45,7 @@ pub record Collected (before : StationState) (hand : HandState)
   pub rest : OnOk result ((client : ℕ)
       → outbox_of after client ≡ without_oldest (outbox_of before) hand.client client)
   pub server : after.dispatcher.server ≡ before.dispatcher.server
-  pub hand : IfOk result (λ frame. next ≡ collected (server_of before) hand frame)
+  pub moved : IfOk result (λ frame. next ≡ collected (server_of before) hand frame)
   pub stored : OnOk result (Follow before.hands after.hands hand next)
   pub history : after.history ≡ before.history
 
@@ -74,5 +74,5 @@ pub record Committed (before : StationState) (frame : Frame) (reads : List Bool)
       after.dispatcher)
   pub applied : OnOk result (IsApplied (server_of before) (server_of after) hand.client
       hand.incarnation (txn_of frame) (page_writes (writes_of frame)))
-  pub hand : IfOk result (λ number. next ≡ committed hand (writes_of frame) number)
+  pub moved : IfOk result (λ number. next ≡ committed hand (writes_of frame) number)
   pub stored : OnOk result (Follow before.hands after.hands hand next)

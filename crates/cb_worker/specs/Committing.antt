@@ -1,5 +1,5 @@
 -- How a worker's transaction commits.
-use Rattle.std.specs.Prelude.{◌≡◌, ◌⊎◌, ℕ, Bool, List, [], ◌∷◌, Result, Ok, Err}
+use Rattle.std.specs.Prelude.{◌≡◌, ◌⊎◌, ℕ, Bool, true, List, [], ◌∷◌, Result, Ok, Err}
 use Rattle.cb_client.specs.ByTable.{RefusesOrLacks, limits_at, messages_from}
 use Rattle.cb_client.specs.CallAnswers.{Finishes}
 use Rattle.cb_client.specs.declared.client_fault.ClientFault.{ClientFault}

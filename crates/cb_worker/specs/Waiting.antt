@@ -38,10 +38,14 @@ abbrev pub Wants : WorkerState → (page : ℕ) → Wanted → Type 0
 Wants worker page wanted.Permitted = MayWrite worker page
 Wants worker page wanted.Aborted = Ended worker protocol.Aborted
 
--- the last transaction committed by that number, or was aborted
+-- how such a transaction ended
+abbrev pub ending_of : Finished → protocol.LastOutcome
+ending_of (finished.Committed number) = protocol.Committed number
+ending_of finished.Aborted = protocol.Aborted
+
+-- the last transaction ended so
 abbrev pub Finishes : WorkerState → Finished → Type 0
-Finishes worker (finished.Committed number) = Ended worker (protocol.Committed number)
-Finishes worker finished.Aborted = Ended worker protocol.Aborted
+Finishes worker answer = Ended worker (ending_of answer)
 
 -- no transaction is open
 abbrev pub HasNoneOpen : WorkerState → Type 0

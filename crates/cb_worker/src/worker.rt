@@ -14,7 +14,7 @@ mod standing;
 mod turning;
 mod waiting;
 
-use cb_client::{Client, ClientFault, ReadAnswer};
+use cb_client::{Client, ClientFault};
 use cb_frame::Frame;
 use cb_hands::Hand;
 use cb_page::{ClientNo, PageNo, TxnNo};
@@ -101,11 +101,7 @@ impl<Q: Chooser> Worker<Q> {
         if self.client.peek(page).is_none() {
             return false;
         }
-        match self.client.read(page) {
-            Ok(ReadAnswer::Bytes(_)) => true,
-            Ok(ReadAnswer::Asked) => unreachable!(),
-            Err(_) => false,
-        }
+        self.client.read(page).is_ok()
     }
 
     /// Reads the page in the open transaction, and lends its bytes: those of the copy whose grant is

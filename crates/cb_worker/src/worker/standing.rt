@@ -1,8 +1,9 @@
 //! What the client says of its transaction.
-ghost use Rattle.std.specs.Prelude.{◌≡◌, true, IfSome, IsSome, IsTrue};
+ghost use Rattle.std.specs.Prelude.{◌≡◌, true, IfSome, IsSome, IsTrue, Some};
+ghost use Rattle.cb_client_engine.specs.ClientState.{outcome_of};
 ghost use Rattle.cb_protocol.specs.Client as protocol;
 ghost use Rattle.cb_worker.specs.Committing.{IsCommitting};
-ghost use Rattle.cb_worker.specs.Waiting.{Finishes, HasNoneOpen};
+ghost use Rattle.cb_worker.specs.Waiting.{Finishes, HasNoneOpen, ending_of};
 ghost use Rattle.cb_worker.specs.Workers.{Ended};
 
 use crate::answers::Finished;
@@ -15,7 +16,10 @@ impl<Q: Chooser> Worker<Q> {
     pub(super) fn is_welcomed(&self) -> bool
         ensures { IsTrue result → self.now.client.welcomed ≡ true }
     {
-        self.client.status() != ClientStatus::NotWelcome
+        match self.client.status() {
+            ClientStatus::NotWelcome => false,
+            _ => true,
+        }
     }
 
     /// Whether a transaction isn't over yet: it is open, or its commit is out.
@@ -30,7 +34,10 @@ impl<Q: Chooser> Worker<Q> {
     pub(super) fn is_committing(&self) -> bool
         ensures { IsTrue result → IsCommitting self.now.client }
     {
-        self.client.status() == ClientStatus::Committing
+        match self.client.status() {
+            ClientStatus::Committing => true,
+            _ => false,
+        }
     }
 
     /// How the last transaction ended, where that one is over and was not dropped.
@@ -38,15 +45,10 @@ impl<Q: Chooser> Worker<Q> {
         ensures ended { IfSome result (Finishes self.now) }
         ensures none_open { IsSome result → HasNoneOpen self.now }
     {
-        if self.client.status() != ClientStatus::Idle {
+        let ClientStatus::Idle = self.client.status() else {
             return None;
-        }
-        match self.client.last() {
-            Some(Outcome::Committed(number)) => Some(Finished::Committed(number)),
-            Some(Outcome::Aborted) => Some(Finished::Aborted),
-            Some(Outcome::Dropped) => None,
-            None => None,
-        }
+        };
+        finished_by(self.client.last()?)
     }
 
     /// Whether the last transaction is over and was aborted.
@@ -54,10 +56,20 @@ impl<Q: Chooser> Worker<Q> {
         ensures aborted { IsTrue result → Ended self.now protocol.Aborted }
         ensures none_open { IsTrue result → HasNoneOpen self.now }
     {
-        match self.ended() {
-            Some(Finished::Aborted) => true,
-            Some(Finished::Committed(_)) => false,
-            None => false,
-        }
+        let Some(Finished::Aborted) = self.ended() else {
+            return false;
+        };
+        true
+    }
+}
+
+/// How a transaction ended that was not dropped.
+fn finished_by(last: Outcome) -> Option<Finished>
+    ensures { IfSome result (λ finished. outcome_of (Some last) ≡ ending_of finished) }
+{
+    match last {
+        Outcome::Committed(number) => Some(Finished::Committed(number)),
+        Outcome::Aborted => Some(Finished::Aborted),
+        Outcome::Dropped => None,
     }
 }
