@@ -17,7 +17,12 @@ use Rattle.cb_protocol.specs.Client.{ChangeCache, Client, bodies_said, client_af
 use Rattle.cb_protocol.specs.ClientCalls.{CallFinish, Reply, call_fault, client_call, commit_again, say_commit, written_page, written_pages}
 use Rattle.cb_protocol.specs.Messages.{Body, Commit, Message, PageWrite}
 use Rattle.cb_protocol.specs.Serial.{Operation}
-use Rattle.cb_worker.specs.Committing.{FinishesOrAgain, IsCommitting, RefusesFrame, SaysCommit}
+use Rattle.cb_hands.specs.Hands.{HandState}
+use Rattle.cb_office.specs.Stations.{StationState}
+use Rattle.cb_office.specs.declared.office_fault.OfficeFault.{OfficeFault}
+use Rattle.cb_worker.specs.Calls.{Committed}
+use Rattle.cb_worker.specs.Workers.{WorkerState, with_client}
+use Rattle.cb_worker.specs.Committing.{AreLocked, FinishesOrAgain, HandsCommitIn, IsCommitting, RefusesFrame, SaysCommit}
 
 -- the client once its transaction has finished
 abbrev finished : (keep : Bool) → Client → Client
@@ -87,3 +92,17 @@ as_it_was old new _ r = r.1
 pub refusal_leaves : (old new : ClientState) (f : ClientFault) → RefusesFrame old f new → new ≡ old
 refusal_leaves old new f (inl r) = as_it_was old new f r
 refusal_leaves old new f (inr r) = r.2
+
+-- the commit is handed in, once the client has said it
+pub hands_commit_in : (old mid : WorkerState) (before after : StationState) (frame : Frame) (reads : List Bool) (r : Result ℕ OfficeFault) (hand : HandState)
+    → FinishesOrAgain old.client frame mid.client → SaysCommit mid.client frame → AreLocked mid.client reads → mid ≡ with_client old mid.client → Committed before frame reads mid.hand r after hand
+    → HandsCommitIn old before r (record mid { hand = hand }) after
+hands_commit_in old mid before after frame reads r hand finishes says locked rest committed = record {
+  frame = frame;
+  reads = reads;
+  finishes = finishes;
+  says = says;
+  locked = locked;
+  committed = subst (λ (h : HandState). Committed before frame reads h r after hand) (ap (λ (w : WorkerState). w.hand) rest) committed;
+  rest = ap (λ (w : WorkerState). record w { hand = hand }) rest;
+}

@@ -1,6 +1,6 @@
 //! Turns: what is kept is handed in or taken, and more is collected.
-ghost use Rattle.std.specs.Prelude.{◌≡◌, ◌≢◌, [], Err, None, Some, IfSome, IsSome};
-ghost use Rattle.cb_worker.specs.Turns.{Collects, TakesCollected, Turns, TurnsBy};
+ghost use Rattle.std.specs.Prelude.{◌≡◌, ◌≢◌, ◌<◌, [], length, None, IfSome, IsSome, OnOk};
+ghost use Rattle.cb_worker.specs.Turns.{Collects, TakesCollected, Turns};
 
 use crate::worker::Worker;
 use crate::worker_fault::WorkerFault;
@@ -36,7 +36,9 @@ impl<Q: Chooser> Worker<Q> {
         station: &mut Station,
     ) -> Result<bool, WorkerFault>
         requires { self.old.said ≢ [] }
-        ensures { Turns self.old station.old result self.new station.new }
+        ensures turns { Turns self.old station.old result self.new station.new }
+        ensures client { self.new.client ≡ self.old.client }
+        ensures fewer { OnOk result (length self.new.said < length self.old.said) }
     {
         let Some(frame) = self.said.as_slice().last() else {
             unreachable!()
