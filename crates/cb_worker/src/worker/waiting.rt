@@ -90,10 +90,10 @@ impl<Q: Chooser> Worker<Q> {
         if !self.fetch_copy(rt, alloc, office, page)? {
             return Ok(Fetched::Aborted);
         }
-        match self.client.peek(page) {
-            Some(bytes) => Ok(Fetched::Bytes(bytes)),
-            None => unreachable!(),
-        }
+        let Some(bytes) = self.client.peek(page) else {
+            unreachable!()
+        };
+        Ok(Fetched::Bytes(bytes))
     }
 
     /// Reads a page; `false` where the transaction was aborted.
