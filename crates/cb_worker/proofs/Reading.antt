@@ -1,16 +1,15 @@
 -- What a worker's read of a page rests on.
-use Rattle.std.proofs.Common.{◌≡◌, ◌==◌, ◌&&◌, ℕ, Bor, Bool, true, false, List, [], Option, Some, None, Result, Ok, Err, refl, sym, ◌∙◌, ap, arith, rules}
+use Rattle.std.proofs.Common.{◌≡◌, ◌&&◌, ℕ, Bor, Bool, true, false, List, [], Option, Some, None, Result, Ok, Err, refl, sym, ◌∙◌, ap, arith}
 use Rattle.std.specs.Option.{is_some, option_copied}
 use Rattle.std.specs.Result.{is_ok}
 use Rattle.std.proofs.lemmas.Bool.Decides.{nat_tests}
 use Rattle.cb_client.specs.ByTable.{Calls, IsRefused, as_before, limits_at, messages_from}
-use Rattle.cb_client.specs.CallAnswers.{Answers, AnswersRead, after_read, held_copy, page_read}
+use Rattle.cb_client.specs.CallAnswers.{Answers, AnswersRead, after_read, page_read}
 use Rattle.cb_client.specs.declared.answers.ReadAnswer.{ReadAnswer}
 use Rattle.cb_client.specs.declared.answers.ReadAnswer.TheVariants as read
 use Rattle.cb_client.specs.declared.client_fault.ClientFault.{ClientFault}
 use Rattle.cb_client_engine.specs.ClientState.{ClientState, client_of}
 use Rattle.cb_copies.specs.CopiesState.{content_at}
-use Rattle.cb_hands.specs.Hands.{held_at}
 use Rattle.cb_hands.specs.declared.grant.Held.{Held}
 use Rattle.cb_protocol.proofs.Cases.{call_accepted, call_refused, fault_of_peek}
 use Rattle.cb_protocol.specs.Answers as table

@@ -1,7 +1,7 @@
 -- How a transaction's commit is said, and said again.
-use Rattle.std.proofs.Common.{◌≡◌, ◌⊎◌, inl, inr, ◌++◌, ℕ, zero, suc, Bool, true, false, List, [], ◌∷◌, Option, Some, None, Result, Ok, Err, IfErr, IfOk, refl, sym, ◌∙◌, ap, subst, option_to_list}
+use Rattle.std.proofs.Common.{◌≡◌, inl, inr, ℕ, zero, suc, Bool, List, [], ◌∷◌, Option, Some, None, Result, Ok, Err, IfErr, IfOk, refl, sym, ◌∙◌, ap, subst, option_to_list}
 use Rattle.std.specs.Option.{option_map}
-use Rattle.cb_client.specs.ByTable.{Calls, LacksMemory, Refuses, RefusesOrLacks, as_before, limits_at, messages_from}
+use Rattle.cb_client.specs.ByTable.{RefusesOrLacks, limits_at, messages_from}
 use Rattle.cb_client.specs.CallAnswers.{Finishes}
 use Rattle.cb_client.specs.declared.client_fault.ClientFault.{ClientFault}
 use Rattle.cb_client.specs.declared.client_fault.ClientFault.TheVariants as fault
@@ -13,9 +13,9 @@ use Rattle.cb_protocol.proofs.Cases.{call_accepted, call_refused}
 use Rattle.cb_protocol.specs.Answers as table
 use Rattle.cb_protocol.specs.Basics.{Bytes, Limits}
 use Rattle.cb_protocol.specs.Cache.{Finish, cache_after}
-use Rattle.cb_protocol.specs.Client.{ChangeCache, Client, bodies_said, client_after}
-use Rattle.cb_protocol.specs.ClientCalls.{CallFinish, Reply, call_fault, client_call, commit_again, say_commit, written_page, written_pages}
-use Rattle.cb_protocol.specs.Messages.{Body, Commit, Message, PageWrite}
+use Rattle.cb_protocol.specs.Client.{Client, bodies_said, client_after}
+use Rattle.cb_protocol.specs.ClientCalls.{CallFinish, Reply, call_fault, commit_again, say_commit, written_page, written_pages}
+use Rattle.cb_protocol.specs.Messages.{Body, Commit, PageWrite}
 use Rattle.cb_protocol.specs.Serial.{Operation}
 use Rattle.cb_hands.specs.Hands.{HandState}
 use Rattle.cb_office.specs.Stations.{StationState}

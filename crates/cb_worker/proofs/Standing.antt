@@ -6,7 +6,7 @@ use Rattle.cb_client_engine.specs.declared.standing.ClientStatus as says
 use Rattle.cb_client_engine.specs.declared.standing.ClientStatus.TheVariants as statuses
 use Rattle.cb_client_engine.specs.declared.standing.Stage.TheVariants as stages
 use Rattle.cb_protocol.specs.Cache.{Committing, Idle, Open, TransactionState, is_committing, is_open}
-use Rattle.cb_protocol.specs.Client.{Ask, ClientStatus, LastOutcome, StatusCommitting, StatusIdle, StatusNotWelcome, StatusOpen, StatusWaiting, client_status, is_asking, welcomed_status}
+use Rattle.cb_protocol.specs.Client.{Ask, LastOutcome, StatusCommitting, StatusIdle, StatusNotWelcome, StatusOpen, StatusWaiting, client_status, is_asking, welcomed_status}
 use Rattle.cb_protocol.specs.Serial.{Operation}
 use Rattle.cb_worker.specs.Committing.{IsCommitting}
 use Rattle.cb_worker.specs.Waiting.{Finishes, HasNoneOpen, ending_of}

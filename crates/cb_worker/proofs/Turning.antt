@@ -1,12 +1,12 @@
 -- What a turn leaves.
-use Rattle.std.proofs.Common.{◌≡◌, ◌≢◌, ◌<◌, ℕ, Bool, true, false, List, [], ◌∷◌, Option, Some, None, Result, Ok, Err, refl, sym, ◌∙◌, ap, subst, length, arith}
+use Rattle.std.proofs.Common.{◌≡◌, Bool, false, List, [], ◌∷◌, Option, Some, None, Result, Ok, Err, refl, sym, ◌∙◌, ap, subst}
 use Rattle.std.specs.Prelude.{⊤}
 use Rattle.cb_frame_types.specs.declared.frame.Frame.{Frame}
 use Rattle.cb_hands.specs.Hands.{HandState}
 use Rattle.cb_office.specs.Stations.{StationState}
 use Rattle.cb_office.specs.declared.office_fault.OfficeFault.{OfficeFault}
 use Rattle.cb_worker.specs.Calls.{Collected}
-use Rattle.cb_worker.specs.Turns.{AfterCollecting, Collects, HandsIn, TakesCollected, Turns, TurnsBy, turned_by, without_first}
+use Rattle.cb_worker.specs.Turns.{AfterCollecting, Collects, HandsIn, TakesCollected, Turns, TurnsBy, turned_by}
 use Rattle.cb_worker.specs.Waiting.{IsServed}
 use Rattle.cb_worker.specs.Workers.{WorkerState}
 use Rattle.cb_worker.specs.declared.worker_fault.WorkerFault.{WorkerFault}

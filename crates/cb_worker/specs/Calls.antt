@@ -1,6 +1,6 @@
 -- What the station does for a worker, as its own calls say.
 use Rattle.std.specs.Prelude.{◌≡◌, ◌↔◌, ◌⊎◌, ◌++◌, ◌∷◌, ◌+◌, ◌≤◌, ℕ, Bool, true, false, List, [], ⊤}
-use Rattle.std.specs.Prelude.{Option, Result, Ok, Err, IfErr, IfOk, OnErr, OnOk, slice_get}
+use Rattle.std.specs.Prelude.{Option, Result, Err, IfErr, IfOk, OnErr, OnOk, slice_get}
 use Rattle.cb_dispatch.specs.Dispatching.{Everybody, Posts, without_oldest}
 use Rattle.cb_frame_types.specs.declared.frame.Frame.{Frame}
 use Rattle.cb_hands.specs.Hands.{HandState}

@@ -1,5 +1,5 @@
 -- What a worker is once the loan of a page's bytes is over.
-use Rattle.std.specs.Prelude.{◌≡◌, ⊤}
+use Rattle.std.specs.Prelude.{⊤}
 use Rattle.std.specs.Borrow.{MutBor, Fml, RattleType, follows_so}
 use mathlib.Core.Option.{none}
 use Rattle.cb_twoq.specs.declared.chooser.Chooser as chooser

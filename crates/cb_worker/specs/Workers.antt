@@ -11,7 +11,7 @@ use Rattle.cb_hands.specs.Hands.{HandState, held_at}
 use Rattle.cb_hands.specs.declared.grant.Held.{Held}
 use Rattle.cb_protocol.specs.Answers.{AnsweredBytes}
 use Rattle.cb_protocol.specs.Basics.{Bytes, is_none}
-use Rattle.cb_protocol.specs.Client.{Client, LastOutcome}
+use Rattle.cb_protocol.specs.Client.{LastOutcome}
 use Rattle.cb_protocol.specs.ClientCalls.{CallRead, call_fault}
 use Rattle.cb_protocol.specs.Serial.{Operation}
 

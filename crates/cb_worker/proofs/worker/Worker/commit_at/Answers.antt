@@ -1,4 +1,4 @@
-use Rattle.std.proofs.Common.{◌≡◌, ℕ, Ok, Err, Result, subst}
+use Rattle.std.proofs.Common.{ℕ, Ok, Err, Result, subst}
 use Rattle.cb_office.specs.declared.office_fault.OfficeFault.{OfficeFault}
 use Rattle.cb_worker.proofs.Saying.{hands_commit_in}
 use Rattle.cb_worker.specs.Calls.{Committed}

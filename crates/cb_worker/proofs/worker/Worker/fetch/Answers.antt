@@ -1,4 +1,4 @@
-use Rattle.std.proofs.Common.{◌≡◌, true, Some, None, sym, ◌∙◌, ap, refl, rules}
+use Rattle.std.proofs.Common.{◌≡◌, true, sym, ◌∙◌, ap, refl, rules}
 use Rattle.std.specs.Option.{option_copied}
 use Rattle.cb_copies.specs.CopiesState.{content_at}
 use Rattle.cb_worker.proofs.Reading.{fetches, not_bare, peeked}

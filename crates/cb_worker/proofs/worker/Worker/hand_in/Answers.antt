@@ -1,4 +1,4 @@
-use Rattle.std.proofs.Common.{◌≡◌, ◌∷◌, ◌-◌, ◌∙◌, Some, None, Ok, Err, Result, true, ap, length, reverse, refl, rules, slice_get, subst, take}
+use Rattle.std.proofs.Common.{◌≡◌, ◌∷◌, ◌-◌, Some, Ok, Err, Result, true, length, reverse, refl, rules, slice_get, subst, take}
 use Rattle.std.specs.Prelude.{⊤}
 use Rattle.cb_office.specs.declared.office_fault.OfficeFault.{OfficeFault}
 use Rattle.cb_worker.proofs.Kept.{oldest_first}

@@ -2,7 +2,7 @@ use Rattle.std.proofs.Common.{◌≡◌, true, sym, ◌∙◌, ap, refl}
 use Rattle.std.specs.Option.{option_copied}
 use Rattle.cb_copies.specs.CopiesState.{content_at}
 use Rattle.cb_worker.proofs.Reading.{hits, peeked, same_bytes}
-use Rattle.cb_worker.specs.Workers.{WorkerState, after_hit, may_hit}
+use Rattle.cb_worker.specs.Workers.{WorkerState, may_hit}
 use Rattle.cb_worker.proofs.worker.Worker.hit.Goals as goal
 
 pub returns-then-touch : goal.returns-then-touch

@@ -1,4 +1,4 @@
-use Rattle.std.proofs.Common.{◌≡◌, true, false, sym, ◌∙◌, ap}
+use Rattle.std.proofs.Common.{◌≡◌, true, false, sym, ◌∙◌}
 use Rattle.std.specs.Option.{is_some}
 use Rattle.cb_client.specs.CallAnswers.{AnswersRead, after_read}
 use Rattle.cb_copies.specs.CopiesState.{content_at}
