@@ -1,8 +1,8 @@
 -- What each call of an application answers, by the protocol's table.
-use Rattle.std.specs.Prelude.{if◌then◌else◌, ◌≡◌, ℕ, List, [], ◌∷◌, Some, Result, Ok, Err, ⊤}
+use Rattle.std.specs.Prelude.{if◌then◌else◌, ◌≡◌, ℕ, List, [], ◌∷◌, Option, Some, None, Result, Ok, Err, ⊤}
 use Rattle.std.specs.Prelude.{true, slice_set, unwrap_or}
 use Rattle.std.specs.Option.{is_some}
-use Rattle.cb_copies.specs.CopiesState.{content_at}
+use Rattle.cb_copies.specs.CopiesState.{content_at, copy_at}
 use Rattle.cb_frame_types.specs.Grammar.{Fits}
 use Rattle.cb_frame_types.specs.declared.frame.Body.TheVariants.{Short}
 use Rattle.cb_frame_types.specs.declared.frame.Frame.{Frame}
@@ -58,6 +58,16 @@ sees page bytes operations = Saw page bytes ∷ operations
 -- the bytes of the page's copy; none where they are not in the pool
 abbrev pub bytes_at : ClientState → (page : ℕ) → Bytes
 bytes_at client page = unwrap_or (content_at client.copies page) []
+
+-- a grant with its version
+abbrev pub copy_by : Option ℕ → (version : ℕ) → Option (ℕ × ℕ)
+copy_by None version = None
+copy_by (Some grant) version = Some (grant, version)
+
+-- the grant of the page's copy and its version, if it is held
+abbrev pub held_copy : ClientState → (page : ℕ) → Option (ℕ × ℕ)
+held_copy client page =
+    copy_by (copy_at client.copies page).held (copy_at client.copies page).version
 
 -- a transaction begins, with the number answered
 abbrev pub Begins : (old : ClientState) → Result ℕ ClientFault → (new : ClientState) → Type 0

@@ -5,6 +5,7 @@ ghost use Rattle.cb_page.specs.Flags.{has};
 ghost use Rattle.cb_protocol.specs.Cache.{is_open};
 ghost use Rattle.cb_protocol.specs.Client.{client_status, new_client};
 ghost use Rattle.cb_copies.specs.CopiesState.{content_at, copy_at};
+ghost use Rattle.cb_client.specs.CallAnswers.{held_copy};
 ghost use Rattle.cb_twoq.specs.Pages.{has as on};
 ghost use Rattle.cb_protocol.specs.Serial.{Operation};
 ghost use Rattle.cb_client_engine.specs.ClientState.{client_of, new_state, outcome_of, status_of};
@@ -18,7 +19,7 @@ mod taking;
 use cb_client_engine::{Ask, ClientStatus, Engine, Outcome, Stage};
 use cb_copies::Copies;
 use cb_locks::ReadLocks;
-use cb_page::{ClientNo, Incarnation, Limits, PageNo, PageSet};
+use cb_page::{ClientNo, GrantNo, Incarnation, Limits, PageNo, PageSet, Version};
 use cb_twoq::Chooser;
 use std::alloc::{AllocError, Global};
 use std::marker::Model;
@@ -110,6 +111,22 @@ impl<Q: Chooser> Client<Q> {
         // What holds of all copies, `limits` says: a permission is of a copy that is held.
         let _limits = self.engine.copies.limits();
         self.engine.stage.is_open() && self.engine.copies.may_write(page)
+    }
+
+    /// The grant of the client's copy of a page and the copy's version. `None` where it holds none, or
+    /// there is no such page.
+    pub fn held(&self, page: PageNo) -> Option<(GrantNo, Version)>
+        ensures { result ≡ held_copy self.now page }
+    {
+        // What is kept of each page, `limits` says.
+        if !self.engine.copies.limits().has_page(page.get()) {
+            return None;
+        }
+        let copy = self.engine.copies.at(page);
+        match copy.held {
+            Some(grant) => Some((grant, copy.version)),
+            None => None,
+        }
     }
 
     /// What the client says of itself.

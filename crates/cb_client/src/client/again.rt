@@ -79,8 +79,10 @@ impl<Q: Chooser> Client<Q> {
         self.engine.say(ShortBody::Drop { txn })
     }
 
-    /// The Commit of the transaction that is committing, if one is.
-    fn commit_again(&self, alloc: Global) -> Result<Option<Frame>, AllocError>
+    /// The Commit of the transaction that is committing, if one is: the one that `finish` answered.
+    ///
+    /// `AllocError` only where memory for its pages was refused.
+    pub fn commit_again(&self, alloc: Global) -> Result<Option<Frame>, AllocError>
         ensures { IfOk result (λ commit. (operations : List Operation)
             → messages_from self.now
             (bodies_said (commit_again (limits_at self.now) (client_of self.now operations)))

@@ -1,9 +1,9 @@
 //! How a transaction ends.
-ghost use Rattle.std.specs.Prelude.{◌≡◌, IfErr, IfOk, IsOk};
+ghost use Rattle.std.specs.Prelude.{◌≡◌, IfErr, IfOk, IsOk, OnOk};
 ghost use Rattle.std.specs.List.{AllByRecursion};
 ghost use Rattle.cb_frame_types.specs.Grammar.{Fits};
 ghost use Rattle.cb_client.specs.ByTable.{Calls, IsDecided, RefusesOrLacks, over};
-ghost use Rattle.cb_client_engine.specs.declared.standing.Stage.TheVariants.{Open};
+ghost use Rattle.cb_client_engine.specs.declared.standing.Stage.TheVariants.{Idle, Open};
 ghost use Rattle.cb_protocol.specs.Answers.{AnsweredOk};
 ghost use Rattle.cb_protocol.specs.ClientCalls.{CallDrop};
 ghost use Rattle.cb_outbox.specs.Messages.{messages_of};
@@ -32,6 +32,7 @@ impl<Q: Chooser> Client<Q> {
     pub fn drop_txn(&mut self, alloc: Global) -> Result<Vec<Frame>, ClientFault>
         ensures ok { IfOk result (λ frames. Calls self.old CallDrop AnsweredOk
             (messages_of frames.items) over self.new) }
+        ensures over { OnOk result (self.new.stage ≡ Idle) }
         ensures err { IfErr result (λ refused. RefusesOrLacks self.old CallDrop refused self.new) }
         ensures fits { IfOk result (λ frames.
             AllByRecursion (Fits self.old.copies.limits) frames.items) }

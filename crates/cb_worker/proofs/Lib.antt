@@ -1,0 +1,5 @@
+pub mod Reading
+pub mod Kept
+pub mod Saying
+pub mod Turning
+pub mod Standing

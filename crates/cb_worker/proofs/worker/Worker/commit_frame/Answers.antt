@@ -1,0 +1,12 @@
+use Rattle.std.proofs.Common.{rules}
+use Rattle.cb_worker.proofs.Saying.{again_none, finish_says}
+use Rattle.cb_worker.specs.Committing.{IsCommitting}
+use Rattle.cb_worker.proofs.worker.Worker.commit_frame.Goals as goal
+
+pub returns-then-not-is_committing-clause-says : goal.returns-then-not-is_committing-clause-says
+returns-then-not-is_committing-clause-says g c = finish_says _ _ _ c.finish.ensures.by_table
+
+pub unreachable-requires : goal.unreachable-requires
+unreachable-requires g c =
+    let is : IsCommitting c.args.self.now.client = search rules in
+    again_none c.self.inside.client (rw (← c.self.view_is) at is) (λ ops. rw c.in_default.is at (c.in_ok-frame.ensures ops))

@@ -1,0 +1,7 @@
+use Rattle.std.proofs.Common.{IsTrue, rules}
+use Rattle.cb_worker.proofs.worker.Worker.drop_txn.Goals as goal
+
+pub returns-then-branch : goal.returns-then-branch
+returns-then-branch g c =
+    let aborted : IsTrue c.in_ok-serve_first.field-0 = search rules in
+    c.in_ok-serve_first.ensures.none_open aborted

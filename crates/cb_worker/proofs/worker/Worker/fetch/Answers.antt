@@ -1,0 +1,24 @@
+use Rattle.std.proofs.Common.{◌≡◌, true, sym, ◌∙◌, ap, refl, rules}
+use Rattle.std.specs.Option.{option_copied}
+use Rattle.cb_copies.specs.CopiesState.{content_at}
+use Rattle.cb_worker.proofs.Reading.{fetches, not_bare, peeked}
+use Rattle.cb_worker.specs.Waiting.{HasRead}
+use Rattle.cb_worker.specs.Workers.{WorkerState}
+use Rattle.cb_worker.proofs.worker.Worker.fetch.Goals as goal
+
+pub returns : goal.returns
+returns g c =
+    let yes : c.in_ok-fetch_copy.field-0 ≡ true = search rules in
+    let has : HasRead c.fetch_copy.new.self c.args.page = rw yes at c.in_ok-fetch_copy.ensures in
+    let there : option_copied c.peek.result ≡ content_at c.fetch_copy.new.self.client.copies c.args.page =
+    peeked c.self.inside.client c.args.page (option_copied c.peek.result) c.peek.ensures ∙ ap (λ (w : WorkerState). content_at w.client.copies c.args.page) c.self.view_is in
+    let all = fetches c.fetch_copy.new.self c.args.page c.in-Some.bytes.now has (ap option_copied (sym c.in-Some.is) ∙ there) in
+    ((refl, λ x. tt, (all.0, all.1, c.self.view_is ∙ all.2)), record { ends = tt })
+
+pub unreachable-requires : goal.unreachable-requires
+unreachable-requires g c =
+    let yes : c.in_ok-fetch_copy.field-0 ≡ true = search rules in
+    let has : HasRead c.fetch_copy.new.self c.args.page = rw yes at c.in_ok-fetch_copy.ensures in
+    let there : option_copied c.peek.result ≡ content_at c.fetch_copy.new.self.client.copies c.args.page =
+    peeked c.self.inside.client c.args.page (option_copied c.peek.result) c.peek.ensures ∙ ap (λ (w : WorkerState). content_at w.client.copies c.args.page) c.self.view_is in
+    not_bare c.fetch_copy.new.self c.args.page has (ap option_copied (sym c.in_default.is) ∙ there)

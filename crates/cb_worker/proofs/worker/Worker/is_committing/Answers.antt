@@ -1,0 +1,8 @@
+use Rattle.cb_worker.proofs.Standing.{committing_so}
+use Rattle.cb_worker.specs.Committing.{IsCommitting}
+use Rattle.cb_worker.proofs.worker.Worker.is_committing.Goals as goal
+
+pub returns-in-Committing : goal.returns-in-Committing
+returns-in-Committing g c =
+    let is : IsCommitting c.args.self.now.client = rw (← c.self.view_is) (committing_so c.self.inside.client c.status.result c.status.ensures c.in-Committing.is) in
+    λ _. is

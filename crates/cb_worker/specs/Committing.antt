@@ -1,0 +1,69 @@
+-- How a worker's transaction commits.
+use Rattle.std.specs.Prelude.{◌≡◌, ◌⊎◌, ℕ, Bool, true, List, [], ◌∷◌, Result, Ok, Err}
+use Rattle.cb_client.specs.ByTable.{RefusesOrLacks, limits_at, messages_from}
+use Rattle.cb_client.specs.CallAnswers.{Finishes}
+use Rattle.cb_client.specs.declared.client_fault.ClientFault.{ClientFault}
+use Rattle.cb_client.specs.declared.client_fault.ClientFault.TheVariants as client
+use Rattle.cb_client_engine.specs.ClientState.{ClientState, client_of}
+use Rattle.cb_frame_types.specs.declared.frame.Frame.{Frame}
+use Rattle.cb_office.specs.Stations.{StationState}
+use Rattle.cb_office.specs.declared.office_fault.OfficeFault.{OfficeFault}
+use Rattle.cb_outbox.specs.Messages.{message_of}
+use Rattle.cb_page.specs.Flags.{has}
+use Rattle.cb_protocol.specs.Cache.{is_committing}
+use Rattle.cb_protocol.specs.Client.{bodies_said}
+use Rattle.cb_protocol.specs.ClientCalls.{CallFinish, say_commit}
+use Rattle.cb_protocol.specs.Serial.{Operation}
+use Rattle.cb_worker.specs.Calls.{Committed}
+use Rattle.cb_worker.specs.Workers.{WorkerState}
+use Rattle.cb_worker.specs.declared.worker_fault.WorkerFault.{WorkerFault}
+use Rattle.cb_worker.specs.declared.worker_fault.WorkerFault.TheVariants as worker
+
+-- it says the commit of the client's transaction: the pages that it wrote, with their bytes
+abbrev pub SaysCommit : ClientState → Frame → Type 0
+SaysCommit client frame = (operations : List Operation)
+    → messages_from client
+    (bodies_said (say_commit (limits_at client) (client_of client operations)))
+    ≡ message_of frame ∷ []
+
+-- the client is committing
+abbrev pub IsCommitting : ClientState → Type 0
+IsCommitting client = is_committing (client_of client []).cache.status ≡ true
+
+-- the client finishes, by that frame; or it has finished before, and says it again
+abbrev pub FinishesOrAgain : (old : ClientState) → Frame → (new : ClientState) → Type 0
+FinishesOrAgain old frame new = Finishes old (Ok frame) new
+    ⊎ (IsCommitting old × SaysCommit old frame × (new ≡ old))
+
+-- these are the pages that the client's transaction has locked
+abbrev pub AreLocked : ClientState → List Bool → Type 0
+AreLocked client reads = (operations : List Operation) (page : ℕ)
+    → has reads page ≡ (client_of client operations).cache.locked page
+
+-- the client has no such commit: it refuses to finish, or lacks memory; nothing changes
+abbrev pub RefusesFrame : (old : ClientState) → ClientFault → (new : ClientState) → Type 0
+RefusesFrame old fault new = RefusesOrLacks old CallFinish fault new
+    ⊎ (IsCommitting old × (fault ≡ client.Memory) × (new ≡ old))
+
+-- The commit of the worker's transaction is handed in, with exactly its locked pages as reads and
+-- the pages that it wrote, with the client's bytes.
+pub record HandsCommitIn (old : WorkerState) (before : StationState) (result : Result ℕ OfficeFault)
+    (new : WorkerState) (after : StationState) : Type 0 where
+  pub frame : Frame
+  pub reads : List Bool
+  pub finishes : FinishesOrAgain old.client frame new.client
+  pub says : SaysCommit new.client frame
+  pub locked : AreLocked new.client reads
+  pub committed : Committed before frame reads old.hand result after new.hand
+  pub rest : new ≡ record old { client = new.client; hand = new.hand }
+
+-- the commit's number; or the client refuses, and nothing changes; or the station does, and the
+-- client is committing
+abbrev pub CommitsAt : (old : WorkerState) → (before : StationState) → Result ℕ WorkerFault
+    → (new : WorkerState) → (after : StationState) → Type 0
+CommitsAt old before (Ok number) new after = HandsCommitIn old before (Ok number) new after
+CommitsAt old before (Err (worker.Office fault)) new after =
+    HandsCommitIn old before (Err fault) new after
+CommitsAt old before (Err (worker.Client fault)) new after =
+    RefusesFrame old.client fault new.client × (new ≡ old) × (after ≡ before)
+CommitsAt old before (Err worker.Halted) new after = ⊥

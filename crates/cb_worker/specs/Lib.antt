@@ -1,0 +1,6 @@
+pub mod Workers
+pub mod Calls
+pub mod Turns
+pub mod Committing
+pub mod Waiting
+pub mod Lending

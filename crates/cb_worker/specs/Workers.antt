@@ -1,0 +1,71 @@
+-- A worker as its owner sees it, and what it reads without the office.
+use Rattle.std.specs.Prelude.{◌≡◌, ◌==◌, ◌&&◌, if◌then◌else◌, ℕ, Bool, true, false, List, []}
+use Rattle.std.specs.Prelude.{Option, Some, None}
+use Rattle.std.specs.Option.{is_some}
+use Rattle.cb_client.specs.ByTable.{limits_at}
+use Rattle.cb_client.specs.CallAnswers.{Answers, held_copy, page_read}
+use Rattle.cb_client_engine.specs.ClientState.{ClientState, client_of}
+use Rattle.cb_copies.specs.CopiesState.{content_at}
+use Rattle.cb_frame_types.specs.declared.frame.Frame.{Frame}
+use Rattle.cb_hands.specs.Hands.{HandState, held_at}
+use Rattle.cb_hands.specs.declared.grant.Held.{Held}
+use Rattle.cb_protocol.specs.Answers.{AnsweredBytes}
+use Rattle.cb_protocol.specs.Basics.{Bytes, is_none}
+use Rattle.cb_protocol.specs.Client.{LastOutcome}
+use Rattle.cb_protocol.specs.ClientCalls.{CallRead, call_fault}
+use Rattle.cb_protocol.specs.Serial.{Operation}
+
+-- a client with its hand; the frame that was collected and not yet taken, and what the client said
+-- and nobody handed in yet, the oldest frame first
+pub record WorkerState : Type 0 where
+  pub client : ClientState
+  pub hand : HandState
+  pub collected : Option Frame
+  pub said : List Frame
+
+-- only the client changes
+abbrev pub with_client : WorkerState → ClientState → WorkerState
+with_client worker client = record worker { client = client }
+
+-- the hand's copy is the client's: by the same grant, of the same version
+abbrev pub is_same : Option (ℕ × ℕ) → Option Held → Bool
+is_same (Some copy) (Some held) = (held.grant == copy.0) && (held.version == copy.1)
+is_same _ _ = false
+
+-- the hand shows the client's copy of the page
+abbrev pub shows_copy : WorkerState → (page : ℕ) → Bool
+shows_copy worker page = is_same (held_copy worker.client page) (held_at worker.hand.held page)
+
+-- a read of the page is not refused
+abbrev pub may_read : ClientState → (page : ℕ) → Bool
+may_read client page = is_none (call_fault (limits_at client) (client_of client []) (CallRead page))
+
+-- the page can be read without the office: the hand shows the copy, its bytes are in the pool, and
+-- the read is not refused
+abbrev pub may_hit : WorkerState → (page : ℕ) → Bool
+may_hit worker page = shows_copy worker page
+    && (is_some (content_at worker.client.copies page) && may_read worker.client page)
+
+-- the worker once it was asked for the page: read where it may be, else as it was
+abbrev pub after_hit : WorkerState → (page : ℕ) → WorkerState
+after_hit worker page =
+    if may_hit worker page then with_client worker (page_read worker.client page) else worker
+
+-- The page is read as the protocol's table says, with these bytes. The hand holds a grant of it,
+-- which is the client's, at the client's version.
+pub record Hit (worker : WorkerState) (page : ℕ) (bytes : Bytes) : Type 0 where
+  pub may : may_hit worker page ≡ true
+  pub held : Held
+  pub in_hand : held_at worker.hand.held page ≡ Some held
+  pub same : held_copy worker.client page ≡ Some (held.grant, held.version)
+  pub answers : Answers worker.client (CallRead page) (AnsweredBytes bytes) []
+
+-- the bytes are lent, or it can't be read without the office
+abbrev pub Hits : WorkerState → (page : ℕ) → Option Bytes → Type 0
+Hits worker page None = may_hit worker page ≡ false
+Hits worker page (Some bytes) = Hit worker page bytes
+
+-- the worker's last transaction ended so, whatever operations it did
+abbrev pub Ended : WorkerState → LastOutcome → Type 0
+Ended worker outcome = (operations : List Operation)
+    → (client_of worker.client operations).last_outcome ≡ outcome

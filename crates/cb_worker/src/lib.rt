@@ -1,0 +1,13 @@
+//! A client of a running program: with its hand, over an office that it shares with others.
+//!
+//! A [`Worker`] reads pages that it holds without a lock, and takes the office for all else. While a
+//! call waits it takes what is sent to it, so that others get their pages back.
+#![tactic(auto)]
+
+mod answers;
+mod worker;
+mod worker_fault;
+
+pub use answers::{Fetched, Finished, Wanted};
+pub use worker::Worker;
+pub use worker_fault::WorkerFault;

@@ -1,0 +1,121 @@
+//! The type, and what it does without the office.
+ghost use Rattle.std.specs.Prelude.{◌≡◌, []};
+ghost use Rattle.std.specs.Borrow.{sem};
+ghost use Rattle.std.specs.Option.{option_copied};
+ghost use Rattle.cb_client.specs.ByTable.{Calls, as_before};
+ghost use Rattle.cb_client.specs.CallAnswers.{Begins, Writes};
+ghost use Rattle.cb_protocol.specs.ClientCalls.{CallPeek, peek_word};
+ghost use Rattle.cb_worker.specs.Lending.{worker_ends};
+ghost use Rattle.cb_worker.specs.Workers.{Hits, after_hit, may_hit, shows_copy, with_client};
+
+mod committing;
+mod entering;
+mod standing;
+mod turning;
+mod waiting;
+
+use cb_client::{Client, ClientFault};
+use cb_frame::Frame;
+use cb_hands::Hand;
+use cb_page::{ClientNo, PageNo, TxnNo};
+use cb_twoq::Chooser;
+use std::marker::Model;
+
+/// A client with its hand. It can't be copied or let go; `leave` and `abandon` end it.
+pub struct Worker<Q: Chooser> {
+    client: Client<Q>,
+    hand: Hand,
+    /// What was collected and not yet taken.
+    collected: Option<Frame>,
+    /// What the client said and nobody handed in yet, the newest first.
+    said: Vec<Frame>,
+}
+
+impl<Q: Chooser> Model for Worker<Q> {
+    ghost use Rattle.std.specs.Prelude.{reverse};
+    ghost use Rattle.cb_worker.specs.Workers.{WorkerState};
+
+    ghost Value = { WorkerState };
+
+    ghost view = { λ worker. record {
+      client = worker.client;
+      hand = worker.hand;
+      collected = worker.collected;
+      said = reverse worker.said.items;
+    } };
+}
+
+impl<Q: Chooser> Worker<Q> {
+    /// Which client it is.
+    pub fn client(&self) -> ClientNo
+        ensures { result ≡ self.now.hand.client }
+    {
+        self.hand.client()
+    }
+
+    /// Begins a transaction, and answers its number. It takes no lock.
+    pub fn begin(&mut self) -> Result<TxnNo, ClientFault>
+        ensures begins { Begins self.old.client result self.new.client }
+        ensures rest { self.new ≡ with_client self.old self.new.client }
+    {
+        self.client.begin()
+    }
+
+    /// Writes a page in the open transaction: its bytes in the pool become these. It takes no lock.
+    pub fn write(&mut self, page: PageNo, bytes: &[u8]) -> Result<(), ClientFault>
+        ensures writes { Writes self.old.client page bytes.now result self.new.client }
+        ensures rest { self.new ≡ with_client self.old self.new.client }
+    {
+        self.client.write(page, bytes)
+    }
+
+    /// The bytes of the client's copy of a page, with no reference to it. It takes no lock.
+    pub fn peek(&self, page: PageNo) -> Option<&[u8]>
+        ensures { Calls self.now.client (CallPeek page) (peek_word (option_copied result)) []
+            as_before self.now.client }
+    {
+        self.client.peek(page)
+    }
+
+    /// Whether the hand shows the client's copy of the page: the same grant, of the same version.
+    fn shows_copy(&self, page: PageNo) -> bool
+        ensures { result ≡ shows_copy self.now page }
+    {
+        match self.client.held(page) {
+            None => false,
+            Some((grant, version)) => match self.hand.held(page) {
+                None => false,
+                Some(held) => held.grant == grant && held.version == version,
+            },
+        }
+    }
+
+    /// Reads the page in the open transaction, where it may without the office; whether it did.
+    fn touch(&mut self, page: PageNo) -> bool
+        ensures touched { result ≡ may_hit self.old page }
+        ensures after { self.new ≡ after_hit self.old page }
+    {
+        if !self.shows_copy(page) {
+            return false;
+        }
+        if self.client.peek(page).is_none() {
+            return false;
+        }
+        self.client.read(page).is_ok()
+    }
+
+    /// Reads the page in the open transaction, and lends its bytes: those of the copy whose grant is
+    /// in the worker's hand. `None` where the copy or its bytes aren't here, or the read is refused;
+    /// nothing changes then. It takes no lock.
+    pub fn hit(&mut self, page: PageNo) -> Option<&[u8]>
+        ensures* ends { sem 𝓛 (worker_ends Q.row Q.Chooser self.entry
+            (λ worker. worker ≡ after_hit self.old page)) }
+        ensures hits { Hits self.old page (option_copied result) }
+    {
+        if self.touch(page) {
+            self.client.peek(page)
+        } else {
+            None
+        }
+    }
+}

@@ -1,0 +1,210 @@
+//! Workers join, begin another incarnation, and end.
+ghost use Rattle.std.specs.Prelude.{◌≡◌, [], true, IfErr, IfOk, None, OnOk};
+
+use crate::worker::Worker;
+use crate::worker_fault::WorkerFault;
+use cb_client::{Client, ClientFault};
+use cb_hands::Hand;
+use cb_office::OfficeFault;
+use cb_page::{ClientNo, Incarnation, Limits};
+use cb_shared::Office;
+use cb_twoq::Chooser;
+use std::alloc::Global;
+use std::sync::Wait;
+
+impl<Q: Chooser> Worker<Q> {
+    /// The client joins the office, over an empty chooser, and is welcomed.
+    pub fn join<R: Wait>(
+        rt: &R,
+        alloc: Global,
+        office: &Office,
+        limits: &Limits,
+        client: ClientNo,
+        chooser: Q,
+    ) -> Result<Worker<Q>, WorkerFault>
+        requires members { Q.members chooser ≡ [] }
+        requires slots { Q.slots chooser ≡ limits.now.slots }
+        ensures { IfOk result (λ worker. worker.client.welcomed ≡ true) }
+    {
+        if !limits.has_client(client.get()) {
+            return Err(WorkerFault::Office(OfficeFault::Foreign));
+        }
+        let hand = office.lock(rt).station_mut().join(alloc, client)?;
+        office.tell();
+        let made = Client::new(alloc, client, hand.incarnation(), limits, chooser);
+        let Ok(client) = made else {
+            unjoin(rt, alloc, office, hand);
+            return Err(WorkerFault::Client(ClientFault::Memory));
+        };
+        match Worker::new(alloc, client, hand).welcomed(rt, alloc, office) {
+            Ok(worker) => Ok(worker),
+            Err((fault, worker)) => {
+                unjoin(rt, alloc, office, worker.into_hand());
+                Err(fault)
+            }
+        }
+    }
+
+    /// The client begins another incarnation, and is welcomed.
+    ///
+    /// The worker comes back with each fault.
+    pub fn restart<R: Wait>(
+        self,
+        rt: &R,
+        alloc: Global,
+        office: &Office,
+        incarnation: Incarnation,
+    ) -> Result<Worker<Q>, (WorkerFault, Worker<Q>)>
+        ensures { IfOk result (λ worker. worker.client.welcomed ≡ true) }
+    {
+        let renewed = match self.renewed(alloc, incarnation) {
+            Ok(renewed) => renewed,
+            Err(fault) => return Err((fault, self)),
+        };
+        let Worker {
+            client,
+            hand,
+            collected,
+            said,
+        } = self;
+        let restarted = office
+            .lock(rt)
+            .station_mut()
+            .restart(alloc, hand, incarnation);
+        office.tell();
+        match restarted {
+            Ok(hand) => Worker::new(alloc, renewed, hand).welcomed(rt, alloc, office),
+            Err((fault, hand)) => {
+                let worker = Worker {
+                    client,
+                    hand,
+                    collected,
+                    said,
+                };
+                Err((WorkerFault::Office(fault), worker))
+            }
+        }
+    }
+
+    /// The client leaves the office; its number may join again.
+    ///
+    /// The worker comes back with each fault, as it was.
+    pub fn leave<R: Wait>(
+        self,
+        rt: &R,
+        alloc: Global,
+        office: &Office,
+    ) -> Result<(), (WorkerFault, Worker<Q>)>
+        ensures refused { IfErr result (λ refused. refused.1 ≡ self) }
+    {
+        let Worker {
+            client,
+            hand,
+            collected,
+            said,
+        } = self;
+        let left = office.lock(rt).station_mut().leave(alloc, hand);
+        office.tell();
+        match left {
+            Ok(()) => Ok(()),
+            Err((fault, hand)) => {
+                let worker = Worker {
+                    client,
+                    hand,
+                    collected,
+                    said,
+                };
+                Err((WorkerFault::Office(fault), worker))
+            }
+        }
+    }
+
+    /// Ends the worker without the lock; its client stays joined.
+    pub fn abandon(self) {
+        self.into_hand().abandon();
+    }
+
+    /// A worker that has collected and said nothing.
+    fn new(alloc: Global, client: Client<Q>, hand: Hand) -> Worker<Q>
+        ensures { result ≡ record {
+          client = client;
+          hand = hand;
+          collected = None;
+          said = [];
+        } }
+    {
+        Worker {
+            client,
+            hand,
+            collected: None,
+            said: Vec::new(alloc),
+        }
+    }
+
+    /// A client like the worker's, at the start of an incarnation.
+    fn renewed(&self, alloc: Global, incarnation: Incarnation) -> Result<Client<Q>, WorkerFault> {
+        let limits = self.client.limits();
+        let client = self.hand.client();
+        if !limits.has_client(client.get()) {
+            return Err(WorkerFault::Office(OfficeFault::Foreign));
+        }
+        let chooser = Q::make(alloc, limits)?;
+        Ok(Client::new(alloc, client, incarnation, limits, chooser)?)
+    }
+
+    /// The worker, once its client is welcomed.
+    fn welcomed<R: Wait>(
+        mut self,
+        rt: &R,
+        alloc: Global,
+        office: &Office,
+    ) -> Result<Worker<Q>, (WorkerFault, Worker<Q>)>
+        ensures { IfOk result (λ worker. worker.client.welcomed ≡ true) }
+    {
+        match self.wait_for_welcome(rt, alloc, office) {
+            Ok(()) => Ok(self),
+            Err(fault) => Err((fault, self)),
+        }
+    }
+
+    /// Serves until the client is welcomed.
+    fn wait_for_welcome<R: Wait>(
+        &mut self,
+        rt: &R,
+        alloc: Global,
+        office: &Office,
+    ) -> Result<(), WorkerFault>
+        ensures { OnOk result (self.new.client.welcomed ≡ true) }
+    {
+        let mut shared = office.lock(rt);
+        for _ in rt.forever() {
+            self.serve_at(rt, alloc, office, &mut shared)?;
+            if self.is_welcomed() {
+                return Ok(());
+            }
+            shared = office.wait(rt, shared);
+        }
+        unreachable!()
+    }
+
+    /// Its hand; all else is let go.
+    fn into_hand(self) -> Hand
+        ensures { result ≡ self.hand }
+    {
+        let Worker {
+            client: _,
+            hand,
+            collected: _,
+            said: _,
+        } = self;
+        hand
+    }
+}
+
+/// Takes back that the client joined; its hand is spent.
+fn unjoin<R: Wait>(rt: &R, alloc: Global, office: &Office, hand: Hand) {
+    if let Err((_, hand)) = office.lock(rt).station_mut().leave(alloc, hand) {
+        hand.abandon();
+    }
+    office.tell();
+}

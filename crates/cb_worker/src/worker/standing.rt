@@ -1,0 +1,75 @@
+//! What the client says of its transaction.
+ghost use Rattle.std.specs.Prelude.{◌≡◌, true, IfSome, IsSome, IsTrue, Some};
+ghost use Rattle.cb_client_engine.specs.ClientState.{outcome_of};
+ghost use Rattle.cb_protocol.specs.Client as protocol;
+ghost use Rattle.cb_worker.specs.Committing.{IsCommitting};
+ghost use Rattle.cb_worker.specs.Waiting.{Finishes, HasNoneOpen, ending_of};
+ghost use Rattle.cb_worker.specs.Workers.{Ended};
+
+use crate::answers::Finished;
+use crate::worker::Worker;
+use cb_client::{ClientStatus, Outcome};
+use cb_twoq::Chooser;
+
+impl<Q: Chooser> Worker<Q> {
+    /// Whether the client is welcomed.
+    pub(super) fn is_welcomed(&self) -> bool
+        ensures { IsTrue result → self.now.client.welcomed ≡ true }
+    {
+        match self.client.status() {
+            ClientStatus::NotWelcome => false,
+            _ => true,
+        }
+    }
+
+    /// Whether a transaction isn't over yet: it is open, or its commit is out.
+    pub(super) fn has_transaction(&self) -> bool {
+        match self.client.status() {
+            ClientStatus::Open | ClientStatus::Waiting | ClientStatus::Committing => true,
+            ClientStatus::NotWelcome | ClientStatus::Idle => false,
+        }
+    }
+
+    /// Whether a commit is out.
+    pub(super) fn is_committing(&self) -> bool
+        ensures { IsTrue result → IsCommitting self.now.client }
+    {
+        match self.client.status() {
+            ClientStatus::Committing => true,
+            _ => false,
+        }
+    }
+
+    /// How the last transaction ended, where that one is over and was not dropped.
+    pub(super) fn ended(&self) -> Option<Finished>
+        ensures ended { IfSome result (Finishes self.now) }
+        ensures none_open { IsSome result → HasNoneOpen self.now }
+    {
+        let ClientStatus::Idle = self.client.status() else {
+            return None;
+        };
+        finished_by(self.client.last()?)
+    }
+
+    /// Whether the last transaction is over and was aborted.
+    pub(super) fn is_aborted(&self) -> bool
+        ensures aborted { IsTrue result → Ended self.now protocol.Aborted }
+        ensures none_open { IsTrue result → HasNoneOpen self.now }
+    {
+        let Some(Finished::Aborted) = self.ended() else {
+            return false;
+        };
+        true
+    }
+}
+
+/// How a transaction ended that was not dropped.
+fn finished_by(last: Outcome) -> Option<Finished>
+    ensures { IfSome result (λ finished. outcome_of (Some last) ≡ ending_of finished) }
+{
+    match last {
+        Outcome::Committed(number) => Some(Finished::Committed(number)),
+        Outcome::Aborted => Some(Finished::Aborted),
+        Outcome::Dropped => None,
+    }
+}

@@ -1,0 +1,94 @@
+//! Turns: what is kept is handed in or taken, and more is collected.
+ghost use Rattle.std.specs.Prelude.{◌≡◌, ◌≢◌, ◌<◌, [], length, None, IfSome, IsSome, OnOk};
+ghost use Rattle.cb_worker.specs.Turns.{Collects, TakesCollected, Turns};
+
+use crate::worker::Worker;
+use crate::worker_fault::WorkerFault;
+use cb_client::ClientFault;
+use cb_frame::Frame;
+use cb_dispatch::copy_of;
+use cb_office::{OfficeFault, Station};
+use cb_twoq::Chooser;
+use std::alloc::Global;
+
+impl<Q: Chooser> Worker<Q> {
+    /// Does the first that there is to do: hands the oldest kept frame in; lets the client take the
+    /// kept collected frame; collects one, and lets the client take it. `false` where there is
+    /// nothing to do.
+    ///
+    /// After a fault the frame that it was about stays kept. A collected frame that doesn't fit the
+    /// worker's own limits is `Foreign`.
+    pub fn turn_at(&mut self, alloc: Global, station: &mut Station) -> Result<bool, WorkerFault>
+        ensures { Turns self.old station.old result self.new station.new }
+    {
+        if !self.said.is_empty() {
+            return self.hand_in(alloc, station);
+        }
+        if self.collected.is_some() {
+            return self.take_collected(alloc);
+        }
+        self.collect(alloc, station)
+    }
+
+    /// Hands the oldest kept frame in.
+    pub(super) fn hand_in(
+        &mut self,
+        alloc: Global,
+        station: &mut Station,
+    ) -> Result<bool, WorkerFault>
+        requires { self.old.said ≢ [] }
+        ensures turns { Turns self.old station.old result self.new station.new }
+        ensures client { self.new.client ≡ self.old.client }
+        ensures fewer { OnOk result (length self.new.said < length self.old.said) }
+    {
+        let Some(frame) = self.said.as_slice().last() else {
+            unreachable!()
+        };
+        match station.take(alloc, frame, &mut self.hand) {
+            Err(fault) => Err(WorkerFault::Office(fault)),
+            Ok(()) => {
+                self.said.truncate(self.said.len() - 1);
+                Ok(true)
+            }
+        }
+    }
+
+    /// The client takes the kept collected frame.
+    fn take_collected(&mut self, alloc: Global) -> Result<bool, WorkerFault>
+        requires said { self.old.said ≡ [] }
+        requires collected { IsSome self.old.collected }
+        ensures { IfSome self.old.collected (λ frame.
+            TakesCollected self.old frame result self.new) }
+    {
+        let Some(frame) = &self.collected else {
+            unreachable!()
+        };
+        if !frame.fits(self.client.limits()) {
+            return Err(WorkerFault::Office(OfficeFault::Foreign));
+        }
+        let Ok(copy) = copy_of(alloc, frame) else {
+            return Err(WorkerFault::Client(ClientFault::Memory));
+        };
+        let mut said = self.client.take(alloc, copy)?;
+        said.reverse();
+        self.said = said;
+        self.collected = None;
+        Ok(true)
+    }
+
+    /// Collects a frame, and lets the client take it.
+    fn collect(&mut self, alloc: Global, station: &mut Station) -> Result<bool, WorkerFault>
+        requires said { self.old.said ≡ [] }
+        requires collected { self.old.collected ≡ None }
+        ensures { Collects self.old station.old result self.new station.new }
+    {
+        match station.collect(&mut self.hand) {
+            Err(fault) => Err(WorkerFault::Office(fault)),
+            Ok(None) => Ok(false),
+            Ok(Some(frame)) => {
+                self.collected = Some(frame);
+                self.take_collected(alloc)
+            }
+        }
+    }
+}

@@ -1,0 +1,252 @@
+//! The calls that take the office, and may wait.
+ghost use Rattle.std.specs.Prelude.{◌≡◌, IfOk, IsTrue, MatchBool, OnOk};
+ghost use Rattle.std.specs.Borrow.{sem};
+ghost use Rattle.cb_protocol.specs.Client as protocol;
+ghost use Rattle.cb_worker.specs.Lending.{worker_ends};
+ghost use Rattle.cb_worker.specs.Waiting.{Fetches, Finishes, HasNoneOpen, HasRead, IsServed, Wants};
+ghost use Rattle.cb_worker.specs.Workers.{Ended};
+
+use crate::answers::{Fetched, Finished, Wanted};
+use crate::worker::Worker;
+use crate::worker_fault::WorkerFault;
+use cb_client::{ReadAnswer, WantAnswer};
+use cb_frame::Frame;
+use cb_office::OfficeFault;
+use cb_page::PageNo;
+use cb_shared::{Office, SharedStation};
+use cb_twoq::Chooser;
+use std::alloc::Global;
+use std::sync::Wait;
+
+impl<Q: Chooser> Worker<Q> {
+    /// Hands in and takes all that there is.
+    pub fn serve<R: Wait>(
+        &mut self,
+        rt: &R,
+        alloc: Global,
+        office: &Office,
+    ) -> Result<(), WorkerFault>
+        ensures { OnOk result (IsServed self.new) }
+    {
+        let mut shared = office.lock(rt);
+        self.serve_at(rt, alloc, office, &mut shared)
+    }
+
+    /// Makes turns until there is nothing to do, and tells the others where a frame was handed in.
+    pub(super) fn serve_at<R: Wait>(
+        &mut self,
+        rt: &R,
+        alloc: Global,
+        office: &Office,
+        shared: &mut SharedStation,
+    ) -> Result<(), WorkerFault>
+        ensures { OnOk result (IsServed self.new) }
+    {
+        for _ in rt.forever() {
+            if shared.is_halted() {
+                return Err(WorkerFault::Halted);
+            }
+            let hands_in = !self.said.is_empty();
+            let turned = self.turn_at(alloc, shared.station_mut());
+            if hands_in {
+                office.tell();
+            }
+            if !turned? {
+                return Ok(());
+            }
+        }
+        unreachable!()
+    }
+
+    /// Serves first, as each call does: whether that aborted the transaction that there was.
+    fn serve_first<R: Wait>(
+        &mut self,
+        rt: &R,
+        alloc: Global,
+        office: &Office,
+        shared: &mut SharedStation,
+    ) -> Result<bool, WorkerFault>
+        ensures aborted { IfOk result (λ aborted.
+            IsTrue aborted → Ended self.new protocol.Aborted) }
+        ensures none_open { IfOk result (λ aborted. IsTrue aborted → HasNoneOpen self.new) }
+    {
+        let had_one = self.has_transaction();
+        self.serve_at(rt, alloc, office, shared)?;
+        Ok(had_one && self.is_aborted())
+    }
+
+    /// Reads a page in the open transaction, and lends its bytes: at once where it holds them, else
+    /// once they came.
+    pub fn fetch<R: Wait>(
+        &mut self,
+        rt: &R,
+        alloc: Global,
+        office: &Office,
+        page: PageNo,
+    ) -> Result<Fetched<'_>, WorkerFault>
+        ensures* ends { sem 𝓛 (worker_ends Q.row Q.Chooser self.entry
+            (λ worker. IfOk result (Fetches worker page))) }
+    {
+        if !self.fetch_copy(rt, alloc, office, page)? {
+            return Ok(Fetched::Aborted);
+        }
+        let Some(bytes) = self.client.peek(page) else {
+            unreachable!()
+        };
+        Ok(Fetched::Bytes(bytes))
+    }
+
+    /// Reads a page; `false` where the transaction was aborted.
+    fn fetch_copy<R: Wait>(
+        &mut self,
+        rt: &R,
+        alloc: Global,
+        office: &Office,
+        page: PageNo,
+    ) -> Result<bool, WorkerFault>
+        ensures { IfOk result (λ fetched.
+            MatchBool fetched (HasRead self.new page) (Ended self.new protocol.Aborted)) }
+    {
+        if self.touch(page) {
+            return Ok(true);
+        }
+        let mut shared = office.lock(rt);
+        if self.serve_first(rt, alloc, office, &mut shared)? {
+            return Ok(false);
+        }
+        if self.touch(page) {
+            return Ok(true);
+        }
+        self.ask_for(page)?;
+        for _ in rt.forever() {
+            self.serve_at(rt, alloc, office, &mut shared)?;
+            if self.touch(page) {
+                return Ok(true);
+            }
+            if self.is_aborted() {
+                return Ok(false);
+            }
+            shared = office.wait(rt, shared);
+        }
+        unreachable!()
+    }
+
+    /// The client asks for the page, which isn't here.
+    fn ask_for(&mut self, page: PageNo) -> Result<(), WorkerFault> {
+        self.said.reserve(1)?;
+        match self.client.read(page)? {
+            ReadAnswer::Bytes(_) => return Err(WorkerFault::Office(OfficeFault::NotHeld)),
+            ReadAnswer::Asked => {}
+        }
+        if let Some(ask) = self.client.ask() {
+            self.said.push_reserved(Frame::from(ask));
+        }
+        Ok(())
+    }
+
+    /// Wants to write a page that the open transaction has read, and waits until it may.
+    pub fn want<R: Wait>(
+        &mut self,
+        rt: &R,
+        alloc: Global,
+        office: &Office,
+        page: PageNo,
+    ) -> Result<Wanted, WorkerFault>
+        ensures { IfOk result (Wants self.new page) }
+    {
+        let mut shared = office.lock(rt);
+        if self.serve_first(rt, alloc, office, &mut shared)? {
+            return Ok(Wanted::Aborted);
+        }
+        self.ask_to_write(page)?;
+        for _ in rt.forever() {
+            self.serve_at(rt, alloc, office, &mut shared)?;
+            if self.client.may_write(page) {
+                return Ok(Wanted::Permitted);
+            }
+            if self.is_aborted() {
+                return Ok(Wanted::Aborted);
+            }
+            shared = office.wait(rt, shared);
+        }
+        unreachable!()
+    }
+
+    /// The client wants to write the page, and asks for the permission if it hasn't got it.
+    fn ask_to_write(&mut self, page: PageNo) -> Result<(), WorkerFault> {
+        self.said.reserve(1)?;
+        match self.client.want(page)? {
+            WantAnswer::Permitted => {}
+            WantAnswer::Asked(ask) => self.said.push_reserved(Frame::from(ask)),
+        }
+        Ok(())
+    }
+
+    /// Ends the open transaction without a commit.
+    pub fn drop_txn<R: Wait>(
+        &mut self,
+        rt: &R,
+        alloc: Global,
+        office: &Office,
+    ) -> Result<(), WorkerFault>
+        ensures { OnOk result (HasNoneOpen self.new) }
+    {
+        let mut shared = office.lock(rt);
+        if self.serve_first(rt, alloc, office, &mut shared)? {
+            return Ok(());
+        }
+        let mut said = self.client.drop_txn(alloc)?;
+        said.reverse();
+        self.said = said;
+        self.hand_all_in(alloc, office, &mut shared)
+    }
+
+    /// Hands in all that the client said, and takes nothing.
+    fn hand_all_in(
+        &mut self,
+        alloc: Global,
+        office: &Office,
+        shared: &mut SharedStation,
+    ) -> Result<(), WorkerFault>
+        ensures { self.new.client ≡ self.old.client }
+    {
+        while !self.said.is_empty() {
+            let handed = self.hand_in(alloc, shared.station_mut());
+            office.tell();
+            let _handed = handed?;
+        }
+        Ok(())
+    }
+
+    /// The open transaction commits; waits until its commit is on disk.
+    ///
+    /// After a fault of the office the client is committing, and a later call goes on.
+    pub fn finish<R: Wait>(
+        &mut self,
+        rt: &R,
+        alloc: Global,
+        office: &Office,
+    ) -> Result<Finished, WorkerFault>
+        ensures { IfOk result (Finishes self.new) }
+    {
+        let had_one = self.has_transaction();
+        let mut shared = office.lock(rt);
+        self.serve_at(rt, alloc, office, &mut shared)?;
+        if had_one {
+            if let Some(ended) = self.ended() {
+                return Ok(ended);
+            }
+        }
+        let committed = self.commit_at(alloc, shared.station_mut());
+        office.tell();
+        let _number = committed?;
+        for _ in rt.forever() {
+            self.serve_at(rt, alloc, office, &mut shared)?;
+            if let Some(ended) = self.ended() {
+                return Ok(ended);
+            }
+            shared = office.wait(rt, shared);
+        }
+        unreachable!()
+    }
+}
