@@ -6,8 +6,7 @@ use cb_commit::{Commits, Store};
 use cb_frame::{Body, Frame, Write, Writes};
 use cb_page::{ClientNo, GrantNo, Incarnation, Limits, Page, PageNo, TxnNo};
 use cb_shelf::{Shelf, flush_once};
-use sqlite::{Alter, Connection, FileStore, Files, Options};
-use sqlite_disk::{Disk, Memory};
+use sqlite::Alter;
 use std::alloc::{AllocError, Global};
 
 /// The version of a page and the byte that fills it.
@@ -136,31 +135,4 @@ pub(crate) fn flushes<S: Alter>(
         Ok(frames) => frames.len() == count,
         Err(_) => false,
     }
-}
-
-/// Empty disks in memory.
-pub(crate) fn empty_disks(alloc: Global) -> Files<Memory> {
-    Files {
-        log: Memory::new(alloc),
-        db: Memory::new(alloc),
-    }
-}
-
-/// Opens the database, or gives the files back.
-pub(crate) fn connect<D: Disk + Drop>(
-    alloc: Global,
-    files: Files<D>,
-) -> Result<Connection<FileStore<D>>, Files<D>> {
-    if !files.may_be_used() {
-        return Err(files);
-    }
-    match Connection::open_files(alloc, files, Options::new(1)) {
-        Ok(conn) => Ok(conn),
-        Err((_, left)) => Err(left.into_files()),
-    }
-}
-
-/// The files under a connection.
-pub(crate) fn files_of<D: Disk + Drop>(conn: Connection<FileStore<D>>) -> Files<D> {
-    conn.into_store().close()
 }

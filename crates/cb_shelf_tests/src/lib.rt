@@ -4,6 +4,8 @@
 #[cfg(test)]
 mod bench;
 #[cfg(test)]
+mod over;
+#[cfg(test)]
 mod shapes;
 #[cfg(test)]
 mod stops;

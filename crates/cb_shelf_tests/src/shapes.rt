@@ -1,10 +1,11 @@
 //! Which databases an open takes, and which it refuses.
 
-use crate::bench::{connect, empty_disks, files_of, holds};
+use crate::bench::holds;
+use crate::over::{Disks, Outcome, Work, empty_disks, over};
 use cb_page::Limits;
 use cb_shelf::{Shelf, ShelfFault};
-use sqlite::{Alter, Connection, Files};
-use sqlite_disk::{Memory, digest_of};
+use sqlite::{Alter, Connection};
+use sqlite_disk::digest_of;
 use std::alloc::Global;
 use std::test::Fail;
 
@@ -58,10 +59,10 @@ static OLD_SPOILED: [&'static str; 6] = [
 static NAMED: &'static str = "CREATE TABLE mark2(id INTEGER PRIMARY KEY) STRICT";
 
 /// Whether two texts run.
-fn runs<S: Alter>(conn: &mut Connection<S>, texts: (&str, &str)) -> bool {
-    let first = conn.execute_batch(texts.0).is_ok();
-    let second = conn.execute_batch(texts.1).is_ok();
-    first && second
+pub(crate) fn runs<S: Alter>(conn: &mut Connection<S>, first: &str, second: &str) -> bool {
+    let is_first_run = conn.execute_batch(first).is_ok();
+    let is_second_run = conn.execute_batch(second).is_ok();
+    is_first_run && is_second_run
 }
 
 /// Opens a shelf; answers why it is refused, and the connection.
@@ -76,47 +77,37 @@ fn opened<S: Alter>(
     }
 }
 
-/// The database that two texts make on new disks.
-fn made(alloc: Global, texts: (&str, &str)) -> Files<Memory> {
-    match connect(alloc, empty_disks(alloc)) {
-        Ok(mut conn) => {
-            let _ran = runs(&mut conn, texts);
-            files_of(conn)
-        }
-        Err(files) => files,
-    }
-}
-
-/// Why a shelf in these files is refused, and the files under it.
-fn refusal(
+/// Runs a text, then opens a shelf.
+pub(crate) fn open_after<S: Alter>(
     alloc: Global,
     limits: &Limits,
-    files: Files<Memory>,
-) -> (Option<ShelfFault>, Files<Memory>) {
-    match connect(alloc, files) {
-        Ok(conn) => {
-            let (fault, conn) = opened(alloc, limits, conn);
-            (fault, files_of(conn))
-        }
-        Err(files) => (None, files),
-    }
+    mut conn: Connection<S>,
+    text: &str,
+) -> (Outcome, Connection<S>) {
+    let _ran = conn.execute_batch(text);
+    let (fault, conn) = opened(alloc, limits, conn);
+    (Outcome::Refused(fault), conn)
 }
 
 /// What both files hold.
-fn contents(files: &Files<Memory>) -> (u64, u64) {
+fn contents(files: &Disks) -> (u64, u64) {
     (
-        digest_of(0, files.log.bytes()),
-        digest_of(0, files.db.bytes()),
+        digest_of(0, files.log.inner().bytes()),
+        digest_of(0, files.db.inner().bytes()),
     )
 }
 
 /// Whether the database that two texts make is refused with this fault, its files as they were.
 fn refuses(alloc: Global, limits: &Limits, texts: (&str, &str), wanted: ShelfFault) -> bool {
-    let files = made(alloc, texts);
+    let (_, files) = over(
+        alloc,
+        limits,
+        empty_disks(alloc),
+        Work::Run(texts.0, texts.1),
+    );
     let before = contents(&files);
-    let (fault, left) = refusal(alloc, limits, files);
-    let after = contents(&left);
-    fault == Some(wanted) && before == after
+    let (outcome, left) = over(alloc, limits, files, Work::Open(""));
+    outcome == Some(Outcome::Refused(Some(wanted))) && before == contents(&left)
 }
 
 /// The first text after which the tables aren't refused as another shape.
@@ -164,44 +155,36 @@ fn is_copied<S: Alter>(
 }
 
 /// Whether old tables are refused at another page size, copied, and opened again.
-fn copies<S: Alter>(
+pub(crate) fn copies<S: Alter>(
     alloc: Global,
     limits: &Limits,
     greater: &Limits,
     mut conn: Connection<S>,
-) -> (bool, Connection<S>) {
-    let ran = runs(&mut conn, (OLD, ""));
+) -> (Outcome, Connection<S>) {
+    let is_made = conn.execute_batch(OLD).is_ok();
     let (fault, conn) = opened(alloc, greater, conn);
     let (first, conn) = is_copied(alloc, limits, conn);
     let (again, conn) = is_copied(alloc, limits, conn);
     let refused = fault == Some(ShelfFault::Shape);
-    (ran && refused && first && again, conn)
+    (Outcome::Well(is_made && refused && first && again), conn)
 }
 
-/// The same over a database in memory.
-fn copies_in_memory(alloc: Global, limits: &Limits, greater: &Limits) -> bool {
-    match Connection::open_in_memory(alloc) {
-        Ok(conn) => copies(alloc, limits, greater, conn).0,
-        Err(_) => false,
-    }
+/// Whether a shelf is refused with this fault, or taken where there is none, after a text.
+fn refused_after(alloc: Global, limits: &Limits, text: &str, wanted: Option<ShelfFault>) -> bool {
+    let outcome = over(alloc, limits, empty_disks(alloc), Work::Open(text)).0;
+    outcome == Some(Outcome::Refused(wanted))
 }
 
-/// Why a shelf over a database in memory is refused after a text.
-fn refused_after(alloc: Global, limits: &Limits, text: &str) -> Option<ShelfFault> {
-    match Connection::open_in_memory(alloc) {
-        Ok(mut conn) => {
-            let _ran = runs(&mut conn, (text, ""));
-            opened(alloc, limits, conn).0
-        }
-        Err(_) => None,
-    }
+/// Whether this comes out well over new disks.
+fn goes_well(alloc: Global, limits: &Limits, work: Work) -> bool {
+    over(alloc, limits, empty_disks(alloc), work).0 == Some(Outcome::Well(true))
 }
 
 #[test]
 fn old_tables_copied(rt: HostRuntime) -> Result<(), Fail> {
     let limits = Limits::new(1, 2, 16, 2, 1, 1)?;
     let greater = Limits::new(1, 2, 32, 2, 1, 1)?;
-    assert!(rt; copies_in_memory(rt.alloc(), &limits, &greater));
+    assert!(rt; goes_well(rt.alloc(), &limits, Work::Copy(&greater)));
     Ok(())
 }
 
@@ -226,8 +209,8 @@ fn other_refusals_are_of_the_store(rt: HostRuntime) -> Result<(), Fail> {
     let alloc = rt.alloc();
     let limits = Limits::new(1, 2, 16, 2, 1, 1)?;
     let store = Some(ShelfFault::Store);
-    assert!(rt; refused_after(alloc, &limits, "BEGIN") == store);
-    assert!(rt; refused_after(alloc, &limits, NAMED) == store);
-    assert!(rt; refused_after(alloc, &limits, NEW) == None);
+    assert!(rt; refused_after(alloc, &limits, "BEGIN", store));
+    assert!(rt; refused_after(alloc, &limits, NAMED, store));
+    assert!(rt; refused_after(alloc, &limits, NEW, None));
     Ok(())
 }

@@ -1,15 +1,16 @@
 //! Stops at each call of the disk in turn.
 
-use crate::bench::{commit, connect, files_of, flushes, holds, no_commits};
+use crate::bench::{commit, flushes, holds, no_commits};
+use crate::over::{Disks, Outcome, Work, over, stopping_disks};
 use cb_page::Limits;
 use cb_shelf::Shelf;
-use sqlite::{Alter, Connection, Files};
-use sqlite_disk::{Crash, Fuse, Memory};
+use sqlite::{Alter, Connection};
+use sqlite_disk::Crash;
 use std::alloc::Global;
 use std::test::Fail;
 
 /// The store before the batch: its number, and the version and byte of page 0. Page 1 is zeros.
-type Old = (u64, u64, u8);
+pub(crate) type Old = (u64, u64, u8);
 
 /// The tables of an older generation, with a store.
 static OLD: &'static str =
@@ -21,7 +22,7 @@ static OLD: &'static str =
 
 /// How far a run came before the disk stopped.
 #[derive(Clone, Copy, PartialEq, Eq)]
-enum Reached {
+pub(crate) enum Reached {
     Nothing,
     /// The database was opened.
     Database,
@@ -42,14 +43,6 @@ enum Ended {
     Torn,
     /// Every run had a stop.
     Unfinished,
-}
-
-/// New disks in memory of which the log stops after so many calls.
-fn disks(alloc: Global, calls: u64) -> Files<Fuse<Memory>> {
-    Files {
-        log: Fuse::new(Memory::new(alloc), calls),
-        db: Fuse::new(Memory::new(alloc), 100_000),
-    }
 }
 
 /// Whether a first commit is written.
@@ -86,26 +79,25 @@ fn write<S: Alter>(
 }
 
 /// Makes old tables, where asked, then the shelf.
-fn make<S: Alter>(
+pub(crate) fn make<S: Alter>(
     alloc: Global,
     limits: &Limits,
     mut conn: Connection<S>,
     tables: &str,
-) -> (Reached, Connection<S>) {
+) -> (Outcome, Connection<S>) {
     if conn.execute_batch(tables).is_err() {
-        return (Reached::Database, conn);
+        return (Outcome::Came(Reached::Database), conn);
     }
-    write(alloc, limits, conn)
+    let (reached, conn) = write(alloc, limits, conn);
+    (Outcome::Came(reached), conn)
 }
 
 /// The run over new disks that stop after so many calls.
-fn run(alloc: Global, limits: &Limits, calls: u64, tables: &str) -> (Reached, Files<Fuse<Memory>>) {
-    match connect(alloc, disks(alloc, calls)) {
-        Ok(conn) => {
-            let (reached, conn) = make(alloc, limits, conn, tables);
-            (reached, files_of(conn))
-        }
-        Err(files) => (Reached::Nothing, files),
+fn run(alloc: Global, limits: &Limits, calls: u64, tables: &str) -> (Reached, Disks) {
+    let disks = stopping_disks(alloc, calls);
+    match over(alloc, limits, disks, Work::Write(tables)) {
+        (Some(Outcome::Came(reached)), files) => (reached, files),
+        (_, files) => (Reached::Nothing, files),
     }
 }
 
@@ -129,36 +121,27 @@ fn is_either<S: Alter>(
 }
 
 /// Whether a shelf opens, and the last store or the one before it is there.
-fn is_whole<S: Alter>(
+pub(crate) fn is_whole<S: Alter>(
     alloc: Global,
     limits: &Limits,
     conn: Connection<S>,
     reached: Reached,
     old: Old,
-) -> (bool, Connection<S>) {
+) -> (Outcome, Connection<S>) {
     match Shelf::open(alloc, conn, limits) {
         Ok(mut shelf) => {
             let whole = is_either(alloc, limits, &mut shelf, reached, old);
-            (whole, shelf.close())
+            (Outcome::Well(whole), shelf.close())
         }
-        Err((_, conn)) => (false, conn),
+        Err((_, conn)) => (Outcome::Well(false), conn),
     }
 }
 
 /// Whether the last store or the one before it is there after a crash.
-fn survives(
-    alloc: Global,
-    limits: &Limits,
-    reached: Reached,
-    mut files: Files<Fuse<Memory>>,
-    old: Old,
-) -> bool {
+fn survives(alloc: Global, limits: &Limits, reached: Reached, mut files: Disks, old: Old) -> bool {
     files.log.crash();
     files.db.crash();
-    match connect(alloc, files) {
-        Ok(conn) => is_whole(alloc, limits, conn, reached, old).0,
-        Err(_) => false,
-    }
+    over(alloc, limits, files, Work::Look(reached, old)).0 == Some(Outcome::Well(true))
 }
 
 /// How far a run comes that stops after so many calls, where its store is whole after a crash.

@@ -3,6 +3,7 @@ ghost use Rattle.std.specs.Prelude.{IfSome};
 ghost use Rattle.cb_commit.specs.History.{CanFlush};
 
 use crate::bench::{Row, commit, flushes, holds, no_commits};
+use crate::over::{Outcome, Work, empty_disks, over};
 use cb_commit::{Batch, Commits};
 use cb_page::Limits;
 use cb_shelf::{Shelf, ShelfFault, flush_once};
@@ -138,7 +139,7 @@ fn two_flushes<S: Alter>(alloc: Global, limits: &Limits, shelf: &mut Shelf<S>) -
 
 /// What is done to a shelf.
 #[derive(Clone, Copy)]
-enum Deed {
+pub(crate) enum Deed {
     WriteAgain,
     FlushAgain,
     TwoFlushes,
@@ -154,48 +155,44 @@ fn is_done<S: Alter>(alloc: Global, limits: &Limits, shelf: &mut Shelf<S>, deed:
 }
 
 /// Whether it is done to a shelf.
-fn done_over<S: Alter>(
+pub(crate) fn done_over<S: Alter>(
     alloc: Global,
     limits: &Limits,
     conn: Connection<S>,
     deed: Deed,
-) -> (bool, Connection<S>) {
+) -> (Outcome, Connection<S>) {
     match Shelf::open(alloc, conn, limits) {
         Ok(mut shelf) => {
             let done = is_done(alloc, limits, &mut shelf, deed);
-            (done, shelf.close())
+            (Outcome::Well(done), shelf.close())
         }
-        Err((_, conn)) => (false, conn),
+        Err((_, conn)) => (Outcome::Well(false), conn),
     }
 }
 
 /// Whether a shelf opens and holds a store.
-fn held_over<S: Alter>(
+pub(crate) fn held_over<S: Alter>(
     alloc: Global,
     limits: &Limits,
     conn: Connection<S>,
     number: u64,
     rows: &[Row],
-) -> (bool, Connection<S>) {
+) -> (Outcome, Connection<S>) {
     match Shelf::open(alloc, conn, limits) {
         Ok(mut shelf) => {
             let held = holds(alloc, limits, &mut shelf, number, rows);
-            (held, shelf.close())
+            (Outcome::Well(held), shelf.close())
         }
-        Err((_, conn)) => (false, conn),
+        Err((_, conn)) => (Outcome::Well(false), conn),
     }
 }
 
-/// Whether it is done to a shelf in memory, and what it wrote is there after another open.
+/// Whether it is done to a shelf, and what it wrote is there after another open of the files.
 fn keeps(alloc: Global, limits: &Limits, deed: Deed, number: u64, rows: &[Row]) -> bool {
-    match Connection::open_in_memory(alloc) {
-        Ok(conn) => {
-            let (done, conn) = done_over(alloc, limits, conn, deed);
-            let held = held_over(alloc, limits, conn, number, rows).0;
-            done && held
-        }
-        Err(_) => false,
-    }
+    let well = Some(Outcome::Well(true));
+    let (done, files) = over(alloc, limits, empty_disks(alloc), Work::Do(deed));
+    let (held, _) = over(alloc, limits, files, Work::Hold(number, rows));
+    done == well && held == well
 }
 
 #[test]
