@@ -60,11 +60,13 @@ impl Callbacks {
     {
         // At most 32 clients, by its type.
         let _few = limits.clients();
+        let asks = Asks::new(alloc, limits)?;
+        let marks = Marks::new(alloc, limits)?;
         Ok(Callbacks {
             tables: Tables {
                 holdings: Holdings::new(alloc, limits, store)?,
-                asks: Asks::new(alloc, limits)?,
-                marks: Marks::new(alloc, limits)?,
+                asks,
+                marks,
             },
             view: View::nobody(),
         })

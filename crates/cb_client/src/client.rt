@@ -61,8 +61,8 @@ impl<Q: Chooser> Client<Q> {
     {
         // In range by its type: `get` says so.
         let _in_range = incarnation.get();
-        let copies = Copies::new(alloc, chooser, limits)?;
         let locks = ReadLocks::new(alloc, no, incarnation, limits)?;
+        let copies = Copies::new(alloc, chooser, limits)?;
         Ok(Client {
             engine: Engine {
                 no,

@@ -1,5 +1,7 @@
 //! The transcript of a world.
-ghost use Rattle.std.specs.Prelude.{◌≡◌, ◌++◌, [], ◌∷◌, length, map, take, IfOk, OnOk, OnErr};
+ghost use Rattle.std.specs.Prelude.{◌≡◌, ◌≤◌, ◌+◌, ◌++◌, [], ◌∷◌, length, map, take};
+ghost use Rattle.std.specs.Prelude.{IfOk, OnOk, OnErr};
+ghost use Rattle.std.specs.Vec.{vec_capacity};
 ghost use Rattle.cb_transcript.specs.Transcripts.{committed_name};
 
 use crate::answer::{Answer, TranscriptEntry};
@@ -99,13 +101,7 @@ impl Transcript {
     {
         self.commits.reserve(applied.len())?;
         self.entries.push(TranscriptEntry { event, answer })?;
-        for commit in applied {
-            self.commits.push_reserved(TransactionName {
-                client: commit.client,
-                incarnation: commit.incarnation,
-                txn: commit.txn,
-            });
-        }
+        name_commits(&mut self.commits, applied);
         Ok(())
     }
 
@@ -119,6 +115,20 @@ impl Transcript {
     {
         self.entries.truncate(entries);
         self.commits.truncate(commits);
+    }
+}
+
+/// Names commits behind the others.
+fn name_commits(names: &mut Vec<TransactionName>, commits: &[Commit])
+    requires room { length names.old.items + length commits.now ≤ vec_capacity names.old }
+    ensures { names.new.items ≡ names.old.items ++ map committed_name commits.now }
+{
+    for commit in commits {
+        names.push_reserved(TransactionName {
+            client: commit.client,
+            incarnation: commit.incarnation,
+            txn: commit.txn,
+        });
     }
 }
 

@@ -1,0 +1,5 @@
+use Rattle.std.proofs.Common.{rules}
+use Rattle.cb_jobs.proofs.counters.counter_sum.Goals as goal
+
+pub returns : goal.returns
+returns c = search rules
