@@ -192,13 +192,34 @@ impl<Q: Chooser> Worker<Q> {
         ensures { OnOk result (HasNoneOpen self.new) }
     {
         let mut shared = office.lock(rt);
-        if self.serve_first(rt, alloc, office, &mut shared)? {
+        self.drop_at(rt, alloc, office, &mut shared)
+    }
+
+    /// The same at the locked station.
+    fn drop_at<R: Wait>(
+        &mut self,
+        rt: &R,
+        alloc: Global,
+        office: &Office,
+        shared: &mut SharedStation,
+    ) -> Result<(), WorkerFault>
+        ensures { OnOk result (HasNoneOpen self.new) }
+    {
+        if self.serve_first(rt, alloc, office, shared)? {
             return Ok(());
         }
+        self.drop_open(alloc)?;
+        self.hand_all_in(alloc, office, shared)
+    }
+
+    /// The client drops its transaction; what it says of that is kept.
+    fn drop_open(&mut self, alloc: Global) -> Result<(), WorkerFault>
+        ensures { OnOk result (HasNoneOpen self.new) }
+    {
         let mut said = self.client.drop_txn(alloc)?;
         said.reverse();
         self.said = said;
-        self.hand_all_in(alloc, office, &mut shared)
+        Ok(())
     }
 
     /// Hands in all that the client said, and takes nothing.

@@ -1,5 +1,5 @@
 use Rattle.std.proofs.Common.{IsTrue, rules}
-use Rattle.cb_worker.proofs.worker.Worker.drop_txn.Goals as goal
+use Rattle.cb_worker.proofs.worker.Worker.drop_at.Goals as goal
 
 pub returns-then-branch : goal.returns-then-branch
 returns-then-branch g c =
