@@ -1,38 +1,53 @@
 #!/usr/bin/env bash
-# Plays all calls of a station with the Nth growth refused, for N = 1, 1 + STEP, .. up to MOST: a call that answers Memory has
-# changed nothing, and made once more it answers as at a station where nothing was refused.
+# Plays all calls of a station with one growth of memory refused, for each growth that they have in turn: a call that answers
+# Memory has changed nothing, and made once more it answers as at a station where nothing was refused.
 #
-#   scripts/refused_station.sh             N = 1, 17, 33 .. 400
-#   scripts/refused_station.sh 1 60        N = 1 to 60
+#   scripts/refused_station.sh [ROOM]      in a folder that stays, or in one that is removed
 #
-# The test is scripts/station_growths/growths.txt, built anew for each N beside the tests of cb_office_tests, in copies of the
-# crates below them. It isn't in the gate, where no growth can be refused, and where its proof would take minutes. RT is the
-# command, `rt` if it isn't set.
+# The test is scripts/station_growths/growths.txt. It is proved and built once, beside the frames of cb_office_tests, in copies of
+# the crates below them with what earlier checks kept, and runs once for each growth. It isn't in the gate, where no growth can be
+# refused, and where its proof would take minutes. The last line counts the runs; the status is 1 where one of them failed, and 2
+# where the test isn't built. RT is the command, `rt` if it isn't set.
 set -u
 top=$(cd "$(dirname "$0")/.." && pwd)
-step=${1:-16}
-most=${2:-400}
-room=$(mktemp -d)
-trap 'rm -rf "$room"' EXIT
+room=${1:-$(mktemp -d)}
+[ $# -gt 0 ] || trap 'rm -rf "$room"' EXIT
+tests=$room/crates/cb_office_tests
+mkdir -p "$room/crates"
 git init -q "$room"
 cp "$top/HANDLES" "$room/"
-mkdir "$room/crates"
-below=$(sed -n 's/^cb_office\(_tests\)\?://p' "$top/crates.txt" | tr ' ' '\n' | sort -u)
-for crate in cb_office_tests $below; do
-  [ -d "$top/crates/$crate" ] || continue
-  tar -C "$top/crates" --exclude=out -c "$crate" | tar -C "$room/crates" -x
-  grep "^$crate:" "$top/crates.txt" >>"$room/crates.txt"
+: >"$room/crates.txt"
+
+# Copies a crate, and first those that it stands on.
+copy() {
+  local line below
+  line=$(grep "^$1:" "$top/crates.txt") || return
+  grep -q "^$1:" "$room/crates.txt" && return
+  for below in ${line#*:}; do copy "$below"; done
+  cp -r --preserve=timestamps "$top/crates/$1" "$room/crates/"
+  echo "$line" >>"$room/crates.txt"
+}
+
+copy cb_office_tests
+rm -rf "${tests:?}"/src/* "$tests/out"
+cp "$top/crates/cb_office_tests/src/frames.rt" "$tests/src/"
+cp "$top/scripts/station_growths/growths.txt" "$tests/src/growths.rt"
+printf '//! Refused growths.\n#![tactic(auto)]\n\n#[cfg(test)]\nmod frames;\n#[cfg(test)]\nmod growths;\n' >"$tests/src/lib.rt"
+(cd "$tests" && "${RT:-rt}" test >"$room/said" 2>&1)
+cc -O2 -shared -fPIC -o "$room/refuse.so" "$top/scripts/refused_calls/refuse.c" -ldl || exit 2
+[ -x "$tests/out/cb_office_tests_tests" ] || { tail -n 20 "$room/said"; echo "the test isn't built"; exit 2; }
+
+# Runs the test with so many growths let through before one is refused; the last line is how many there were.
+played() {
+  REFUSED=$1 LD_PRELOAD="$room/refuse.so" "$tests/out/cb_office_tests_tests" growths::refused_growths 2>&1
+}
+
+growths=$(played 0 | tail -n 1)
+runs=0
+failed=0
+for refused in $(seq 0 "$growths"); do
+  said=$(played "$refused") || { echo "growth $refused refused: FAILED"; failed=$((failed + 1)); }
+  runs=$((runs + 1))
 done
-cp "$top/scripts/station_growths/growths.txt" "$room/crates/cb_office_tests/src/growths.rt"
-printf '#[cfg(test)]\nmod growths;\n' >>"$room/crates/cb_office_tests/src/lib.rt"
-bad=0
-for n in $(seq 1 "$step" "$most"); do
-  said=$(cd "$room/crates/cb_office_tests" && "${RT:-rt}" try --test --fail-alloc "$n" 2>&1)
-  if grep -q "^test growths::refused_growths \.\.\. ok" <<<"$said"; then
-    echo "growth $n refused: ok"
-  else
-    echo "growth $n refused: FAILED"
-    bad=1
-  fi
-done
-exit $bad
+echo "growths $growths, runs $runs, failed $failed"
+[ "$growths" -gt 0 ] && [ "$failed" -eq 0 ]
