@@ -1,6 +1,6 @@
 -- How a run ends, and what is printed of it. This project's rules.
 use Rattle.std.specs.Prelude.{◌≡◌, ℕ, List, [], ◌∷◌, ◌++◌, Option, Some, None, Result, Ok, Err}
-use Rattle.std.specs.Prelude.{codes, nat_le, if◌then◌else◌}
+use Rattle.std.specs.Prelude.{codes, nat_le, if◌then◌else◌, IfOk}
 use Rattle.std.specs.Fmt.{decimal}
 use Rattle.std.specs.Io.KnownBytes.{Appends}
 use Rattle.cb_outcome.specs.declared.ending.ClientEnding.{ClientEnding}
@@ -42,7 +42,9 @@ PrintsRun (Err ending) status old_out new_out old_err new_err =
     (status ≡ status_of ending) × (new_out ≡ old_out)
     × Appends old_err new_err (line_of ending ++ 10 ∷ [])
 
--- what is printed of some outcome
-pub record PrintsSome (status : ℕ) (old_out new_out old_err new_err : Option (List ℕ)) : Type 0 where
+-- What is printed of some outcome; where all was done, the counts that are told are such.
+pub record PrintsCounted (Are : Counted → Type 0) (status : ℕ)
+    (old_out new_out old_err new_err : Option (List ℕ)) : Type 0 where
   pub outcome : Result Counted Ending
   pub prints : PrintsRun outcome status old_out new_out old_err new_err
+  pub counts : IfOk outcome Are

@@ -1,5 +1,6 @@
 -- What the client's words of its transaction mean.
-use Rattle.std.proofs.Common.{◌≡◌, ◌≢◌, Bool, true, false, List, [], Option, Some, None, IfSome, refl, sym, ◌∙◌, not, if◌then◌else◌}
+use Rattle.std.proofs.Common.{◌≡◌, ◌≢◌, Bool, true, false, List, [], Option, Some, None, Result, Ok, Err, IfSome, OnOk, refl, sym, ◌∙◌, not, if◌then◌else◌}
+use Rattle.std.specs.Prelude.{⊤}
 use Rattle.cb_client_engine.specs.ClientState.{ClientState, client_of, outcome_of, status_of}
 use Rattle.cb_client_engine.specs.declared.standing.Outcome.{Outcome}
 use Rattle.cb_client_engine.specs.declared.standing.ClientStatus as says
@@ -12,6 +13,7 @@ use Rattle.cb_worker.specs.Committing.{IsCommitting}
 use Rattle.cb_worker.specs.Waiting.{Finishes, HasNoneOpen, ending_of}
 use Rattle.cb_worker.specs.Workers.{Ended, WorkerState}
 use Rattle.cb_worker.specs.declared.answers.Finished.{Finished}
+use Rattle.cb_worker.specs.declared.worker_fault.WorkerFault.{WorkerFault}
 
 committing : (w : Bool) (s : TransactionState) (a : Ask) → StatusCommitting ≡ (if not w then StatusNotWelcome else welcomed_status s a) → is_committing s ≡ true
 committing false s a e = absurd cc
@@ -44,6 +46,11 @@ none_open v s says_so is ops = idle _ _ _ (rw is at (says_so ops))
 -- nor has one whose transaction was dropped
 pub none_open_idle : (w : WorkerState) → w.client.stage ≡ stages.Idle → HasNoneOpen w
 none_open_idle w e ops = rw e refl
+
+-- nor has one whose client stayed as it was
+pub still_none_open : (old new : WorkerState) (r : Result ⊤ WorkerFault) → HasNoneOpen old → new.client ≡ old.client → OnOk r (HasNoneOpen new)
+still_none_open old new (Ok done) none same = λ ops. rw same (none ops)
+still_none_open old new (Err fault) none same = tt
 
 -- one that says anything but that it isn't welcomed is
 pub welcomed_so : (v : ClientState) (s : says.ClientStatus) → ((ops : List Operation) → status_of s ≡ client_status (client_of v ops)) → s ≢ statuses.NotWelcome → v.welcomed ≡ true

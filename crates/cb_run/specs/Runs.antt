@@ -1,0 +1,64 @@
+-- How a run of workers ends, and what its counts are. This project's rules.
+use Rattle.std.specs.Prelude.{◌≡◌, ◌≤◌, ℕ, Bool, List, length, ⊤}
+use Rattle.std.specs.Prelude.{Option, Some, None, Result, Ok, Err, IsTrue}
+use Rattle.std.specs.List.{All}
+use Rattle.cb_client.specs.declared.client_fault.ClientFault.TheVariants as client
+use Rattle.cb_commit.specs.Stores.{StoreState}
+use Rattle.cb_jobs.specs.Counters.{sum_of_counters}
+use Rattle.cb_office.specs.declared.office_fault.OfficeFault.TheVariants as office
+use Rattle.cb_outcome.specs.declared.ending.ClientEnding.{ClientEnding}
+use Rattle.cb_outcome.specs.declared.ending.Ending.{Ending}
+use Rattle.cb_outcome.specs.declared.ending.Ending.TheVariants as ending
+use Rattle.cb_outcome.specs.declared.printing.Counted.{Counted}
+use Rattle.cb_shelf.specs.Reading.{Holds}
+use Rattle.cb_statements.specs.declared.fault.ShelfFault.{ShelfFault}
+use Rattle.cb_statements.specs.declared.fault.ShelfFault.TheVariants as shelf
+use Rattle.cb_worker.specs.declared.worker_fault.WorkerFault.{WorkerFault}
+use Rattle.cb_worker.specs.declared.worker_fault.WorkerFault.TheVariants as worker
+use Rattle.sqlite.specs.Effect.{Database}
+use Rattle.sqlite.specs.Held.{Held, state}
+use Rattle.sqlite.specs.State.{HasCleanDisk}
+use Rattle.sqlite.specs.Store.{Ghosts}
+
+-- by a fault of the flusher or of the tables
+abbrev pub ending_of_shelf : ShelfFault → Ending
+ending_of_shelf shelf.Shape = ending.Shape
+ending_of_shelf shelf.Store = ending.Store
+ending_of_shelf shelf.Memory = ending.Memory
+
+-- by a worker's fault; a halted worker says nothing of why
+abbrev pub ending_of_worker : WorkerFault → Option Ending
+ending_of_worker worker.Halted = None
+ending_of_worker (worker.Client client.Memory) = Some ending.Memory
+ending_of_worker (worker.Client client.Exhausted) = Some ending.Exhausted
+ending_of_worker (worker.Client _) = Some ending.Worker
+ending_of_worker (worker.Office office.Memory) = Some ending.Memory
+ending_of_worker (worker.Office office.Exhausted) = Some ending.Exhausted
+ending_of_worker (worker.Office _) = Some ending.Worker
+
+-- by the flusher's fault, else by that of the lowest client that told of one
+abbrev pub ending_of_run : Result ⊤ ShelfFault → Option ClientEnding → Result ⊤ Ending
+ending_of_run (Err fault) told = Err (ending_of_shelf fault)
+ending_of_run (Ok done) (Some told) = Err told.ending
+ending_of_run (Ok done) None = Ok tt
+
+-- a tally of at most so many clients with at most so many jobs each
+abbrev pub HasRows : (clients : ℕ) → (jobs : ℕ) → List (List Bool) → Type 0
+HasRows clients jobs tally = (length tally ≤ clients) × All (λ row. length row ≤ jobs) tally
+
+-- it stays one
+abbrev pub KeepsRows : (old : List (List Bool)) → (new : List (List Bool)) → Type 0
+KeepsRows old new = (clients jobs : ℕ) → HasRows clients jobs old → HasRows clients jobs new
+
+-- the sum of the counters in the store that the tables hold
+abbrev pub IsSumIn : Database → (sum : ℕ) → Type 0
+IsSumIn db sum = (tables : _) × (store : StoreState) × Holds tables db store
+    × (sum ≡ sum_of_counters store)
+
+-- So many jobs were committed at most, and the sum is that of the tables as they are, unless the
+-- disk failed or the connection was closed.
+pub record IsCounted {S : Type 0} (g : Ghosts S) (most : ℕ) (after : Held S) (counted : Counted)
+    : Type 0 where
+  pub few : counted.committed ≤ most
+  pub summed : HasCleanDisk (state g after) → IsTrue (state g after).is_open
+      → IsSumIn (state g after).now counted.sum

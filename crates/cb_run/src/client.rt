@@ -1,0 +1,84 @@
+//! One client's part of a run.
+use crate::faults::of_worker;
+use cb_client::ClientFault;
+use cb_jobs::{Gate, JobDone};
+use cb_office::OfficeFault;
+use cb_outcome::{Ending, FirstEnding};
+use cb_page::{ClientNo, Limits};
+use cb_shared::Office;
+use cb_twoq::Chooser;
+use cb_work::work;
+use cb_worker::{Worker, WorkerFault};
+use crossbeam_channel::{Receiver, Sender};
+use std::alloc::{AllocError, Global};
+use std::sync::{Mutex, Wait};
+
+/// A channel that holds the jobs, with no sender left.
+pub(crate) fn job_list<R: Wait>(
+    rt: &R,
+    alloc: Global,
+    jobs: u64,
+) -> Result<Receiver<u64>, AllocError> {
+    let (to, from) = crossbeam_channel::unbounded(alloc)?;
+    for job in 0..jobs {
+        if to.send(rt, job).is_err() {
+            return Err(AllocError);
+        }
+    }
+    Ok(from)
+}
+
+/// Notes how a client's part ended, and halts the office.
+pub(crate) fn give_up<R: Wait>(
+    rt: &R,
+    office: &Office,
+    faults: &Mutex<FirstEnding>,
+    client: u16,
+    ending: Ending,
+) {
+    faults.lock(rt).note(client, ending);
+    office.halt(rt);
+}
+
+/// A client joins and works; where it can't go on the office is halted. A client that was halted
+/// says nothing of why.
+pub(crate) fn run_client<Q: Chooser, R: Wait, G: Gate>(
+    rt: &R,
+    alloc: Global,
+    office: &Office,
+    limits: &Limits,
+    client: u16,
+    jobs: &Receiver<u64>,
+    results: &Sender<JobDone>,
+    gate: &G,
+    faults: &Mutex<FirstEnding>,
+) {
+    let worked = join_and_work::<Q, R, G>(rt, alloc, office, limits, client, jobs, results, gate);
+    let Err(fault) = worked else {
+        return;
+    };
+    if let Some(ending) = of_worker(fault) {
+        give_up(rt, office, faults, client, ending);
+    }
+}
+
+fn join_and_work<Q: Chooser, R: Wait, G: Gate>(
+    rt: &R,
+    alloc: Global,
+    office: &Office,
+    limits: &Limits,
+    client: u16,
+    jobs: &Receiver<u64>,
+    results: &Sender<JobDone>,
+    gate: &G,
+) -> Result<(), WorkerFault> {
+    if !limits.has_client(client) {
+        return Err(WorkerFault::Office(OfficeFault::Foreign));
+    }
+    let Ok(chooser) = Q::make(alloc, limits) else {
+        return Err(WorkerFault::Client(ClientFault::Memory));
+    };
+    let client = ClientNo::new(client);
+    let worker = Worker::join(rt, alloc, office, limits, client, chooser)?;
+    work(rt, alloc, office, worker, jobs, results, gate)
+}

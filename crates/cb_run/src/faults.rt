@@ -1,0 +1,51 @@
+//! How a fault ends a run.
+ghost use Rattle.std.specs.Prelude.{◌≡◌};
+ghost use Rattle.cb_run.specs.Runs.{ending_of_run, ending_of_shelf, ending_of_worker};
+
+use cb_client::ClientFault;
+use cb_office::OfficeFault;
+use cb_outcome::{ClientEnding, Ending};
+use cb_shelf::ShelfFault;
+use cb_worker::WorkerFault;
+
+/// By a fault of the flusher or of the tables.
+pub(crate) fn of_shelf(fault: ShelfFault) -> Ending
+    ensures { result ≡ ending_of_shelf fault }
+{
+    match fault {
+        ShelfFault::Shape => Ending::Shape,
+        ShelfFault::Store => Ending::Store,
+        ShelfFault::Memory => Ending::Memory,
+    }
+}
+
+/// By a worker's fault; a halted worker says nothing of why.
+pub(crate) fn of_worker(fault: WorkerFault) -> Option<Ending>
+    ensures { result ≡ ending_of_worker fault }
+{
+    match fault {
+        WorkerFault::Halted => None,
+        WorkerFault::Client(ClientFault::Memory) => Some(Ending::Memory),
+        WorkerFault::Office(OfficeFault::Memory) => Some(Ending::Memory),
+        WorkerFault::Client(ClientFault::Exhausted) => Some(Ending::Exhausted),
+        WorkerFault::Office(OfficeFault::Exhausted) => Some(Ending::Exhausted),
+        WorkerFault::Client(_) => Some(Ending::Worker),
+        WorkerFault::Office(_) => Some(Ending::Worker),
+    }
+}
+
+/// By the flusher's fault, else by that of the lowest client that told of one.
+pub(crate) fn of_run(
+    flushed: Result<(), ShelfFault>,
+    told: Option<ClientEnding>,
+) -> Result<(), Ending>
+    ensures { result ≡ ending_of_run flushed told }
+{
+    if let Err(fault) = flushed {
+        return Err(of_shelf(fault));
+    }
+    match told {
+        Some(told) => Err(told.ending),
+        None => Ok(()),
+    }
+}

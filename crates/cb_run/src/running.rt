@@ -1,0 +1,164 @@
+//! Workers and the flusher, to their end.
+ghost use Rattle.std.specs.Prelude.{◌*◌, IfOk};
+ghost use Rattle.cb_outcome.specs.Outcomes.{PrintsCounted};
+ghost use Rattle.cb_run.specs.Runs.{IsCounted, KeepsRows};
+
+use crate::client::{give_up, job_list, run_client};
+use crate::counting::{count_results, new_tally, sum_up};
+use crate::faults::of_run;
+use cb_flusher::flush_in_tries;
+use cb_jobs::{Gate, JobDone, Tally};
+use cb_outcome::{Counted, Ending, FirstEnding, print_run};
+use cb_page::Limits;
+use cb_shared::Office;
+use cb_shelf::{Shelf, ShelfFault};
+use cb_twoq::TwoQ;
+use crossbeam_channel::Sender;
+use sqlite::Alter;
+use std::alloc::Global;
+use std::io::Write;
+use std::sync::{Mutex, Wait};
+use std::thread::Threads;
+use std::{io, thread};
+
+/// Starts a worker for each client, with so many jobs each, runs the flusher, and says what came of
+/// it: on `out` how many jobs were committed and the sum of the counters, else on `err` why not. The
+/// answer is the status.
+///
+/// The office is halted when it returns.
+pub fn run_on<R, G, S, O, E>(
+    rt: &R,
+    alloc: Global,
+    limits: &Limits,
+    office: &Office,
+    shelf: &mut Shelf<S>,
+    jobs: u64,
+    gate: &G,
+    out: &mut O,
+    err: &mut E,
+) -> io::Result<u8>
+where
+    R: Threads + Wait + Sync,
+    G: Gate + Sync,
+    S: Alter,
+    O: Write,
+    E: Write,
+    ensures { IfOk result (λ status.
+        PrintsCounted (IsCounted S.Store (limits.now.clients * jobs) shelf.new.conn) status
+        (O.contents out.old) (O.contents out.new) (E.contents err.old) (E.contents err.new)) }
+{
+    let outcome = counted(rt, alloc, limits, office, shelf, jobs, gate);
+    print_run(outcome, out, err)
+}
+
+/// How many jobs were committed, and the sum of the counters as the tables have them.
+fn counted<R, G, S>(
+    rt: &R,
+    alloc: Global,
+    limits: &Limits,
+    office: &Office,
+    shelf: &mut Shelf<S>,
+    jobs: u64,
+    gate: &G,
+) -> Result<Counted, Ending>
+where
+    R: Threads + Wait + Sync,
+    G: Gate + Sync,
+    S: Alter,
+    ensures { IfOk result
+        (IsCounted S.Store (limits.now.clients * jobs) shelf.new.conn) }
+{
+    let mut tally = new_tally(alloc, limits, jobs)?;
+    run_and_count(rt, alloc, limits, office, shelf, jobs, gate, &mut tally)?;
+    sum_up(alloc, shelf, tally.committed())
+}
+
+/// Runs all to their end, and then counts the results.
+fn run_and_count<R, G, S>(
+    rt: &R,
+    alloc: Global,
+    limits: &Limits,
+    office: &Office,
+    shelf: &mut Shelf<S>,
+    jobs: u64,
+    gate: &G,
+    tally: &mut Tally,
+) -> Result<(), Ending>
+where
+    R: Threads + Wait + Sync,
+    G: Gate + Sync,
+    S: Alter,
+    ensures { KeepsRows tally.old tally.new }
+{
+    let Ok((to, results)) = crossbeam_channel::unbounded(alloc) else {
+        return Err(Ending::Memory);
+    };
+    let ended = run_all(rt, alloc, limits, office, shelf, jobs, gate, &to);
+    drop(to);
+    ended?;
+    count_results(rt, tally, &results)
+}
+
+/// Runs the workers and the flusher to their end.
+fn run_all<R, G, S>(
+    rt: &R,
+    alloc: Global,
+    limits: &Limits,
+    office: &Office,
+    shelf: &mut Shelf<S>,
+    jobs: u64,
+    gate: &G,
+    results: &Sender<JobDone>,
+) -> Result<(), Ending>
+where
+    R: Threads + Wait + Sync,
+    G: Gate + Sync,
+    S: Alter,
+{
+    let faults = Mutex::new(FirstEnding::none());
+    let flushed = run_threads(
+        rt, alloc, limits, office, shelf, jobs, gate, results, &faults,
+    );
+    let told = faults.lock(rt).told;
+    of_run(flushed, told)
+}
+
+/// Runs the workers on threads of their own, and the flusher on this one, until all have ended. The
+/// flusher ends once the last worker has; should it end before, the others are halted.
+fn run_threads<R, G, S>(
+    rt: &R,
+    alloc: Global,
+    limits: &Limits,
+    office: &Office,
+    shelf: &mut Shelf<S>,
+    jobs: u64,
+    gate: &G,
+    results: &Sender<JobDone>,
+    faults: &Mutex<FirstEnding>,
+) -> Result<(), ShelfFault>
+where
+    R: Threads + Wait + Sync,
+    G: Gate + Sync,
+    S: Alter,
+{
+    thread::scope(thread::scope_env(), rt, |scope| {
+        for client in 0..limits.clients() {
+            let started = match job_list(rt, alloc, jobs) {
+                Ok(list) => scope
+                    .spawn(move || {
+                        run_client::<TwoQ, R, G>(
+                            rt, alloc, office, limits, client, &list, results, gate, faults,
+                        )
+                    })
+                    .is_ok(),
+                Err(_) => false,
+            };
+            if !started {
+                give_up(rt, office, faults, client, Ending::Memory);
+            }
+        }
+        let flushed = flush_in_tries(rt, alloc, office, shelf);
+        office.halt(rt);
+        flushed
+    })
+}

@@ -1,0 +1,96 @@
+//! A worker's jobs, one after another, and its end.
+ghost use Rattle.std.specs.Prelude.{◌≡◌, OnErr};
+
+use crate::job::do_job;
+use cb_client::ClientFault;
+use cb_jobs::{Gate, JobDone, Turn};
+use cb_page::ClientNo;
+use cb_shared::Office;
+use cb_twoq::Chooser;
+use cb_worker::{Worker, WorkerFault};
+use crossbeam_channel::{Receiver, Sender};
+use std::alloc::Global;
+use std::sync::Wait;
+
+/// Takes each job from the channel, and sends a result for each once it is on disk. Where no job is
+/// left the worker leaves; after a fault it is abandoned. Whatever happened, the office is told that
+/// one call of `work` has ended.
+pub fn work<R: Wait, Q: Chooser, G: Gate>(
+    rt: &R,
+    alloc: Global,
+    office: &Office,
+    mut worker: Worker<Q>,
+    jobs: &Receiver<u64>,
+    results: &Sender<JobDone>,
+    gate: &G,
+) -> Result<(), WorkerFault> {
+    let worked = run_jobs(rt, alloc, office, &mut worker, jobs, results, gate);
+    let ended = end(rt, alloc, office, worker, worked);
+    office.lock(rt).end_work();
+    office.tell();
+    ended
+}
+
+/// The worker leaves; it is abandoned where it faulted before, or can't leave.
+fn end<R: Wait, Q: Chooser>(
+    rt: &R,
+    alloc: Global,
+    office: &Office,
+    worker: Worker<Q>,
+    worked: Result<(), WorkerFault>,
+) -> Result<(), WorkerFault>
+    ensures { OnErr worked (result ≡ worked) }
+{
+    if worked.is_err() {
+        worker.abandon();
+        return worked;
+    }
+    match worker.leave(rt, alloc, office) {
+        Ok(()) => Ok(()),
+        Err((fault, worker)) => {
+            worker.abandon();
+            Err(fault)
+        }
+    }
+}
+
+/// Does each job once it may begin, and sends its result.
+fn run_jobs<R: Wait, Q: Chooser, G: Gate>(
+    rt: &R,
+    alloc: Global,
+    office: &Office,
+    worker: &mut Worker<Q>,
+    jobs: &Receiver<u64>,
+    results: &Sender<JobDone>,
+    gate: &G,
+) -> Result<(), WorkerFault> {
+    let client = worker.client();
+    for job in jobs.iter(rt) {
+        await_turn(rt, alloc, office, worker, client, job, gate)?;
+        let done = do_job(rt, alloc, office, worker, client, job)?;
+        gate.after_commit(client, job);
+        if results.send(rt, done).is_err() {
+            return Err(WorkerFault::Client(ClientFault::Memory));
+        }
+    }
+    Ok(())
+}
+
+/// Serves until the job may begin.
+fn await_turn<R: Wait, Q: Chooser, G: Gate>(
+    rt: &R,
+    alloc: Global,
+    office: &Office,
+    worker: &mut Worker<Q>,
+    client: ClientNo,
+    job: u64,
+    gate: &G,
+) -> Result<(), WorkerFault> {
+    for _ in rt.forever() {
+        if gate.before_job(client, job) == Turn::Go {
+            return Ok(());
+        }
+        worker.serve(rt, alloc, office)?;
+    }
+    unreachable!()
+}
