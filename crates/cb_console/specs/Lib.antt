@@ -3,4 +3,3 @@ pub mod DrawnText
 pub mod EventMeaning
 pub mod DrawRuns
 pub mod Runs
-pub mod Endings

@@ -8,8 +8,8 @@ ghost use Rattle.cb_console.specs.DrawRuns.{IsDrawn, IsDrawRun, IsConfigRefusal}
 ghost use Rattle.cb_console.specs.declared.play.ReadFault.TheVariants as fault;
 ghost use Rattle.cb_event.specs.declared.event.Event.TheVariants as event;
 
-use crate::endings::DONE;
 use crate::play::{ReadFault, print_fault};
+use crate::statuses::DONE;
 use cb_drawn::draw;
 use cb_event::{Call, Event};
 use cb_settings::read_config;

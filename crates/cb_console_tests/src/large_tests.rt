@@ -1,5 +1,5 @@
 //! Calls that can answer want of memory, at large sizes: none of them does.
-use cb_console::{ConfigFault, play_to, read_config, request_of};
+use cb_console::{ConfigFault, play_to, read_config};
 use std::alloc::Global;
 use std::io::Write;
 use std::test::Fail;
@@ -70,21 +70,10 @@ fn tells_a_long_key(alloc: Global) -> Result<bool, Fail> {
     }
 }
 
-/// Whether words of many characters are taken.
-fn takes_long_words(alloc: Global) -> Result<bool, Fail> {
-    let mut path = String::new(alloc);
-    for _ in 0..20_000 {
-        path.push_str("long/")?;
-    }
-    let words = ["cb_play", "play", path.as_str(), path.as_str()];
-    Ok(request_of(alloc, words.as_slice()).is_ok())
-}
-
 #[test]
 fn nothing_wants_memory(rt: HostRuntime) -> Result<(), Fail> {
     let plays = plays_to_the_end(rt.alloc())?;
     let reads = tells_a_long_key(rt.alloc())?;
-    let takes = takes_long_words(rt.alloc())?;
-    assert!(rt; plays && reads && takes);
+    assert!(rt; plays && reads);
     Ok(())
 }

@@ -6,10 +6,6 @@ mod config_tests;
 #[cfg(test)]
 mod draw_tests;
 #[cfg(test)]
-mod failing_writers;
-#[cfg(test)]
 mod large_tests;
 #[cfg(test)]
 mod play_tests;
-#[cfg(test)]
-mod word_tests;

@@ -1,42 +1,59 @@
-//! Plays the examples that its words name: of each NAME the files NAME.toml and NAME.schedule.
+//! Does what each of its words says, a command line of the program.
 #![tactic(auto)]
 
-use cb_console::{command_line, end_by, run};
+use cb_program::{command_line, end_by, run};
 use std::alloc::{AllocError, Global};
 use std::io;
 use std::io::{BufWriter, Write};
 use std::process::ExitCode;
+use std::sync::Wait;
+use std::thread::Threads;
 
-/// The words that play an example.
-fn words_of(alloc: Global, name: &str) -> Result<Vec<String>, AllocError> {
-    let mut words = Vec::new(alloc);
-    words.reserve(4)?;
-    words.push_reserved(String::from_str(alloc, "cb_play")?);
-    words.push_reserved(String::from_str(alloc, "play")?);
-    words.push_reserved(format!(in alloc; "{name}.toml")?);
-    words.push_reserved(format!(in alloc; "{name}.schedule")?);
+/// The words of a command line, behind the program's name.
+fn words_of(alloc: Global, line: &str) -> Result<Vec<String>, AllocError> {
+    let mut words = vec![in alloc; String::from_str(alloc, "cb_play")?]?;
+    for word in line.split(' ') {
+        words.reserve(1)?;
+        words.push_reserved(String::from_str(alloc, word)?);
+    }
     Ok(words)
 }
 
-/// Prints the name of each example, what the program prints of it, and the status with which it
-/// ends.
-fn play_examples<O: Write, E: Write>(rt: &HostRuntime, out: &mut O, err: &mut E) -> io::Result<()> {
-    for name in command_line(rt)?.iter().skip(1) {
-        writeln!(out, "{name}")?;
-        let words = words_of(rt.alloc(), name.as_str())?;
-        let status = run(rt, Ok(words), out, err);
-        writeln!(out, "status {status}")?;
+/// Prints a command line, what the program prints for it on either stream, and the status with
+/// which it ends.
+fn run_line<R: Threads + Wait + Sync, O: Write>(
+    rt: &HostRuntime,
+    threads: &R,
+    line: &str,
+    out: &mut O,
+) -> io::Result<()> {
+    writeln!(out, "{line}")?;
+    let words = words_of(rt.alloc(), line)?;
+    let mut said = Vec::new(rt.alloc());
+    let status = run(rt, threads, Ok(words), out, &mut said);
+    out.write_all(said.as_slice())?;
+    writeln!(out, "status {status}")
+}
+
+/// Does what each line says, one after another.
+fn run_lines<R: Threads + Wait + Sync, O: Write>(
+    rt: &HostRuntime,
+    threads: &R,
+    out: &mut O,
+) -> io::Result<()> {
+    for line in command_line(rt)?.iter().skip(1) {
+        run_line(rt, threads, line.as_str(), out)?;
     }
     out.flush()
 }
 
 fn main(rt: HostRuntime) -> ExitCode {
     let mut err = rt.stderr();
-    let played = match BufWriter::new(rt.alloc(), io::writer(&rt)) {
-        Ok(mut out) => play_examples(&rt, &mut out, &mut err),
+    let ran = match BufWriter::new(rt.alloc(), io::writer(&rt)) {
+        Ok(mut out) => run_lines(&rt, &rt, &mut out),
         Err(error) => Err(error),
     };
-    match played {
+    match ran {
         Ok(()) => ExitCode::SUCCESS,
         Err(error) => ExitCode::from(end_by(&error, &mut err)),
     }

@@ -1,22 +1,24 @@
 //! The program: plays a page server with callback locking and its clients from a schedule of
-//! events.
+//! events, or runs them on threads over a store on disk.
 #![tactic(auto)]
 
-use cb_console::{command_line, end_by, run};
+use cb_program::{command_line, end_by, run};
 use std::io;
 use std::io::BufWriter;
 use std::process::ExitCode;
+use std::sync::Wait;
+use std::thread::Threads;
 
 /// Does what the command line asks for, on the standard streams; the answer is the program's
 /// status.
-fn run_on_streams(rt: &HostRuntime) -> u8 {
+fn run_on_streams<R: Threads + Wait + Sync>(rt: &HostRuntime, threads: &R) -> u8 {
     let mut err = rt.stderr();
     match BufWriter::new(rt.alloc(), io::writer(rt)) {
-        Ok(mut out) => run(rt, command_line(rt), &mut out, &mut err),
+        Ok(mut out) => run(rt, threads, command_line(rt), &mut out, &mut err),
         Err(error) => end_by(&error, &mut err),
     }
 }
 
 fn main(rt: HostRuntime) -> ExitCode {
-    ExitCode::from(run_on_streams(&rt))
+    ExitCode::from(run_on_streams(&rt, &rt))
 }

@@ -1,0 +1,236 @@
+//! The command line.
+
+use clap::error::ErrorKind;
+use clap::{Arg, ArgAction, ArgMatches, Command, Error, value_parser};
+use std::alloc::{AllocError, Global};
+use std::convert::AsStr;
+
+/// A schedule to be drawn: the path of the configuration, the seed, and how many events.
+#[derive(Clone, Copy, Debug, PartialEq, Eq)]
+pub struct DrawRequest<'a> {
+    pub config: &'a str,
+    pub seed: u64,
+    pub count: usize,
+}
+
+/// Workers to be run: the paths of the configuration and of the store.
+#[derive(Clone, Copy, Debug, PartialEq, Eq)]
+pub struct RunRequest<'a> {
+    pub config: &'a str,
+    pub store: &'a str,
+}
+
+/// What the command line asks for.
+#[derive(Clone, Copy, Debug, PartialEq, Eq)]
+pub enum Request<'a> {
+    /// Play a schedule: the paths of the configuration and of the schedule.
+    Play { config: &'a str, schedule: &'a str },
+    /// Draw a schedule.
+    Draw(DrawRequest<'a>),
+    /// Run workers.
+    Run(RunRequest<'a>),
+}
+
+/// The program's version.
+const VERSION: &str = "0.1.0";
+
+const ABOUT: &str =
+    "A page server with callback locking and its clients, played from a schedule or run on threads";
+
+const PLAY_ABOUT: &str =
+    "Plays a schedule on a store of zeros and prints what became of each event";
+
+const DRAW_ABOUT: &str =
+    "Draws a schedule by the words of a generator, and prints it, one event a line";
+
+const RUN_ABOUT: &str =
+    "Runs each client on a thread of its own, over the store in a file, until its jobs are done";
+
+/// Every seed is below this.
+const SEEDS: i64 = 1 << 62;
+
+/// The most events of a drawn schedule.
+const MOST_EVENTS: i64 = 1_000_000;
+
+const EXAMPLE: &str = "\
+Example:
+  $ cat first.toml
+  clients = 1
+  pages = 8
+  page_size = 16
+  slots = 4
+  $ cat first.schedule
+  hello 0
+  take 0
+  take 1
+  $ cb_play play first.toml first.schedule
+  1 ok 0:Hello:0
+  2 taken 1:Welcome:0
+  3 taken
+  commits 0
+  serial: yes
+
+Statuses:
+  0  done
+  1  the serial check said no
+  2  wrong words, configuration or schedule
+  3  the store or a worker refused
+  4  no memory
+  5  cannot write";
+
+const PLAY_HELP: &str = "\
+For each event there is one line: its place, its answer, and each packet that it sent as
+number:kind:client. Then come the number of commits and whether a serial run gives the same.
+
+CONFIG has whole numbers as TOML: clients, pages, page_size, slots, and if wanted kin, kout, jobs,
+keep_write.
+
+SCHEDULE has one event on a line; lines that begin with # are skipped:
+  hello C       client C greets the server
+  begin C       client C begins a transaction
+  read C P      client C reads page P
+  peek C P      the bytes of client C's copy of page P, without a read
+  want C P      client C wants to write page P
+  write C P B   client C writes page P: every byte is B, 0 to 255
+  finish C      client C's transaction ends, to be committed
+  drop C        client C's transaction is dropped
+  restart C     client C is new, with its next incarnation
+  take N        packet N arrives (packets are numbered from 0)
+  again C       client C sends again what is unanswered
+  again server  the server sends again what is unanswered
+  flush         all that was committed is on the disk
+  flush N       the commits up to N are on the disk
+
+Statuses:
+  0  done
+  1  the serial check said no
+  2  wrong words, configuration or schedule
+  4  no memory
+  5  cannot write";
+
+const DRAW_HELP: &str = "\
+The events are drawn while they are played, on a store of zeros: a packet to take was sent before.
+The same CONFIG, seed and number of events give the same schedule.
+
+Statuses:
+  0  done
+  2  wrong words or configuration
+  4  no memory
+  5  cannot write";
+
+const RUN_HELP: &str = "\
+STORE is a database file, made where it isn't there. Each client has as many jobs as CONFIG says
+(jobs, up to 100,000). A job adds one to the counters that pages 0 and 1 begin with, in one
+transaction; it is done once that is on disk. Then come how many jobs were committed, and the sum of
+the two counters in the store.
+
+CONFIG is as for play; there must be 2 pages, and keep_write must be 0.
+
+Statuses:
+  0  done
+  2  wrong words or configuration
+  3  the store or a worker refused
+  4  no memory
+  5  cannot write";
+
+fn path<'a>(alloc: Global, name: &'a str, help: &'a str) -> Arg<'a> {
+    Arg::new(alloc, name)
+        .required(true)
+        .action(ArgAction::Set)
+        .help(help)
+}
+
+fn play_command<'a>(alloc: Global) -> Result<Command<'a>, AllocError> {
+    Command::new(alloc, "play")
+        .about(PLAY_ABOUT)
+        .after_help(PLAY_HELP)
+        .arg(path(alloc, "CONFIG", "File with the settings, as TOML"))?
+        .arg(path(alloc, "SCHEDULE", "File with the events, one a line"))
+}
+
+/// An option whose value is a whole number from 0 to the most.
+fn number<'a>(alloc: Global, name: &'a str, most: i64, help: &'a str) -> Arg<'a> {
+    Arg::new(alloc, name)
+        .long(name)
+        .required(true)
+        .action(ArgAction::Set)
+        .value_name("N")
+        .value_parser(value_parser!(u64).range(0..=most))
+        .help(help)
+}
+
+fn draw_command<'a>(alloc: Global) -> Result<Command<'a>, AllocError> {
+    let seed = number(
+        alloc,
+        "seed",
+        SEEDS - 1,
+        "Where the generator starts, below 2^62",
+    );
+    let events = number(
+        alloc,
+        "events",
+        MOST_EVENTS,
+        "How many events, up to 1,000,000",
+    );
+    Command::new(alloc, "draw")
+        .about(DRAW_ABOUT)
+        .after_help(DRAW_HELP)
+        .arg(path(alloc, "CONFIG", "File with the settings, as TOML"))?
+        .arg(seed)?
+        .arg(events)
+}
+
+fn run_command<'a>(alloc: Global) -> Result<Command<'a>, AllocError> {
+    Command::new(alloc, "run")
+        .about(RUN_ABOUT)
+        .after_help(RUN_HELP)
+        .arg(path(alloc, "CONFIG", "File with the settings, as TOML"))?
+        .arg(path(alloc, "STORE", "File with the store's tables"))
+}
+
+fn command<'a>(alloc: Global) -> Result<Command<'a>, AllocError> {
+    Command::new(alloc, "cb_play")
+        .version(VERSION)
+        .about(ABOUT)
+        .after_help(EXAMPLE)
+        .subcommand_required(true)
+        .arg_required_else_help(true)
+        .subcommand(play_command(alloc)?)?
+        .subcommand(draw_command(alloc)?)?
+        .subcommand(run_command(alloc)?)
+}
+
+/// What a command line that was read asks for, if it asks for anything.
+fn asked<'a>(matches: &ArgMatches<'a>) -> Option<Request<'a>> {
+    match matches.subcommand() {
+        Some(("play", matches)) => Some(Request::Play {
+            config: matches.get_str("CONFIG")?,
+            schedule: matches.get_str("SCHEDULE")?,
+        }),
+        Some(("draw", matches)) => Some(Request::Draw(DrawRequest {
+            config: matches.get_str("CONFIG")?,
+            seed: matches.get_one("seed")?,
+            count: matches.get_one("events")?,
+        })),
+        Some(("run", matches)) => Some(Request::Run(RunRequest {
+            config: matches.get_str("CONFIG")?,
+            store: matches.get_str("STORE")?,
+        })),
+        _ => None,
+    }
+}
+
+/// What to print where there is nothing to do.
+fn nothing_to_do(alloc: Global) -> Result<Error, AllocError> {
+    command(alloc)?.error(ErrorKind::MissingSubcommand, "there is nothing to do")
+}
+
+/// What these words ask for; the first is the program's name. Else what to print, as clap has it:
+/// help or the version, where it was asked for, or what is wrong with the words.
+pub fn request_of<'a, S: AsStr>(alloc: Global, words: &'a [S]) -> Result<Request<'a>, Error> {
+    let matches = command(alloc)?.try_get_matches_from(words)?;
+    match asked(&matches) {
+        Some(request) => Ok(request),
+        None => Err(nothing_to_do(alloc)?),
+    }
+}

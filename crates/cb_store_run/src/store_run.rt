@@ -1,0 +1,180 @@
+//! Workers over a store in a file.
+ghost use Rattle.std.specs.Prelude.{◌≡◌, ◌*◌, false, IfOk};
+ghost use Rattle.cb_outcome.specs.Outcomes.{PrintsCounted};
+ghost use Rattle.cb_run.specs.Runs.{IsCounted};
+ghost use Rattle.cb_store_run.specs.StoreRuns.{HasFew, IsStoreRun, all_jobs, ending_of_shelf};
+
+use cb_jobs::{Gate, Turn};
+use cb_office::Station;
+use cb_outcome::{Ending, print_run};
+use cb_page::{ClientNo, Limits};
+use cb_run::run_on;
+use cb_run_settings::{print_refusal, run_settings};
+use cb_settings::Config;
+use cb_shared::Office;
+use cb_shelf::{Shelf, ShelfFault};
+use sqlite::{Alter, Connection};
+use std::alloc::Global;
+use std::io;
+use std::io::Write;
+use std::sync::Wait;
+use std::thread::Threads;
+
+/// A gate that lets every job begin at once.
+#[derive(Drop)]
+pub struct AnyTime;
+
+impl Gate for AnyTime {
+    fn before_job(&self, _client: ClientNo, _job: u64) -> Turn {
+        Turn::Go
+    }
+
+    fn after_commit(&self, _client: ClientNo, _job: u64) {}
+}
+
+/// Runs workers under a configuration's text, over the store in a file, which is made where it
+/// isn't there. It says on `out` how many jobs were committed and the sum of the counters, else on
+/// `err` why not; the answer is the program's status.
+///
+/// The file isn't opened before the configuration was checked. That the store is closed at the end
+/// is said by no clause: what was committed is on disk before that, beside the file if not in it.
+pub fn run_store<R, G, O, E>(
+    rt: &HostRuntime,
+    threads: &R,
+    config: &[u8],
+    store: &str,
+    gate: &G,
+    out: &mut O,
+    err: &mut E,
+) -> io::Result<u8>
+where
+    R: Threads + Wait + Sync,
+    G: Gate + Sync,
+    O: Write,
+    E: Write,
+    ensures { IfOk result (λ status. IsStoreRun config.now status
+        (O.contents out.old) (O.contents out.new) (E.contents err.old) (E.contents err.new)) }
+{
+    match run_settings(rt.alloc(), config) {
+        Ok(config) => run_file(rt, threads, &config, store, gate, out, err),
+        Err(fault) => print_refusal(&fault, err),
+    }
+}
+
+/// Opens the file, runs, and closes it.
+fn run_file<R, G, O, E>(
+    rt: &HostRuntime,
+    threads: &R,
+    config: &Config,
+    store: &str,
+    gate: &G,
+    out: &mut O,
+    err: &mut E,
+) -> io::Result<u8>
+where
+    R: Threads + Wait + Sync,
+    G: Gate + Sync,
+    O: Write,
+    E: Write,
+    requires { config.now.limits.keep_write ≡ false }
+    ensures { IfOk result (λ status. PrintsCounted (HasFew config.now) status
+        (O.contents out.old) (O.contents out.new) (E.contents err.old) (E.contents err.new)) }
+{
+    let conn = match Connection::open(rt, store) {
+        Ok(conn) => conn,
+        Err(error) => return print_run(Err(ending_of(ShelfFault::from(error))), out, err),
+    };
+    let (printed, conn) = run_over(threads, rt.alloc(), config, conn, gate, out, err);
+    // What is still in the log beside the file, the next open finds.
+    let _ = conn.close();
+    printed
+}
+
+/// Runs workers over the store in a database, and gives the connection back.
+pub fn run_over<R, S, G, O, E>(
+    threads: &R,
+    alloc: Global,
+    config: &Config,
+    conn: Connection<S>,
+    gate: &G,
+    out: &mut O,
+    err: &mut E,
+) -> (io::Result<u8>, Connection<S>)
+where
+    R: Threads + Wait + Sync,
+    S: Alter,
+    G: Gate + Sync,
+    O: Write,
+    E: Write,
+    requires { config.now.limits.keep_write ≡ false }
+    ensures { IfOk result.0 (λ status.
+        PrintsCounted (IsCounted S.Store (all_jobs config.now) result.1) status
+        (O.contents out.old) (O.contents out.new) (E.contents err.old) (E.contents err.new)) }
+{
+    match Shelf::open(alloc, conn, &config.limits) {
+        Ok(mut shelf) => {
+            let printed = run_in(threads, alloc, config, &mut shelf, gate, out, err);
+            (printed, shelf.close())
+        }
+        Err((fault, conn)) => (print_run(Err(ending_of(fault)), out, err), conn),
+    }
+}
+
+/// Runs workers over the store in a shelf.
+fn run_in<R, S, G, O, E>(
+    threads: &R,
+    alloc: Global,
+    config: &Config,
+    shelf: &mut Shelf<S>,
+    gate: &G,
+    out: &mut O,
+    err: &mut E,
+) -> io::Result<u8>
+where
+    R: Threads + Wait + Sync,
+    S: Alter,
+    G: Gate + Sync,
+    O: Write,
+    E: Write,
+    requires plain { config.now.limits.keep_write ≡ false }
+    requires shelf { shelf.old.limits ≡ config.now.limits }
+    ensures { IfOk result (λ status.
+        PrintsCounted (IsCounted S.Store (all_jobs config.now) shelf.new.conn) status
+        (O.contents out.old) (O.contents out.new) (E.contents err.old) (E.contents err.new)) }
+{
+    let (limits, jobs) = (&config.limits, config.jobs);
+    match office_over(alloc, limits, shelf) {
+        Ok(office) => run_on(threads, alloc, limits, &office, shelf, jobs, gate, out, err),
+        Err(ending) => print_run(Err(ending), out, err),
+    }
+}
+
+/// An office over the store in a shelf, that each client's work will use.
+fn office_over<S: Alter>(
+    alloc: Global,
+    limits: &Limits,
+    shelf: &mut Shelf<S>,
+) -> Result<Office, Ending>
+    requires plain { limits.now.keep_write ≡ false }
+    requires shelf { shelf.old.limits ≡ limits.now }
+{
+    let store = match shelf.load(alloc) {
+        Ok(store) => store,
+        Err(fault) => return Err(ending_of(fault)),
+    };
+    match Station::new(alloc, limits, store) {
+        Ok(station) => Ok(Office::new(station, usize::from(limits.clients()))),
+        Err(_) => Err(Ending::Memory),
+    }
+}
+
+/// How a fault of the tables ends a run.
+fn ending_of(fault: ShelfFault) -> Ending
+    ensures { result ≡ ending_of_shelf fault }
+{
+    match fault {
+        ShelfFault::Shape => Ending::Shape,
+        ShelfFault::Store => Ending::Store,
+        ShelfFault::Memory => Ending::Memory,
+    }
+}
