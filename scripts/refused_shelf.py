@@ -26,11 +26,11 @@ def empty():
 
 
 def older():
-    """The tables of the older generation, with a store."""
+    """The tables of the older generation, with a store of their greatest pages."""
     base = sqlite3.connect(path)
     base.executescript(OLDER)
-    base.execute("INSERT INTO page VALUES (0, 3, ?), (1, 0, zeroblob(4112))", (b"\x07" * 4112,))
-    base.execute("INSERT INTO mark VALUES (1, 3, 4112)")
+    base.execute("INSERT INTO page VALUES (0, 3, ?), (1, 0, zeroblob(4096))", (b"\x07" * 4096,))
+    base.execute("INSERT INTO mark VALUES (1, 3, 4096)")
     base.commit()
     base.close()
 
@@ -38,7 +38,7 @@ def older():
 def run(words, refused):
     """What is printed but for how long it took, and how many growths there were."""
     said = subprocess.run(
-        [program, "refused", path, "2", "4112", *words],
+        [program, "refused", path, "2", *words],
         env={"LD_PRELOAD": library, "REFUSED": str(refused)},
         capture_output=True,
         timeout=60,
@@ -70,7 +70,7 @@ def judged(plain, lines):
 
 
 bad = 0
-for name, is_older, words in (("a new file", False, ["0", "0"]), ("older tables", True, ["3", "7"])):
+for name, is_older, words in (("a new file", False, ["4112", "0", "0"]), ("older tables", True, ["4096", "3", "7"])):
     plain, growths = begun(is_older, words, 0)
     counts, wrong = collections.Counter(), []
     for refused in range(1, growths + 1):

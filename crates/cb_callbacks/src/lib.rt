@@ -6,6 +6,11 @@
 //! called back, and a client that lies on a cycle of waits is doomed. Every step is the protocol
 //! server's own, and its deadlock test is answered by a view of who waits for whom that is kept up
 //! to date as asks come and go.
+//!
+//! Its laws: an ask that enters sends one message at most ([`an_ask_sends_at_most_one`]), and in
+//! the middle of a step each ask to read that waits can still have a grant number
+//! ([`grants_are_left`]). An example that is run as a test is `write_after_callback` in
+//! `cb_callbacks_tests`.
 #![tactic(auto)]
 
 mod callbacks;

@@ -1,14 +1,13 @@
 -- What the table says of reading, wanting and writing a page.
 use Rattle.std.proofs.Common.{if◌then◌else◌, ◌≡◌, ◌<◌, ◌==◌, ℕ, Bool, true, false, List, [], ◌∷◌, length, slice_set, Option, Some, None, unwrap_or, refl, sym, ◌∙◌, ap}
 use Rattle.std.proofs.Math.ListN.{length-set}
-use Rattle.std.specs.Borrow.{Bor}
-use Rattle.std.specs.Option.{is_some, option_copied}
+use Rattle.std.specs.Option.{is_some}
 use Rattle.cb_page.specs.Flags.{has}
 use Rattle.cb_protocol.proofs.Cases.{call_refused}
 use Rattle.cb_protocol.specs.Answers as table
 use Rattle.cb_protocol.specs.Basics.{Bytes, is_none}
 use Rattle.cb_protocol.specs.Cache.{Read, WriteBytes}
-use Rattle.cb_protocol.specs.Client.{ChangeCache, Client, MarkWanted, ReadAsk, Say, SetAsk, WriteAsk, bodies_said, client_after, new_client}
+use Rattle.cb_protocol.specs.Client.{ChangeCache, Client, MarkWanted, ReadAsk, Say, SetAsk, WriteAsk, bodies_said, client_after, has_room, new_client}
 use Rattle.cb_protocol.specs.ClientCalls.{Call, CallRead, CallWant, CallWrite, Reply, call_fault, client_call, read_page, reply_with}
 use Rattle.cb_protocol.specs.Messages.{AskRead, AskWrite}
 use Rattle.cb_protocol.specs.Serial.{Operation, Saw}
@@ -16,11 +15,13 @@ use Rattle.cb_copies.specs.CopiesState.{CopiesState, client_with, content_at, co
 use Rattle.cb_copies.specs.ByTable.{Does}
 use Rattle.cb_copies.proofs.Changing.{put_entry}
 use Rattle.cb_client_engine.specs.ClientState.{ClientState, HasRoomLeft, IsClient, base_of, client_of, locks_with}
-use Rattle.cb_client.specs.ByTable.{Called, Calls, IsRefusal, IsRefused, as_before, limits_at, messages_from}
+use Rattle.cb_client.specs.ByTable.{Called, Calls, IsRefusal, IsRefused, as_before, limits_at, messages_from, refusal}
 use Rattle.cb_client.specs.CallAnswers.{Answers, after_read, bytes_at, page_asked, page_read, puts, read_ask, sees}
 use Rattle.cb_client_engine.specs.declared.standing.Ask.TheVariants as asks
 use Rattle.cb_client.specs.declared.client_fault.ClientFault.{ClientFault}
-use Rattle.cb_client.proofs.CallSteps.{FindsNone, accepted, accepts}
+use Rattle.cb_client.specs.declared.client_fault.ClientFault.TheVariants as fault
+use Rattle.cb_client.proofs.CallSteps.{FindsNone, accepted, accepts, refused}
+use Rattle.cb_client.proofs.Refusals.{FirstIs, fetch_full, fetch_here, fetch_is, fetch_room, fetch_shut, of_page}
 use Rattle.cb_client_engine.proofs.Keeping.{keeps}
 use Rattle.cb_client_engine.proofs.Reaching.{calls_reach}
 
@@ -47,11 +48,6 @@ some_bytes (Some bytes) e = refl
 no_bytes : (o : Option Bytes) → is_some o ≡ false → o ≡ None
 no_bytes None e = refl
 no_bytes (Some bytes) e = absurd cc
-
--- what is lent is there
-pub lent_there : (o : Option (Bor Bytes)) (x : Option Bytes) → option_copied o ≡ x → is_some x ≡ is_some o
-lent_there None x e = rw (← e) refl
-lent_there (Some b) x e = rw (← e) refl
 
 -- a read where the bytes are in the pool
 pub reads : (v : ClientState) (page : ℕ) → FindsNone v (CallRead page) → page < length v.locks.locked → is_some (content_at v.copies page) ≡ true
@@ -105,6 +101,21 @@ called_here v page h lt here = record { answered = _; messages = _; history = _;
 
 pub called_ask : (v : ClientState) (page : ℕ) → FindsNone v (CallRead page) → is_some (content_at v.copies page) ≡ false → Called v (CallRead page) (page_asked v page)
 called_ask v page h out = record { answered = _; messages = _; history = _; calls = asks_read v page h out }
+
+-- a read that its page is refused for, one that finds the page here, one that finds no room for it,
+-- and one that finds room
+pub read_shut_out : (v : ClientState) (page : ℕ) (f : ClientFault) → FirstIs v (of_page v page) (Some (refusal f)) → IsRefused v (CallRead page) f
+read_shut_out v page f e = refused v (CallRead page) f (fetch_is v page (Some (refusal f)) (fetch_shut v page (refusal f) e))
+
+pub finds_here : (v : ClientState) (page : ℕ) → FirstIs v (of_page v page) None → is_some (content_at v.copies page) ≡ true → FindsNone v (CallRead page)
+finds_here v page n here = fetch_is v page None (fetch_here v page n here)
+
+pub finds_full : (v : ClientState) (page : ℕ) → FirstIs v (of_page v page) None → is_some (content_at v.copies page) ≡ false
+    → ((other : Client) → false ≡ has_room (limits_at v) (client_with v.copies other)) → IsRefused v (CallRead page) fault.PoolFull
+finds_full v page n out full = refused v (CallRead page) fault.PoolFull (fetch_is v page (Some (refusal fault.PoolFull)) (fetch_full v page n out full))
+
+pub finds_room : (v : ClientState) (page : ℕ) → FirstIs v (of_page v page) None → ((other : Client) → true ≡ has_room (limits_at v) (client_with v.copies other)) → FindsNone v (CallRead page)
+finds_room v page n room = fetch_is v page None (fetch_room v page n room)
 
 -- a locked page stays locked where another one is
 stays_locked : (flags : List Bool) (page q : ℕ) → page < length flags → has flags q ≡ true → has (slice_set flags page true) q ≡ true

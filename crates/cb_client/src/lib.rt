@@ -4,6 +4,10 @@
 //! In contracts a [`Client`] is the protocol's client for every list of operations that its
 //! transaction may have done: each call answers and does what the protocol's table of calls says,
 //! and each message is taken as its table of messages says.
+//!
+//! What holds whatever was called and came is said by the laws. An example that is run as a test is
+//! `client_in_use_then_aborted` in `cb_client_tests`; a chooser of a caller's own stands with its
+//! proof in `cb_pool_tests`.
 #![tactic(auto)]
 
 mod answers;

@@ -6,6 +6,10 @@
 //! commit that is on disk: the store is always the opening store with the commits written over it,
 //! in order. [`Commits::batch`] says what is to be written next. Once a batch is on disk,
 //! [`Commits::flushed`] answers a Done for each commit in it that wasn't reported yet.
+//!
+//! That the store is the fold of the commits is the invariant of [`Commits`]; a batch brings any
+//! flushed state to the present one. An example that is run as a test is `batches_and_dones` in
+//! `cb_commit_tests`.
 #![tactic(auto)]
 
 mod batch;

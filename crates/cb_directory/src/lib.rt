@@ -4,6 +4,10 @@
 //! for each copy that a client has, with the copy's grant, and for each page the write holder, the
 //! client that has its write permission. Grant numbers, and the transaction for which a permission
 //! was given, are this project's.
+//!
+//! The directory rule is the type's invariant: a page with a write holder has rows of no other
+//! client, and a client has one row a page at most. The calls that read hand it out. An example
+//! that is run as a test is `rows_and_permissions` in `cb_server_tests`.
 #![tactic(auto)]
 
 mod directory;

@@ -1,7 +1,9 @@
 -- What is to be sent stays so while late frames are put into their outboxes.
-use Rattle.std.proofs.Common.{◌≡◌, ◌≢◌, ◌<◌, ℕ, Bool, true, false, ◌&&◌, ◌==◌, nat_lt, if◌then◌else◌, cond, ◌-◌, ◌+◌, take, slice_get, Some, List, [], ◌∷◌, ◌++◌, length, reverse, slice_index_or, slice_set, filter, drop, not, refl, sym, ap, ◌∙◌, subst, arith, inl, inr, append_assoc, ◌⊎◌}
+use Rattle.std.proofs.Common.{◌≡◌, ◌≢◌, ◌<◌, ℕ, Bool, true, false, ◌&&◌, ◌==◌, nat_lt, if◌then◌else◌, cond, ◌-◌, ◌+◌, take, slice_get, Some, List, [], ◌∷◌, ◌++◌, length, reverse, slice_index_or, slice_set, filter, drop, not, refl, sym, ap, ◌∙◌, subst, arith, inl, inr, append_assoc, ◌⊎◌, ◌||◌, ◌↔◌, IsTrue}
+use Rattle.std.specs.List.{list_any}
 use Rattle.std.proofs.Math.Seq.{take-length}
 use Rattle.std.proofs.lemmas.Bool.{cases_eq}
+use Rattle.std.proofs.lemmas.List.Elements.{filter-append}
 use Rattle.std.proofs.lemmas.Option.{get_or_from_slice_get, slice_get_within}
 use Rattle.std.proofs.lemmas.Bool.Decides.{nat_tests}
 use Rattle.std.proofs.lemmas.List.{take_more, reverse-append, reverse-reverse, append-nil, length-set, get_or-set_same, get_or-set_other}
@@ -186,3 +188,47 @@ last_of frames frame e =
     let n : (length frames - 1) + 1 ≡ length frames = omega (arith, lt) in
     sym (take-length frames) ∙ ap (λ (k : ℕ). take k frames) (sym n) ∙ take_more frames (length frames - 1) frame lt
     ∙ ap (λ (x : Frame). take (length frames - 1) frames ++ x ∷ []) (get_or_from_slice_get frames (length frames - 1) frame frame e)
+
+-- of late frames what is for the client, by the first of them
+filtered : (p : Frame → Bool) (x : Frame) (xs : List Frame) → filter p (reverse (x ∷ xs)) ≡ filter p (reverse xs) ++ cond (p x) (x ∷ []) []
+filtered p x xs = ap (λ (l : List Frame). filter p l) (reverse-append (x ∷ []) xs) ∙ filter-append p (reverse xs) (x ∷ [])
+
+none_late : (p : Frame → Bool) (late : List Frame) → list_any p late ≡ false → filter p (reverse late) ≡ []
+none_late p [] e = refl
+none_late p (x ∷ xs) e = filtered p x xs ∙ by (none_late p xs) (p x) e
+  where
+    by : (list_any p xs ≡ false → filter p (reverse xs) ≡ []) → (b : Bool) → (b || list_any p xs) ≡ false → filter p (reverse xs) ++ cond b (x ∷ []) [] ≡ []
+    by before true f = absurd (let g : true ≡ false = f in cc)
+    by before false f = append-nil (filter p (reverse xs)) ∙ before f
+
+not_empty : (l : List Frame) (x : Frame) → l ++ x ∷ [] ≢ []
+not_empty [] x e = absurd (let f : x ∷ [] ≡ [] = e in cc)
+not_empty (y ∷ l) x e = absurd (let f : y ∷ (l ++ x ∷ []) ≡ [] = e in cc)
+
+some_late : (p : Frame → Bool) (late : List Frame) → list_any p late ≡ true → filter p (reverse late) ≢ []
+some_late p [] e = absurd (let f : false ≡ true = e in cc)
+some_late p (x ∷ xs) e = λ none. by (some_late p xs) (p x) e (sym (filtered p x xs) ∙ none)
+  where
+    by : (list_any p xs ≡ true → filter p (reverse xs) ≢ []) → (b : Bool) → (b || list_any p xs) ≡ true → filter p (reverse xs) ++ cond b (x ∷ []) [] ≢ []
+    by before true f = not_empty (filter p (reverse xs)) x
+    by before false f = λ none. before f (sym (append-nil (filter p (reverse xs))) ∙ none)
+
+-- a frame is to be sent where the outbox isn't empty
+pub in_the_box : (current : ℕ → ℕ) (o : OutboxesState) (client : ℕ) → slice_index_or o.boxes client [] ≢ [] → outbox_in current o client ≢ []
+in_the_box current o client n = by (slice_index_or o.boxes client []) n
+  where
+    by : (l : List Frame) → l ≢ [] → l ++ addressed current client (reverse o.late) ≢ []
+    by [] m = absurd (m refl)
+    by (x ∷ l) m = λ e. absurd (let f : x ∷ (l ++ addressed current client (reverse o.late)) ≡ [] = e in cc)
+
+-- else exactly where a late one is for it
+pub among_the_late : (current : ℕ → ℕ) (o : OutboxesState) (client : ℕ) (late : Bool) → slice_index_or o.boxes client [] ≡ [] → late ≡ list_any (is_for current client) o.late
+    → IsTrue late ↔ (outbox_in current o client ≢ [])
+among_the_late current o client late empty e = by late (sym e)
+  where
+    only : outbox_in current o client ≡ addressed current client (reverse o.late)
+    only = ap (λ (l : List Frame). l ++ addressed current client (reverse o.late)) empty
+
+    by : (b : Bool) → list_any (is_for current client) o.late ≡ b → IsTrue b ↔ (outbox_in current o client ≢ [])
+    by true f = ((λ is. λ none. some_late (is_for current client) o.late f (sym only ∙ none)), (λ n. refl))
+    by false f = ((λ is. absurd (let g : false ≡ true = is in cc)), (λ n. absurd (n (only ∙ none_late (is_for current client) o.late f))))

@@ -1,6 +1,6 @@
 //! The type, its opening, what it takes, and what it shows.
-ghost use Rattle.std.specs.Prelude.{◌≡◌, ◌<◌, ℕ, [], slice_get, IfErr, IfOk, IfSome, OnErr, OnOk};
-ghost use Rattle.std.specs.Prelude.{true, false, not, ◌==◌};
+ghost use Rattle.std.specs.Prelude.{◌≡◌, ◌≢◌, ◌↔◌, ◌<◌, ℕ, [], slice_get, IfErr, IfOk, IfSome};
+ghost use Rattle.std.specs.Prelude.{IsTrue, OnErr, OnOk, true, false, not, ◌==◌};
 ghost use Rattle.std.specs.List.{AllByRecursion, filter};
 ghost use Rattle.std.specs.Option.{option_map};
 ghost use Rattle.cb_commit.specs.History.{CatchesUp};
@@ -29,7 +29,7 @@ use std::marker::Model;
 
 /// A server, and an outbox for each of its clients.
 ///
-/// Every call but `limits`, `holdings` and `can_flush` takes memory.
+/// Every call but `limits`, `holdings`, `has_frame_for` and `can_flush` takes memory.
 #[derive(Drop)]
 pub struct Dispatcher {
     server: Server,
@@ -175,6 +175,14 @@ impl Dispatcher {
         // The server still arises by the protocol's steps.
         let _arose = self.server.limits();
         Ok(())
+    }
+
+    /// Whether a frame is to be sent to the client, so that `collect` answers one.
+    pub fn has_frame_for(&self, client: ClientNo) -> bool
+        requires { client < self.now.server.limits.clients }
+        ensures { IsTrue result ↔ (outbox_of self.now client ≢ []) }
+    {
+        self.outboxes.has_frame_for(self.server.holdings(), client)
     }
 
     /// The oldest frame to the client; `None` exactly where its outbox is empty.

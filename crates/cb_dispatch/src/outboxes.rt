@@ -1,8 +1,9 @@
 //! What is to be sent to each client, in order.
-ghost use Rattle.std.specs.Prelude.{◌≡◌, ℕ, ◌<◌, ◌≤◌, [], drop, length, replicate, reverse};
-ghost use Rattle.std.specs.Prelude.{slice_get, slice_index_or, slice_set, IfOk, OnErr, OnOk, true};
-ghost use Rattle.std.specs.List.{All};
-ghost use Rattle.cb_dispatch.specs.Outboxes.{AsBefore, Places, current_in};
+ghost use Rattle.std.specs.Prelude.{◌≡◌, ◌≢◌, ◌↔◌, ℕ, ◌<◌, ◌≤◌, [], drop, length, replicate};
+ghost use Rattle.std.specs.Prelude.{reverse, slice_get, slice_index_or, slice_set, IfOk, IsTrue};
+ghost use Rattle.std.specs.Prelude.{OnErr, OnOk, true};
+ghost use Rattle.std.specs.List.{All, list_any};
+ghost use Rattle.cb_dispatch.specs.Outboxes.{AsBefore, Places, current_in, is_for, outbox_in};
 ghost use Rattle.cb_holdings.specs.Holdings.{server_of};
 
 use crate::queue::Queue;
@@ -77,6 +78,30 @@ impl Outboxes {
             Admission::Stale | Admission::Unknown => self.late.truncate(self.late.len() - 1),
         }
         Ok(true)
+    }
+
+    /// Whether a frame is to be sent to that client.
+    pub(crate) fn has_frame_for(&self, holdings: &Holdings, client: ClientNo) -> bool
+        requires client { client < length self.now.boxes }
+        requires clients { length self.now.boxes ≤ length holdings.now.sessions }
+        ensures { IsTrue result
+            ↔ (outbox_in (current_in (server_of holdings.now)) self.now client ≢ []) }
+    {
+        !self.boxes[client.index()].is_empty() || self.has_late(holdings, client)
+    }
+
+    /// Whether a late frame is for that client's current incarnation.
+    fn has_late(&self, holdings: &Holdings, client: ClientNo) -> bool
+        requires { client < length holdings.now.sessions }
+        ensures { result ≡ list_any (is_for (current_in (server_of holdings.now)) client)
+            self.now.late }
+    {
+        // No incarnation is 0.
+        let current = match holdings.incarnation(client) {
+            Some(incarnation) => incarnation.get(),
+            None => 0,
+        };
+        self.late.iter().any(|frame| frame.client == client && frame.incarnation.get() == current)
     }
 
     /// What is said is to be sent; nothing may be late.

@@ -1,5 +1,6 @@
 //! The outbox of one client.
-ghost use Rattle.std.specs.Prelude.{◌≡◌, ◌<◌, [], drop, length, slice_get, OnErr, OnOk};
+ghost use Rattle.std.specs.Prelude.{◌≡◌, ◌↔◌, ◌<◌, [], drop, length, slice_get, IsTrue, OnErr};
+ghost use Rattle.std.specs.Prelude.{OnOk};
 ghost use Rattle.cb_dispatch.specs.Outboxes.{Moves};
 
 use cb_frame::Frame;
@@ -54,6 +55,13 @@ impl Queue {
         ensures rest { self.new ≡ drop 1 self.old }
     {
         self.frames.pop_front()
+    }
+
+    /// Whether there are no frames.
+    pub(crate) fn is_empty(&self) -> bool
+        ensures { IsTrue result ↔ (self.now ≡ []) }
+    {
+        self.frames.is_empty()
     }
 
     /// No frames are left.

@@ -50,8 +50,9 @@ fn write_and_report<R: Wait, S: Alter>(
     ensures shape { (result ≡ Err ShelfFault.Shape) ↔ ¬ Fits shelf.old.limits batch.now }
 {
     shelf.write(batch)?;
-    let reported = office.lock(rt).station_mut().flushed(alloc, batch.number());
-    office.tell();
+    let mut shared = office.lock(rt);
+    let reported = shared.station_mut().flushed(alloc, batch.number());
+    office.tell_clients(&shared);
     match reported {
         Ok(()) => Ok(()),
         Err(_) => Err(ShelfFault::Memory),

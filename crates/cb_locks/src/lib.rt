@@ -5,6 +5,9 @@
 //! 1997). [`ReadLocks`] keeps which pages are locked and what is due of each. A [`CallbackDue`]
 //! stands for a callback that was taken and has no answer yet: it can't be copied or let go, so
 //! each callback is answered, and once.
+//!
+//! A page in use is handed out once, at the end of its transaction. An example that is run as a
+//! test is `pages_in_use_are_given_back_at_the_end` in `cb_client_tests`.
 #![tactic(auto)]
 
 mod callback_due;

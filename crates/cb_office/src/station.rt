@@ -1,5 +1,5 @@
 //! The type, its opening, and what it shows.
-ghost use Rattle.std.specs.Prelude.{◌≡◌, ◌≢◌, ◌↔◌, ℕ, [], true, false, IfErr, IfOk, IfSome};
+ghost use Rattle.std.specs.Prelude.{◌≡◌, ◌≢◌, ◌↔◌, ◌<◌, ℕ, [], true, false, IfErr, IfOk, IfSome};
 ghost use Rattle.std.specs.Prelude.{IsTrue, None, OnOk, Ok, replicate};
 ghost use Rattle.std.specs.Option.{option_map};
 ghost use Rattle.cb_agreement.specs.Agreement.{Meet};
@@ -25,15 +25,15 @@ use cb_frame::Frame;
 use cb_hands::Hand;
 use cb_history::Entry;
 use cb_joined::JoinedHands;
-use cb_page::Limits;
+use cb_page::{ClientNo, Limits};
 use std::alloc::{AllocError, Global};
 use std::marker::Model;
 
 /// A server that several clients share, with what each joined client's hand shows, what is to be
 /// sent to each, and the history of commits.
 ///
-/// What holds of it whenever nobody has it, `history` says. Every call but `meet` and `history`
-/// takes memory.
+/// What holds of it whenever nobody has it, `history` says. Every call but `meet`, `history` and
+/// `has_frame_for` takes memory.
 #[derive(Drop)]
 pub struct Station {
     dispatcher: Dispatcher,
@@ -105,6 +105,15 @@ impl Station {
         } else {
             Err(OfficeFault::Foreign)
         }
+    }
+
+    /// Whether a frame is to be sent to the client, so that `collect` answers one. Nothing is sent to
+    /// a client that isn't there.
+    pub fn has_frame_for(&self, client: ClientNo) -> bool
+        ensures { IsTrue result ↔ ((client < self.now.dispatcher.server.limits.clients)
+            × (outbox_of self.now client ≢ [])) }
+    {
+        self.dispatcher.limits().has_client(client.get()) && self.dispatcher.has_frame_for(client)
     }
 
     /// What is to be written to disk next; `None` where every commit is on disk.

@@ -3,6 +3,9 @@
 //!
 //! In contracts a [`Server`] is the protocol's server: each call answers and does what the
 //! protocol's tables say, of whatever list of calls went before.
+//!
+//! What holds whatever frames came is in [`laws`]. An example that is run as a test is
+//! `callbacks_at_the_server` in `cb_served_tests`.
 #![tactic(auto)]
 
 mod engine;

@@ -5,9 +5,15 @@ ghost use Rattle.cb_shared.specs.Shared.{AreFlags};
 
 use crate::shared_station::SharedStation;
 use cb_office::Station;
+use cb_page::ClientNo;
+use std::array;
 use std::sync::{Condvar, Mutex, MutexGuard, Wait};
 
-/// A station under one lock. Who changes it tells those that wait.
+/// As many as there are clients at most.
+const CLIENTS: usize = 32;
+
+/// A station under one lock. Each client waits by itself for a frame, so that nobody is woken for
+/// another's; whoever waits for anything else is told of commits, closing and halting.
 ///
 /// What a call that takes the lock itself does with the station no contract can say: it is shown by
 /// tests.
@@ -15,6 +21,7 @@ use std::sync::{Condvar, Mutex, MutexGuard, Wait};
 pub struct Office {
     shared: Mutex<SharedStation>,
     changed: Condvar,
+    frames: [Condvar; CLIENTS],
 }
 
 impl Office {
@@ -23,6 +30,7 @@ impl Office {
         Office {
             shared: Mutex::new(SharedStation::new(station, workers)),
             changed: Condvar::new(),
+            frames: array::from_fn(|_client| Condvar::new()),
         }
     }
 
@@ -39,8 +47,8 @@ impl Office {
         shared
     }
 
-    /// Lets the lock go until somebody tells of a change, and takes it again. It may return for no
-    /// reason.
+    /// Lets the lock go until somebody tells of a commit, closes or halts the office, and takes it
+    /// again. It may return for no reason.
     pub fn wait<'a, R: Wait>(
         &'a self,
         rt: &R,
@@ -55,9 +63,45 @@ impl Office {
         shared
     }
 
-    /// Tells those that wait of a change.
+    /// Lets the lock go until there may be a frame to that client, or the office is halted, and takes
+    /// it again. It may return for no reason.
+    pub fn wait_for_frame<'a, R: Wait>(
+        &'a self,
+        rt: &R,
+        shared: MutexGuard<'a, SharedStation>,
+        client: ClientNo,
+    ) -> MutexGuard<'a, SharedStation>
+        ensures sound { IsStation (mutex_guard_value result).station }
+        ensures flags { AreFlags (mutex_guard_value result) }
+    {
+        let shared = self.frames[client.index()].wait(rt, shared);
+        // What holds of every station under the lock, `station` says.
+        let _sound = shared.station();
+        shared
+    }
+
+    /// Tells those clients to which there is a frame; the lock is held.
+    pub fn tell_clients(&self, shared: &SharedStation) {
+        let station = shared.station();
+        for client in 0..CLIENTS as u16 {
+            let client = ClientNo::new(client);
+            if station.has_frame_for(client) {
+                self.frames[client.index()].notify_all();
+            }
+        }
+    }
+
+    /// Tells who waits for commits, closing or halting.
     pub fn tell(&self) {
         self.changed.notify_all();
+    }
+
+    /// Tells everybody.
+    pub fn tell_all(&self) {
+        self.tell();
+        for waiting in &self.frames {
+            waiting.notify_all();
+        }
     }
 
     /// No more jobs come: the flusher ends when all is written.
@@ -69,6 +113,6 @@ impl Office {
     /// Closes the office, and every call that waits for it gives up.
     pub fn halt<R: Wait>(&self, rt: &R) {
         self.lock(rt).halt();
-        self.tell();
+        self.tell_all();
     }
 }

@@ -1,7 +1,7 @@
 //! Closing, halting, and waiting for it.
 use cb_commit::Store;
 use cb_office::Station;
-use cb_page::Limits;
+use cb_page::{ClientNo, Limits};
 use cb_shared::Office;
 use std::alloc::Global;
 use std::sync::Wait;
@@ -109,5 +109,67 @@ fn those_that_wait_are_woken(rt: HostRuntime) -> Result<(), Fail> {
     let second = two_are_woken(&rt, &halted, true);
     assert_eq!(rt; (first, second), (2, 2));
     assert_eq!(rt; flags(&rt, &halted), (true, true));
+    Ok(())
+}
+
+/// Waits for a frame to the client, or until the office is halted. `entered` counts who holds the
+/// lock or waits, and who was woken by a frame.
+fn wait_for_frame<R: Wait>(rt: &R, office: &Office, client: ClientNo, entered: &AtomicU64) {
+    let mut shared = office.lock(rt);
+    entered.fetch_add(1, Ordering::SeqCst);
+    for _ in rt.forever() {
+        if shared.station().has_frame_for(client) {
+            entered.fetch_add(1, Ordering::SeqCst);
+            return;
+        }
+        if shared.is_halted() {
+            return;
+        }
+        shared = office.wait_for_frame(rt, shared, client);
+    }
+    unreachable!()
+}
+
+/// The client joins, so that there is a Welcome to it, and is told; where it can't join the office is
+/// halted.
+fn greet<R: Wait>(rt: &R, alloc: Global, office: &Office, client: ClientNo) {
+    let mut shared = office.lock(rt);
+    let joined = shared.station_mut().join(alloc, client);
+    office.tell_clients(&shared);
+    drop(shared);
+    match joined {
+        Ok(hand) => hand.abandon(),
+        Err(_) => office.halt(rt),
+    }
+}
+
+/// A thread waits for a frame to client 1, and this one has it greeted.
+fn one_is_greeted<R: Wait + thread::Threads + Sync>(rt: &R, alloc: Global, office: &Office) -> u64 {
+    let counter = AtomicU64::new(0);
+    let entered = &counter;
+    let client = ClientNo::new(1);
+    thread::scope(thread::scope_env(), rt, |scope| {
+        if scope
+            .spawn(move || wait_for_frame(rt, office, client, entered))
+            .is_err()
+        {
+            entered.fetch_add(1, Ordering::SeqCst);
+        }
+        for _ in rt.forever() {
+            if entered.load(Ordering::SeqCst) >= 1 {
+                break;
+            }
+            thread::yield_now();
+        }
+        greet(rt, alloc, office, client);
+    });
+    counter.load(Ordering::SeqCst)
+}
+
+#[test]
+fn client_is_woken_by_its_frame(rt: HostRuntime) -> Result<(), Fail> {
+    let office = Office::new(two_pages(rt.alloc(), 2)?, 1);
+    let entered = one_is_greeted(&rt, rt.alloc(), &office);
+    assert_eq!(rt; entered, 2);
     Ok(())
 }

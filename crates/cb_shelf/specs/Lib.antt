@@ -2,3 +2,4 @@ pub mod Reading
 pub mod Opening
 pub mod Flushing
 pub mod Events
+pub mod Newer

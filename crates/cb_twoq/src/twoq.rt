@@ -15,7 +15,7 @@ ghost use Rattle.cb_twoq.specs.Indexed.{cached};
 use crate::chooser::{ChooseFault, Chooser};
 use crate::lists::Lists;
 use crate::twoq::newcomers::bring_in;
-use crate::twoq::places::{Place, no_places, place_of, put_place};
+use crate::twoq::places::{Place, place_of, put_place};
 use crate::twoq::queues::IndexedQueues;
 use crate::twoq::steps::{copied, reversed};
 use cb_page::{Limits, PageNo, PageSet};
@@ -42,7 +42,6 @@ pub struct Parts<'a> {
 #[derive(Debug, Drop)]
 pub struct TwoQ {
     queues: IndexedQueues,
-    places: Vec<Place>,
 }
 
 impl Model for TwoQ {
@@ -57,7 +56,7 @@ impl Model for TwoQ {
 
     ghost invariant = { λ two_q. AreQueues (queues_of two_q.queues)
         × (two_q.queues.am.cap ≡ two_q.queues.slots + 1)
-        × ArePlaces two_q.places.items (queues_of two_q.queues) };
+        × ArePlaces two_q.queues.places.items (queues_of two_q.queues) };
 }
 
 impl TwoQ {
@@ -68,7 +67,6 @@ impl TwoQ {
     {
         Ok(TwoQ {
             queues: IndexedQueues::new(alloc, slots, kin, kout)?,
-            places: no_places(alloc)?,
         })
     }
 
@@ -128,11 +126,11 @@ impl Chooser for TwoQ {
         ensures within { length (members_of self.new) ≤ self.new.slots }
         ensures slots { self.new.slots ≡ self.old.slots }
     {
-        let place = place_of(&self.places, page);
+        let place = place_of(&self.queues.places, page);
         if self.queues.renew(page, place) {
             return Ok(None);
         }
-        bring_in(&mut self.queues, &mut self.places, page, fixed)
+        bring_in(&mut self.queues, page, fixed)
     }
 
     fn forget(&mut self, page: PageNo)
@@ -141,6 +139,6 @@ impl Chooser for TwoQ {
         ensures slots { self.new.slots ≡ self.old.slots }
     {
         self.queues.forget(page);
-        put_place(&mut self.places, page, Place::Out);
+        put_place(&mut self.queues.places, page, Place::Out);
     }
 }

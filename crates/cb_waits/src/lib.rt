@@ -4,6 +4,10 @@
 //! Recovery in Database Systems, chapter 3), whose cycles are deadlocks, over at most 32 clients:
 //! for each client the set of those that it waits for. Whoever owns the queues of asks keeps the
 //! [`View`] up to date, row by row, as asks enter and leave them.
+//!
+//! Its law is [`waits_by_place`]: a view with an edge for each place in a queue answers as the
+//! protocol's deadlock test. An example that is run as a test is `cycle_of_three` in
+//! `cb_server_tests`.
 #![tactic(auto)]
 
 mod laws;

@@ -11,9 +11,7 @@ ghost use Rattle.cb_frame_types.specs.Grammar.{Fits};
 ghost use Rattle.cb_client.specs.Lending.{client_ends_as};
 ghost use Rattle.cb_client_engine.specs.declared.standing.Ask.TheVariants.{Nothing};
 ghost use Rattle.cb_client_engine.specs.declared.standing.Stage.TheVariants.{Idle, Open};
-ghost use Rattle.cb_copies.specs.CopiesState.{client_with, content_at, copy_at};
-ghost use Rattle.cb_client_engine.specs.ClientState.{HasRoomLeft};
-ghost use Rattle.cb_protocol.specs.Client.{Client as TableClient};
+ghost use Rattle.cb_copies.specs.CopiesState.{content_at, copy_at};
 ghost use Rattle.cb_outbox.specs.Messages.{message_of};
 ghost use Rattle.cb_protocol.specs.Answers.{AnsweredOk};
 ghost use Rattle.cb_protocol.specs.ClientCalls.{CallBegin, CallHello, CallPeek};
@@ -174,37 +172,24 @@ impl<Q: Chooser> Client<Q> {
         Ok(())
     }
 
-    /// That the page may be read: its bytes are in the pool, or there is room for them.
-    fn check_fetch(&self, page: PageNo) -> Result<(), ClientFault>
-        ensures decided { IsDecided self.now (CallRead page) result }
-        ensures page { IsOk result → page < self.now.copies.limits.pages }
-        ensures room { IsOk result → is_some (content_at self.now.copies page) ≡ false
-            → (other : TableClient) → HasRoomLeft (limits_at self.now)
-            (client_with self.now.copies other) }
-    {
-        self.check_page(page)?;
-        if self.is_here(page) {
-            return Ok(());
-        }
-        if !self.engine.copies.has_room() {
-            return Err(ClientFault::PoolFull);
-        }
-        Ok(())
-    }
-
-    /// Reads the page where its bytes are in the pool; else an ask for it is out.
+    /// Reads the page where its bytes are in the pool; else an ask for it is out, if there is room
+    /// for them.
     fn read_or_ask(&mut self, page: PageNo) -> Result<(), ClientFault>
         ensures decided { IsDecided self.old (CallRead page) result }
         ensures after { self.new ≡ after_read self.old page }
         ensures called { Called self.old (CallRead page) self.new }
         ensures page { IsOk result → page < length self.old.locks.locked }
     {
-        self.check_fetch(page)?;
-        if self.engine.copies.read(page).is_some() {
+        self.check_page(page)?;
+        if self.is_here(page) {
+            let _bytes = self.engine.copies.read(page);
             self.engine.locks.lock(page);
-        } else {
-            self.engine.ask = Ask::Read(page);
+            return Ok(());
         }
+        if !self.engine.copies.has_room() {
+            return Err(ClientFault::PoolFull);
+        }
+        self.engine.ask = Ask::Read(page);
         Ok(())
     }
 

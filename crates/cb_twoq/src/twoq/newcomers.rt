@@ -8,7 +8,7 @@ ghost use Rattle.cb_twoq.specs.Indexed.{queues_of};
 ghost use Rattle.cb_twoq.specs.Places.{ArePlaces};
 
 use crate::chooser::ChooseFault;
-use crate::twoq::places::{Place, come_in};
+use crate::twoq::places::come_in;
 use crate::twoq::queues::IndexedQueues;
 use crate::twoq::steps::is_in;
 use cb_page::{PageNo, PageSet};
@@ -19,13 +19,12 @@ use cb_page::{PageNo, PageSet};
 #[inline(never)]
 pub(crate) fn bring_in(
     queues: &mut IndexedQueues,
-    places: &mut Vec<Place>,
     page: PageNo,
     fixed: &PageSet,
 ) -> Result<Option<PageNo>, ChooseFault>
     requires queues { AreQueues (queues_of queues.old) }
     requires cap { queues.old.am.cap ≡ queues.old.slots + 1 }
-    requires places { ArePlaces places.old.items (queues_of queues.old) }
+    requires places { ArePlaces queues.old.places.items (queues_of queues.old) }
     requires out { (has (queues_of queues.old).am page || has (queues_of queues.old).a1in page)
         ≡ false }
     ensures two_q { IfOk result (λ gone.
@@ -38,7 +37,7 @@ pub(crate) fn bring_in(
         ↔ IsFull queues.old.slots fixed.now (members_of (queues_of queues.old)) page }
     ensures err { OnErr result (queues_of queues.new ≡ queues_of queues.old) }
     ensures queues { AreQueues (queues_of queues.new) }
-    ensures places { ArePlaces places.new.items (queues_of queues.new) }
+    ensures places { ArePlaces queues.new.places.items (queues_of queues.new) }
     ensures cap { queues.new.am.cap ≡ queues.new.slots + 1 }
     ensures slots { queues.new.slots ≡ queues.old.slots }
 {
@@ -47,6 +46,6 @@ pub(crate) fn bring_in(
     };
     let was_remembered = is_in(&queues.a1out, page);
     let gone = queues.enter(page, slot, was_remembered)?;
-    come_in(places, page, was_remembered, &gone);
+    come_in(&mut queues.places, page, was_remembered, &gone);
     Ok(gone)
 }

@@ -1,15 +1,16 @@
 //! The steps of 2Q on a cache and two sets.
 
-ghost use Rattle.std.specs.Prelude.{◌≡◌, ◌||◌, ◌<◌, ◌≤◌, ◌+◌, false, length, IfOk, OnOk, OnErr};
+ghost use Rattle.std.specs.Prelude.{◌≡◌, ◌||◌, ◌<◌, ◌≤◌, ◌+◌, false, length, replicate, IfOk};
+ghost use Rattle.std.specs.Prelude.{OnOk, OnErr};
 ghost use Rattle.indexmap.specs.IndexSet.{spare};
 ghost use Rattle.cb_twoq.specs.Pages.{has};
 ghost use Rattle.cb_twoq.specs.Queues.{TwoQState, AreQueues, empty, reclaim, page_of, let_go};
 ghost use Rattle.cb_twoq.specs.Queues.{enter, renew, forget, members_of};
 ghost use Rattle.cb_twoq.specs.Indexed.{queues_of, place, IsSlotOf, IsOff};
-ghost use Rattle.cb_twoq.specs.Places.{place_in};
+ghost use Rattle.cb_twoq.specs.Places.{place_in, Out};
 
 use crate::slot::Slot;
-use crate::twoq::places::Place;
+use crate::twoq::places::{Place, no_places};
 use crate::twoq::steps::{add, first_unfixed, last_unfixed, pop, put, remember, renew, take_off};
 use cb_page::{PageNo, PageSet};
 use indexmap::IndexSet;
@@ -17,7 +18,9 @@ use lru::LruCache;
 use std::alloc::{AllocError, Global};
 use std::num::NonZeroUsize;
 
-/// The settings of 2Q and its three lists: A1in and A1out oldest first, Am newest first.
+/// The settings of 2Q, its three lists (A1in and A1out oldest first, Am newest first), and which
+/// list of pages in slots has each page. Its methods change the lists alone: whoever calls them puts
+/// the places.
 ///
 /// The cache holds one page more than there are slots, so that it never drops one by itself.
 #[derive(Debug, Drop)]
@@ -28,6 +31,7 @@ pub(crate) struct IndexedQueues {
     pub(crate) a1in: IndexSet<PageNo>,
     pub(crate) am: LruCache<PageNo, ()>,
     pub(crate) a1out: IndexSet<PageNo>,
+    pub(crate) places: Vec<Place>,
 }
 
 impl IndexedQueues {
@@ -40,6 +44,7 @@ impl IndexedQueues {
     ) -> Result<IndexedQueues, AllocError>
         ensures queues { IfOk result (λ queues. queues_of queues ≡ empty slots kin kout) }
         ensures cap { IfOk result (λ queues. queues.am.cap ≡ slots + 1) }
+        ensures places { IfOk result (λ queues. queues.places.items ≡ replicate 4096 Out) }
     {
         let Some(cap) = slots.checked_add(1).and_then(NonZeroUsize::new) else {
             return Err(AllocError);
@@ -51,6 +56,7 @@ impl IndexedQueues {
             a1in: IndexSet::with_capacity(alloc, cap.get())?,
             am: LruCache::new(alloc, cap)?,
             a1out: IndexSet::with_capacity(alloc, kout.saturating_add(1))?,
+            places: no_places(alloc)?,
         })
     }
 
@@ -62,6 +68,7 @@ impl IndexedQueues {
         ensures queues { queues_of self.new ≡ renew page (queues_of self.old) }
         ensures cap { self.new.am.cap ≡ self.old.am.cap }
         ensures slots { self.new.slots ≡ self.old.slots }
+        ensures places { self.new.places.items ≡ self.old.places.items }
     {
         match place {
             Place::Out => false,
@@ -105,6 +112,7 @@ impl IndexedQueues {
         ensures room { OnOk result (0 < spare self.new.a1out) }
         ensures cap { self.new.am.cap ≡ self.old.am.cap }
         ensures slots { self.new.slots ≡ self.old.slots }
+        ensures places { self.new.places.items ≡ self.old.places.items }
     {
         self.a1out.reserve(1)?;
         if was_remembered {
@@ -125,6 +133,7 @@ impl IndexedQueues {
         ensures queues { queues_of self.new ≡ let_go slot (queues_of self.old) }
         ensures cap { self.new.am.cap ≡ self.old.am.cap }
         ensures slots { self.new.slots ≡ self.old.slots }
+        ensures places { self.new.places.items ≡ self.old.places.items }
     {
         match slot {
             Slot::Free => None,
@@ -158,6 +167,7 @@ impl IndexedQueues {
         ensures err { OnErr result (queues_of self.new ≡ queues_of self.old) }
         ensures cap { self.new.am.cap ≡ self.old.am.cap }
         ensures slots { self.new.slots ≡ self.old.slots }
+        ensures places { self.new.places.items ≡ self.old.places.items }
     {
         self.place(page, was_remembered)?;
         Ok(self.let_go(slot))
@@ -168,6 +178,7 @@ impl IndexedQueues {
         ensures queues { queues_of self.new ≡ forget page (queues_of self.old) }
         ensures cap { self.new.am.cap ≡ self.old.am.cap }
         ensures slots { self.new.slots ≡ self.old.slots }
+        ensures places { self.new.places.items ≡ self.old.places.items }
     {
         take_off(&mut self.a1in, page);
         pop(&mut self.am, page);

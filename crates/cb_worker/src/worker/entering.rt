@@ -30,7 +30,7 @@ impl<Q: Chooser> Worker<Q> {
             return Err(WorkerFault::Office(OfficeFault::Foreign));
         }
         let hand = office.lock(rt).station_mut().join(alloc, client)?;
-        office.tell();
+        office.tell_all();
         let made = Client::new(alloc, client, hand.incarnation(), limits, chooser);
         let Ok(client) = made else {
             unjoin(rt, alloc, office, hand);
@@ -71,7 +71,7 @@ impl<Q: Chooser> Worker<Q> {
             .lock(rt)
             .station_mut()
             .restart(alloc, hand, incarnation);
-        office.tell();
+        office.tell_all();
         match restarted {
             Ok(hand) => Worker::new(alloc, renewed, hand).welcomed(rt, alloc, office),
             Err((fault, hand)) => {
@@ -104,7 +104,7 @@ impl<Q: Chooser> Worker<Q> {
             said,
         } = self;
         let left = office.lock(rt).station_mut().leave(alloc, hand);
-        office.tell();
+        office.tell_all();
         match left {
             Ok(()) => Ok(()),
             Err((fault, hand)) => {
@@ -182,7 +182,7 @@ impl<Q: Chooser> Worker<Q> {
             if self.is_welcomed() {
                 return Ok(());
             }
-            shared = office.wait(rt, shared);
+            shared = office.wait_for_frame(rt, shared, self.hand.client());
         }
         unreachable!()
     }
@@ -206,5 +206,5 @@ fn unjoin<R: Wait>(rt: &R, alloc: Global, office: &Office, hand: Hand) {
     if let Err((_, hand)) = office.lock(rt).station_mut().leave(alloc, hand) {
         hand.abandon();
     }
-    office.tell();
+    office.tell_all();
 }

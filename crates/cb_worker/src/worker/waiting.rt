@@ -49,7 +49,7 @@ impl<Q: Chooser> Worker<Q> {
             let hands_in = !self.said.is_empty();
             let turned = self.turn_at(alloc, shared.station_mut());
             if hands_in {
-                office.tell();
+                office.tell_clients(shared);
             }
             if !turned? {
                 return Ok(());
@@ -126,7 +126,7 @@ impl<Q: Chooser> Worker<Q> {
             if self.is_aborted() {
                 return Ok(false);
             }
-            shared = office.wait(rt, shared);
+            shared = office.wait_for_frame(rt, shared, self.hand.client());
         }
         unreachable!()
     }
@@ -167,7 +167,7 @@ impl<Q: Chooser> Worker<Q> {
             if self.is_aborted() {
                 return Ok(Wanted::Aborted);
             }
-            shared = office.wait(rt, shared);
+            shared = office.wait_for_frame(rt, shared, self.hand.client());
         }
         unreachable!()
     }
@@ -233,7 +233,7 @@ impl<Q: Chooser> Worker<Q> {
     {
         while !self.said.is_empty() {
             let handed = self.hand_in(alloc, shared.station_mut());
-            office.tell();
+            office.tell_clients(shared);
             let _handed = handed?;
         }
         Ok(())
@@ -260,13 +260,14 @@ impl<Q: Chooser> Worker<Q> {
         }
         let committed = self.commit_at(alloc, shared.station_mut());
         office.tell();
+        office.tell_clients(&shared);
         let _number = committed?;
         for _ in rt.forever() {
             self.serve_at(rt, alloc, office, &mut shared)?;
             if let Some(ended) = self.ended() {
                 return Ok(ended);
             }
-            shared = office.wait(rt, shared);
+            shared = office.wait_for_frame(rt, shared, self.hand.client());
         }
         unreachable!()
     }

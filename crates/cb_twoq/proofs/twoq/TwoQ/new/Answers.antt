@@ -6,4 +6,4 @@ use Rattle.cb_twoq.proofs.Placing.{none_placed}
 use Rattle.cb_twoq.proofs.twoq.TwoQ.new.Goals as goal
 
 pub invariant_of-result : goal.invariant_of-result
-invariant_of-result c = (subst AreQueues (sym c.in_ok-new.ensures.queues) (none_queued _ _ _), search rules, subst (λ (q : TwoQState). ArePlaces c.in_ok-no_places.field-0.items q) (sym c.in_ok-new.ensures.queues) (none_placed _ _ _ _ c.in_ok-no_places.ensures))
+invariant_of-result c = (subst AreQueues (sym c.in_ok-new.ensures.queues) (none_queued _ _ _), search rules, subst (λ (q : TwoQState). ArePlaces c.in_ok-new.field-0.places.items q) (sym c.in_ok-new.ensures.queues) (none_placed _ _ _ _ c.in_ok-new.ensures.places))

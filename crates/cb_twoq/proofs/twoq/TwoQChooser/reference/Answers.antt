@@ -1,8 +1,9 @@
-use Rattle.std.proofs.Common.{◌≡◌, None, Err, rules, refl, sym, ◌∙◌, subst, arith}
+use Rattle.std.proofs.Common.{◌≡◌, List, None, Err, rules, refl, sym, ◌∙◌, subst, arith}
 use Rattle.cb_twoq.specs.Law.{Chooses, IsFull}
 use Rattle.cb_twoq.specs.Queues.{TwoQState, members_of}
 use Rattle.cb_twoq.specs.declared.chooser.ChooseFault.TheVariants as fault
 use Rattle.cb_twoq.specs.Indexed.{queues_of}
+use Rattle.cb_twoq.specs.Places.{ArePlaces, Place}
 use Rattle.cb_twoq.proofs.Indexing.{referred_member, now_slot, referred_newcomer, newcomer_not_full, newcomer_refused}
 use Rattle.cb_twoq.proofs.Placing.{renewed_places}
 use Rattle.cb_twoq.proofs.twoq.TwoQChooser.reference.Goals as goal
@@ -11,7 +12,8 @@ pub invariant_of-self : goal.invariant_of-self
 invariant_of-self c = (
   (referred_member c.args.fixed.now _ _ c.args.page c.self.invariant.0 (sym c.renew.ensures.there ∙ c.if-renew.true) c.renew.ensures.queues).are,
   let cap = c.renew.ensures.cap in let slots = c.renew.ensures.slots in let was = c.self.invariant.1 in omega arith,
-  renewed_places _ _ _ c.args.page c.self.invariant.2 c.renew.ensures.queues,
+  subst (λ (l : List Place). ArePlaces l (queues_of c.renew.new.self)) (sym c.renew.ensures.places)
+      (renewed_places _ _ _ c.args.page c.self.invariant.2 c.renew.ensures.queues),
 )
 
 pub returns-then-renew-clause-ok : goal.returns-then-renew-clause-ok

@@ -1,7 +1,7 @@
-use Rattle.std.proofs.Common.{◌≡◌, Err, rules, refl, sym, ◌∙◌, ap, subst}
+use Rattle.std.proofs.Common.{◌≡◌, List, Err, rules, refl, sym, ◌∙◌, ap, subst}
 use Rattle.cb_twoq.specs.Queues.{TwoQState, renew, AreQueues, page_of}
 use Rattle.cb_twoq.specs.Indexed.{queues_of}
-use Rattle.cb_twoq.specs.Places.{ArePlaces, ComesIn}
+use Rattle.cb_twoq.specs.Places.{ArePlaces, ComesIn, Place}
 use Rattle.cb_twoq.specs.declared.chooser.ChooseFault.TheVariants as fault
 use Rattle.cb_twoq.proofs.Referred.{off_both}
 use Rattle.cb_twoq.proofs.Indexing.{now_slot, referred_newcomer, newcomer_not_full, newcomer_refused}
@@ -48,7 +48,8 @@ returns-clause-places c =
     let off = off_both _ _ c.requires.out in
     let slot = now_slot c.args.fixed.now _ _ c.args.page c.requires.queues c.requires.out (as_they_are _ c.args.page c.requires.out) c.in-Some.slot (sym c.in-Some.ensures) in
     subst (λ (q : TwoQState). ArePlaces c.come_in.new.places.items q) (sym c.in_ok-gone.ensures.ok)
-    (entered_places (queues_of c.args.queues.now) c.args.page c.requires.queues c.args.places.now.items c.come_in.new.places.items c.requires.places off.0 off.1
+    (entered_places (queues_of c.args.queues.now) c.args.page c.requires.queues c.args.queues.now.places.items c.come_in.new.places.items c.requires.places off.0 off.1
     c.in-Some.slot slot
-    (subst (λ b. ComesIn c.args.places.now.items c.args.page b (page_of c.in-Some.slot) c.come_in.new.places.items) c.is_in-was_remembered.ensures
-    (subst (λ g. ComesIn c.args.places.now.items c.args.page c.is_in-was_remembered.result g c.come_in.new.places.items) c.in_ok-gone.ensures.gone c.come_in.ensures)))
+    (subst (λ b. ComesIn c.args.queues.now.places.items c.args.page b (page_of c.in-Some.slot) c.come_in.new.places.items) c.is_in-was_remembered.ensures
+    (subst (λ g. ComesIn c.args.queues.now.places.items c.args.page c.is_in-was_remembered.result g c.come_in.new.places.items) c.in_ok-gone.ensures.gone
+    (subst (λ (l : List Place). ComesIn l c.args.page c.is_in-was_remembered.result c.in_ok-gone.gone c.come_in.new.places.items) c.in_ok-gone.ensures.places c.come_in.ensures))))

@@ -1,0 +1,12 @@
+pub mod Lists
+pub mod Texts
+pub mod Replacing
+pub mod Equal
+pub mod Putting
+pub mod Selecting
+pub mod Marking
+pub mod Counting
+pub mod Paging
+pub mod Holding
+pub mod Creating
+pub mod Laying

@@ -1,0 +1,58 @@
+-- What the statements of a batch make of the tables of a shelf, as laws.
+use Rattle.std.specs.Prelude.{◌≡◌, false, ℕ, List}
+use Rattle.sqlite.specs.Store.{Ghosts}
+use Rattle.sqlite.specs.Effect.{Database}
+use Rattle.cb_page.specs.Bounds.{Bounds}
+use Rattle.cb_commit.specs.Stores.{StoreState, IsOf, IsSound}
+use Rattle.cb_commit.specs.Batches.{BatchState, after_batch}
+use Rattle.cb_statements.specs.Statements.{Makes, MakesAll, page_statement, part_statement}
+use Rattle.cb_statements.specs.Statements.{mark_statement, batch_statements, part_at}
+use Rattle.cb_statements.specs.Writing.{Fits}
+use Rattle.cb_shelf.specs.Newer.{HoldsNewer}
+use Rattle.cb_shelf.specs.Opening.{laid, table_statements}
+use Rattle.cb_rows.specs.Tables.{no_schema}
+use Rattle.cb_rows.specs.Rows.{IsShelf, PutsVersion, PutsPart, SetsNumber, IsMarked, HasStore}
+use Rattle.cb_rows.specs.Rows.{IsAsLarge, HasNoRows}
+
+module _ {S : Type 0} (g : Ghosts S) where
+  -- the statements that create the tables, where there is none
+  abbrev pub TablesAreMade : Type 0
+  TablesAreMade = (before after : Database) → before.schema ≡ no_schema
+      → MakesAll g table_statements before after → IsShelf after × HasNoRows after
+
+  -- the statements that make the tables with a store, where there is none
+  abbrev pub StoresAreLaid : Type 0
+  StoresAreLaid = (store : StoreState) (before after : Database) → IsSound store
+      → before.schema ≡ no_schema → MakesAll g (laid store false) before after
+      → HasStore after store
+
+  -- the statement of a page's version
+  abbrev pub VersionsArePut : Type 0
+  VersionsArePut = (before after : Database) (page version : ℕ) → IsShelf before
+      → Makes g (page_statement page version) before after → PutsVersion page version before after
+
+  -- the statement of one part of a page
+  abbrev pub PartsArePut : Type 0
+  PartsArePut = (before after : Database) (page place : ℕ) (bytes : List ℕ) → IsShelf before
+      → Makes g (part_statement page bytes place) before after
+      → PutsPart page place (part_at bytes place) before after
+
+  -- the statement of the last commit's number
+  abbrev pub NumbersAreSet : Type 0
+  NumbersAreSet = (before after : Database) (number old page_size pages : ℕ) → IsShelf before
+      → IsMarked before old page_size pages → Makes g (mark_statement number) before after
+      → SetsNumber number page_size pages before after
+
+  -- the statements of a batch, by the rows
+  abbrev pub BatchesAreWritten : Type 0
+  BatchesAreWritten = (limits : Bounds) (batch : BatchState) (store : StoreState)
+      (before after : Database) → IsOf limits store → Fits limits batch → HasStore before store
+      → MakesAll g (batch_statements batch) before after
+      → HasStore after (after_batch store batch) × IsAsLarge before after
+
+  -- the statements of a batch, by what the tables answer
+  abbrev pub BatchesAreHeld : Type 0
+  BatchesAreHeld = (limits : Bounds) (store : StoreState) (batch : BatchState)
+      (before after : Database) → IsShelf before → IsOf limits store → HoldsNewer before store
+      → Fits limits batch → MakesAll g (batch_statements batch) before after
+      → IsShelf after × HoldsNewer after (after_batch store batch)
