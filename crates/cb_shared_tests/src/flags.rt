@@ -67,15 +67,20 @@ fn wait_closed<R: Wait>(rt: &R, office: &Office, entered: &AtomicU64) {
     unreachable!()
 }
 
-/// Closes the office once all of so many wait: each counts itself under the lock, which it lets go
-/// only by waiting.
-fn close_when<R: Wait>(rt: &R, office: &Office, entered: &AtomicU64, waiting: u64, halts: bool) {
+/// Until so many have entered.
+fn spin_until<R: Wait>(rt: &R, entered: &AtomicU64, count: u64) {
     for _ in rt.forever() {
-        if entered.load(Ordering::SeqCst) >= waiting {
-            break;
+        if entered.load(Ordering::SeqCst) >= count {
+            return;
         }
         thread::yield_now();
     }
+}
+
+/// Closes the office once all of so many wait: each counts itself under the lock, which it lets go
+/// only by waiting.
+fn close_when<R: Wait>(rt: &R, office: &Office, entered: &AtomicU64, waiting: u64, halts: bool) {
+    spin_until(rt, entered, waiting);
     if halts {
         office.halt(rt);
     } else {
@@ -112,9 +117,10 @@ fn those_that_wait_are_woken(rt: HostRuntime) -> Result<(), Fail> {
     Ok(())
 }
 
-/// Waits for a frame to the client, or until the office is halted. `entered` counts who holds the
-/// lock or waits, and who was woken by a frame.
-fn wait_for_frame<R: Wait>(rt: &R, office: &Office, client: ClientNo, entered: &AtomicU64) {
+/// Waits for a frame to client 1, or until the office is halted. `entered` counts who holds the lock
+/// or waits, and who was woken by a frame.
+fn wait_for_frame<R: Wait>(rt: &R, office: &Office, entered: &AtomicU64) {
+    let client = ClientNo::new(1);
     let mut shared = office.lock(rt);
     entered.fetch_add(1, Ordering::SeqCst);
     for _ in rt.forever() {
@@ -147,21 +153,15 @@ fn greet<R: Wait>(rt: &R, alloc: Global, office: &Office, client: ClientNo) {
 fn one_is_greeted<R: Wait + thread::Threads + Sync>(rt: &R, alloc: Global, office: &Office) -> u64 {
     let counter = AtomicU64::new(0);
     let entered = &counter;
-    let client = ClientNo::new(1);
     thread::scope(thread::scope_env(), rt, |scope| {
         if scope
-            .spawn(move || wait_for_frame(rt, office, client, entered))
+            .spawn(move || wait_for_frame(rt, office, entered))
             .is_err()
         {
             entered.fetch_add(1, Ordering::SeqCst);
         }
-        for _ in rt.forever() {
-            if entered.load(Ordering::SeqCst) >= 1 {
-                break;
-            }
-            thread::yield_now();
-        }
-        greet(rt, alloc, office, client);
+        spin_until(rt, entered, 1);
+        greet(rt, alloc, office, ClientNo::new(1));
     });
     counter.load(Ordering::SeqCst)
 }
