@@ -4,7 +4,7 @@ ghost use Rattle.sqlite.specs.State.{HasCleanDisk, Survives};
 ghost use Rattle.sqlite.specs.Held.{state};
 ghost use Rattle.cb_commit.specs.History.{CanFlush, next_batch};
 ghost use Rattle.cb_statements.specs.Statements.{MakesAll, batch_statements};
-ghost use Rattle.cb_statements.specs.Inside.{IsSame};
+ghost use Rattle.cb_statements.specs.Inside.{IsSame, IsSettled};
 ghost use Rattle.cb_statements.specs.Writing.{Wrote};
 ghost use Rattle.cb_shelf.specs.Flushing.{to_write, once_written, dones_of};
 ghost use Rattle.cb_shelf.specs.Events.{IsEvent};
@@ -58,6 +58,10 @@ pub fn flush_once<S: Alter>(
         → OnOk result (IfSome (to_write held.old commits.old) (λ batch.
         MakesAll S.Store (batch_statements batch) (state S.Store shelf.old.conn).now
         (state S.Store shelf.new.conn).committed)) }
+    ensures settled { HasCleanDisk (state S.Store shelf.new.conn)
+        → OnOk result (IfSome (to_write held.old commits.old) (λ _.
+        IsSettled (state S.Store shelf.new.conn))) }
+    ensures mode { shelf.new.conn.in_transaction ≡ shelf.old.conn.in_transaction }
     ensures event { HasCleanDisk (state S.Store shelf.new.conn)
         → IsEvent S.Store commits.old commits.new held.old held.new shelf.old.conn shelf.new.conn }
     ensures crash { Survives (state S.Store shelf.old.conn) (state S.Store shelf.new.conn)

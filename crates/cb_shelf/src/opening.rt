@@ -6,7 +6,7 @@ ghost use Rattle.sqlite.specs.Effect.{Database};
 ghost use Rattle.sqlite.specs.Held.{state};
 ghost use Rattle.cb_commit.specs.Stores.{IsOf, zeros};
 ghost use Rattle.cb_statements.specs.Statements.{MakesAll};
-ghost use Rattle.cb_statements.specs.Inside.{Inside, IsAny, IsSame, Tells};
+ghost use Rattle.cb_statements.specs.Inside.{Inside, IsAny, IsSame, IsSettled, Tells};
 ghost use Rattle.cb_shelf.specs.Opening.{LaysOut, LaidBy, Opened, IsFound, table_statements};
 ghost use Rattle.cb_shelf.specs.Opening.{Has, HasOld, HasNew, HasRows, HasRowsIf, Uncounted};
 ghost use Rattle.cb_shelf.specs.Opening.{IsMixed, tables_of, IsFoundIn, Finds, MisfitsFor};
@@ -202,6 +202,8 @@ fn look<S: Alter>(
     ensures settled { HasCleanDisk (state S.Store conn.new)
         → IsTrue (state S.Store conn.new).is_open
         → OnOk result ((state S.Store conn.new).committed ≡ (state S.Store conn.old).now) }
+    ensures mode { conn.new.in_transaction ≡ conn.old.in_transaction }
+    ensures ended { OnOk result (conn.new.in_transaction ≡ false) }
     ensures crash { Survives (state S.Store conn.old) (state S.Store conn.new) (λ _. ⊥) }
 {
     if !conn.is_autocommit() {
@@ -338,6 +340,9 @@ fn make_tables<S: Alter>(
         → OnOk result (IsTrue (state S.Store conn.old).is_open) }
     ensures neither { HasCleanDisk (state S.Store conn.new)
         → OnErr result (IsSame (state S.Store conn.old) (state S.Store conn.new)) }
+    ensures settled { HasCleanDisk (state S.Store conn.new)
+        → OnOk result (IsSettled (state S.Store conn.new)) }
+    ensures mode { conn.new.in_transaction ≡ conn.old.in_transaction }
     ensures crash { Survives (state S.Store conn.old) (state S.Store conn.new)
         (LaidBy S.Store (laid store.now copied) conn.old) }
     ensures fault { result ≢ Err ShelfFault.Shape }
@@ -364,6 +369,9 @@ fn make_zeros<S: Alter>(
         → OnOk result (IsTrue (state S.Store conn.old).is_open) }
     ensures neither { HasCleanDisk (state S.Store conn.new)
         → OnErr result (IsSame (state S.Store conn.old) (state S.Store conn.new)) }
+    ensures settled { HasCleanDisk (state S.Store conn.new)
+        → OnOk result (IsSettled (state S.Store conn.new)) }
+    ensures mode { conn.new.in_transaction ≡ conn.old.in_transaction }
     ensures crash { Survives (state S.Store conn.old) (state S.Store conn.new)
         (LaidBy S.Store (laid (zeros limits.now) false) conn.old) }
     ensures fault { result ≢ Err ShelfFault.Shape }
@@ -384,6 +392,10 @@ pub(crate) fn open_tables<S: Alter>(
         (state S.Store conn.new).committed) }
     ensures neither { HasCleanDisk (state S.Store conn.new)
         → OnErr result (IsSame (state S.Store conn.old) (state S.Store conn.new)) }
+    ensures settled { HasCleanDisk (state S.Store conn.new)
+        → IsTrue (state S.Store conn.new).is_open
+        → OnOk result (IsSettled (state S.Store conn.new)) }
+    ensures mode { conn.new.in_transaction ≡ conn.old.in_transaction }
     ensures shape { HasCleanDisk (state S.Store conn.new) → result ≡ Err ShelfFault.Shape
         → Misshapen limits.now (state S.Store conn.old).now }
     ensures crash { Survives (state S.Store conn.old) (state S.Store conn.new)

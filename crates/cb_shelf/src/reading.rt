@@ -494,6 +494,7 @@ pub(crate) fn read_back<S: Alter>(
         → Misfits newer limits.now (state S.Store conn.old).now }
     ensures same { HasCleanDisk (state S.Store conn.new)
         → IsSame (state S.Store conn.old) (state S.Store conn.new) }
+    ensures mode { conn.new.in_transaction ≡ conn.old.in_transaction }
     ensures crash { Survives (state S.Store conn.old) (state S.Store conn.new) (λ _. ⊥) }
 {
     if !conn.is_autocommit() {

@@ -5,7 +5,7 @@ ghost use Rattle.sqlite.specs.State.{HasCleanDisk, Survives};
 ghost use Rattle.sqlite.specs.Held.{state};
 ghost use Rattle.cb_commit.specs.Stores.{IsOf};
 ghost use Rattle.cb_statements.specs.Statements.{MakesAll, batch_statements};
-ghost use Rattle.cb_statements.specs.Inside.{IsSame};
+ghost use Rattle.cb_statements.specs.Inside.{IsSame, IsSettled};
 ghost use Rattle.cb_shelf.specs.Opening.{LaysOut, Opened, Misshapen};
 ghost use Rattle.cb_shelf.specs.Reading.{Holds, Misfits};
 ghost use Rattle.cb_shelf.specs.declared.reading.Generation.TheVariants.{Newer};
@@ -43,8 +43,12 @@ impl<S: Alter> Shelf<S> {
             → IsTrue (state S.Store shelf.conn).is_open
             → LaysOut S.Store limits.now (state S.Store conn).now
             (state S.Store shelf.conn).committed) }
+        ensures settled { IfOk result (λ shelf. HasCleanDisk (state S.Store shelf.conn)
+            → IsTrue (state S.Store shelf.conn).is_open → IsSettled (state S.Store shelf.conn)) }
         ensures neither { IfErr result (λ refused. HasCleanDisk (state S.Store refused.1)
             → IsSame (state S.Store conn) (state S.Store refused.1)) }
+        ensures mode { IfErr result (λ refused.
+            refused.1.in_transaction ≡ conn.in_transaction) }
         ensures shape { IfErr result (λ refused. HasCleanDisk (state S.Store refused.1)
             → refused.0 ≡ ShelfFault.Shape
             → Misshapen limits.now (state S.Store conn).now) }
@@ -92,6 +96,7 @@ impl<S: Alter> Shelf<S> {
         ensures limits { self.new.limits ≡ self.old.limits }
         ensures same { HasCleanDisk (state S.Store self.new.conn)
             → IsSame (state S.Store self.old.conn) (state S.Store self.new.conn) }
+        ensures mode { self.new.conn.in_transaction ≡ self.old.conn.in_transaction }
         ensures crash { Survives (state S.Store self.old.conn) (state S.Store self.new.conn)
             (λ _. ⊥) }
     {
@@ -109,6 +114,9 @@ impl<S: Alter> Shelf<S> {
             (state S.Store self.old.conn).now (state S.Store self.new.conn).committed) }
         ensures neither { HasCleanDisk (state S.Store self.new.conn)
             → OnErr result (IsSame (state S.Store self.old.conn) (state S.Store self.new.conn)) }
+        ensures settled { HasCleanDisk (state S.Store self.new.conn)
+            → OnOk result (IsSettled (state S.Store self.new.conn)) }
+        ensures mode { self.new.conn.in_transaction ≡ self.old.conn.in_transaction }
         ensures crash { Survives (state S.Store self.old.conn) (state S.Store self.new.conn)
             (Wrote S.Store batch.now self.old.conn) }
     {

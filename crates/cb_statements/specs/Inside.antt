@@ -1,5 +1,5 @@
 -- What a step inside a transaction does, and what a connection keeps.
-use Rattle.std.specs.Prelude.{◌≡◌, ℕ, Bool, List, IsTrue, IfOk, OnOk, Result, Err, is_ok}
+use Rattle.std.specs.Prelude.{◌≡◌, ℕ, Bool, false, List, IsTrue, IfOk, OnOk, Result, Err, is_ok}
 use Rattle.sqlite_schema.specs.declared.schema.Schema.{Schema}
 use Rattle.sqlite.specs.Store.{Ghosts}
 use Rattle.sqlite.specs.declared.error.Error.{Error}
@@ -43,6 +43,12 @@ pub record IsSame (old new : State) : Type 0 where
   pub was_open : IsTrue new.is_open → IsTrue old.is_open
   pub now : IsTrue new.is_open → new.now ≡ old.now
   pub committed : IsTrue new.is_open → new.committed ≡ old.committed
+
+-- No transaction is open, and what the connection sees is what was committed: the next call begins
+-- with what this one committed.
+pub record IsSettled (s : State) : Type 0 where
+  pub ended : s.in_transaction ≡ false
+  pub same : s.now ≡ s.committed
 
 -- the text is refused, and not the call
 abbrev pub IsOfText : Error → Type 0

@@ -5,7 +5,7 @@ ghost use Rattle.sqlite.specs.Held.{state};
 ghost use Rattle.cb_statements.specs.Statements.{MakesAll, part_at, part_count, part_statement};
 ghost use Rattle.cb_statements.specs.Statements.{page_statement, page_statements, part_statements};
 ghost use Rattle.cb_statements.specs.Statements.{pages_statements, batch_statements, mark_statement};
-ghost use Rattle.cb_statements.specs.Inside.{Inside, IsSame};
+ghost use Rattle.cb_statements.specs.Inside.{Inside, IsSame, IsSettled};
 ghost use Rattle.cb_statements.specs.Writing.{Fits, Wrote};
 
 use crate::ShelfFault;
@@ -165,6 +165,9 @@ pub fn write_batch<S: Alter>(conn: &mut Connection<S>, batch: &Batch) -> Result<
         (state S.Store conn.new).committed) }
     ensures neither { HasCleanDisk (state S.Store conn.new)
         → OnErr result (IsSame (state S.Store conn.old) (state S.Store conn.new)) }
+    ensures settled { HasCleanDisk (state S.Store conn.new)
+        → OnOk result (IsSettled (state S.Store conn.new)) }
+    ensures mode { conn.new.in_transaction ≡ conn.old.in_transaction }
     ensures crash { Survives (state S.Store conn.old) (state S.Store conn.new)
         (Wrote S.Store batch.now conn.old) }
     ensures fault { result ≢ Err ShelfFault.Shape }
