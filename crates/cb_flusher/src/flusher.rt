@@ -4,6 +4,7 @@ ghost use Rattle.cb_flusher.specs.Stopping.{Stops};
 ghost use Rattle.cb_statements.specs.Writing.{Fits};
 
 use cb_commit::Batch;
+use cb_progress::Watch;
 use cb_shared::Office;
 use cb_shelf::{Shelf, ShelfFault};
 use sqlite::Alter;
@@ -37,12 +38,13 @@ fn next_batch<R: Wait>(rt: &R, alloc: Global, office: &Office) -> Result<Option<
     unreachable!()
 }
 
-/// Writes a batch, then reports it.
-fn write_and_report<R: Wait, S: Alter>(
+/// Writes a batch, then reports it, and tells who looks on.
+fn write_and_report<R: Wait, S: Alter, W: Watch>(
     rt: &R,
     alloc: Global,
     office: &Office,
     shelf: &mut Shelf<S>,
+    watch: &mut W,
     batch: &Batch,
 ) -> Result<(), ShelfFault>
     ensures limits { shelf.new.limits ≡ shelf.old.limits }
@@ -53,6 +55,8 @@ fn write_and_report<R: Wait, S: Alter>(
     let mut shared = office.lock(rt);
     let reported = shared.station_mut().flushed(alloc, batch.number());
     office.tell_clients(&shared);
+    drop(shared);
+    watch.flushed(batch.number());
     match reported {
         Ok(()) => Ok(()),
         Err(_) => Err(ShelfFault::Memory),
@@ -63,11 +67,12 @@ fn write_and_report<R: Wait, S: Alter>(
 ///
 /// It holds no lock while it writes. Which batches it writes no contract says, since it takes the
 /// lock itself.
-pub fn flush_loop<R: Wait, S: Alter>(
+pub fn flush_loop<R: Wait, S: Alter, W: Watch>(
     rt: &R,
     alloc: Global,
     office: &Office,
     shelf: &mut Shelf<S>,
+    watch: &mut W,
 ) -> Result<(), FlushStop>
     ensures limits { shelf.new.limits ≡ shelf.old.limits }
     ensures stops { IfErr result (Stops shelf.old.limits) }
@@ -78,7 +83,7 @@ pub fn flush_loop<R: Wait, S: Alter>(
             Ok(None) => return Ok(()),
             Err(fault) => return Err(FlushStop { fault, batch: None }),
         };
-        if let Err(fault) = write_and_report(rt, alloc, office, shelf, &batch) {
+        if let Err(fault) = write_and_report(rt, alloc, office, shelf, watch, &batch) {
             return Err(FlushStop {
                 fault,
                 batch: Some(batch),
@@ -89,23 +94,24 @@ pub fn flush_loop<R: Wait, S: Alter>(
 }
 
 /// Writes the batch of a stop first, if there is one, and goes on.
-pub fn flush_again<R: Wait, S: Alter>(
+pub fn flush_again<R: Wait, S: Alter, W: Watch>(
     rt: &R,
     alloc: Global,
     office: &Office,
     shelf: &mut Shelf<S>,
+    watch: &mut W,
     stop: FlushStop,
 ) -> Result<(), FlushStop>
     ensures limits { shelf.new.limits ≡ shelf.old.limits }
     ensures stops { IfErr result (Stops shelf.old.limits) }
 {
     if let Some(held) = stop.batch {
-        if let Err(fault) = write_and_report(rt, alloc, office, shelf, &held) {
+        if let Err(fault) = write_and_report(rt, alloc, office, shelf, watch, &held) {
             return Err(FlushStop {
                 fault,
                 batch: Some(held),
             });
         }
     }
-    flush_loop(rt, alloc, office, shelf)
+    flush_loop(rt, alloc, office, shelf, watch)
 }

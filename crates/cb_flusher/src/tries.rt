@@ -2,6 +2,7 @@
 ghost use Rattle.std.specs.Prelude.{◌≡◌};
 
 use crate::flusher::{FlushStop, flush_again, flush_loop};
+use cb_progress::Watch;
 use cb_shared::Office;
 use cb_shelf::{Shelf, ShelfFault};
 use sqlite::Alter;
@@ -21,15 +22,16 @@ fn batch_number(stop: &FlushStop) -> u64 {
 
 /// Runs the flusher. A batch that is refused is tried again, three times in all; then the office is
 /// halted, and the last fault answered.
-pub fn flush_in_tries<R: Wait, S: Alter>(
+pub fn flush_in_tries<R: Wait, S: Alter, W: Watch>(
     rt: &R,
     alloc: Global,
     office: &Office,
     shelf: &mut Shelf<S>,
+    watch: &mut W,
 ) -> Result<(), ShelfFault>
     ensures { shelf.new.limits ≡ shelf.old.limits }
 {
-    let mut stopped = flush_loop(rt, alloc, office, shelf);
+    let mut stopped = flush_loop(rt, alloc, office, shelf, watch);
     let mut tries: u64 = 0;
     let mut last = None;
     for _ in rt.forever() {
@@ -47,7 +49,7 @@ pub fn flush_in_tries<R: Wait, S: Alter>(
             return Err(stop.fault);
         }
         last = number;
-        stopped = flush_again(rt, alloc, office, shelf, stop);
+        stopped = flush_again(rt, alloc, office, shelf, watch, stop);
     }
     unreachable!()
 }

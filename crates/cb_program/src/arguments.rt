@@ -13,11 +13,13 @@ pub struct DrawRequest<'a> {
     pub count: usize,
 }
 
-/// Workers to be run: the paths of the configuration and of the store.
+/// Workers to be run: the paths of the configuration and of the store, and whether it is to be shown
+/// how far they are.
 #[derive(Clone, Copy, Debug, PartialEq, Eq)]
 pub struct RunRequest<'a> {
     pub config: &'a str,
     pub store: &'a str,
+    pub progress: bool,
 }
 
 /// What the command line asks for.
@@ -124,6 +126,10 @@ STORE is a database file, made where it isn't there. Each client has as many job
 transaction; it is done once that is on disk. Then come how many jobs were committed, and the sum of
 the two counters in the store.
 
+With --progress the standard error shows, at most twice a second, how many jobs are committed of how
+many, and how many commits a write to disk carries since the line before:
+  committed 5230 of 40000, 3.8 a batch
+
 CONFIG is as for play; there must be 2 pages, and keep_write must be 0.
 
 Statuses:
@@ -181,11 +187,16 @@ fn draw_command<'a>(alloc: Global) -> Result<Command<'a>, AllocError> {
 }
 
 fn run_command<'a>(alloc: Global) -> Result<Command<'a>, AllocError> {
+    let progress = Arg::new(alloc, "progress")
+        .long("progress")
+        .action(ArgAction::SetTrue)
+        .help("Show how far it is, on the standard error");
     Command::new(alloc, "run")
         .about(RUN_ABOUT)
         .after_help(RUN_HELP)
         .arg(path(alloc, "CONFIG", "File with the settings, as TOML"))?
-        .arg(path(alloc, "STORE", "File with the store's tables"))
+        .arg(path(alloc, "STORE", "File with the store's tables"))?
+        .arg(progress)
 }
 
 fn command<'a>(alloc: Global) -> Result<Command<'a>, AllocError> {
@@ -215,6 +226,7 @@ fn asked<'a>(matches: &ArgMatches<'a>) -> Option<Request<'a>> {
         Some(("run", matches)) => Some(Request::Run(RunRequest {
             config: matches.get_str("CONFIG")?,
             store: matches.get_str("STORE")?,
+            progress: matches.get_flag("progress"),
         })),
         _ => None,
     }

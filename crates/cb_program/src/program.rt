@@ -7,6 +7,7 @@ ghost use Rattle.cb_settings.specs.Escaped.{escaped};
 use crate::arguments::{DrawRequest, Request, RunRequest, request_of};
 use crate::endings::end_by;
 use cb_console::{DONE, WRONG_INPUT, draw_to, play_to};
+use cb_progress::{Progress, Unwatched};
 use cb_settings::Escaped;
 use cb_store_run::{AnyTime, run_store};
 use clap::error::ErrorKind;
@@ -139,7 +140,8 @@ fn draw_file<O: Write, E: Write>(
     draw_to(rt.alloc(), config.as_slice(), seed, count, out, err)
 }
 
-/// Runs workers under the configuration of a file.
+/// Runs workers under the configuration of a file. Where it is asked for, the process's standard
+/// error shows how far they are; `err` has the same as without it.
 fn run_workers<R: Threads + Wait + Sync, O: Write, E: Write>(
     rt: &HostRuntime,
     threads: &R,
@@ -153,7 +155,30 @@ fn run_workers<R: Threads + Wait + Sync, O: Write, E: Write>(
         return Ok(WRONG_INPUT);
     };
     let (config, store) = (config.as_slice(), request.store);
-    run_store(rt, threads, config, store, &AnyTime, out, err)
+    if request.progress {
+        let mut progress = Progress::new(rt, rt.stderr());
+        run_store(
+            rt,
+            threads,
+            config,
+            store,
+            &AnyTime,
+            &mut progress,
+            out,
+            err,
+        )
+    } else {
+        run_store(
+            rt,
+            threads,
+            config,
+            store,
+            &AnyTime,
+            &mut Unwatched,
+            out,
+            err,
+        )
+    }
 }
 
 /// The bytes of a file. Where it can't be read that is said, and there are none; it fails where

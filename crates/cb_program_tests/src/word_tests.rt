@@ -74,7 +74,7 @@ static REFUSALS: [(&str, &str); 13] = [
     (
         "cb_play run a b c",
         "error: unexpected argument 'c' found\n\n\
-        Usage: cb_play run <CONFIG> <STORE>\n\nFor more information, try '--help'.\n",
+        Usage: cb_play run [OPTIONS] <CONFIG> <STORE>\n\nFor more information, try '--help'.\n",
     ),
     ("cb_play run no.toml /dev/null", "cannot read no.toml\n"),
     (

@@ -10,6 +10,7 @@ use cb_flusher::flush_in_tries;
 use cb_jobs::{Gate, JobDone, Tally};
 use cb_outcome::{Counted, Ending, FirstEnding, print_run};
 use cb_page::Limits;
+use cb_progress::Watch;
 use cb_shared::Office;
 use cb_shelf::{Shelf, ShelfFault};
 use cb_twoq::TwoQ;
@@ -26,7 +27,7 @@ use std::{io, thread};
 /// answer is the status.
 ///
 /// The office is halted when it returns.
-pub fn run_on<R, G, S, O, E>(
+pub fn run_on<R, G, S, W, O, E>(
     rt: &R,
     alloc: Global,
     limits: &Limits,
@@ -34,6 +35,7 @@ pub fn run_on<R, G, S, O, E>(
     shelf: &mut Shelf<S>,
     jobs: u64,
     gate: &G,
+    watch: &mut W,
     out: &mut O,
     err: &mut E,
 ) -> io::Result<u8>
@@ -41,18 +43,19 @@ where
     R: Threads + Wait + Sync,
     G: Gate + Sync,
     S: Alter,
+    W: Watch,
     O: Write,
     E: Write,
     ensures { IfOk result (λ status.
         PrintsCounted (IsCounted S.Store (limits.now.clients * jobs) shelf.new.conn) status
         (O.contents out.old) (O.contents out.new) (E.contents err.old) (E.contents err.new)) }
 {
-    let outcome = counted(rt, alloc, limits, office, shelf, jobs, gate);
+    let outcome = counted(rt, alloc, limits, office, shelf, jobs, gate, watch);
     print_run(outcome, out, err)
 }
 
 /// How many jobs were committed, and the sum of the counters as the tables have them.
-fn counted<R, G, S>(
+fn counted<R, G, S, W>(
     rt: &R,
     alloc: Global,
     limits: &Limits,
@@ -60,21 +63,25 @@ fn counted<R, G, S>(
     shelf: &mut Shelf<S>,
     jobs: u64,
     gate: &G,
+    watch: &mut W,
 ) -> Result<Counted, Ending>
 where
     R: Threads + Wait + Sync,
     G: Gate + Sync,
     S: Alter,
+    W: Watch,
     ensures { IfOk result
         (IsCounted S.Store (limits.now.clients * jobs) shelf.new.conn) }
 {
     let mut tally = new_tally(alloc, limits, jobs)?;
-    run_and_count(rt, alloc, limits, office, shelf, jobs, gate, &mut tally)?;
+    run_and_count(
+        rt, alloc, limits, office, shelf, jobs, gate, watch, &mut tally,
+    )?;
     sum_up(alloc, shelf, tally.committed())
 }
 
 /// Runs all to their end, and then counts the results.
-fn run_and_count<R, G, S>(
+fn run_and_count<R, G, S, W>(
     rt: &R,
     alloc: Global,
     limits: &Limits,
@@ -82,25 +89,27 @@ fn run_and_count<R, G, S>(
     shelf: &mut Shelf<S>,
     jobs: u64,
     gate: &G,
+    watch: &mut W,
     tally: &mut Tally,
 ) -> Result<(), Ending>
 where
     R: Threads + Wait + Sync,
     G: Gate + Sync,
     S: Alter,
+    W: Watch,
     ensures { KeepsRows tally.old tally.new }
 {
     let Ok((to, results)) = crossbeam_channel::unbounded(alloc) else {
         return Err(Ending::Memory);
     };
-    let ended = run_all(rt, alloc, limits, office, shelf, jobs, gate, &to);
+    let ended = run_all(rt, alloc, limits, office, shelf, jobs, gate, watch, &to);
     drop(to);
     ended?;
     count_results(rt, tally, &results)
 }
 
 /// Runs the workers and the flusher to their end.
-fn run_all<R, G, S>(
+fn run_all<R, G, S, W>(
     rt: &R,
     alloc: Global,
     limits: &Limits,
@@ -108,16 +117,18 @@ fn run_all<R, G, S>(
     shelf: &mut Shelf<S>,
     jobs: u64,
     gate: &G,
+    watch: &mut W,
     results: &Sender<JobDone>,
 ) -> Result<(), Ending>
 where
     R: Threads + Wait + Sync,
     G: Gate + Sync,
     S: Alter,
+    W: Watch,
 {
     let faults = Mutex::new(FirstEnding::none());
     let flushed = run_threads(
-        rt, alloc, limits, office, shelf, jobs, gate, results, &faults,
+        rt, alloc, limits, office, shelf, jobs, gate, watch, results, &faults,
     );
     let told = faults.lock(rt).told;
     of_run(flushed, told)
@@ -125,7 +136,7 @@ where
 
 /// Runs the workers on threads of their own, and the flusher on this one, until all have ended. The
 /// flusher ends once the last worker has; should it end before, the others are halted.
-fn run_threads<R, G, S>(
+fn run_threads<R, G, S, W>(
     rt: &R,
     alloc: Global,
     limits: &Limits,
@@ -133,6 +144,7 @@ fn run_threads<R, G, S>(
     shelf: &mut Shelf<S>,
     jobs: u64,
     gate: &G,
+    watch: &mut W,
     results: &Sender<JobDone>,
     faults: &Mutex<FirstEnding>,
 ) -> Result<(), ShelfFault>
@@ -140,6 +152,7 @@ where
     R: Threads + Wait + Sync,
     G: Gate + Sync,
     S: Alter,
+    W: Watch,
 {
     thread::scope(thread::scope_env(), rt, |scope| {
         for client in 0..limits.clients() {
@@ -157,7 +170,7 @@ where
                 give_up(rt, office, faults, client, Ending::Memory);
             }
         }
-        let flushed = flush_in_tries(rt, alloc, office, shelf);
+        let flushed = flush_in_tries(rt, alloc, office, shelf, watch);
         office.halt(rt);
         flushed
     })

@@ -8,6 +8,7 @@ use cb_jobs::{Gate, Turn};
 use cb_office::Station;
 use cb_outcome::{Ending, print_run};
 use cb_page::{ClientNo, Limits};
+use cb_progress::Watch;
 use cb_run::run_on;
 use cb_run_settings::{print_refusal, run_settings};
 use cb_settings::Config;
@@ -34,46 +35,50 @@ impl Gate for AnyTime {
 
 /// Runs workers under a configuration's text, over the store in a file, which is made where it
 /// isn't there. It says on `out` how many jobs were committed and the sum of the counters, else on
-/// `err` why not; the answer is the program's status.
+/// `err` why not; the answer is the program's status. Meanwhile `watch` is told how far it is.
 ///
 /// The file isn't opened before the configuration was checked. That the store is closed at the end
 /// is said by no clause: what was committed is on disk before that, beside the file if not in it.
-pub fn run_store<R, G, O, E>(
+pub fn run_store<R, G, W, O, E>(
     rt: &HostRuntime,
     threads: &R,
     config: &[u8],
     store: &str,
     gate: &G,
+    watch: &mut W,
     out: &mut O,
     err: &mut E,
 ) -> io::Result<u8>
 where
     R: Threads + Wait + Sync,
     G: Gate + Sync,
+    W: Watch,
     O: Write,
     E: Write,
     ensures { IfOk result (λ status. IsStoreRun config.now status
         (O.contents out.old) (O.contents out.new) (E.contents err.old) (E.contents err.new)) }
 {
     match run_settings(rt.alloc(), config) {
-        Ok(config) => run_file(rt, threads, &config, store, gate, out, err),
+        Ok(config) => run_file(rt, threads, &config, store, gate, watch, out, err),
         Err(fault) => print_refusal(&fault, err),
     }
 }
 
 /// Opens the file, runs, and closes it.
-fn run_file<R, G, O, E>(
+fn run_file<R, G, W, O, E>(
     rt: &HostRuntime,
     threads: &R,
     config: &Config,
     store: &str,
     gate: &G,
+    watch: &mut W,
     out: &mut O,
     err: &mut E,
 ) -> io::Result<u8>
 where
     R: Threads + Wait + Sync,
     G: Gate + Sync,
+    W: Watch,
     O: Write,
     E: Write,
     requires { config.now.limits.keep_write ≡ false }
@@ -84,19 +89,20 @@ where
         Ok(conn) => conn,
         Err(error) => return print_run(Err(ending_of(ShelfFault::from(error))), out, err),
     };
-    let (printed, conn) = run_over(threads, rt.alloc(), config, conn, gate, out, err);
+    let (printed, conn) = run_over(threads, rt.alloc(), config, conn, gate, watch, out, err);
     // What is still in the log beside the file, the next open finds.
     let _ = conn.close();
     printed
 }
 
 /// Runs workers over the store in a database, and gives the connection back.
-pub fn run_over<R, S, G, O, E>(
+pub fn run_over<R, S, G, W, O, E>(
     threads: &R,
     alloc: Global,
     config: &Config,
     conn: Connection<S>,
     gate: &G,
+    watch: &mut W,
     out: &mut O,
     err: &mut E,
 ) -> (io::Result<u8>, Connection<S>)
@@ -104,6 +110,7 @@ where
     R: Threads + Wait + Sync,
     S: Alter,
     G: Gate + Sync,
+    W: Watch,
     O: Write,
     E: Write,
     requires { config.now.limits.keep_write ≡ false }
@@ -113,7 +120,7 @@ where
 {
     match Shelf::open(alloc, conn, &config.limits) {
         Ok(mut shelf) => {
-            let printed = run_in(threads, alloc, config, &mut shelf, gate, out, err);
+            let printed = run_in(threads, alloc, config, &mut shelf, gate, watch, out, err);
             (printed, shelf.close())
         }
         Err((fault, conn)) => (print_run(Err(ending_of(fault)), out, err), conn),
@@ -121,12 +128,13 @@ where
 }
 
 /// Runs workers over the store in a shelf.
-fn run_in<R, S, G, O, E>(
+fn run_in<R, S, G, W, O, E>(
     threads: &R,
     alloc: Global,
     config: &Config,
     shelf: &mut Shelf<S>,
     gate: &G,
+    watch: &mut W,
     out: &mut O,
     err: &mut E,
 ) -> io::Result<u8>
@@ -134,6 +142,7 @@ where
     R: Threads + Wait + Sync,
     S: Alter,
     G: Gate + Sync,
+    W: Watch,
     O: Write,
     E: Write,
     requires plain { config.now.limits.keep_write ≡ false }
@@ -143,17 +152,21 @@ where
         (O.contents out.old) (O.contents out.new) (E.contents err.old) (E.contents err.new)) }
 {
     let (limits, jobs) = (&config.limits, config.jobs);
-    match office_over(alloc, limits, shelf) {
-        Ok(office) => run_on(threads, alloc, limits, &office, shelf, jobs, gate, out, err),
+    match office_over(alloc, limits, shelf, jobs, watch) {
+        Ok(office) => run_on(
+            threads, alloc, limits, &office, shelf, jobs, gate, watch, out, err,
+        ),
         Err(ending) => print_run(Err(ending), out, err),
     }
 }
 
-/// An office over the store in a shelf, that each client's work will use.
-fn office_over<S: Alter>(
+/// An office over the store in a shelf, that each client's work will use; `watch` is told of the run.
+fn office_over<S: Alter, W: Watch>(
     alloc: Global,
     limits: &Limits,
     shelf: &mut Shelf<S>,
+    jobs: u64,
+    watch: &mut W,
 ) -> Result<Office, Ending>
     requires plain { limits.now.keep_write ≡ false }
     requires shelf { shelf.old.limits ≡ limits.now }
@@ -162,6 +175,8 @@ fn office_over<S: Alter>(
         Ok(store) => store,
         Err(fault) => return Err(ending_of(fault)),
     };
+    let all = u64::from(limits.clients()).saturating_mul(jobs);
+    watch.begins(all, store.number());
     match Station::new(alloc, limits, store) {
         Ok(station) => Ok(Office::new(station, usize::from(limits.clients()))),
         Err(_) => Err(Ending::Memory),

@@ -1,4 +1,5 @@
 //! Configurations under which no worker starts.
+use cb_progress::Unwatched;
 use cb_store_run::{AnyTime, run_store};
 use std::sync::Wait;
 use std::test::Fail;
@@ -21,7 +22,16 @@ fn run_under<R: Threads + Wait + Sync>(
     let mut out = Vec::new(rt.alloc());
     let mut err = Vec::new(rt.alloc());
     let (config, store) = (config.as_bytes(), "no_such_folder/store.db");
-    let status = run_store(rt, threads, config, store, &AnyTime, &mut out, &mut err)?;
+    let status = run_store(
+        rt,
+        threads,
+        config,
+        store,
+        &AnyTime,
+        &mut Unwatched,
+        &mut out,
+        &mut err,
+    )?;
     Ok(Printed { status, out, err })
 }
 

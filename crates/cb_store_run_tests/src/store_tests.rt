@@ -1,6 +1,7 @@
 //! Runs over databases in memory.
 ghost use Rattle.std.specs.Prelude.{◌≡◌, false};
 
+use cb_progress::Unwatched;
 use cb_run_settings::run_settings;
 use cb_settings::Config;
 use cb_store_run::{AnyTime, run_over};
@@ -29,7 +30,16 @@ fn run_on_database<S: Alter, R: Threads + Wait + Sync>(
 {
     let mut out = Vec::new(alloc);
     let mut err = Vec::new(alloc);
-    let (ran, conn) = run_over(threads, alloc, config, conn, &AnyTime, &mut out, &mut err);
+    let (ran, conn) = run_over(
+        threads,
+        alloc,
+        config,
+        conn,
+        &AnyTime,
+        &mut Unwatched,
+        &mut out,
+        &mut err,
+    );
     let status = ran.ok();
     (Printed { status, out, err }, conn)
 }

@@ -3,3 +3,4 @@ pub mod Kept
 pub mod Saying
 pub mod Turning
 pub mod Standing
+pub mod Staying

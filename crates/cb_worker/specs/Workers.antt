@@ -23,6 +23,20 @@ pub record WorkerState : Type 0 where
   pub collected : Option Frame
   pub said : List Frame
 
+-- The worker is of the client with that number, in that incarnation: so are its client and its hand.
+pub record IsOf (worker : WorkerState) (number current : ℕ) : Type 0 where
+  pub no : worker.client.no ≡ number
+  pub incarnation : worker.client.incarnation ≡ current
+  pub hand : worker.hand.client ≡ number
+  pub hand_incarnation : worker.hand.incarnation ≡ current
+
+-- It is still the same one: of the same incarnation of the same client, and so is its hand.
+pub record IsStill (old new : WorkerState) : Type 0 where
+  pub no : new.client.no ≡ old.client.no
+  pub incarnation : new.client.incarnation ≡ old.client.incarnation
+  pub hand : new.hand.client ≡ old.hand.client
+  pub hand_incarnation : new.hand.incarnation ≡ old.hand.incarnation
+
 -- only the client changes
 abbrev pub with_client : WorkerState → ClientState → WorkerState
 with_client worker client = record worker { client = client }

@@ -1,5 +1,7 @@
 //! Workers join, begin another incarnation, and end.
-ghost use Rattle.std.specs.Prelude.{◌≡◌, [], true, IfErr, IfOk, None, OnOk};
+ghost use Rattle.std.specs.Prelude.{◌≡◌, ◌⊎◌, [], true, IfErr, IfOk, None, OnOk};
+ghost use Rattle.cb_client_engine.specs.ClientState.{new_state};
+ghost use Rattle.cb_worker.specs.Workers.{IsOf, IsStill};
 
 use crate::worker::Worker;
 use crate::worker_fault::WorkerFault;
@@ -13,7 +15,8 @@ use std::alloc::Global;
 use std::sync::Wait;
 
 impl<Q: Chooser> Worker<Q> {
-    /// The client joins the office, over an empty chooser, and is welcomed.
+    /// The client joins the office, over an empty chooser, and is welcomed. Its incarnation is the one
+    /// that the station gave its hand.
     pub fn join<R: Wait>(
         rt: &R,
         alloc: Global,
@@ -24,7 +27,8 @@ impl<Q: Chooser> Worker<Q> {
     ) -> Result<Worker<Q>, WorkerFault>
         requires members { Q.members chooser ≡ [] }
         requires slots { Q.slots chooser ≡ limits.now.slots }
-        ensures { IfOk result (λ worker. worker.client.welcomed ≡ true) }
+        ensures welcomed { IfOk result (λ worker. worker.client.welcomed ≡ true) }
+        ensures of { IfOk result (λ worker. IsOf worker client worker.hand.incarnation) }
     {
         if !limits.has_client(client.get()) {
             return Err(WorkerFault::Office(OfficeFault::Foreign));
@@ -47,7 +51,8 @@ impl<Q: Chooser> Worker<Q> {
 
     /// The client begins another incarnation, and is welcomed.
     ///
-    /// The worker comes back with each fault.
+    /// The worker comes back with each fault: as it was, or at the start of that incarnation, where the
+    /// Welcome didn't come.
     pub fn restart<R: Wait>(
         self,
         rt: &R,
@@ -55,7 +60,10 @@ impl<Q: Chooser> Worker<Q> {
         office: &Office,
         incarnation: Incarnation,
     ) -> Result<Worker<Q>, (WorkerFault, Worker<Q>)>
-        ensures { IfOk result (λ worker. worker.client.welcomed ≡ true) }
+        ensures welcomed { IfOk result (λ worker. worker.client.welcomed ≡ true) }
+        ensures of { IfOk result (λ worker. IsOf worker self.hand.client incarnation) }
+        ensures refused { IfErr result (λ refused.
+            (refused.1 ≡ self) ⊎ IsOf refused.1 self.hand.client incarnation) }
     {
         let renewed = match self.renewed(alloc, incarnation) {
             Ok(renewed) => renewed,
@@ -142,7 +150,10 @@ impl<Q: Chooser> Worker<Q> {
     }
 
     /// A client like the worker's, at the start of an incarnation.
-    fn renewed(&self, alloc: Global, incarnation: Incarnation) -> Result<Client<Q>, WorkerFault> {
+    fn renewed(&self, alloc: Global, incarnation: Incarnation) -> Result<Client<Q>, WorkerFault>
+        ensures { IfOk result (λ client. client
+            ≡ new_state self.now.hand.client incarnation self.now.client.copies.limits) }
+    {
         let limits = self.client.limits();
         let client = self.hand.client();
         if !limits.has_client(client.get()) {
@@ -159,7 +170,9 @@ impl<Q: Chooser> Worker<Q> {
         alloc: Global,
         office: &Office,
     ) -> Result<Worker<Q>, (WorkerFault, Worker<Q>)>
-        ensures { IfOk result (λ worker. worker.client.welcomed ≡ true) }
+        ensures welcomed { IfOk result (λ worker. worker.client.welcomed ≡ true) }
+        ensures still { IfOk result (λ worker. IsStill self worker) }
+        ensures refused { IfErr result (λ refused. IsStill self refused.1) }
     {
         match self.wait_for_welcome(rt, alloc, office) {
             Ok(()) => Ok(self),
@@ -174,7 +187,8 @@ impl<Q: Chooser> Worker<Q> {
         alloc: Global,
         office: &Office,
     ) -> Result<(), WorkerFault>
-        ensures { OnOk result (self.new.client.welcomed ≡ true) }
+        ensures welcomed { OnOk result (self.new.client.welcomed ≡ true) }
+        ensures still { IsStill self.old self.new }
     {
         let mut shared = office.lock(rt);
         for _ in rt.forever() {

@@ -4,7 +4,7 @@ ghost use Rattle.std.specs.Borrow.{sem};
 ghost use Rattle.cb_protocol.specs.Client as protocol;
 ghost use Rattle.cb_worker.specs.Lending.{worker_ends};
 ghost use Rattle.cb_worker.specs.Waiting.{Fetches, Finishes, HasNoneOpen, HasRead, IsServed, Wants};
-ghost use Rattle.cb_worker.specs.Workers.{Ended};
+ghost use Rattle.cb_worker.specs.Workers.{Ended, IsStill};
 
 use crate::answers::{Fetched, Finished, Wanted};
 use crate::worker::Worker;
@@ -26,7 +26,8 @@ impl<Q: Chooser> Worker<Q> {
         alloc: Global,
         office: &Office,
     ) -> Result<(), WorkerFault>
-        ensures { OnOk result (IsServed self.new) }
+        ensures served { OnOk result (IsServed self.new) }
+        ensures still { IsStill self.old self.new }
     {
         let mut shared = office.lock(rt);
         self.serve_at(rt, alloc, office, &mut shared)
@@ -40,7 +41,8 @@ impl<Q: Chooser> Worker<Q> {
         office: &Office,
         shared: &mut SharedStation,
     ) -> Result<(), WorkerFault>
-        ensures { OnOk result (IsServed self.new) }
+        ensures served { OnOk result (IsServed self.new) }
+        ensures still { IsStill self.old self.new }
     {
         for _ in rt.forever() {
             if shared.is_halted() {

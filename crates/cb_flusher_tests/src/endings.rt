@@ -1,0 +1,128 @@
+//! The flusher ends once the office is closed and everything is on disk.
+use crate::bench::{Trial, goes_well, holds, is_reported, visit};
+use cb_flusher::flush_loop;
+use cb_page::{ClientNo, Limits};
+use cb_progress::Unwatched;
+use cb_shared::Office;
+use cb_shelf::Shelf;
+use sqlite::Alter;
+use std::alloc::Global;
+use std::sync::Wait;
+use std::test::Fail;
+use std::thread;
+use std::thread::Threads;
+
+/// Whether the flusher of a closed office writes everything, reports it, and ends.
+fn flushes_all<R: Wait, S: Alter>(
+    rt: &R,
+    alloc: Global,
+    limits: &Limits,
+    office: &Office,
+    shelf: &mut Shelf<S>,
+    number: u64,
+) -> bool {
+    let ended = flush_loop(rt, alloc, office, shelf, &mut Unwatched).is_ok();
+    ended && is_reported(rt, alloc, office) && holds(alloc, limits, shelf, number)
+}
+
+/// So many commits, then the office is closed, or halted.
+#[derive(Drop)]
+struct Ended {
+    commits: u16,
+    halts: bool,
+}
+
+impl Trial for Ended {
+    fn goes_well<R: Wait + Threads + Sync, S: Alter>(
+        &self,
+        rt: &R,
+        alloc: Global,
+        limits: &Limits,
+        office: &Office,
+        shelf: &mut Shelf<S>,
+    ) -> bool {
+        let client = ClientNo::new(0);
+        let visited = visit(alloc, office.lock(rt).station_mut(), client, self.commits);
+        if self.halts {
+            office.halt(rt);
+        } else {
+            office.close(rt);
+        }
+        visited && flushes_all(rt, alloc, limits, office, shelf, u64::from(self.commits))
+    }
+}
+
+static ENDINGS: [Ended; 3] = [
+    Ended {
+        commits: 0,
+        halts: false,
+    },
+    Ended {
+        commits: 3,
+        halts: false,
+    },
+    Ended {
+        commits: 3,
+        halts: true,
+    },
+];
+
+#[test]
+fn closed_and_halted_offices_are_written(rt: HostRuntime) -> Result<(), Fail> {
+    for ended in &ENDINGS {
+        assert!(rt; goes_well(ended, &rt, rt.alloc()));
+    }
+    Ok(())
+}
+
+/// Three commits under one lock, then the end of the only `work`.
+fn work_once<R: Wait>(rt: &R, alloc: Global, office: &Office) -> bool {
+    let visited = visit(alloc, office.lock(rt).station_mut(), ClientNo::new(1), 3);
+    office.tell();
+    office.lock(rt).end_work();
+    office.tell();
+    visited
+}
+
+/// Whether the flusher writes what a thread commits beside it. It is a function of its own, since a
+/// closure in a method doesn't know that `R` is `Sync`.
+fn flushes_beside<R: Wait + Threads + Sync, S: Alter>(
+    rt: &R,
+    alloc: Global,
+    limits: &Limits,
+    office: &Office,
+    shelf: &mut Shelf<S>,
+) -> bool {
+    thread::scope(thread::scope_env(), rt, |scope| {
+        match scope.spawn(move || work_once(rt, alloc, office)) {
+            Ok(worker) => {
+                let flushed = flushes_all(rt, alloc, limits, office, shelf, 3);
+                worker.join(rt) && flushed
+            }
+            Err(_) => false,
+        }
+    })
+}
+
+/// A thread commits while the flusher runs.
+#[derive(Drop)]
+struct Waited;
+
+impl Trial for Waited {
+    fn goes_well<R: Wait + Threads + Sync, S: Alter>(
+        &self,
+        rt: &R,
+        alloc: Global,
+        limits: &Limits,
+        office: &Office,
+        shelf: &mut Shelf<S>,
+    ) -> bool {
+        flushes_beside(rt, alloc, limits, office, shelf)
+    }
+}
+
+#[test]
+fn a_flusher_waits_for_commits(rt: HostRuntime) -> Result<(), Fail> {
+    assert!(rt; goes_well(&Waited, &rt, rt.alloc()));
+    Ok(())
+}

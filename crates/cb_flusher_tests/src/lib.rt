@@ -1,0 +1,9 @@
+//! Tests of the flusher, by its public calls.
+#![tactic(auto)]
+
+#[cfg(test)]
+mod bench;
+#[cfg(test)]
+mod endings;
+#[cfg(test)]
+mod refusals;

@@ -1,0 +1,5 @@
+//! Tests of what is shown of a run, by public calls.
+#![tactic(auto)]
+
+#[cfg(test)]
+mod lines;

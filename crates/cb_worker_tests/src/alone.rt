@@ -1,0 +1,144 @@
+//! A client alone with the office, on one thread, which does the flusher's part too.
+use cb_commit::Store;
+use cb_office::Station;
+use cb_page::{ClientNo, CommitNo, Limits, PageNo};
+use cb_shared::Office;
+use cb_twoq::{Chooser, TwoQ};
+use cb_worker::{Fetched, Finished, Wanted, Worker, WorkerFault};
+use std::alloc::Global;
+use std::sync::Wait;
+use std::test::Fail;
+
+/// What a client does that is alone with an office over zeros.
+pub(crate) trait Visit {
+    /// Whether all is as it should be; the client is gone then.
+    fn goes_well<Q: Chooser, R: Wait>(
+        &self,
+        rt: &R,
+        alloc: Global,
+        office: &Office,
+        worker: Worker<Q>,
+    ) -> bool;
+}
+
+/// Whether it goes well in an office.
+fn goes_well_in<V: Visit, Q: Chooser, R: Wait>(
+    visit: &V,
+    rt: &R,
+    alloc: Global,
+    limits: &Limits,
+    office: &Office,
+) -> bool {
+    let Ok(chooser) = Q::make(alloc, limits) else {
+        return false;
+    };
+    match Worker::join(rt, alloc, office, limits, ClientNo::new(0), chooser) {
+        Ok(worker) => visit.goes_well(rt, alloc, office, worker),
+        Err(_) => false,
+    }
+}
+
+/// Whether it goes well with two pages of sixteen bytes.
+pub(crate) fn goes_well<V: Visit, R: Wait>(visit: &V, rt: &R, alloc: Global) -> bool {
+    let Ok(limits) = Limits::new(1, 2, 16, 2, 1, 1) else {
+        return false;
+    };
+    let Ok(store) = Store::zeros(alloc, &limits) else {
+        return false;
+    };
+    match Station::new(alloc, &limits, store) {
+        Ok(station) => {
+            let office = Office::new(station, 1);
+            goes_well_in::<V, TwoQ, R>(visit, rt, alloc, &limits, &office)
+        }
+        Err(_) => false,
+    }
+}
+
+/// Whether these are the bytes of a page, each that number.
+pub(crate) fn is_all(bytes: Option<&[u8]>, number: u8) -> bool {
+    match bytes {
+        Some(bytes) => bytes == [number; 16].as_slice(),
+        None => false,
+    }
+}
+
+/// It reads page 0, once over the office and once without, and may write it.
+fn reads<Q: Chooser, R: Wait>(
+    rt: &R,
+    alloc: Global,
+    office: &Office,
+    worker: &mut Worker<Q>,
+) -> Result<bool, WorkerFault> {
+    let page = PageNo::new(0);
+    worker.begin()?;
+    let absent = worker.hit(page).is_none();
+    let fetched = match worker.fetch(rt, alloc, office, page)? {
+        Fetched::Bytes(bytes) => is_all(Some(bytes), 0),
+        Fetched::Aborted => false,
+    };
+    let here = is_all(worker.hit(page), 0);
+    let permitted = worker.want(rt, alloc, office, page)? == Wanted::Permitted;
+    Ok(absent && fetched && here && permitted)
+}
+
+/// It writes the page, and commits; the commit is reported as on disk.
+fn writes<Q: Chooser, R: Wait>(
+    rt: &R,
+    alloc: Global,
+    office: &Office,
+    worker: &mut Worker<Q>,
+) -> Result<bool, WorkerFault> {
+    let page = PageNo::new(0);
+    let first = CommitNo::new(1);
+    worker.write(page, &[7; 16])?;
+    let written = is_all(worker.hit(page), 7);
+    let number = worker.commit_at(alloc, office.lock(rt).station_mut())?;
+    office.lock(rt).station_mut().flushed(alloc, first)?;
+    let finished = worker.finish(rt, alloc, office)? == Finished::Committed(first);
+    Ok(written && number == first && finished && is_all(worker.peek(page), 7))
+}
+
+/// Whether the history has one entry, with page 0 read and written.
+fn is_noted<R: Wait>(rt: &R, office: &Office) -> bool {
+    let shared = office.lock(rt);
+    let history = shared.station().history();
+    if history.len() != 1 {
+        return false;
+    }
+    let entry = &history[0];
+    if entry.reads.len() != 1 || entry.writes.len() != 1 {
+        return false;
+    }
+    entry.reads[0].page == PageNo::new(0) && entry.writes[0] == PageNo::new(0)
+}
+
+/// It reads, writes, commits and leaves.
+#[derive(Drop)]
+struct Writer;
+
+impl Visit for Writer {
+    fn goes_well<Q: Chooser, R: Wait>(
+        &self,
+        rt: &R,
+        alloc: Global,
+        office: &Office,
+        mut worker: Worker<Q>,
+    ) -> bool {
+        let read = reads(rt, alloc, office, &mut worker) == Ok(true);
+        let wrote = writes(rt, alloc, office, &mut worker) == Ok(true);
+        match worker.leave(rt, alloc, office) {
+            Ok(()) => read && wrote && is_noted(rt, office),
+            Err((_, worker)) => {
+                worker.abandon();
+                false
+            }
+        }
+    }
+}
+
+#[test]
+fn a_client_alone(rt: HostRuntime) -> Result<(), Fail> {
+    assert!(rt; goes_well(&Writer, &rt, rt.alloc()));
+    Ok(())
+}
