@@ -1,6 +1,8 @@
 //! What the tests share: an office and a database, commits by hand, and looks at what a shelf holds.
 ghost use Rattle.std.specs.Prelude.{◌≡◌, false};
 
+use crate::endings::{ends_well, flushes_beside};
+use crate::refusals::{is_refused_at_first, waits_for_its_done};
 use cb_commit::Store;
 use cb_frame::{Body, Frame, ShortBody, ShortFrame, Write, Writes};
 use cb_hands::Hand;
@@ -14,21 +16,40 @@ use std::sync::Wait;
 use std::thread::Threads;
 
 /// What is tried over an office for one call of `work`, and a shelf, both of zeros.
-pub(crate) trait Trial {
-    /// Whether all is as it should be.
-    fn goes_well<R: Wait + Threads + Sync, S: Alter>(
-        &self,
-        rt: &R,
-        alloc: Global,
-        limits: &Limits,
-        office: &Office,
-        shelf: &mut Shelf<S>,
-    ) -> bool;
+#[derive(Drop)]
+pub(crate) enum Trial {
+    /// So many commits, then the office is closed, or halted.
+    Ended { commits: u16, halts: bool },
+    /// A thread commits while the flusher runs.
+    Waited,
+    /// Two commits are given up, and then written.
+    Refused,
+    /// A client waits for its Done.
+    Awaited,
+}
+
+/// Whether all is as it should be.
+fn goes_well_in<R: Wait + Threads + Sync, S: Alter>(
+    trial: &Trial,
+    rt: &R,
+    alloc: Global,
+    limits: &Limits,
+    office: &Office,
+    shelf: &mut Shelf<S>,
+) -> bool {
+    match trial {
+        Trial::Ended { commits, halts } => {
+            ends_well(rt, alloc, limits, office, shelf, *commits, *halts)
+        }
+        Trial::Waited => flushes_beside(rt, alloc, limits, office, shelf),
+        Trial::Refused => is_refused_at_first(rt, alloc, limits, office, shelf),
+        Trial::Awaited => waits_for_its_done(rt, alloc, limits, office, shelf),
+    }
 }
 
 /// Whether it goes well over a shelf: the office is over what that holds.
-fn goes_well_over<T: Trial, R: Wait + Threads + Sync, S: Alter>(
-    trial: &T,
+fn goes_well_over<R: Wait + Threads + Sync, S: Alter>(
+    trial: &Trial,
     rt: &R,
     alloc: Global,
     limits: &Limits,
@@ -41,14 +62,14 @@ fn goes_well_over<T: Trial, R: Wait + Threads + Sync, S: Alter>(
         return false;
     };
     match Station::new(alloc, limits, store) {
-        Ok(station) => trial.goes_well(rt, alloc, limits, &Office::new(station, 1), shelf),
+        Ok(station) => goes_well_in(trial, rt, alloc, limits, &Office::new(station, 1), shelf),
         Err(_) => false,
     }
 }
 
 /// Whether it goes well over a new database.
-fn goes_well_on<T: Trial, R: Wait + Threads + Sync, S: Alter + Drop>(
-    trial: &T,
+fn goes_well_on<R: Wait + Threads + Sync, S: Alter + Drop>(
+    trial: &Trial,
     rt: &R,
     alloc: Global,
     limits: &Limits,
@@ -63,11 +84,7 @@ fn goes_well_on<T: Trial, R: Wait + Threads + Sync, S: Alter + Drop>(
 }
 
 /// Whether it goes well over a new database, with two clients and two pages of sixteen bytes.
-pub(crate) fn goes_well<T: Trial, R: Wait + Threads + Sync>(
-    trial: &T,
-    rt: &R,
-    alloc: Global,
-) -> bool {
+pub(crate) fn goes_well<R: Wait + Threads + Sync>(trial: &Trial, rt: &R, alloc: Global) -> bool {
     let Ok(limits) = Limits::new(2, 2, 16, 2, 1, 1) else {
         return false;
     };

@@ -25,43 +25,40 @@ fn flushes_all<R: Wait, S: Alter>(
     ended && is_reported(rt, alloc, office) && holds(alloc, limits, shelf, number)
 }
 
-/// So many commits, then the office is closed, or halted.
-#[derive(Drop)]
-struct Ended {
+/// So many commits, then the office is closed, or halted; whether all is written.
+pub(crate) fn ends_well<R: Wait, S: Alter>(
+    rt: &R,
+    alloc: Global,
+    limits: &Limits,
+    office: &Office,
+    shelf: &mut Shelf<S>,
     commits: u16,
     halts: bool,
-}
-
-impl Trial for Ended {
-    fn goes_well<R: Wait + Threads + Sync, S: Alter>(
-        &self,
-        rt: &R,
-        alloc: Global,
-        limits: &Limits,
-        office: &Office,
-        shelf: &mut Shelf<S>,
-    ) -> bool {
-        let client = ClientNo::new(0);
-        let visited = visit(alloc, office.lock(rt).station_mut(), client, self.commits);
-        if self.halts {
-            office.halt(rt);
-        } else {
-            office.close(rt);
-        }
-        visited && flushes_all(rt, alloc, limits, office, shelf, u64::from(self.commits))
+) -> bool {
+    let visited = visit(
+        alloc,
+        office.lock(rt).station_mut(),
+        ClientNo::new(0),
+        commits,
+    );
+    if halts {
+        office.halt(rt);
+    } else {
+        office.close(rt);
     }
+    visited && flushes_all(rt, alloc, limits, office, shelf, u64::from(commits))
 }
 
-static ENDINGS: [Ended; 3] = [
-    Ended {
+static ENDINGS: [Trial; 3] = [
+    Trial::Ended {
         commits: 0,
         halts: false,
     },
-    Ended {
+    Trial::Ended {
         commits: 3,
         halts: false,
     },
-    Ended {
+    Trial::Ended {
         commits: 3,
         halts: true,
     },
@@ -84,9 +81,8 @@ fn work_once<R: Wait>(rt: &R, alloc: Global, office: &Office) -> bool {
     visited
 }
 
-/// Whether the flusher writes what a thread commits beside it. It is a function of its own, since a
-/// closure in a method doesn't know that `R` is `Sync`.
-fn flushes_beside<R: Wait + Threads + Sync, S: Alter>(
+/// Whether the flusher writes what a thread commits beside it.
+pub(crate) fn flushes_beside<R: Wait + Threads + Sync, S: Alter>(
     rt: &R,
     alloc: Global,
     limits: &Limits,
@@ -104,25 +100,8 @@ fn flushes_beside<R: Wait + Threads + Sync, S: Alter>(
     })
 }
 
-/// A thread commits while the flusher runs.
-#[derive(Drop)]
-struct Waited;
-
-impl Trial for Waited {
-    fn goes_well<R: Wait + Threads + Sync, S: Alter>(
-        &self,
-        rt: &R,
-        alloc: Global,
-        limits: &Limits,
-        office: &Office,
-        shelf: &mut Shelf<S>,
-    ) -> bool {
-        flushes_beside(rt, alloc, limits, office, shelf)
-    }
-}
-
 #[test]
 fn a_flusher_waits_for_commits(rt: HostRuntime) -> Result<(), Fail> {
-    assert!(rt; goes_well(&Waited, &rt, rt.alloc()));
+    assert!(rt; goes_well(&Trial::Waited, &rt, rt.alloc()));
     Ok(())
 }

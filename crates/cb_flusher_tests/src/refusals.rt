@@ -11,7 +11,6 @@ use sqlite::Alter;
 use std::alloc::Global;
 use std::sync::Wait;
 use std::test::Fail;
-use std::thread::Threads;
 
 /// Whether the database refused the batch that ends with this commit.
 fn is_refused(stop: &FlushStop, number: u64) -> bool {
@@ -62,30 +61,24 @@ fn is_given_up<R: Wait, S: Alter>(
     refused && halted && !is_reported(rt, alloc, office) && holds(alloc, limits, shelf, 0)
 }
 
-/// Two commits that are given up, and then written.
-#[derive(Drop)]
-struct Refused;
-
-impl Trial for Refused {
-    fn goes_well<R: Wait + Threads + Sync, S: Alter>(
-        &self,
-        rt: &R,
-        alloc: Global,
-        limits: &Limits,
-        office: &Office,
-        shelf: &mut Shelf<S>,
-    ) -> bool {
-        let visited = visit(alloc, office.lock(rt).station_mut(), ClientNo::new(0), 2);
-        office.close(rt);
-        let given_up = is_given_up(rt, alloc, limits, office, shelf);
-        let written = is_written_at_last(rt, alloc, limits, office, shelf);
-        visited && given_up && written && is_reported(rt, alloc, office)
-    }
+/// Two commits are given up, and then written.
+pub(crate) fn is_refused_at_first<R: Wait, S: Alter>(
+    rt: &R,
+    alloc: Global,
+    limits: &Limits,
+    office: &Office,
+    shelf: &mut Shelf<S>,
+) -> bool {
+    let visited = visit(alloc, office.lock(rt).station_mut(), ClientNo::new(0), 2);
+    office.close(rt);
+    let given_up = is_given_up(rt, alloc, limits, office, shelf);
+    let written = is_written_at_last(rt, alloc, limits, office, shelf);
+    visited && given_up && written && is_reported(rt, alloc, office)
 }
 
 #[test]
 fn refused_write_is_written_again(rt: HostRuntime) -> Result<(), Fail> {
-    assert!(rt; goes_well(&Refused, &rt, rt.alloc()));
+    assert!(rt; goes_well(&Trial::Refused, &rt, rt.alloc()));
     Ok(())
 }
 
@@ -121,34 +114,28 @@ fn is_done_at_last<R: Wait, S: Alter>(
     !early && before && written && late && holds(alloc, limits, shelf, 1)
 }
 
-/// A client that waits for its Done.
-#[derive(Drop)]
-struct Awaited;
-
-impl Trial for Awaited {
-    fn goes_well<R: Wait + Threads + Sync, S: Alter>(
-        &self,
-        rt: &R,
-        alloc: Global,
-        limits: &Limits,
-        office: &Office,
-        shelf: &mut Shelf<S>,
-    ) -> bool {
-        let joined = office.lock(rt).station_mut().join(alloc, ClientNo::new(0));
-        let Ok(mut hand) = joined else {
-            return false;
-        };
-        let txn = TxnNo::new(1);
-        let committed = commit_page(alloc, office.lock(rt).station_mut(), &mut hand, txn).is_ok();
-        office.close(rt);
-        let done = is_done_at_last(rt, alloc, limits, office, shelf, &mut hand);
-        hand.abandon();
-        committed && done
-    }
+/// A client waits for its Done.
+pub(crate) fn waits_for_its_done<R: Wait, S: Alter>(
+    rt: &R,
+    alloc: Global,
+    limits: &Limits,
+    office: &Office,
+    shelf: &mut Shelf<S>,
+) -> bool {
+    let joined = office.lock(rt).station_mut().join(alloc, ClientNo::new(0));
+    let Ok(mut hand) = joined else {
+        return false;
+    };
+    let txn = TxnNo::new(1);
+    let committed = commit_page(alloc, office.lock(rt).station_mut(), &mut hand, txn).is_ok();
+    office.close(rt);
+    let done = is_done_at_last(rt, alloc, limits, office, shelf, &mut hand);
+    hand.abandon();
+    committed && done
 }
 
 #[test]
 fn no_done_before_its_batch_is_written(rt: HostRuntime) -> Result<(), Fail> {
-    assert!(rt; goes_well(&Awaited, &rt, rt.alloc()));
+    assert!(rt; goes_well(&Trial::Awaited, &rt, rt.alloc()));
     Ok(())
 }
