@@ -6,8 +6,8 @@
 #   scripts/refused_growths.sh 12 CRATE   those of one crate of tests
 #
 # The other tests of a crate want memory and fail in such a run; only the named ones count. A crate's tests are built and run
-# once for each N. Nothing of this is in the gate, since a refusal can't be handed in by a test there. RT is the command,
-# `rt` if it isn't set.
+# once for each N. Those of a client and of a server are in scripts/refused_calls.sh. Nothing of this is in the gate, since a
+# refusal can't be handed in by a test there. RT is the command, `rt` if it isn't set.
 set -u
 cd "$(dirname "$0")/../crates"
 most=${1:-12}
@@ -30,9 +30,7 @@ while read -r crate tests; do
 done <<'LIST'
 cb_frame_tests pages::refused_growths frames::refused_growths
 cb_pool_tests twoq_tests::refused_growths_change_nothing pool_tests::calls_of_a_pool
-cb_client_tests growths::refused_growths
 cb_event_tests schedules::schedule_without_memory
 cb_console_tests play_tests::play_without_memory
-cb_served_tests rows::callbacks_at_the_server rows::commits_at_the_server rows::cycle_of_three rows::hostile_frames
 LIST
 exit $bad

@@ -27,9 +27,15 @@ use std::marker::Model;
 /// One incarnation of a client over any pool.
 ///
 /// `new`, `finish`, `drop_txn`, `take`, `take_bytes` and `again` take memory; no other call does.
-#[derive(Drop)]
 pub struct Client<Q: Chooser> {
     engine: Engine<Q>,
+}
+
+// By hand, so that who owns a client proves this drop alone, and not those of all its parts.
+impl<Q: Chooser> Drop for Client<Q> {
+    fn drop(self) {
+        let Client { engine: _ } = self;
+    }
 }
 
 impl<Q: Chooser> Model for Client<Q> {

@@ -6,7 +6,7 @@
 //! and each message is taken as its table of messages says.
 //!
 //! What holds whatever was called and came is said by the laws. An example that is run as a test is
-//! `client_in_use_then_aborted` in `cb_client_tests`; a chooser of a caller's own stands with its
+//! `references_of_a_client` in `cb_client_tests`; a chooser of a caller's own stands with its
 //! proof in `cb_pool_tests`.
 #![tactic(auto)]
 

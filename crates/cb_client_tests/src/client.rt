@@ -1,14 +1,14 @@
 ghost use Rattle.std.specs.Prelude.{◌<◌, ◌≤◌};
 
-use cb_client::{Client, ClientFault, ClientStatus, Outcome, ReadAnswer, WantAnswer};
-use cb_frame::{Body, BytesFault, Frame, FrameFault, ShortBody, encode};
+use cb_client::{Client, ClientFault, ReadAnswer};
+use cb_frame::{Body, Frame, ShortBody, encode};
 use cb_page::{ClientNo, CommitNo, GrantNo, Incarnation, Limits, Page, PageNo, TxnNo, Version};
 use cb_pool_tests::{Called, Recorder};
 use cb_twoq::{Chooser, TwoQ};
 use std::alloc::Global;
 
 /// A frame for client 0 at incarnation 1.
-pub(crate) fn frame(body: Body) -> Frame {
+fn frame(body: Body) -> Frame {
     Frame {
         client: ClientNo::new(0),
         incarnation: Incarnation::new(1),
@@ -107,128 +107,6 @@ fn begins<Q: Chooser>(client: &mut Client<Q>, txn: TxnNo) -> bool {
         Ok(begun) => begun == txn,
         Err(_) => false,
     }
-}
-
-/// Whether the client says these bodies again, and no others.
-fn says_again<Q: Chooser>(alloc: Global, client: &Client<Q>, bodies: &[ShortBody]) -> bool {
-    match client.again(alloc) {
-        Ok(frames) => are(frames.as_slice(), bodies),
-        Err(_) => false,
-    }
-}
-
-/// Whether the transaction is dropped with these frames.
-fn drops<Q: Chooser>(alloc: Global, client: &mut Client<Q>, bodies: &[ShortBody]) -> bool {
-    match client.drop_txn(alloc) {
-        Ok(frames) => are(frames.as_slice(), bodies),
-        Err(_) => false,
-    }
-}
-
-/// Whether the client says these bodies, and no others, to a callback.
-fn is_called<Q: Chooser>(
-    alloc: Global,
-    client: &mut Client<Q>,
-    (page, grant): (PageNo, GrantNo),
-    bodies: &[ShortBody],
-) -> bool {
-    says(alloc, client, ShortBody::Callback { page, grant }, bodies)
-}
-
-/// Whether a page in use is given back when its transaction is dropped, once.
-fn is_given_back_once<Q: Chooser>(alloc: Global, client: &mut Client<Q>) -> bool {
-    let (txn, page, grant) = (TxnNo::new(1), PageNo::new(5), GrantNo::new(1));
-    let in_use = [ShortBody::InUse { txn, page, grant }];
-    let ends = [ShortBody::Drop { txn }, ShortBody::GiveBack { page, grant }];
-    let give_back = [ShortBody::GiveBack { page, grant }];
-    is(&client.hello(), ShortBody::Hello)
-        && says(alloc, client, ShortBody::Welcome, &[])
-        && begins(client, txn)
-        && asks(client, txn, page)
-        && granted(alloc, client, (page, grant), &[])
-        && is_called(alloc, client, (page, grant), &in_use)
-        && is_called(alloc, client, (page, grant), &in_use)
-        && drops(alloc, client, &ends)
-        && is_called(alloc, client, (page, grant), &give_back)
-}
-
-/// Whether the grant that went is refused later, and an aborted transaction gives back what it
-/// wrote.
-fn is_aborted<Q: Chooser>(alloc: Global, client: &mut Client<Q>) -> bool {
-    let (one, txn, page) = (TxnNo::new(1), TxnNo::new(2), PageNo::new(5));
-    let (first, fourth) = (GrantNo::new(1), GrantNo::new(4));
-    let give_back = [ShortBody::GiveBack { page, grant: first }];
-    let again = [
-        ShortBody::Drop { txn: one },
-        ShortBody::AskRead { txn, page },
-    ];
-    begins(client, txn)
-        && asks(client, txn, page)
-        && says_again(alloc, client, &again)
-        && granted(alloc, client, (page, first), &give_back)
-        && granted(alloc, client, (page, fourth), &[])
-        && writes_and_aborts(alloc, client, txn, (page, fourth))
-        && client.status() == ClientStatus::Idle
-        && client.last() == Some(Outcome::Aborted)
-        && says_again(alloc, client, &[ShortBody::Drop { txn }])
-}
-
-/// What is looked at over a new client.
-#[derive(Clone, Copy)]
-enum Case {
-    InUseThenAborted,
-    Cut,
-    Greatest,
-}
-
-/// Whether the client does as it should.
-fn does<Q: Chooser>(alloc: Global, client: &mut Client<Q>, limits: &Limits, case: Case) -> bool {
-    match case {
-        Case::InUseThenAborted => is_given_back_once(alloc, client) && is_aborted(alloc, client),
-        Case::Cut => are_cut(alloc, client),
-        Case::Greatest => has_memory(alloc, client, limits),
-    }
-}
-
-/// Whether a new client over a new chooser does.
-fn new_one_does<Q: Chooser>(alloc: Global, limits: &Limits, case: Case) -> bool {
-    // There is one client at least: `clients` says so.
-    let _in_range = limits.clients();
-    let Ok(pool) = Q::make(alloc, limits) else {
-        return false;
-    };
-    match Client::new(alloc, ClientNo::new(0), Incarnation::new(1), limits, pool) {
-        Ok(mut client) => does(alloc, &mut client, limits, case),
-        Err(_) => false,
-    }
-}
-
-/// A page in use is given back when its transaction is dropped, once; a grant that went is refused
-/// later, and an aborted transaction gives back what it wrote.
-#[test]
-fn client_in_use_then_aborted(rt: HostRuntime) -> anyhow::Result<()> {
-    let limits = Limits::new(2, 8, 16, 2, 1, 1)?;
-    assert!(rt; new_one_does::<TwoQ>(rt.alloc(), &limits, Case::InUseThenAborted));
-    Ok(())
-}
-
-/// Whether the page is permitted, written and given back by an abort.
-fn writes_and_aborts<Q: Chooser>(
-    alloc: Global,
-    client: &mut Client<Q>,
-    txn: TxnNo,
-    (page, grant): (PageNo, GrantNo),
-) -> bool {
-    let asked = match client.want(page) {
-        Ok(WantAnswer::Asked(ask)) => ask.body == ShortBody::AskWrite { txn, page, grant },
-        _ => false,
-    };
-    let may_write = ShortBody::MayWrite { txn, page, grant };
-    let permitted = says(alloc, client, may_write, &[]) && client.may_write(page);
-    let wrote = client.write(page, &[9u8; 16]).is_ok();
-    let ends = [ShortBody::Drop { txn }, ShortBody::GiveBack { page, grant }];
-    let aborted = says(alloc, client, ShortBody::AbortNow { txn }, &ends);
-    asked && permitted && wrote && aborted
 }
 
 /// Whether refused reads, asks, hits and grants, one of them repeated, come as they should.
@@ -332,79 +210,6 @@ fn ends_with_a_page_in_use<Q: Chooser>(
     called && finished && refused && done
 }
 
-/// Whether each part of the bytes that ends early is refused as Short.
-fn is_short_at_each_length<Q: Chooser>(
-    alloc: Global,
-    client: &mut Client<Q>,
-    bytes: &[u8],
-) -> bool {
-    for length in 0..bytes.len() {
-        match client.take_bytes(alloc, &bytes[..length]) {
-            Err(BytesFault::Frame(FrameFault::Short)) => {}
-            _ => return false,
-        }
-    }
-    true
-}
-
-/// Whether the frame, cut at any length, is Short, and taken with the count of its bytes, whatever
-/// follows it.
-fn is_cut<Q: Chooser>(alloc: Global, client: &mut Client<Q>, frame: &Frame) -> bool {
-    if !frame.fits(client.limits()) {
-        return false;
-    }
-    let Ok(mut bytes) = encode(alloc, frame) else {
-        return false;
-    };
-    let used = bytes.len();
-    let short = is_short_at_each_length(alloc, client, bytes.as_slice());
-    if bytes.push(1).is_err() {
-        return false;
-    }
-    match client.take_bytes(alloc, bytes.as_slice()) {
-        Ok((_, count)) => short && count == used,
-        Err(_) => false,
-    }
-}
-
-/// Whether each kind for a client, and one for the server, can be cut at every length.
-fn are_cut<Q: Chooser>(alloc: Global, client: &mut Client<Q>) -> bool {
-    let (txn, page, grant) = (TxnNo::new(1), PageNo::new(5), GrantNo::new(1));
-    let number = CommitNo::new(1);
-    let bodies = [
-        ShortBody::Hello,
-        ShortBody::Welcome,
-        ShortBody::MayWrite { txn, page, grant },
-        ShortBody::Callback { page, grant },
-        ShortBody::Done { txn, number },
-        ShortBody::AbortNow { txn },
-        ShortBody::Downgrade { page, grant, txn },
-    ];
-    for body in bodies {
-        if !is_cut(alloc, client, &frame(Body::Short(body))) {
-            return false;
-        }
-    }
-    let Ok(bytes) = vec![in alloc; 7u8; 16] else {
-        return false;
-    };
-    let granted = frame(Body::Granted {
-        page,
-        grant,
-        version: Version::new(0),
-        bytes: Page::from_vec(bytes),
-    });
-    is_cut(alloc, client, &granted)
-}
-
-/// Each kind for a client, and one for the server, cut at every length.
-#[test]
-fn frames_for_a_client_are_cut(rt: HostRuntime) -> anyhow::Result<()> {
-    let limits = Limits::new(2, 8, 16, 2, 1, 1)?;
-    assert!(rt; new_one_does::<TwoQ>(rt.alloc(), &limits, Case::Cut));
-    Ok(())
-}
-
 /// Whether the page, of the greatest size that comes here, is read, permitted and written.
 fn is_written<Q: Chooser>(alloc: Global, client: &mut Client<Q>, txn: TxnNo, number: u32) -> bool
     requires { number < 4096 }
@@ -470,7 +275,28 @@ fn has_memory<Q: Chooser>(alloc: Global, client: &mut Client<Q>, limits: &Limits
         && again == 1
         && given == 300
         && begins(client, next)
-        && drops(alloc, client, &[ShortBody::Drop { txn: next }])
+        && drops(alloc, client, next)
+}
+
+/// Whether the transaction is dropped, and no page is given back.
+fn drops<Q: Chooser>(alloc: Global, client: &mut Client<Q>, txn: TxnNo) -> bool {
+    match client.drop_txn(alloc) {
+        Ok(frames) => are(frames.as_slice(), &[ShortBody::Drop { txn }]),
+        Err(_) => false,
+    }
+}
+
+/// The same of a new client over a new chooser.
+fn new_one_has_memory<Q: Chooser>(alloc: Global, limits: &Limits) -> bool {
+    // There is one client at least: `clients` says so.
+    let _in_range = limits.clients();
+    let Ok(pool) = Q::make(alloc, limits) else {
+        return false;
+    };
+    match Client::new(alloc, ClientNo::new(0), Incarnation::new(1), limits, pool) {
+        Ok(mut client) => has_memory(alloc, &mut client, limits),
+        Err(_) => false,
+    }
 }
 
 /// At the greatest limits but the pages' size, with 300 pages of 4,096 bytes written: each call
@@ -478,7 +304,7 @@ fn has_memory<Q: Chooser>(alloc: Global, client: &mut Client<Q>, limits: &Limits
 #[test]
 fn greatest_client(rt: HostRuntime) -> anyhow::Result<()> {
     let limits = Limits::new(32, 4096, 4096, 1024, 256, 512)?;
-    assert!(rt; new_one_does::<TwoQ>(rt.alloc(), &limits, Case::Greatest));
+    assert!(rt; new_one_has_memory::<TwoQ>(rt.alloc(), &limits));
     Ok(())
 }
 

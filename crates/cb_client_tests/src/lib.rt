@@ -4,8 +4,4 @@
 #[cfg(test)]
 mod client;
 #[cfg(test)]
-mod copies;
-#[cfg(test)]
-mod growths;
-#[cfg(test)]
 mod locks;

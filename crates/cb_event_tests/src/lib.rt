@@ -1,6 +1,8 @@
-//! Tests of the public calls of events and of the text of schedules.
+//! Tests of events, of the text of schedules and of drawn ones, by public calls.
 #![tactic(auto)]
 
+#[cfg(test)]
+mod drawing;
 #[cfg(test)]
 mod faults;
 #[cfg(test)]

@@ -34,11 +34,21 @@ use std::marker::Model;
 ///
 /// What holds of it whenever nobody has it, `history` says. Every call but `meet`, `history` and
 /// `has_frame_for` takes memory.
-#[derive(Drop)]
 pub struct Station {
     dispatcher: Dispatcher,
     hands: JoinedHands,
     history: Vec<Entry>,
+}
+
+// By hand, so that who owns a station proves this drop alone, and not those of all its parts.
+impl Drop for Station {
+    fn drop(self) {
+        let Station {
+            dispatcher: _,
+            hands: _,
+            history: _,
+        } = self;
+    }
 }
 
 impl Model for Station {

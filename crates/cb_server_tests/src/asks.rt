@@ -1,7 +1,7 @@
 ghost use Rattle.std.specs.Prelude.{◌≡◌, length, OnOk};
 ghost use Rattle.cb_asks.specs.Asks.{HasPage};
 
-use cb_asks::{Asks, Marks};
+use cb_asks::Asks;
 use cb_page::{ClientNo, GrantNo, Limits, PageNo, TxnNo};
 
 /// The client asks for the page, where no ask of it waits.
@@ -33,26 +33,6 @@ fn grant_first(asks: &mut Asks, page: PageNo) -> Option<(ClientNo, Option<GrantN
         Some(_) => Some(asks.leave(page).granted()),
         None => None,
     }
-}
-
-/// At the greatest limits: the first and the last client ask for the last page, and are granted in
-/// order. One that gives up from some number of clients or pages on is refused here.
-#[test]
-fn asks_at_the_greatest_limits(rt: HostRuntime) -> anyhow::Result<()> {
-    let limits = Limits::new(32, 4096, 65_536, 1024, 1, 4096)?;
-    let mut asks = Asks::new(rt.alloc(), &limits)?;
-    let page = PageNo::new(4095);
-    ask(&mut asks, page, ClientNo::new(31), None)?;
-    ask(&mut asks, page, ClientNo::new(0), None)?;
-    let waits = asks.read_asks() == 2
-        && asks.queue(page).len() == 2
-        && asks.next_page(0) == Some(page)
-        && asks.next_page(4096).is_none();
-    let first = grant_first(&mut asks, page) == Some((ClientNo::new(31), None));
-    let second = grant_first(&mut asks, page) == Some((ClientNo::new(0), None));
-    assert!(rt; waits && first && second);
-    assert!(rt; asks.queue(page).is_empty() && asks.read_asks() == 0);
-    Ok(())
 }
 
 /// Three clients ask for a page: the first is noted as called back, the second one's transaction
@@ -89,26 +69,5 @@ fn asks_leave_in_order(rt: HostRuntime) -> anyhow::Result<()> {
     let second = grant_first(&mut asks, page) == Some((ClientNo::new(2), None));
     assert!(rt; noted && waits && gone && none && first && second);
     assert!(rt; asks.next_page(0).is_none() && asks.read_asks() == 0);
-    Ok(())
-}
-
-/// Marks at the greatest limits; a client's marks are cleared, another's stay.
-#[test]
-fn marks_at_the_greatest_limits(rt: HostRuntime) -> anyhow::Result<()> {
-    let limits = Limits::new(32, 4096, 65_536, 1024, 1, 4096)?;
-    let mut marks = Marks::new(rt.alloc(), &limits)?;
-    let client = ClientNo::new(31);
-    let other = ClientNo::new(0);
-    let first = PageNo::new(0);
-    let last = PageNo::new(4095);
-    marks.mark(client, first);
-    marks.mark(client, last);
-    marks.mark(other, last);
-    let used = marks.users(last).contains(client) && marks.users(first).contains(client);
-    marks.unmark(client, first);
-    let unmarked = !marks.users(first).contains(client);
-    marks.clear(client);
-    assert!(rt; used && unmarked);
-    assert!(rt; !marks.users(last).contains(client) && marks.users(last).contains(other));
     Ok(())
 }

@@ -1,21 +1,6 @@
 use cb_directory::Directory;
 use cb_page::{ClientNo, Limits, PageNo, TxnNo};
 
-/// At the greatest limits: one that gives up from some number of clients or pages on is refused
-/// here.
-#[test]
-fn directory_at_the_greatest_limits(rt: HostRuntime) -> anyhow::Result<()> {
-    let limits = Limits::new(32, 4096, 65_536, 1024, 1, 4096)?;
-    let mut directory = Directory::new(rt.alloc(), &limits)?;
-    let client = ClientNo::new(31);
-    let page = PageNo::new(4095);
-    let grant = directory.grant(client, page);
-    assert_eq!(rt; grant.get(), 1);
-    assert!(rt; directory.row(client, page) == Some(grant));
-    assert!(rt; directory.rows_of_page(page).contains(client));
-    Ok(())
-}
-
 /// A client writes a page, gives it back, and is forgotten.
 #[test]
 fn rows_and_permissions(rt: HostRuntime) -> anyhow::Result<()> {

@@ -1,12 +1,18 @@
-//! Tests of the server's parts by their public calls.
+//! Tests of a server and of its parts by their public calls.
 #![tactic(auto)]
 
 #[cfg(test)]
 mod asks;
 #[cfg(test)]
+mod callbacks;
+#[cfg(test)]
+mod commits;
+#[cfg(test)]
 mod directory;
 #[cfg(test)]
-mod outbox;
+mod great_commits;
+#[cfg(test)]
+mod greatest;
 #[cfg(test)]
 mod sessions;
 #[cfg(test)]

@@ -1,19 +1,6 @@
 use cb_links::{Admission, Sessions, Standing};
 use cb_page::{ClientNo, CommitNo, Incarnation, Limits, TxnNo};
 
-/// At the greatest limits: one that gives up from some number of clients on is refused here.
-#[test]
-fn sessions_at_the_greatest_limits(rt: HostRuntime) -> anyhow::Result<()> {
-    let limits = Limits::new(32, 4096, 65_536, 1024, 1, 4096)?;
-    let mut sessions = Sessions::new(rt.alloc(), &limits)?;
-    let client = ClientNo::new(31);
-    let first = Incarnation::new(1);
-    assert!(rt; sessions.admit(client, first) == Admission::Unknown);
-    sessions.hello(client, first);
-    assert!(rt; sessions.admit(client, first) == Admission::Current);
-    Ok(())
-}
-
 /// A transaction begins, is doomed and ends, as its client's frames tell.
 #[test]
 fn transaction_of_a_session(rt: HostRuntime) -> anyhow::Result<()> {

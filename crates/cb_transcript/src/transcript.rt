@@ -20,11 +20,22 @@ pub struct TransactionName {
 }
 
 /// What became of every event of a world, and the transactions that were committed.
-#[derive(Debug, Drop)]
+#[derive(Debug)]
 pub struct Transcript {
     opening: Store,
     entries: Vec<TranscriptEntry>,
     commits: Vec<TransactionName>,
+}
+
+// By hand, so that who owns a transcript proves this drop alone, and not those of all its parts.
+impl Drop for Transcript {
+    fn drop(self) {
+        let Transcript {
+            opening: _,
+            entries: _,
+            commits: _,
+        } = self;
+    }
 }
 
 impl Model for Transcript {

@@ -1,5 +1,0 @@
-use Rattle.cb_commit.specs.Stores.{IsOf}
-use Rattle.cb_commit_tests.proofs.greatest.are_applied.Given as goal
-
-abbrev pub invariant-loop-number : goal.invariant-loop-number
-invariant-loop-number l = IsOf l.limits l.commits.store

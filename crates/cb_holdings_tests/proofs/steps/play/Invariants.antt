@@ -1,5 +1,0 @@
-use Rattle.cb_holdings.specs.Holdings.{AreOf}
-use Rattle.cb_holdings_tests.proofs.steps.play.Given as goal
-
-abbrev pub invariant-loop-at : goal.invariant-loop-at
-invariant-loop-at g l = AreOf l.limits l.holdings

@@ -1,0 +1,128 @@
+//! The calls of a server that can answer want of memory, with 32 clients and 4,096 pages: one that
+//! gives up from some number of clients, of pages or of bytes on is refused here, which no clause
+//! can say.
+use cb_commit::Store;
+use cb_frame::{Body, Frame, ShortBody, Write, Writes};
+use cb_page::{ClientNo, CommitNo, GrantNo, Incarnation, Limits, Page, PageNo, TxnNo};
+use cb_server::Server;
+use std::alloc::Global;
+
+/// How many frames are answered; `None` where this doesn't fit or is refused.
+fn answered(alloc: Global, server: &mut Server, client: ClientNo, body: Body) -> Option<usize> {
+    let frame = Frame {
+        client,
+        incarnation: Incarnation::new(1),
+        body,
+    };
+    if !frame.fits(server.limits()) {
+        return None;
+    }
+    Some(server.take(alloc, frame).ok()?.len())
+}
+
+/// The same of a body without page bytes.
+fn said(alloc: Global, server: &mut Server, client: ClientNo, body: ShortBody) -> Option<usize> {
+    answered(alloc, server, client, Body::Short(body))
+}
+
+/// How many frames are answered as the clients below a number greet and ask to read the page.
+fn all_read(
+    alloc: Global,
+    limits: &Limits,
+    server: &mut Server,
+    clients: u64,
+    page: PageNo,
+) -> Option<usize> {
+    let mut frames = 0usize;
+    for number in 0..clients {
+        let client = ClientNo::in_store(limits, number)?;
+        let txn = TxnNo::new(1);
+        let greeted = said(alloc, server, client, ShortBody::Hello)?;
+        let read = said(alloc, server, client, ShortBody::AskRead { txn, page })?;
+        frames = frames.wrapping_add(greeted).wrapping_add(read);
+    }
+    Some(frames)
+}
+
+/// What the client writes to each page, once it has read all and may write them.
+fn all_permitted(
+    alloc: Global,
+    limits: &Limits,
+    server: &mut Server,
+    client: ClientNo,
+) -> Option<Vec<Write>> {
+    let mut writes = Vec::new(alloc);
+    for number in 0..u64::from(limits.pages()) {
+        let page = PageNo::in_store(limits, number)?;
+        let grant = GrantNo::checked(number.wrapping_add(1))?;
+        let txn = TxnNo::new(1);
+        let read = said(alloc, server, client, ShortBody::AskRead { txn, page })?;
+        let asked = ShortBody::AskWrite { txn, page, grant };
+        if read != 1 || said(alloc, server, client, asked)? != 1 {
+            return None;
+        }
+        let bytes = Page::from_vec(vec![in alloc; 7u8; limits.page_size()].ok()?);
+        writes.push(Write { page, grant, bytes }).ok()?;
+    }
+    Some(writes)
+}
+
+/// How many frames call a page back that all clients hold and the last asks to write, as it is said
+/// and as it is said again.
+fn calls_all_back(alloc: Global, limits: &Limits, server: &mut Server) -> Option<[usize; 3]> {
+    let last = ClientNo::in_store(limits, 31)?;
+    let page = PageNo::in_store(limits, 0)?;
+    let (txn, grant) = (TxnNo::new(1), GrantNo::new(32));
+    let read = all_read(alloc, limits, server, 32, page)?;
+    let asked = ShortBody::AskWrite { txn, page, grant };
+    let called = said(alloc, server, last, asked)?;
+    Some([read, called, server.again(alloc).ok()?.len()])
+}
+
+/// How many frames are answered as 31 clients wait for a page, and as the last commits all pages;
+/// how many of these reach the disk, and how many frames that says.
+fn commits_all(alloc: Global, limits: &Limits, server: &mut Server) -> Option<[usize; 4]> {
+    let last = ClientNo::in_store(limits, 31)?;
+    said(alloc, server, last, ShortBody::Hello)?;
+    let writes = Writes::from_vec(all_permitted(alloc, limits, server, last)?);
+    let waiting = all_read(alloc, limits, server, 31, PageNo::in_store(limits, 4095)?)?;
+    let txn = TxnNo::new(1);
+    let granted = answered(alloc, server, last, Body::Commit { txn, writes })?;
+    let written = server.batch(alloc).ok()??.pages().len();
+    let number = CommitNo::new(1);
+    if !server.can_flush(number) {
+        return None;
+    }
+    let done = server.flushed(alloc, number).ok()?.len();
+    Some([waiting, granted, written, done])
+}
+
+/// The limits, and a server of zeros.
+fn greatest(alloc: Global) -> Option<(Limits, Server)> {
+    let limits = Limits::new(32, 4096, 4096, 1024, 1, 4096).ok()?;
+    let store = Store::zeros(alloc, &limits).ok()?;
+    let server = Server::new(alloc, &limits, store).ok()?;
+    Some((limits, server))
+}
+
+/// What is called back at such a server.
+fn called_back(alloc: Global) -> Option<[usize; 3]> {
+    let (limits, mut server) = greatest(alloc)?;
+    calls_all_back(alloc, &limits, &mut server)
+}
+
+/// What is committed at such a server.
+fn committed(alloc: Global) -> Option<[usize; 4]> {
+    let (limits, mut server) = greatest(alloc)?;
+    commits_all(alloc, &limits, &mut server)
+}
+
+#[test]
+fn all_clients_are_called_back(rt: HostRuntime) {
+    assert!(rt; called_back(rt.alloc()) == Some([64, 31, 31]));
+}
+
+#[test]
+fn all_pages_are_committed(rt: HostRuntime) {
+    assert!(rt; committed(rt.alloc()) == Some([31, 31, 4096, 1]));
+}
