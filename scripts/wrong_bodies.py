@@ -13,32 +13,31 @@ HEAD = re.compile(r"^\s*(?:pub(?:\([a-z]+\))? )?(?:const |final |unsafe )*fn (\w
 
 
 class Edit:
-    """One file of pairs of texts, with the functions whose bodies it changes."""
+    """Pairs of texts, each of a file of the crate, with the functions whose bodies they change."""
 
     def __init__(self, path):
         self.name = path.stem
         self.pairs = []
-        self.file = None
+        file = None
         for line in path.read_text().splitlines():
             key, _, text = line.partition(":")
             if key == "file":
-                self.file = text.strip()
+                file = text.strip()
             elif key == "old":
-                self.pairs.append([text.removeprefix(" "), None])
+                self.pairs.append([file, text.removeprefix(" "), None])
             elif key == "new":
-                self.pairs[-1][1] = text.removeprefix(" ")
+                self.pairs[-1][2] = text.removeprefix(" ")
 
     def apply(self, crate):
         """The names of the functions that it changes, after changing them; none if a text doesn't stand there once."""
-        path = crate / self.file
-        source = path.read_text()
         places = set()
-        for old, new in self.pairs:
+        for file, old, new in self.pairs:
+            path = crate / file
+            source = path.read_text()
             if source.count(old) != 1 or new is None:
                 return None
             places.add(function_at(source, source.index(old)))
-            source = source.replace(old, new)
-        path.write_text(source)
+            path.write_text(source.replace(old, new))
         return places
 
 

@@ -22,16 +22,10 @@ use std::alloc::Global;
 /// A store in the tables of a database.
 ///
 /// Nobody else may write them meanwhile.
+#[derive(Drop)]
 pub struct Shelf<S: Alter> {
     conn: Connection<S>,
     limits: Limits,
-}
-
-// By hand, so that who owns a shelf proves this drop alone, and not those of all its parts.
-impl<S: Alter> Drop for Shelf<S> {
-    fn drop(self) {
-        let Shelf { conn: _, limits: _ } = self;
-    }
 }
 
 impl<S: Alter> Shelf<S> {
