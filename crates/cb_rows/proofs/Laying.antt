@@ -24,7 +24,7 @@ use Rattle.cb_commit.specs.Stores.{StoreState, IsSound, no_page, version_at, byt
 use Rattle.cb_statements.specs.Statements.{Makes, MakesAll, part_at, part_count}
 use Rattle.cb_shelf.specs.Opening.{stored_statements, first_pages, mark_row, laid, table_statements}
 use Rattle.cb_rows.specs.Tables.{schema, no_schema, mark_tree, page_tree, part_tree}
-use Rattle.cb_rows.specs.Rows.{IsShelf, is_of_page, is_at, page_rows, part_rows, mark_columns, SetsNumber, HasVersion, HasPart, HasStore}
+use Rattle.cb_rows.specs.Rows.{IsShelf, is_of_page, is_at, page_rows, part_rows, mark_columns, SetsNumber, HasVersion, HasPart, HasStore, HasFullPages}
 use Rattle.cb_rows.proofs.Creating.{tables_made}
 use Rattle.cb_rows.proofs.Marking as marking
 use Rattle.cb_rows.proofs.Marking.{mark_table, mark_cast}
@@ -118,9 +118,9 @@ puts_pages g store (page ∷ pages) before after shelf m =
       marks = more.marks ∙ p.marks;
     }
 
--- a store that is put into new tables is what the rows are
-pub store_laid : {S : Type 0} (g : Ghosts S) (store : StoreState) (before after : Database) → IsSound store → before.schema ≡ no_schema → MakesAll g (laid store false) before after → HasStore after store
-store_laid g store before after sound has m =
+-- a store with full pages that is put into new tables is what the rows are
+pub full_laid : {S : Type 0} (g : Ghosts S) (store : StoreState) (before after : Database) → HasFullPages store → before.schema ≡ no_schema → MakesAll g (laid store false) before after → HasStore after store
+full_laid g store before after full has m =
     let n = length store.pages in
     let made = makes_split g table_statements (first_pages store n ++ mark_row store ∷ []) before after m in
     let tables = tables_made g before made.0 has made.1 in
@@ -135,5 +135,9 @@ store_laid g store before after sound has m =
       versions = λ page low. ap (λ l. map (λ (r : Row). column r 2) (filter (is_of_page page) l)) s.versions ∙ p.versions page (there page low);
       parts = λ page place low within.
           ap (λ l. map (λ (r : Row). column r 3) (filter (is_at page place) l)) s.parts
-          ∙ p.parts page place (there page low) (subst (λ k. place < part_count k) (sym (sound.pages page no_page low).size) within);
+          ∙ p.parts page place (there page low) (subst (λ k. place < part_count k) (sym (full page no_page low)) within);
     }
+
+-- and so is a sound one
+pub store_laid : {S : Type 0} (g : Ghosts S) (store : StoreState) (before after : Database) → IsSound store → before.schema ≡ no_schema → MakesAll g (laid store false) before after → HasStore after store
+store_laid g store before after sound has m = full_laid g store before after (λ page other low. (sound.pages page other low).size) has m

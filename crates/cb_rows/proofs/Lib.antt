@@ -10,3 +10,4 @@ pub mod Paging
 pub mod Holding
 pub mod Creating
 pub mod Laying
+pub mod Answering

@@ -3,16 +3,21 @@ use Rattle.std.specs.Prelude.{◌≡◌, false, ℕ, List}
 use Rattle.sqlite.specs.Store.{Ghosts}
 use Rattle.sqlite.specs.Effect.{Database}
 use Rattle.cb_page.specs.Bounds.{Bounds}
-use Rattle.cb_commit.specs.Stores.{StoreState, IsOf, IsSound}
+use Rattle.cb_commit.specs.Stores.{StoreState, IsOf, IsSound, zeros}
 use Rattle.cb_commit.specs.Batches.{BatchState, after_batch}
 use Rattle.cb_statements.specs.Statements.{Makes, MakesAll, page_statement, part_statement}
 use Rattle.cb_statements.specs.Statements.{mark_statement, batch_statements, part_at}
 use Rattle.cb_statements.specs.Writing.{Fits}
 use Rattle.cb_shelf.specs.Newer.{HoldsNewer}
-use Rattle.cb_shelf.specs.Opening.{laid, table_statements}
+use Rattle.cb_shelf.specs.Opening.{laid, table_statements, LaysOut}
 use Rattle.cb_rows.specs.Tables.{no_schema}
 use Rattle.cb_rows.specs.Rows.{IsShelf, PutsVersion, PutsPart, SetsNumber, IsMarked, HasStore}
-use Rattle.cb_rows.specs.Rows.{IsAsLarge, HasNoRows}
+use Rattle.cb_rows.specs.Rows.{HasFullPages, IsAsLarge, HasNoRows}
+
+-- what tables answer that have the rows of a store
+abbrev pub AnswersAreTheRows : Type 0
+AnswersAreTheRows = (store answered : StoreState) (db : Database) → HasFullPages store
+    → HasFullPages answered → HasStore db store → HoldsNewer db answered → answered ≡ store
 
 module _ {S : Type 0} (g : Ghosts S) where
   -- the statements that create the tables, where there is none
@@ -56,3 +61,9 @@ module _ {S : Type 0} (g : Ghosts S) where
       (before after : Database) → IsShelf before → IsOf limits store → HoldsNewer before store
       → Fits limits batch → MakesAll g (batch_statements batch) before after
       → IsShelf after × HoldsNewer after (after_batch store batch)
+
+  -- what the tables answer after an open, where there was none
+  abbrev pub FirstLoadsAreZeros : Type 0
+  FirstLoadsAreZeros = (limits : Bounds) (answered : StoreState) (before after : Database)
+      → before.schema ≡ no_schema → LaysOut g limits before after → HasFullPages answered
+      → HoldsNewer after answered → answered ≡ zeros limits

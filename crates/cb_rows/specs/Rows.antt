@@ -1,6 +1,7 @@
 -- What a statement makes of the rows of the tables, each table as a map from its key to its rows.
 use Rattle.std.specs.Prelude.{◌≡◌, ◌≢◌, ◌⊎◌, ℕ, ◌+◌, ◌<◌, pos, Bool, ◌&&◌, List, [], ◌∷◌, drop}
 use Rattle.std.specs.Prelude.{filter, map, length}
+use Rattle.std.specs.List.{All}
 use Rattle.sqlite_value.specs.declared.keys.Collation.TheVariants.{Binary}
 use Rattle.sqlite_value.specs.declared.value.Value.TheVariants.{Null, Int, Blob}
 use Rattle.sqlite_value.specs.Order.{Row, column}
@@ -96,6 +97,10 @@ pub record HasStore (db : Database) (store : StoreState) : Type 0 where
       → HasVersion db page (version_at store page)
   pub parts : (page place : ℕ) → page < length store.pages → place < part_count store.page_size
       → HasPart db page place (part_at (bytes_at store page) place)
+
+-- each page of a store has the store's size
+abbrev pub HasFullPages : StoreState → Type 0
+HasFullPages store = All (λ page. length page.bytes ≡ store.page_size) store.pages
 
 -- page2 and part have as many rows as before
 pub record IsAsLarge (before after : Database) : Type 0 where

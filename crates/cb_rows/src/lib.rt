@@ -12,6 +12,7 @@
 
 ghost use Rattle.cb_rows.specs.Laws.{StoresAreLaid, VersionsArePut, PartsArePut, NumbersAreSet};
 ghost use Rattle.cb_rows.specs.Laws.{BatchesAreWritten, BatchesAreHeld, TablesAreMade};
+ghost use Rattle.cb_rows.specs.Laws.{AnswersAreTheRows, FirstLoadsAreZeros};
 
 use sqlite::Alter;
 
@@ -53,4 +54,15 @@ pub fn batches_are_written<S: Alter>()
 /// store with the batch written over it once the statements of a batch that fits have run.
 pub fn batches_are_held<S: Alter>()
     ensures law { BatchesAreHeld S.Store }
+{}
+
+/// What tables answer that have the rows of a store is that store and no other, where each page of
+/// both has its store's size, as of every `Store`.
+pub fn answers_are_the_rows()
+    ensures law { AnswersAreTheRows }
+{}
+
+/// What the tables answer after an open over a database with no table is the store of zeros.
+pub fn first_loads_are_zeros<S: Alter>()
+    ensures law { FirstLoadsAreZeros S.Store }
 {}

@@ -1,0 +1,5 @@
+use Rattle.cb_rows.proofs.Answering.{first_load}
+use Rattle.cb_rows.proofs.first_loads_are_zeros.Goals as goal
+
+pub returns : goal.returns
+returns g c = record { law = first_load g.S.Store }
