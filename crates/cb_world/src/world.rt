@@ -240,7 +240,14 @@ impl<Q: Chooser> World<Q> {
         ensures value { result ≡ told self }
         ensures serial { IsSerialOnOpening result }
     {
-        self.transcript
+        let World {
+            alloc: _,
+            limits: _,
+            net: _,
+            transcript,
+            stopped: _,
+        } = self;
+        transcript
     }
 }
 
