@@ -1,26 +1,15 @@
 -- The store that tables answer is the one that their rows are.
-use Rattle.std.proofs.Common.{◌≡◌, inl, inr, ℕ, zero, suc, ◌+◌, ◌*◌, ◌-◌, ◌/◌, ◌%◌, ◌<◌, ◌==◌, min, pos, true, false, cond, List, [], ◌∷◌, length, drop, get_or, codes, refl, sym, ap, ◌∙◌, subst, arith, true≢false}
+use Rattle.std.proofs.Common.{◌≡◌, ℕ, zero, suc, ◌+◌, ◌*◌, ◌-◌, ◌/◌, ◌%◌, ◌<◌, ◌==◌, min, pos, cond, List, [], ◌∷◌, length, drop, get_or, refl, sym, ap, ◌∙◌, subst, arith}
 use Rattle.std.proofs.Math.Dec.{eqb-suc-zero}
-use Rattle.std.proofs.lemmas.List.{ext_get_or, get_or-take, get_or-drop, length-replicate}
-use Rattle.std.proofs.lemmas.List.Elements.{All-replicate}
-use Rattle.sqlite_tied.specs.Compute.{everything}
+use Rattle.std.proofs.lemmas.List.{ext_get_or, get_or-take, get_or-drop}
 use Rattle.sqlite_value.specs.declared.value.Value.TheVariants.{Int, Blob}
-use Rattle.sqlite_trees.specs.declared.store.Store.{Ghosts}
-use Rattle.sqlite_schema.specs.declared.schema.Schema.{Schema}
 use Rattle.sqlite.specs.Effect.{Database}
-use Rattle.sqlite.specs.Listing.{understood, listing_schema}
-use Rattle.cb_page.specs.Bounds.{Bounds}
-use Rattle.cb_commit.specs.declared.store.StoredPage.{StoredPage}
-use Rattle.cb_commit.specs.Stores.{StoreState, zeros, zero_page, no_page, version_at, bytes_at}
-use Rattle.cb_statements.specs.Inside.{can_answer}
-use Rattle.cb_statements.specs.Statements.{MakesAll, part_at, part_count}
+use Rattle.cb_commit.specs.Stores.{StoreState, no_page, version_at, bytes_at}
+use Rattle.cb_statements.specs.Statements.{part_at, part_count}
 use Rattle.cb_shelf.specs.Newer.{HoldsNewer}
-use Rattle.cb_shelf.specs.Opening.{laid, LaysOut}
 use Rattle.cb_shelf.specs.Reading.{mark_values}
-use Rattle.cb_rows.specs.Tables.{no_schema}
 use Rattle.cb_rows.specs.Rows.{HasVersion, HasPart, HasStore, HasFullPages}
 use Rattle.cb_rows.proofs.Holding.{holds_rows}
-use Rattle.cb_rows.proofs.Laying.{full_laid}
 
 -- ---- the bytes of a page
 
@@ -81,32 +70,3 @@ same_store db first second full also_full has also =
 -- the store that they answer is the one that their rows are
 pub answered_rows : (store answered : StoreState) (db : Database) → HasFullPages store → HasFullPages answered → HasStore db store → HoldsNewer db answered → answered ≡ store
 answered_rows store answered db full also_full has holds = same_store db answered store also_full full (holds_rows db answered has.shelf holds) has
-
--- ---- the first load
-
--- a database with no table has no mark of a shelf, and no page of an older one
-no_mark : can_answer no_schema (codes "SELECT id, commits, page_size, pages FROM mark2") ≡ false
-unfolding understood listing_schema everything
-no_mark = refl
-
-no_old_page : can_answer no_schema (codes "SELECT no, version, body FROM page") ≡ false
-unfolding understood listing_schema everything
-no_old_page = refl
-
-cant_answer : {X : Type 0} (schema : Schema) (query : List ℕ) → schema ≡ no_schema → can_answer no_schema query ≡ false → can_answer schema query ≡ true → X
-cant_answer schema query has none is = absurd (true≢false (sym is ∙ ap (λ s. can_answer s query) has ∙ none))
-
--- there an open makes the tables, with zeros
-lays_zeros : {S : Type 0} (g : Ghosts S) (limits : Bounds) (before after : Database) → before.schema ≡ no_schema → LaysOut g limits before after → MakesAll g (laid (zeros limits) false) before after
-lays_zeros g limits before after has (inl found) = cant_answer before.schema _ has no_mark found.0.0.0.0
-lays_zeros g limits before after has (inr (inl made)) = made.1
-lays_zeros g limits before after has (inr (inr old)) = cant_answer before.schema _ has no_old_page old.1.0.0.0
-
-zeros_full : (limits : Bounds) → HasFullPages (zeros limits)
-zeros_full limits = All-replicate (λ (page : StoredPage). length page.bytes ≡ limits.page_size) limits.pages (zero_page limits.page_size) (length-replicate limits.page_size 0)
-
--- what they answer then is zeros
-pub first_load : {S : Type 0} (g : Ghosts S) (limits : Bounds) (answered : StoreState) (before after : Database) → before.schema ≡ no_schema → LaysOut g limits before after → HasFullPages answered → HoldsNewer after answered
-    → answered ≡ zeros limits
-first_load g limits answered before after has lays full holds =
-    let rows = full_laid g (zeros limits) before after (zeros_full limits) has (lays_zeros g limits before after has lays) in answered_rows (zeros limits) answered after (zeros_full limits) full rows holds

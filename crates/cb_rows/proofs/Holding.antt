@@ -128,13 +128,14 @@ rows_hold db after store now shelf holds pages size has large =
           };
     }
 
-over_page : (pages : List StoredPage) (batch : List BatchPage) → length (overwritten pages batch) ≡ length pages
-over_page pages [] = refl
-over_page pages (w ∷ batch) = over_page _ batch ∙ length-set pages w.page _
+-- a batch leaves as many pages as there were
+pub over_pages : (pages : List StoredPage) (batch : List BatchPage) → length (overwritten pages batch) ≡ length pages
+over_pages pages [] = refl
+over_pages pages (w ∷ batch) = over_pages _ batch ∙ length-set pages w.page _
 
 -- The statements of a batch that fits write it over the store that the tables hold.
 pub batch_held : {S : Type 0} (g : Ghosts S) (limits : Bounds) (store : StoreState) (batch : BatchState) (before after : Database) → IsShelf before → IsOf limits store → HoldsNewer before store → Fits limits batch
     → MakesAll g (batch_statements batch) before after → IsShelf after × HoldsNewer after (after_batch store batch)
 batch_held g limits store batch before after shelf of holds fits m =
     let wrote = writes_batch g limits batch store before after of fits (holds_rows before store shelf holds) m in
-    (wrote.0.shelf, rows_hold before after store (after_batch store batch) shelf holds (over_page store.pages batch.pages) refl wrote.0 wrote.1)
+    (wrote.0.shelf, rows_hold before after store (after_batch store batch) shelf holds (over_pages store.pages batch.pages) refl wrote.0 wrote.1)

@@ -11,3 +11,4 @@ pub mod Holding
 pub mod Creating
 pub mod Laying
 pub mod Answering
+pub mod Following

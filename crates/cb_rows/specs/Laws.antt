@@ -1,5 +1,5 @@
 -- What the statements of a batch make of the tables of a shelf, as laws.
-use Rattle.std.specs.Prelude.{◌≡◌, false, ℕ, List}
+use Rattle.std.specs.Prelude.{◌≡◌, false, ℕ, List, [], ◌∷◌}
 use Rattle.sqlite.specs.Store.{Ghosts}
 use Rattle.sqlite.specs.Effect.{Database}
 use Rattle.cb_page.specs.Bounds.{Bounds}
@@ -13,6 +13,25 @@ use Rattle.cb_shelf.specs.Opening.{laid, table_statements, LaysOut}
 use Rattle.cb_rows.specs.Tables.{no_schema}
 use Rattle.cb_rows.specs.Rows.{IsShelf, PutsVersion, PutsPart, SetsNumber, IsMarked, HasStore}
 use Rattle.cb_rows.specs.Rows.{HasFullPages, IsAsLarge, HasNoRows}
+
+-- What a shelf does to tables that it made: it opens them again, or it writes a batch.
+pub data Step : Type 0 where
+  reopened : Step
+  written : BatchState → Step
+
+-- steps made one database of another, one after the other, and every batch fits the limits
+abbrev pub MakesSteps : {S : Type 0} → Ghosts S → Bounds → List Step → Database → Database → Type 0
+MakesSteps g limits [] before after = before ≡ after
+MakesSteps g limits (reopened ∷ steps) before after = (between : Database)
+    × LaysOut g limits before between × MakesSteps g limits steps between after
+MakesSteps g limits (written batch ∷ steps) before after = Fits limits batch × (between : Database)
+    × MakesAll g (batch_statements batch) before between × MakesSteps g limits steps between after
+
+-- a store with the batches of these steps written over it, in order
+abbrev pub after_steps : StoreState → List Step → StoreState
+after_steps store [] = store
+after_steps store (reopened ∷ steps) = after_steps store steps
+after_steps store (written batch ∷ steps) = after_steps (after_batch store batch) steps
 
 -- what tables answer that have the rows of a store
 abbrev pub AnswersAreTheRows : Type 0
@@ -67,3 +86,11 @@ module _ {S : Type 0} (g : Ghosts S) where
   FirstLoadsAreZeros = (limits : Bounds) (answered : StoreState) (before after : Database)
       → before.schema ≡ no_schema → LaysOut g limits before after → HasFullPages answered
       → HoldsNewer after answered → answered ≡ zeros limits
+
+  -- what the tables answer after the open that made them, and the steps since
+  abbrev pub LoadsFollowBatches : Type 0
+  LoadsFollowBatches = (limits : Bounds) (steps : List Step) (answered : StoreState)
+      (before opened after : Database) → before.schema ≡ no_schema
+      → LaysOut g limits before opened → MakesSteps g limits steps opened after
+      → HasFullPages answered → HoldsNewer after answered
+      → answered ≡ after_steps (zeros limits) steps

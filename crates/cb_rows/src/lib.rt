@@ -12,7 +12,7 @@
 
 ghost use Rattle.cb_rows.specs.Laws.{StoresAreLaid, VersionsArePut, PartsArePut, NumbersAreSet};
 ghost use Rattle.cb_rows.specs.Laws.{BatchesAreWritten, BatchesAreHeld, TablesAreMade};
-ghost use Rattle.cb_rows.specs.Laws.{AnswersAreTheRows, FirstLoadsAreZeros};
+ghost use Rattle.cb_rows.specs.Laws.{AnswersAreTheRows, FirstLoadsAreZeros, LoadsFollowBatches};
 
 use sqlite::Alter;
 
@@ -65,4 +65,11 @@ pub fn answers_are_the_rows()
 /// What the tables answer after an open over a database with no table is the store of zeros.
 pub fn first_loads_are_zeros<S: Alter>()
     ensures law { FirstLoadsAreZeros S.Store }
+{}
+
+/// What the tables answer after an open over a database with no table, and then batches that fit,
+/// is the store of zeros with these batches written over it in their order. Later opens of the same
+/// limits, before, between or after the batches, change nothing.
+pub fn loads_follow_batches<S: Alter>()
+    ensures law { LoadsFollowBatches S.Store }
 {}

@@ -1,4 +1,4 @@
-use Rattle.cb_rows.proofs.Answering.{first_load}
+use Rattle.cb_rows.proofs.Following.{first_load}
 use Rattle.cb_rows.proofs.first_loads_are_zeros.Goals as goal
 
 pub returns : goal.returns
