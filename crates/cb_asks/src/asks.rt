@@ -24,13 +24,24 @@ use std::alloc::{AllocError, Global};
 use std::marker::Model;
 
 /// The queues of asks of all pages. A client has at most one ask over all of them.
-#[derive(Debug, Drop)]
+#[derive(Debug)]
 pub struct Asks {
     /// By page.
     queues: Vec<Queue>,
     places: Places,
     /// The maps that no queue has.
     spare: Spare,
+}
+
+// By hand, so that who owns asks proves this drop alone, and not those of all its parts.
+impl Drop for Asks {
+    fn drop(self) {
+        let Asks {
+            queues: _,
+            places: _,
+            spare: _,
+        } = self;
+    }
 }
 
 impl Model for Asks {

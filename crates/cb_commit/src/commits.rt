@@ -20,7 +20,7 @@ use std::marker::Model;
 /// on disk.
 ///
 /// Commit numbers go on from the opening store's. The commits are kept for good.
-#[derive(Debug, Drop)]
+#[derive(Debug)]
 pub struct Commits {
     opening: Store,
     store: Store,
@@ -28,6 +28,19 @@ pub struct Commits {
     flushed: u64,
     /// The pages whose last commit isn't on disk yet.
     changed: PageSet,
+}
+
+// By hand, so that who owns commits proves this drop alone, and not those of all its parts.
+impl Drop for Commits {
+    fn drop(self) {
+        let Commits {
+            opening: _,
+            store: _,
+            commits: _,
+            flushed: _,
+            changed: _,
+        } = self;
+    }
 }
 
 impl Model for Commits {

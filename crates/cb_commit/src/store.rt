@@ -22,11 +22,22 @@ pub struct StoredPage {
 /// A fixed number of pages of one size, each with its version.
 ///
 /// No version is above the number of the last commit in the store.
-#[derive(Debug, Drop)]
+#[derive(Debug)]
 pub struct Store {
     page_size: usize,
     pages: Vec<StoredPage>,
     number: u64,
+}
+
+// By hand, so that who owns a store proves this drop alone, and not those of all its parts.
+impl Drop for Store {
+    fn drop(self) {
+        let Store {
+            page_size: _,
+            pages: _,
+            number: _,
+        } = self;
+    }
 }
 
 impl Model for Store {

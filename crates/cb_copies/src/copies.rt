@@ -27,7 +27,6 @@ use std::marker::Model;
 ///
 /// Each method that changes something is one step of the protocol; which step comes when, its
 /// caller decides. Only `new`, `install` and `fill` take memory.
-#[derive(Drop)]
 pub struct Copies<Q: Chooser> {
     limits: Limits,
     table: CopyTable,
@@ -35,6 +34,20 @@ pub struct Copies<Q: Chooser> {
     wrote: PageSet,
     wanted: PageSet,
     pool: Pool<Q>,
+}
+
+// By hand, so that who owns copies proves this drop alone, and not those of all its parts.
+impl<Q: Chooser> Drop for Copies<Q> {
+    fn drop(self) {
+        let Copies {
+            limits: _,
+            table: _,
+            may_write: _,
+            wrote: _,
+            wanted: _,
+            pool: _,
+        } = self;
+    }
 }
 
 impl<Q: Chooser> Model for Copies<Q> {

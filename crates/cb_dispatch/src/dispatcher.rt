@@ -30,10 +30,19 @@ use std::marker::Model;
 /// A server, and an outbox for each of its clients.
 ///
 /// Every call but `limits`, `holdings`, `has_frame_for` and `can_flush` takes memory.
-#[derive(Drop)]
 pub struct Dispatcher {
     server: Server,
     outboxes: Outboxes,
+}
+
+// By hand, so that who owns a dispatcher proves this drop alone, and not those of all its parts.
+impl Drop for Dispatcher {
+    fn drop(self) {
+        let Dispatcher {
+            server: _,
+            outboxes: _,
+        } = self;
+    }
 }
 
 impl Model for Dispatcher {

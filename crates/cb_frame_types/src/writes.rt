@@ -18,9 +18,16 @@ pub struct Write {
 }
 
 /// The pages that a commit writes, in the order of the frame. In contracts they are a list.
-#[derive(Debug, Drop)]
+#[derive(Debug)]
 pub struct Writes {
     items: Vec<Write>,
+}
+
+// By hand, so that who owns writes proves this drop alone, and not those of all its parts.
+impl Drop for Writes {
+    fn drop(self) {
+        let Writes { items: _ } = self;
+    }
 }
 
 impl Model for Writes {

@@ -12,13 +12,26 @@ use std::marker::Model;
 
 /// What is stored of a client's hand: it changes as the hand does, and tells whether a hand is that
 /// one. Only `new` takes memory.
-#[derive(Debug, Drop)]
+#[derive(Debug)]
 pub struct StoredHand {
     client: ClientNo,
     incarnation: Incarnation,
     txn: Option<TxnNo>,
     held: Copies,
     writable: PageSet,
+}
+
+// By hand, so that who owns what is stored of a hand proves this drop alone, and not those of all its parts.
+impl Drop for StoredHand {
+    fn drop(self) {
+        let StoredHand {
+            client: _,
+            incarnation: _,
+            txn: _,
+            held: _,
+            writable: _,
+        } = self;
+    }
 }
 
 impl Model for StoredHand {

@@ -20,12 +20,24 @@ use std::marker::Model;
 /// Sessions, directory and commits of a server.
 ///
 /// `new`, `apply_commit`, `batch` and `flushed` take memory; no other call does.
-#[derive(Debug, Drop)]
+#[derive(Debug)]
 pub struct Holdings {
     keep_write: bool,
     sessions: Sessions,
     directory: Directory,
     commits: Commits,
+}
+
+// By hand, so that who owns holdings proves this drop alone, and not those of all its parts.
+impl Drop for Holdings {
+    fn drop(self) {
+        let Holdings {
+            keep_write: _,
+            sessions: _,
+            directory: _,
+            commits: _,
+        } = self;
+    }
 }
 
 impl Model for Holdings {

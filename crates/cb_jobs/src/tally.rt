@@ -72,10 +72,19 @@ impl Jobs {
 
 /// Which jobs of which clients are done, each counted once. In contracts it is a list by client of
 /// flags by job. Only `new` takes memory.
-#[derive(Drop)]
 pub struct Tally {
     clients: Vec<Jobs>,
     committed: u64,
+}
+
+// By hand, so that who owns a tally proves this drop alone, and not those of all its parts.
+impl Drop for Tally {
+    fn drop(self) {
+        let Tally {
+            clients: _,
+            committed: _,
+        } = self;
+    }
 }
 
 impl Model for Tally {

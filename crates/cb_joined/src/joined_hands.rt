@@ -14,9 +14,16 @@ use std::marker::Model;
 /// What is stored of each client's hand, by client. Only `new` takes memory.
 ///
 /// A change of a hand costs what it changes, and a comparison the pages that it holds.
-#[derive(Debug, Drop)]
+#[derive(Debug)]
 pub struct JoinedHands {
     entries: Vec<Option<StoredHand>>,
+}
+
+// By hand, so that who owns stored hands proves this drop alone, and not those of all its parts.
+impl Drop for JoinedHands {
+    fn drop(self) {
+        let JoinedHands { entries: _ } = self;
+    }
 }
 
 impl Model for JoinedHands {

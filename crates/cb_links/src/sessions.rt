@@ -144,9 +144,16 @@ pub struct Session {
 }
 
 /// The session of each client. Only `new` takes memory.
-#[derive(Debug, Drop)]
+#[derive(Debug)]
 pub struct Sessions {
     sessions: Vec<Session>,
+}
+
+// By hand, so that who owns sessions proves this drop alone, and not those of all its parts.
+impl Drop for Sessions {
+    fn drop(self) {
+        let Sessions { sessions: _ } = self;
+    }
 }
 
 impl Model for Sessions {

@@ -19,7 +19,7 @@ use std::marker::Model;
 /// Only `new` and `end` take memory. `end` costs the pages that are due, and what [`PageSet`] says
 /// of a walk; a caller that has more to say of each page ends the transaction by a walk over
 /// `locked` and `unlock` of each page.
-#[derive(Debug, Drop)]
+#[derive(Debug)]
 pub struct ReadLocks {
     client: ClientNo,
     incarnation: Incarnation,
@@ -27,6 +27,19 @@ pub struct ReadLocks {
     txn: Option<TxnNo>,
     locked: PageSet,
     dues: Dues,
+}
+
+// By hand, so that who owns read locks proves this drop alone, and not those of all its parts.
+impl Drop for ReadLocks {
+    fn drop(self) {
+        let ReadLocks {
+            client: _,
+            incarnation: _,
+            txn: _,
+            locked: _,
+            dues: _,
+        } = self;
+    }
 }
 
 impl Model for ReadLocks {

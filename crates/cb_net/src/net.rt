@@ -30,11 +30,21 @@ use std::marker::Model;
 /// The server, the clients, and every packet that was ever sent.
 ///
 /// `new` and `event` take memory; no other call does.
-#[derive(Drop)]
 pub struct Net<Q: Chooser> {
     server: Server,
     sites: Sites<Q>,
     packets: Packets,
+}
+
+// By hand, so that who owns a net proves this drop alone, and not those of all its parts.
+impl<Q: Chooser> Drop for Net<Q> {
+    fn drop(self) {
+        let Net {
+            server: _,
+            sites: _,
+            packets: _,
+        } = self;
+    }
 }
 
 impl<Q: Chooser> Model for Net<Q> {

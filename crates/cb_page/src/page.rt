@@ -7,9 +7,16 @@ use std::marker::Model;
 /// The bytes of a page. In contracts it is the list of its bytes.
 ///
 /// A page doesn't know the store's page size: what takes a page says which length it wants.
-#[derive(Debug, Drop)]
+#[derive(Debug)]
 pub struct Page {
     bytes: Vec<u8>,
+}
+
+// By hand, so that who owns a page proves this drop alone, and not those of all its parts.
+impl Drop for Page {
+    fn drop(self) {
+        let Page { bytes: _ } = self;
+    }
 }
 
 impl Model for Page {
@@ -68,13 +75,13 @@ impl Page {
 }
 
 /// The law of these calls: a page is the bytes that it was made of, and as long.
-fn law(alloc: Global, bytes: &[u8]) -> Result<(Page, usize), AllocError>
-    ensures { IfOk result (λ made. made ≡ (bytes.now, length bytes.now)) }
+fn law(alloc: Global, bytes: Vec<u8>) -> Result<(Page, usize), AllocError>
+    ensures { IfOk result (λ made. made ≡ (bytes.items, length bytes.items)) }
 {
-    let copy = Page::copy_of(alloc, bytes)?;
+    let page = Page::from_vec(bytes);
+    let copy = Page::copy_of(alloc, page.as_slice())?;
     let mut other = Page::zeros(alloc, copy.len())?;
     other.write(copy.as_slice());
-    let same = Page::from_vec(other.bytes);
-    let len = same.len();
-    Ok((same, len))
+    let len = other.len();
+    Ok((other, len))
 }

@@ -13,11 +13,18 @@ use std::marker::Model;
 ///
 /// Only `new` takes memory. The walk by `next` passes over 64 pages a step where none of them is in
 /// the set.
-#[derive(Debug, Drop)]
+#[derive(Debug)]
 pub struct PageSet {
     /// Bit `page % 64` of word `page / 64` is 1 where the page is in the set.
     words: Vec<u64>,
     pages: usize,
+}
+
+// By hand, so that who owns a set of pages proves this drop alone, and not those of all its parts.
+impl Drop for PageSet {
+    fn drop(self) {
+        let PageSet { words: _, pages: _ } = self;
+    }
 }
 
 impl Model for PageSet {

@@ -42,12 +42,23 @@ impl From<ChooseFault> for PoolFault {
 /// In contracts a pool is its count of slots, the page size, a flag for each page of the store that
 /// is fixed, and the bytes of each page that is here. It doesn't show the chooser. A page's bytes
 /// are moved in and lent out, and never copied save by `write`, which overwrites them.
-#[derive(Drop)]
 pub struct Pool<Q: Chooser> {
     chooser: Q,
     slots: usize,
     page_size: usize,
     copies: Copies,
+}
+
+// By hand, so that who owns a pool proves this drop alone, and not those of all its parts.
+impl<Q: Chooser> Drop for Pool<Q> {
+    fn drop(self) {
+        let Pool {
+            chooser: _,
+            slots: _,
+            page_size: _,
+            copies: _,
+        } = self;
+    }
 }
 
 impl<Q: Chooser> Model for Pool<Q> {

@@ -13,12 +13,23 @@ use std::marker::Model;
 ///
 /// Once it is closed no more jobs come, and the flusher ends when all is written. A halted one is
 /// closed, and every call that waits for it gives up.
-#[derive(Drop)]
 pub struct SharedStation {
     station: Station,
     closed: bool,
     halted: bool,
     left: usize,
+}
+
+// By hand, so that who owns a shared station proves this drop alone, and not those of all its parts.
+impl Drop for SharedStation {
+    fn drop(self) {
+        let SharedStation {
+            station: _,
+            closed: _,
+            halted: _,
+            left: _,
+        } = self;
+    }
 }
 
 impl Model for SharedStation {

@@ -68,9 +68,16 @@ pub struct SentPacket {
 }
 
 /// The packets that an event sent, in order.
-#[derive(Debug, Drop)]
+#[derive(Debug)]
 pub struct SentPackets {
     list: Vec<SentPacket>,
+}
+
+// By hand, so that who owns sent packets proves this drop alone, and not those of all its parts.
+impl Drop for SentPackets {
+    fn drop(self) {
+        let SentPackets { list: _ } = self;
+    }
 }
 
 impl Model for SentPackets {
