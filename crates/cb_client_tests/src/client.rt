@@ -3,8 +3,8 @@ ghost use Rattle.std.specs.Prelude.{◌<◌, ◌≤◌};
 use cb_client::{Client, ClientFault, ReadAnswer};
 use cb_frame::{Body, Frame, ShortBody, encode};
 use cb_page::{ClientNo, CommitNo, GrantNo, Incarnation, Limits, Page, PageNo, TxnNo, Version};
-use cb_pool_tests::{Called, Recorder};
-use cb_twoq::{Chooser, TwoQ};
+use cb_pool_tests::{Called, Fifo, Recorder};
+use cb_twoq::{Chooser, PlainTwoQ, TwoQ};
 use std::alloc::Global;
 
 /// A frame for client 0 at incarnation 1.
@@ -13,6 +13,25 @@ fn frame(body: Body) -> Frame {
         client: ClientNo::new(0),
         incarnation: Incarnation::new(1),
         body,
+    }
+}
+
+/// Client 0 at incarnation 1 over a new chooser; None where memory is refused.
+fn new_client<Q: Chooser>(alloc: Global, limits: &Limits) -> Option<Client<Q>> {
+    // There is one client at least: `clients` says so.
+    let _in_range = limits.clients();
+    let Ok(chooser) = Q::make(alloc, limits) else {
+        return None;
+    };
+    match Client::new(
+        alloc,
+        ClientNo::new(0),
+        Incarnation::new(1),
+        limits,
+        chooser,
+    ) {
+        Ok(client) => Some(client),
+        Err(_) => None,
     }
 }
 
@@ -167,14 +186,9 @@ fn refers_as_wanted<Q: Chooser>(alloc: Global, client: &mut Client<Recorder<Q>>)
 
 /// The same of a new client.
 fn new_one_refers<Q: Chooser>(alloc: Global, limits: &Limits) -> bool {
-    // There is one client at least: `clients` says so.
-    let _in_range = limits.clients();
-    let Ok(pool) = Recorder::<Q>::make(alloc, limits) else {
-        return false;
-    };
-    match Client::new(alloc, ClientNo::new(0), Incarnation::new(1), limits, pool) {
-        Ok(mut client) => refers_as_wanted(alloc, &mut client),
-        Err(_) => false,
+    match new_client::<Recorder<Q>>(alloc, limits) {
+        Some(mut client) => refers_as_wanted(alloc, &mut client),
+        None => false,
     }
 }
 
@@ -184,6 +198,57 @@ fn new_one_refers<Q: Chooser>(alloc: Global, limits: &Limits) -> bool {
 fn references_of_a_client(rt: HostRuntime) -> anyhow::Result<()> {
     let limits = Limits::new(2, 8, 16, 4, 1, 2)?;
     assert!(rt; new_one_refers::<TwoQ>(rt.alloc(), &limits));
+    Ok(())
+}
+
+/// Whether a transaction of its own asks for the page and drops, and the client says these bodies as
+/// the copy comes.
+fn is_read_alone<Q: Chooser>(
+    alloc: Global,
+    client: &mut Client<Q>,
+    txn: TxnNo,
+    copy: (PageNo, GrantNo),
+    bodies: &[ShortBody],
+) -> bool {
+    begins(client, txn)
+        && asks(client, txn, copy.0)
+        && granted(alloc, client, copy, bodies)
+        && drops(alloc, client, txn)
+}
+
+/// Whether a client of two slots lets the page go that came first, though it was read again, and
+/// gives it back.
+fn lets_the_first_go<Q: Chooser>(alloc: Global, client: &mut Client<Q>) -> bool {
+    let (page, grant) = (PageNo::new(0), GrantNo::new(1));
+    let second = (PageNo::new(3), GrantNo::new(2));
+    let third = (PageNo::new(2), GrantNo::new(3));
+    let give_back = [ShortBody::GiveBack { page, grant }];
+    let again = TxnNo::new(3);
+    says(alloc, client, ShortBody::Welcome, &[])
+        && is_read_alone(alloc, client, TxnNo::new(1), (page, grant), &[])
+        && is_read_alone(alloc, client, TxnNo::new(2), second, &[])
+        && begins(client, again)
+        && reads(client, page)
+        && drops(alloc, client, again)
+        && is_read_alone(alloc, client, TxnNo::new(4), third, &give_back)
+        && client.peek(page).is_none()
+}
+
+/// The same of a new client over a new chooser.
+fn new_one_lets_the_first_go<Q: Chooser>(alloc: Global, limits: &Limits) -> bool {
+    match new_client::<Q>(alloc, limits) {
+        Some(mut client) => lets_the_first_go(alloc, &mut client),
+        None => false,
+    }
+}
+
+/// A client over 2Q in either form, and over a caller's own chooser.
+#[test]
+fn client_over_any_chooser(rt: HostRuntime) -> anyhow::Result<()> {
+    let limits = Limits::new(2, 8, 16, 2, 1, 1)?;
+    assert!(rt; new_one_lets_the_first_go::<TwoQ>(rt.alloc(), &limits));
+    assert!(rt; new_one_lets_the_first_go::<PlainTwoQ>(rt.alloc(), &limits));
+    assert!(rt; new_one_lets_the_first_go::<Fifo>(rt.alloc(), &limits));
     Ok(())
 }
 
@@ -288,14 +353,9 @@ fn drops<Q: Chooser>(alloc: Global, client: &mut Client<Q>, txn: TxnNo) -> bool 
 
 /// The same of a new client over a new chooser.
 fn new_one_has_memory<Q: Chooser>(alloc: Global, limits: &Limits) -> bool {
-    // There is one client at least: `clients` says so.
-    let _in_range = limits.clients();
-    let Ok(pool) = Q::make(alloc, limits) else {
-        return false;
-    };
-    match Client::new(alloc, ClientNo::new(0), Incarnation::new(1), limits, pool) {
-        Ok(mut client) => has_memory(alloc, &mut client, limits),
-        Err(_) => false,
+    match new_client::<Q>(alloc, limits) {
+        Some(mut client) => has_memory(alloc, &mut client, limits),
+        None => false,
     }
 }
 
