@@ -201,8 +201,8 @@ fn references_of_a_client(rt: HostRuntime) -> anyhow::Result<()> {
     Ok(())
 }
 
-/// Whether a transaction of its own asks for the page and drops, and the client says these bodies as
-/// the copy comes.
+/// Whether a transaction of its own asks for the page and drops, and the client says these bodies
+/// as the copy comes.
 fn is_read_alone<Q: Chooser>(
     alloc: Global,
     client: &mut Client<Q>,

@@ -21,7 +21,7 @@ pub struct StoredHand {
     writable: PageSet,
 }
 
-// By hand, so that who owns what is stored of a hand proves this drop alone, and not those of all its parts.
+// By hand, so that who owns a stored hand proves this drop alone, and not those of all its parts.
 impl Drop for StoredHand {
     fn drop(self) {
         let StoredHand {

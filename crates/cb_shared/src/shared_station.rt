@@ -20,7 +20,7 @@ pub struct SharedStation {
     left: usize,
 }
 
-// By hand, so that who owns a shared station proves this drop alone, and not those of all its parts.
+// By hand, so that who owns a shared station proves this drop, and not those of all its parts.
 impl Drop for SharedStation {
     fn drop(self) {
         let SharedStation {
