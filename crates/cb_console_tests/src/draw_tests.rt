@@ -1,7 +1,6 @@
-//! What draws print, and how drawn schedules play.
+//! How drawn schedules play.
 use cb_console::{draw_to, play_to};
 use std::alloc::Global;
-use std::test::Fail;
 
 const CONFIG: &str = "clients = 3\npages = 4\npage_size = 16\nslots = 2\n";
 
@@ -16,29 +15,6 @@ fn drawn(alloc: Global, config: &str, seed: u64, count: usize) -> Option<Vec<u8>
         Some(out)
     } else {
         None
-    }
-}
-
-/// Seed, count, and the events.
-static DRAWN: [(u64, usize, &str); 3] = [
-    (0, 0, ""),
-    (4_611_686_018_427_387_903, 0, ""),
-    (
-        0,
-        7,
-        "want 1 3\nhello 0\ntake 0\nrestart 0\ndrop 2\ntake 0\nread 0 0\n",
-    ),
-];
-
-fn is_drawn(alloc: Global, seed: u64, count: usize, text: &str) -> bool {
-    drawn(alloc, CONFIG, seed, count).is_some_and(|out| out.as_slice() == text.as_bytes())
-}
-
-/// The events are those of the generator, and a packet to take is one that was sent.
-#[test]
-fn drawn_schedules(rt: HostRuntime) {
-    for (seed, count, text) in &DRAWN {
-        assert!(rt; is_drawn(rt.alloc(), *seed, *count, text));
     }
 }
 
@@ -67,15 +43,4 @@ fn first_not_serial(alloc: Global, config: &str) -> Option<u64> {
 fn drawn_schedules_are_serial(rt: HostRuntime) {
     assert!(rt; first_not_serial(rt.alloc(), CONFIG) == None);
     assert!(rt; first_not_serial(rt.alloc(), KEPT) == None);
-}
-
-/// A configuration with a fault draws nothing.
-#[test]
-fn config_refused(rt: HostRuntime) -> Result<(), Fail> {
-    let mut out = Vec::new(rt.alloc());
-    let mut err = Vec::new(rt.alloc());
-    let status = draw_to(rt.alloc(), b"clients = 1", 0, 3, &mut out, &mut err)?;
-    let line = b"config: missing pages\n".as_slice();
-    assert!(rt; status == 2 && out.is_empty() && err.as_slice() == line);
-    Ok(())
 }

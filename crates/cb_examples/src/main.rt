@@ -1,4 +1,4 @@
-//! Does what each of its words says, a command line of the program.
+//! Does what each of its words says, a command line of the program; an empty one has no words.
 #![tactic(auto)]
 
 use cb_program::{command_line, end_by, run};
@@ -12,6 +12,9 @@ use std::thread::Threads;
 /// The words of a command line, behind the program's name.
 fn words_of(alloc: Global, line: &str) -> Result<Vec<String>, AllocError> {
     let mut words = vec![in alloc; String::from_str(alloc, "cb_play")?]?;
+    if line.is_empty() {
+        return Ok(words);
+    }
     for word in line.split(' ') {
         words.reserve(1)?;
         words.push_reserved(String::from_str(alloc, word)?);

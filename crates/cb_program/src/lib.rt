@@ -1,6 +1,6 @@
 //! The program: the words of its command line, what it does with them, and how it ends.
 //!
-//! [`run`] does what the words ask for: `cb_console` plays and draws, `cb_store_run` runs workers.
+//! [`run`] does what the words ask for: `cb_console` plays and draws, `cb_run` runs workers.
 #![tactic(auto)]
 
 mod arguments;

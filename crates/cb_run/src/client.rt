@@ -1,5 +1,6 @@
 //! One client's part of a run.
 use crate::faults::of_worker;
+use crate::working::work;
 use cb_client::ClientFault;
 use cb_jobs::{Gate, JobDone};
 use cb_office::OfficeFault;
@@ -7,7 +8,6 @@ use cb_outcome::{Ending, FirstEnding};
 use cb_page::{ClientNo, Limits};
 use cb_shared::Office;
 use cb_twoq::Chooser;
-use cb_work::work;
 use cb_worker::{Worker, WorkerFault};
 use crossbeam_channel::{Receiver, Sender};
 use std::alloc::{AllocError, Global};

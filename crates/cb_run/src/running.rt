@@ -6,7 +6,7 @@ ghost use Rattle.cb_run.specs.Runs.{IsCounted, KeepsRows};
 use crate::client::{give_up, job_list, run_client};
 use crate::counting::{count_results, new_tally, sum_up};
 use crate::faults::of_run;
-use cb_flusher::flush_in_tries;
+use crate::tries::flush_in_tries;
 use cb_jobs::{Gate, JobDone, Tally};
 use cb_outcome::{Counted, Ending, FirstEnding, print_run};
 use cb_page::Limits;

@@ -1,8 +1,8 @@
 //! The flusher ends once the office is closed and everything is on disk.
 use crate::bench::{Trial, goes_well, holds, is_reported, visit};
-use cb_flusher::flush_loop;
 use cb_page::{ClientNo, Limits};
 use cb_progress::Unwatched;
+use cb_run::flush_loop;
 use cb_shared::Office;
 use cb_shelf::Shelf;
 use sqlite::Alter;

@@ -29,3 +29,5 @@ mod refusals;
 mod run;
 #[cfg(test)]
 mod sharing;
+#[cfg(test)]
+mod stops;

@@ -1,10 +1,10 @@
 //! A store that refuses each write, and later none.
 use crate::bench::{Trial, commit_page, goes_well, holds, is_reported, visit};
-use cb_flusher::{FlushStop, flush_again, flush_in_tries, flush_loop};
 use cb_frame::{Body, ShortBody};
 use cb_hands::Hand;
 use cb_page::{ClientNo, Limits, TxnNo};
 use cb_progress::Unwatched;
+use cb_run::{FlushStop, flush_again, flush_in_tries, flush_loop};
 use cb_shared::Office;
 use cb_shelf::{Shelf, ShelfFault};
 use sqlite::Alter;

@@ -1,0 +1,142 @@
+//! One job.
+ghost use Rattle.std.specs.Prelude.{◌≡◌, ◌-◌, ◌%◌, IfOk, MatchBool};
+ghost use Rattle.cb_protocol.specs.Client as protocol;
+ghost use Rattle.cb_run.specs.Jobs.{CommitsJob, Copies, CountsBoth, CountsUp, EndsJob, IsOneMore};
+ghost use Rattle.cb_run.specs.Jobs.{TellsJob};
+ghost use Rattle.cb_worker.specs.Workers.{Ended};
+
+use cb_jobs::{JobDone, count_up};
+use cb_page::{ClientNo, CommitNo, PageNo};
+use cb_shared::Office;
+use cb_twoq::Chooser;
+use cb_worker::{Fetched, Finished, Wanted, Worker, WorkerFault};
+use std::alloc::Global;
+use std::sync::Wait;
+
+/// Does a job, and tells of it once it is on disk.
+pub(crate) fn do_job<R: Wait, Q: Chooser>(
+    rt: &R,
+    alloc: Global,
+    office: &Office,
+    worker: &mut Worker<Q>,
+    client: ClientNo,
+    job: u64,
+) -> Result<JobDone, WorkerFault>
+    ensures { IfOk result (λ done. TellsJob client job done worker.new) }
+{
+    let number = run_job(rt, alloc, office, worker, client)?;
+    Ok(JobDone {
+        client,
+        job,
+        number,
+    })
+}
+
+/// Runs a job, once more each time that it is aborted, and answers the number of its commit.
+fn run_job<R: Wait, Q: Chooser>(
+    rt: &R,
+    alloc: Global,
+    office: &Office,
+    worker: &mut Worker<Q>,
+    client: ClientNo,
+) -> Result<CommitNo, WorkerFault>
+    ensures { IfOk result (λ number. CommitsJob client number worker.new) }
+{
+    for _ in rt.forever() {
+        if let Some(number) = try_job(rt, alloc, office, worker, client)? {
+            return Ok(number);
+        }
+    }
+    unreachable!()
+}
+
+/// Begins a transaction, counts both pages up, and commits; `None` where it was aborted.
+fn try_job<R: Wait, Q: Chooser>(
+    rt: &R,
+    alloc: Global,
+    office: &Office,
+    worker: &mut Worker<Q>,
+    client: ClientNo,
+) -> Result<Option<CommitNo>, WorkerFault>
+    ensures { IfOk result (λ ended. EndsJob client ended worker.new) }
+{
+    let _txn = worker.begin()?;
+    if !count_both(rt, alloc, office, worker, client)? {
+        return Ok(None);
+    }
+    match worker.finish(rt, alloc, office)? {
+        Finished::Committed(number) => Ok(Some(number)),
+        Finished::Aborted => Ok(None),
+    }
+}
+
+/// Counts pages 0 and 1 up, a client of odd number page 1 first; `false` where the transaction was
+/// aborted.
+fn count_both<R: Wait, Q: Chooser>(
+    rt: &R,
+    alloc: Global,
+    office: &Office,
+    worker: &mut Worker<Q>,
+    client: ClientNo,
+) -> Result<bool, WorkerFault>
+    ensures { IfOk result (λ counted. MatchBool counted
+        (CountsBoth client worker.new) (Ended worker.new protocol.Aborted)) }
+{
+    let first = u32::from(client.get() % 2);
+    if !count_page(rt, alloc, office, worker, PageNo::new(first))? {
+        return Ok(false);
+    }
+    count_page(rt, alloc, office, worker, PageNo::new(1 - first))
+}
+
+/// Adds one to the page's counter; `false` where the transaction was aborted.
+fn count_page<R: Wait, Q: Chooser>(
+    rt: &R,
+    alloc: Global,
+    office: &Office,
+    worker: &mut Worker<Q>,
+    page: PageNo,
+) -> Result<bool, WorkerFault>
+    ensures { IfOk result (λ counted. MatchBool counted
+        (CountsUp page worker.new) (Ended worker.new protocol.Aborted)) }
+{
+    let Some(bytes) = copy_page(rt, alloc, office, worker, page)? else {
+        return Ok(false);
+    };
+    match worker.want(rt, alloc, office, page)? {
+        Wanted::Aborted => Ok(false),
+        Wanted::Permitted => {
+            let bytes = counted_up(bytes);
+            worker.write(page, bytes.as_slice())?;
+            Ok(true)
+        }
+    }
+}
+
+/// The same bytes, with the counter that they begin with counted up.
+fn counted_up(mut bytes: Vec<u8>) -> Vec<u8>
+    ensures { IsOneMore bytes.items result.items }
+{
+    count_up(bytes.as_mut_slice());
+    bytes
+}
+
+/// Reads a page, and answers a copy of its bytes; `None` where the transaction was aborted.
+fn copy_page<R: Wait, Q: Chooser>(
+    rt: &R,
+    alloc: Global,
+    office: &Office,
+    worker: &mut Worker<Q>,
+    page: PageNo,
+) -> Result<Option<Vec<u8>>, WorkerFault>
+    ensures { IfOk result (λ copy. Copies worker.new page copy) }
+{
+    match worker.fetch(rt, alloc, office, page)? {
+        Fetched::Aborted => Ok(None),
+        Fetched::Bytes(found) => {
+            let mut bytes = Vec::new(alloc);
+            bytes.extend_from_slice(found)?;
+            Ok(Some(bytes))
+        }
+    }
+}
