@@ -1,39 +1,64 @@
 #!/usr/bin/env bash
-# Times `run` beside a short C program over SQLite's library that does the same jobs, each in a transaction of its own (WAL,
-# synchronous FULL), on one disk, in turn.
+# Times runs of workers beside a short C program over SQLite's library that does as many such jobs, each in a transaction of its
+# own (WAL, synchronous FULL), on one disk, in turn: `run`, whose clients all fight for pages 0 and 1, and the program
+# run_speed/own_pages.txt, whose clients have two pages each that no other uses.
 #
-#   scripts/run_speed.sh [JOBS [TURNS]]      10,000 jobs for each of 4 clients, three turns
+#   scripts/run_speed.sh [JOBS [TURNS]]      40,000 jobs in all, three turns
 #
-# It prints durable jobs a second of each: SQLite alone, then `run` with 1, 4 and 32 clients. ROOM is the folder of the stores
-# (the system's temporary one if it isn't set). PLAY names a built program; else it is built first, by `rt run`. Nothing of this is
-# in the gate.
+# It prints durable jobs a second of each, and how many batches carried the commits of own pages. ROOM is the folder of the stores
+# (the system's temporary one if it isn't set). SYNC makes each sync of a file take so many microseconds longer, in all programs
+# alike, as on a slower disk. PLAY and OWN name built programs; else they are built first, by `rt run` (RT is that command, `rt` if
+# it isn't set). Nothing of this is in the gate.
 set -u
 top=$(cd "$(dirname "$0")/.." && pwd)
+room=$(mktemp -d -p "${ROOM:-${TMPDIR:-/tmp}}")
+trap 'rm -rf "$room"' EXIT
 play=${PLAY:-$top/crates/cb_play/out/cb_play}
 if [ -z "${PLAY:-}" ]; then
   (cd "$top/crates/cb_play" && "${RT:-rt}" run -- --version >/dev/null 2>&1) || { echo "the program isn't built"; exit 1; }
 fi
-jobs=${1:-10000}
+
+# builds run_speed/own_pages.txt in a copy of the crates
+build_own() {
+  local copy=$room/copy
+  mkdir -p "$copy"
+  git init -q "$copy"
+  cp "$top/HANDLES" "$copy/"
+  cp -r --preserve=timestamps "$top/crates" "$copy/"
+  mkdir -p "$copy/crates/own_pages/src"
+  cp "$top/crates.txt" "$copy/"
+  echo "own_pages: cb_page cb_twoq cb_commit cb_office cb_shared cb_shelf cb_worker cb_jobs cb_progress cb_run sqlite anyhow" \
+    >>"$copy/crates.txt"
+  cp "$top/scripts/run_speed/own_pages.txt" "$copy/crates/own_pages/src/main.rt"
+  (cd "$copy/crates/own_pages" && "${RT:-rt}" run -- "$room/first.db" 1 1 >"$room/said" 2>&1)
+  own=$copy/crates/own_pages/out/own_pages
+  [ -x "$own" ] || { tail -n 20 "$room/said"; echo "the program isn't built"; exit 1; }
+}
+
+own=${OWN:-}
+[ -n "$own" ] || build_own
+jobs=${1:-40000}
 turns=${2:-3}
-room=$(mktemp -d -p "${ROOM:-${TMPDIR:-/tmp}}")
-trap 'rm -rf "$room"' EXIT
 "${CC:-cc}" -O2 -o "$room/jobs" "$top/scripts/run_speed/jobs.c" -lsqlite3 || exit 1
+"${CC:-cc}" -O2 -shared -fPIC -o "$room/slow_sync.so" "$top/scripts/run_speed/slow_sync.c" -ldl || exit 1
 
 # NAME JOBS COMMAND..: how many of the jobs there are a second
 timed() {
   local name=$1 count=$2 start end
   shift 2
   start=$(date +%s%N)
-  "$@" >"$room/out" 2>&1 || { echo "$name: FAILED: $(cat "$room/out")"; return; }
+  LD_PRELOAD="$room/slow_sync.so" SYNC_MICROSECONDS="${SYNC:-0}" "$@" >"$room/out" 2>&1 ||
+    { echo "$name: FAILED: $(cat "$room/out")"; return; }
   end=$(date +%s%N)
-  echo "$name: $((count * 1000000000 / (end - start))) jobs a second"
+  echo "$name: $((count * 1000000000 / (end - start))) jobs a second$(sed -n 's/.*commits in/, in/p' "$room/out")"
 }
 
 for turn in $(seq "$turns"); do
-  timed "sqlite alone, turn $turn" "$jobs" "$room/jobs" "$room/alone_$turn.db" "$jobs"
+  timed "sqlite alone, turn $turn" "$((jobs / 4))" "$room/jobs" "$room/alone_$turn.db" "$((jobs / 4))"
   for clients in 1 4 32; do
-    each=$((4 * jobs / clients))
+    each=$((jobs / clients))
     printf 'clients = %d\npages = 2\npage_size = 16\nslots = 2\njobs = %d\n' "$clients" "$each" >"$room/run.toml"
     timed "run, $clients clients, turn $turn" "$((clients * each))" "$play" run "$room/run.toml" "$room/run_${clients}_$turn.db"
+    timed "own pages, $clients clients, turn $turn" "$((clients * each))" "$own" "$room/own_${clients}_$turn.db" "$clients" "$each"
   done
 done
