@@ -4,7 +4,8 @@ use Rattle.std.specs.Prelude.{Option, Some, None}
 use Rattle.cb_page.specs.Bounds.{Bounds}
 use Rattle.cb_page.specs.Numbers.{max_number}
 use Rattle.cb_directory.specs.Tables as tables
-use Rattle.cb_directory.specs.Tables.{TablesState, at_place, at_page, is_listed, is_marked}
+use Rattle.cb_directory.specs.Tables.{TablesState, at_place, at_page, is_copied, is_marked}
+use Rattle.cb_directory.specs.Tables.{is_writable}
 
 -- the tables of rows and write holders, and the number of the next grant
 pub record DirectoryState : Type 0 where
@@ -64,14 +65,19 @@ pub record TablesAgree (directory : DirectoryState) : Type 0 where
       → is_marked directory.tables client page ≡ false
   pub some_row : (client page grant : ℕ) → row directory client page ≡ Some grant
       → is_marked directory.tables client page ≡ true
-  -- a client's pages are at least those of which it has a row or the permission
-  pub row_listed : (client page grant : ℕ) → row directory client page ≡ Some grant
-      → is_listed directory.tables client page ≡ true
+  -- the pages of which a client's line says that it has a copy are those of which it has a row
+  pub not_copied : (client page : ℕ) → row directory client page ≡ None
+      → is_copied directory.tables client page ≡ false
+  pub copied : (client page grant : ℕ) → row directory client page ≡ Some grant
+      → is_copied directory.tables client page ≡ true
+  -- the pages of which a client's line says that it may write them are those that it holds
+  pub writable : (client page : ℕ) → holder directory page ≡ Some client
+      → is_writable directory.tables client page ≡ true
+  pub held : (client page : ℕ) → is_writable directory.tables client page ≡ true
+      → holder directory page ≡ Some client
   -- and a write holder is a client that there is
   pub holder_known : (client page : ℕ) → holder directory page ≡ Some client
       → HasClient directory client
-  pub holder_listed : (client page : ℕ) → holder directory page ≡ Some client
-      → is_listed directory.tables client page ≡ true
 
 pub record IsDirectory (directory : DirectoryState) : Type 0 where
   pub rule : Rule directory

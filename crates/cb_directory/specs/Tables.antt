@@ -13,7 +13,7 @@ pub record TablesState : Type 0 where
 
 -- a client with nothing
 abbrev pub no_client : ClientState
-no_client = record { grants = []; pages = [] }
+no_client = record { grants = []; copied = []; writable = [] }
 
 -- a page of which nobody has anything
 abbrev pub no_line : PageLine
@@ -41,9 +41,13 @@ tag tables page = (line_of tables page).tag
 abbrev pub is_marked : TablesState → ℕ → ℕ → Bool
 is_marked tables client page = clients.has (line_of tables page).clients client
 
--- the page is among those of the client's line
-abbrev pub is_listed : TablesState → ℕ → ℕ → Bool
-is_listed tables client page = has (client_of tables client).pages page
+-- the page is among those of which the client's line says that it has a copy
+abbrev pub is_copied : TablesState → ℕ → ℕ → Bool
+is_copied tables client page = has (client_of tables client).copied page
+
+-- the page is among those of which the client's line says that it may write them
+abbrev pub is_writable : TablesState → ℕ → ℕ → Bool
+is_writable tables client page = has (client_of tables client).writable page
 
 -- a line for each client, with a place for each page, and a line for each page
 pub record IsSized (tables : TablesState) : Type 0 where
@@ -51,8 +55,10 @@ pub record IsSized (tables : TablesState) : Type 0 where
   pub pages : length tables.pages ≤ 4096
   pub grants : (client : ℕ) → client < length tables.clients
       → length (client_of tables client).grants ≡ length tables.pages
-  pub flags : (client : ℕ) → client < length tables.clients
-      → length (client_of tables client).pages ≡ length tables.pages
+  pub copied : (client : ℕ) → client < length tables.clients
+      → length (client_of tables client).copied ≡ length tables.pages
+  pub writable : (client : ℕ) → client < length tables.clients
+      → length (client_of tables client).writable ≡ length tables.pages
 
 -- that many clients and pages, and nobody has anything
 pub record IsEmpty (client_count page_count : ℕ) (tables : TablesState) : Type 0 where
@@ -60,7 +66,8 @@ pub record IsEmpty (client_count page_count : ℕ) (tables : TablesState) : Type
   pub pages : length tables.pages ≡ page_count
   pub rows : (client page : ℕ) → row tables client page ≡ None
   pub marks : (client page : ℕ) → is_marked tables client page ≡ false
-  pub listed : (client page : ℕ) → is_listed tables client page ≡ false
+  pub copied : (client page : ℕ) → is_copied tables client page ≡ false
+  pub writable : (client page : ℕ) → is_writable tables client page ≡ false
   pub holders : (page : ℕ) → holder tables page ≡ None
   pub tags : (page : ℕ) → tag tables page ≡ None
 
@@ -85,28 +92,23 @@ pub record PutsRow (before : TablesState) (client page : ℕ) (grant : Option �
       → row after other second ≡ at_place (row before) client page grant other second
   pub marks : (other second : ℕ)
       → is_marked after other second ≡ at_place (is_marked before) client page is_here other second
-  pub listed : (other second : ℕ) → is_listed after other second ≡ is_listed before other second
+  pub copied : (other second : ℕ)
+      → is_copied after other second ≡ at_place (is_copied before) client page is_here other second
+  pub writable : (other second : ℕ)
+      → is_writable after other second ≡ is_writable before other second
   pub holders : (second : ℕ) → holder after second ≡ holder before second
   pub tags : (second : ℕ) → tag after second ≡ tag before second
   pub size : IsAsLarge before after
 
--- a page enters a client's list, or leaves it
-pub record Lists (before : TablesState) (client page : ℕ) (is_in : Bool) (after : TablesState)
-    : Type 0 where
+-- a page gets another write holder, or none, and another tag, and a client's line says whether the
+-- client may write it
+pub record PutsHolder (before : TablesState) (client page : ℕ) (new_holder txn : Option ℕ)
+    (may_write : Bool) (after : TablesState) : Type 0 where
   pub rows : (other second : ℕ) → row after other second ≡ row before other second
   pub marks : (other second : ℕ) → is_marked after other second ≡ is_marked before other second
-  pub listed : (other second : ℕ)
-      → is_listed after other second ≡ at_place (is_listed before) client page is_in other second
-  pub holders : (second : ℕ) → holder after second ≡ holder before second
-  pub tags : (second : ℕ) → tag after second ≡ tag before second
-  pub size : IsAsLarge before after
-
--- a page gets another write holder, or none, and another tag
-pub record PutsHolder (before : TablesState) (page : ℕ) (client txn : Option ℕ)
-    (after : TablesState) : Type 0 where
-  pub rows : (other second : ℕ) → row after other second ≡ row before other second
-  pub marks : (other second : ℕ) → is_marked after other second ≡ is_marked before other second
-  pub listed : (other second : ℕ) → is_listed after other second ≡ is_listed before other second
-  pub holders : (second : ℕ) → holder after second ≡ at_page (holder before) page client second
+  pub copied : (other second : ℕ) → is_copied after other second ≡ is_copied before other second
+  pub writable : (other second : ℕ) → is_writable after other second
+      ≡ at_place (is_writable before) client page may_write other second
+  pub holders : (second : ℕ) → holder after second ≡ at_page (holder before) page new_holder second
   pub tags : (second : ℕ) → tag after second ≡ at_page (tag before) page txn second
   pub size : IsAsLarge before after

@@ -115,7 +115,6 @@ impl Directory {
         let grant = GrantNo::new(self.next_grant);
         self.next_grant += 1;
         self.tables.put_row(client, page, Some(grant));
-        self.tables.list(client, page);
         grant
     }
 
@@ -126,9 +125,6 @@ impl Directory {
         ensures { GivesBack self.old client page self.new }
     {
         self.tables.put_row(client, page, None);
-        if self.tables.holder(page) != Some(client) {
-            self.tables.unlist(client, page);
-        }
     }
 
     /// The client becomes the page's write holder, for this transaction.
@@ -140,7 +136,6 @@ impl Directory {
         ensures { Permits self.old client page txn self.new }
     {
         self.tables.put_holder(client, page, txn);
-        self.tables.list(client, page);
     }
 
     /// Nobody may write the page any more. The tag stays.
@@ -149,10 +144,7 @@ impl Directory {
         ensures { Releases self.old page self.new }
     {
         if let Some(client) = self.tables.holder(page) {
-            self.tables.clear_holder(page);
-            if self.tables.row(client, page).is_none() {
-                self.tables.unlist(client, page);
-            }
+            self.tables.clear_holder(client, page);
         }
     }
 
@@ -166,14 +158,15 @@ impl Directory {
         }
     }
 
-    /// The client may write no page any more. It costs the client's rows and permissions.
+    /// The client may write no page any more. It costs a step for each that it could, and one for
+    /// each 64 pages, however many copies it has.
     pub fn clear_writers(&mut self, client: ClientNo)
         requires { HasClient self.old client }
         ensures { ReleasesAll self.old client self.new }
     {
         let mut from = 0;
-        while let Some(page) = self.tables.next_listed(client, from) {
-            self.clear_writer_if(client, page);
+        while let Some(page) = self.tables.next_writable(client, from) {
+            self.clear_writer(page);
             from = page.index() + 1;
         }
     }
@@ -185,7 +178,7 @@ impl Directory {
     {
         self.clear_writers(client);
         let mut from = 0;
-        while let Some(page) = self.tables.next_listed(client, from) {
+        while let Some(page) = self.tables.next_copied(client, from) {
             self.give_back(client, page);
             from = page.index() + 1;
         }

@@ -1,6 +1,7 @@
 //! What stands for one client, and for one page.
 ghost use Rattle.std.specs.Prelude.{◌≡◌, ℕ, ◌<◌, ◌≤◌, true, false, None, replicate, length};
 ghost use Rattle.std.specs.Prelude.{slice_set, IfOk, MatchOption};
+ghost use Rattle.std.specs.Option.{is_some};
 ghost use Rattle.cb_page.specs.Flags.{has};
 ghost use Rattle.cb_directory.specs.Rows.{grant_of, no_rows};
 
@@ -18,11 +19,13 @@ pub struct PageLine {
     pub tag: Option<TxnNo>,
 }
 
-/// One client: the grants of its copies, and the pages of which it has a copy or the permission.
+/// One client: the grants of its copies, the pages of which it has a copy, and those that it may
+/// write. So a walk over the one or the other costs what it finds.
 #[derive(Debug, Drop)]
 pub struct ClientLine {
     grants: Vec<Option<GrantNo>>,
-    pages: PageSet,
+    copied: PageSet,
+    writable: PageSet,
 }
 
 impl Model for ClientLine {
@@ -30,7 +33,8 @@ impl Model for ClientLine {
 
     ghost Value = { ClientState };
 
-    ghost view = { λ l. record { grants = l.grants.items; pages = l.pages } };
+    ghost view = { λ l.
+        record { grants = l.grants.items; copied = l.copied; writable = l.writable } };
 }
 
 impl ClientLine {
@@ -42,7 +46,8 @@ impl ClientLine {
         let grants = vec![in alloc; None; pages]?;
         Ok(ClientLine {
             grants,
-            pages: PageSet::new(alloc, pages)?,
+            copied: PageSet::new(alloc, pages)?,
+            writable: PageSet::new(alloc, pages)?,
         })
     }
 
@@ -54,38 +59,62 @@ impl ClientLine {
         self.grants[page.index()]
     }
 
-    /// Another grant of the page, or none.
+    /// Another grant of the page, or none: a copy, or none.
     pub fn put(&mut self, page: PageNo, grant: Option<GrantNo>)
-        requires { page < length self.old.grants }
-        ensures { self.new ≡ record self.old { grants = slice_set self.old.grants page grant } }
+        requires grants { page < length self.old.grants }
+        requires copied { page < length self.old.copied }
+        ensures { self.new ≡ record self.old {
+          grants = slice_set self.old.grants page grant;
+          copied = slice_set self.old.copied page (is_some grant);
+        } }
     {
         self.grants[page.index()] = grant;
+        if grant.is_some() {
+            self.copied.insert(page);
+        } else {
+            self.copied.remove(page);
+        }
     }
 
-    /// The page is among the client's from now on.
-    pub fn keep(&mut self, page: PageNo)
-        requires { page < length self.old.pages }
-        ensures { self.new ≡ record self.old { pages = slice_set self.old.pages page true } }
+    /// The client may write the page from now on.
+    pub fn permit(&mut self, page: PageNo)
+        requires { page < length self.old.writable }
+        ensures { self.new ≡ record self.old {
+          writable = slice_set self.old.writable page true;
+        } }
     {
-        self.pages.insert(page);
+        self.writable.insert(page);
     }
 
-    /// The page is none of the client's.
-    pub fn leave(&mut self, page: PageNo)
-        requires { page < length self.old.pages }
-        ensures { self.new ≡ record self.old { pages = slice_set self.old.pages page false } }
+    /// The client may not write the page any more.
+    pub fn release(&mut self, page: PageNo)
+        requires { page < length self.old.writable }
+        ensures { self.new ≡ record self.old {
+          writable = slice_set self.old.writable page false;
+        } }
     {
-        self.pages.remove(page);
+        self.writable.remove(page);
     }
 
-    /// The least of the client's pages, at or after a place.
-    pub fn next(&self, from: usize) -> Option<PageNo>
+    /// The least page of which the client has a copy, at or after a place.
+    pub fn next_copied(&self, from: usize) -> Option<PageNo>
         ensures { MatchOption result
-            ((page : ℕ) → from ≤ page → has self.now.pages page ≡ false)
-            (λ page. (from ≤ page) × (page < length self.now.pages)
-            × (has self.now.pages page ≡ true)
-            × ((other : ℕ) → from ≤ other → other < page → has self.now.pages other ≡ false)) }
+            ((page : ℕ) → from ≤ page → has self.now.copied page ≡ false)
+            (λ page. (from ≤ page) × (page < length self.now.copied)
+            × (has self.now.copied page ≡ true)
+            × ((other : ℕ) → from ≤ other → other < page → has self.now.copied other ≡ false)) }
     {
-        self.pages.next(from)
+        self.copied.next(from)
+    }
+
+    /// The least page that the client may write, at or after a place.
+    pub fn next_writable(&self, from: usize) -> Option<PageNo>
+        ensures { MatchOption result
+            ((page : ℕ) → from ≤ page → has self.now.writable page ≡ false)
+            (λ page. (from ≤ page) × (page < length self.now.writable)
+            × (has self.now.writable page ≡ true)
+            × ((other : ℕ) → from ≤ other → other < page → has self.now.writable other ≡ false)) }
+    {
+        self.writable.next(from)
     }
 }

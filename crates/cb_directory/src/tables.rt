@@ -4,8 +4,8 @@ ghost use Rattle.std.specs.Prelude.{IfOk, MatchOption};
 ghost use Rattle.cb_clients.specs.Clients.{has};
 ghost use Rattle.std.specs.Option.{is_some};
 ghost use Rattle.cb_directory.specs.Rows.{no_rows};
-ghost use Rattle.cb_directory.specs.Tables.{IsEmpty, Lists, PutsHolder, PutsRow, holder, is_listed};
-ghost use Rattle.cb_directory.specs.Tables.{is_marked, row, tag};
+ghost use Rattle.cb_directory.specs.Tables.{IsEmpty, PutsHolder, PutsRow, holder, is_copied};
+ghost use Rattle.cb_directory.specs.Tables.{is_marked, is_writable, row, tag};
 
 use crate::lines::{ClientLine, PageLine};
 use cb_clients::ClientSet;
@@ -98,52 +98,51 @@ impl Tables {
         }
     }
 
-    /// The page is in the client's list from now on.
-    pub fn list(&mut self, client: ClientNo, page: PageNo)
-        requires client { client < length self.old.clients }
-        requires page { page < length self.old.pages }
-        ensures { Lists self.old client page true self.new }
-    {
-        self.clients[client.index()].keep(page);
-    }
-
-    /// The page leaves the client's list.
-    pub fn unlist(&mut self, client: ClientNo, page: PageNo)
-        requires client { client < length self.old.clients }
-        requires page { page < length self.old.pages }
-        ensures { Lists self.old client page false self.new }
-    {
-        self.clients[client.index()].leave(page);
-    }
-
-    /// The least page of the client's list, at or after a place.
-    pub fn next_listed(&self, client: ClientNo, from: usize) -> Option<PageNo>
+    /// The least page of which the client has a row, at or after a place.
+    pub fn next_copied(&self, client: ClientNo, from: usize) -> Option<PageNo>
         requires { client < length self.now.clients }
         ensures { MatchOption result
-            ((page : ℕ) → from ≤ page → is_listed self.now client page ≡ false)
+            ((page : ℕ) → from ≤ page → is_copied self.now client page ≡ false)
             (λ page. (from ≤ page) × (page < length self.now.pages)
-            × (is_listed self.now client page ≡ true)
+            × (is_copied self.now client page ≡ true)
             × ((other : ℕ) → from ≤ other → other < page
-            → is_listed self.now client other ≡ false)) }
+            → is_copied self.now client other ≡ false)) }
     {
-        self.clients[client.index()].next(from)
+        self.clients[client.index()].next_copied(from)
     }
 
-    /// Another write holder of the page.
-    pub fn put_holder(&mut self, client: ClientNo, page: PageNo, txn: TxnNo)
-        requires { page < length self.old.pages }
-        ensures { PutsHolder self.old page (Some client) (Some txn) self.new }
+    /// The least page that the client may write, at or after a place.
+    pub fn next_writable(&self, client: ClientNo, from: usize) -> Option<PageNo>
+        requires { client < length self.now.clients }
+        ensures { MatchOption result
+            ((page : ℕ) → from ≤ page → is_writable self.now client page ≡ false)
+            (λ page. (from ≤ page) × (page < length self.now.pages)
+            × (is_writable self.now client page ≡ true)
+            × ((other : ℕ) → from ≤ other → other < page
+            → is_writable self.now client other ≡ false)) }
     {
+        self.clients[client.index()].next_writable(from)
+    }
+
+    /// The client becomes the page's write holder. What another client's line says stays.
+    pub fn put_holder(&mut self, client: ClientNo, page: PageNo, txn: TxnNo)
+        requires client { client < length self.old.clients }
+        requires page { page < length self.old.pages }
+        ensures { PutsHolder self.old client page (Some client) (Some txn) true self.new }
+    {
+        self.clients[client.index()].permit(page);
         let line = &mut self.pages[page.index()];
         line.holder = Some(client);
         line.tag = Some(txn);
     }
 
-    /// The page has no write holder any more.
-    pub fn clear_holder(&mut self, page: PageNo)
-        requires { page < length self.old.pages }
-        ensures { PutsHolder self.old page None (tag self.old page) self.new }
+    /// The page has no write holder any more, and this client's line loses it.
+    pub fn clear_holder(&mut self, client: ClientNo, page: PageNo)
+        requires client { client < length self.old.clients }
+        requires page { page < length self.old.pages }
+        ensures { PutsHolder self.old client page None (tag self.old page) false self.new }
     {
+        self.clients[client.index()].release(page);
         self.pages[page.index()].holder = None;
     }
 }

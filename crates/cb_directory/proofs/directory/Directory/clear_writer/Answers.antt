@@ -3,6 +3,3 @@ use Rattle.cb_directory.proofs.directory.Directory.clear_writer.Goals as goal
 
 pub invariant_of-self : goal.invariant_of-self
 invariant_of-self c = search rules
-
-pub returns-then-is_none : goal.returns-then-is_none
-returns-then-is_none c = search rules

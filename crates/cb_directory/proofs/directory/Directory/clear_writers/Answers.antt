@@ -14,23 +14,23 @@ other_stays (Some other) client apart = by_test (other == client) refl
 
 pub loop-page-preserved : goal.loop-page-preserved
 loop-page-preserved c = record {
-  rows = λ client page. c.clear_writer_if.ensures.has.rows client page ∙ c.loop-page.invariant.rows client page;
-  tags = λ page. c.clear_writer_if.ensures.has.tags page ∙ c.loop-page.invariant.tags page;
+  rows = λ client page. c.clear_writer.ensures.has.rows client page ∙ c.loop-page.invariant.rows client page;
+  tags = λ page. c.clear_writer.ensures.has.tags page ∙ c.loop-page.invariant.tags page;
   done = λ page before. elim (cases_eq page c.in-Some.page) [
-    | inl here ↦ grind (arith, c.clear_writer_if.ensures.has.holders page, c.loop-page.invariant.rest page, c.in-Some.ensures)
+    | inl here ↦ grind (arith, c.clear_writer.ensures.has.holders page, c.loop-page.invariant.rest page, c.in-Some.ensures, c.self.view_is, c.self.invariant.agree.held c.args.client page)
     | inr apart ↦ elim (cases_lt page c.loop-page.from) [
-      | inl early ↦ grind (arith, c.clear_writer_if.ensures.has.holders page, c.loop-page.invariant.done page)
+      | inl early ↦ grind (arith, c.clear_writer.ensures.has.holders page, c.loop-page.invariant.done page)
       | inr late ↦
-          let now : holder c.clear_writer_if.new.self page ≡ holder c.loop-page.self page = grind (arith, c.clear_writer_if.ensures.has.holders page) in
+          let now : holder c.clear_writer.new.self page ≡ holder c.loop-page.self page = grind (arith, c.clear_writer.ensures.has.holders page) in
           let unlisted = c.in-Some.ensures.3 page late (omega arith) in
-          let held_apart : holder c.loop-page.self page ≡ Some c.args.client → ⊥ = λ held. grind (arith, c.self.view_is, unlisted, c.self.invariant.agree.holder_listed c.args.client page) in
+          let held_apart : holder c.loop-page.self page ≡ Some c.args.client → ⊥ = λ held. grind (arith, c.self.view_is, unlisted, c.self.invariant.agree.writable c.args.client page) in
           now ∙ other_stays (holder c.loop-page.self page) c.args.client held_apart ∙ ap (λ (h : Option ℕ). without_holder h c.args.client) (c.loop-page.invariant.rest page late)
     ]
   ];
-  rest = λ page after. grind (arith, c.clear_writer_if.ensures.has.holders page, c.loop-page.invariant.rest page, c.in-Some.ensures);
-  next = c.clear_writer_if.ensures.next ∙ c.loop-page.invariant.next;
-  size = grind (arith, c.clear_writer_if.ensures.has.size, c.loop-page.invariant.size);
-  within = grind (arith, c.clear_writer_if.ensures.has.size, c.in-Some.ensures);
+  rest = λ page after. grind (arith, c.clear_writer.ensures.has.holders page, c.loop-page.invariant.rest page, c.in-Some.ensures);
+  next = c.clear_writer.ensures.next ∙ c.loop-page.invariant.next;
+  size = grind (arith, c.clear_writer.ensures.has.size, c.loop-page.invariant.size);
+  within = grind (arith, c.clear_writer.ensures.has.size, c.in-Some.ensures);
 }
 
 pub returns : goal.returns
@@ -41,7 +41,7 @@ returns c = record {
       | inl before ↦ c.loop-page.invariant.done page before
       | inr after ↦
           let same = c.loop-page.invariant.rest page after in
-          let apart : holder c.loop-page.self page ≡ Some c.args.client → ⊥ = λ held. grind (arith, c.self.view_is, c.in_default.ensures page, c.self.invariant.agree.holder_listed c.args.client page) in
+          let apart : holder c.loop-page.self page ≡ Some c.args.client → ⊥ = λ held. grind (arith, c.self.view_is, c.in_default.ensures page, c.self.invariant.agree.writable c.args.client page) in
           other_stays (holder c.loop-page.self page) c.args.client apart ∙ ap (λ (h : Option ℕ). without_holder h c.args.client) same
     ];
     tags = c.loop-page.invariant.tags;

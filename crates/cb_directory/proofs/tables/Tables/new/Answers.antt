@@ -18,7 +18,9 @@ empty_tables clients_count pages line nobody unheld untold = record {
   rows = λ client page. replicate_gives (λ (c : ClientState). grant_of c page ≡ None) clients_count client (no_rows pages) no_client
       (replicate_gives (λ (g : Option ℕ). g ≡ None) pages page None None refl refl) refl;
   marks = λ client page. replicate_gives (λ (l : PageLine). clients.has l.clients client ≡ false) pages page line no_line (nobody client) (has_none client);
-  listed = λ client page. replicate_gives (λ (c : ClientState). has c.pages page ≡ false) clients_count client (no_rows pages) no_client
+  copied = λ client page. replicate_gives (λ (c : ClientState). has c.copied page ≡ false) clients_count client (no_rows pages) no_client
+      (replicate_gives (λ b. b ≡ false) pages page false false refl refl) refl;
+  writable = λ client page. replicate_gives (λ (c : ClientState). has c.writable page ≡ false) clients_count client (no_rows pages) no_client
       (replicate_gives (λ b. b ≡ false) pages page false false refl refl) refl;
   holders = λ page. replicate_gives (λ (l : PageLine). l.holder ≡ None) pages page line no_line unheld refl;
   tags = λ page. replicate_gives (λ (l : PageLine). l.tag ≡ None) pages page line no_line untold refl;
