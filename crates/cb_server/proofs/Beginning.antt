@@ -6,7 +6,7 @@ use Rattle.cb_outbox.specs.Saying.{OutboxState}
 use Rattle.cb_protocol.specs.Server.{Server, server_after}
 use Rattle.cb_protocol.specs.ServerMessages.{begin_transaction}
 use Rattle.cb_protocol.specs.Session.{Session}
-use Rattle.cb_server.specs.Answering.{Begins, CanAnswer, CanSay, IsCurrent, server_in}
+use Rattle.cb_server.specs.Answering.{Begins, CanGrant, CanSay, IsCurrent, server_in}
 use Rattle.cb_server.specs.declared.engine.Engine.{Engine}
 use Rattle.cb_server.proofs.Making.{changes_make, makes_as, makes_nothing}
 
@@ -27,8 +27,11 @@ begins_nothing e c t is = record {
 }
 
 pub says_after_begin : (old new : Engine) (c t : ℕ) → Begins old c t new → CanSay old → CanSay new
-says_after_begin old new c t b can = record {
-  frames = subst (λ (o : OutboxState). length o.sent < o.room) (sym b.outbox) can.frames;
+says_after_begin old new c t b can = record { frames = subst (λ (o : OutboxState). length o.sent < o.room) (sym b.outbox) can.frames }
+
+pub grants_after_begin : (old new : Engine) (c t : ℕ) → Begins old c t new → CanGrant old → CanGrant new
+grants_after_begin old new c t b can = record {
+  say = says_after_begin old new c t b can.say;
   copy = subst (λ (o : OutboxState). 0 < o.spare) (sym b.outbox) can.copy;
   size = ap (λ (o : OutboxState). o.page_size) b.outbox ∙ can.size ∙ sym b.makes.stays.page_size;
 }
@@ -42,13 +45,6 @@ current_after s c t = go (nat_lt (s.session c).txn t)
 
 pub current_begun : (old new : Engine) (c t i : ℕ) → Begins old c t new → IsCurrent old c i → IsCurrent new c i
 current_begun old new c t i b is = is ∙ sym (ap (λ (s : Server). (s.session c).current) b.makes.says.becomes ∙ current_after (server_in old) c t)
-
-pub can_say : (e : Engine) → CanAnswer e → CanSay e
-can_say e r = record {
-  frames = let f = r.frames in omega (arith, f);
-  copy = let k = r.copies_of_pages in omega (arith, k);
-  size = r.size;
-}
 
 pub current_reserved : (old res : Engine) (c i : ℕ) → server_in res ≡ server_in old → IsCurrent old c i → IsCurrent res c i
 current_reserved old res c i e is = is ∙ sym (ap (λ (s : Server). (s.session c).current) e)

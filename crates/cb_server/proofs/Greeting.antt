@@ -5,11 +5,13 @@ use Rattle.cb_holdings.specs.Questions.{admission_in}
 use Rattle.cb_links.specs.declared.sessions.Admission.{Admission}
 use Rattle.cb_links.specs.declared.sessions.Admission.TheVariants as admission
 use Rattle.cb_protocol.proofs.Cases.{serves_current, serves_hello_again, serves_new_hello, serves_no_old_hello, serves_no_other_incarnation}
-use Rattle.cb_protocol.specs.Messages.{Body, Hello, Welcome}
+use Rattle.cb_protocol.specs.Messages.{AskRead, AskWrite, Body, Commit, Downgraded, Drop, GiveBack, Hello, InUse, Welcome, to_server}
 use Rattle.cb_protocol.specs.Server.{Send, Server}
-use Rattle.cb_protocol.specs.ServerMessages.{admit_incarnation, server_take, take_current}
+use Rattle.cb_protocol.specs.ServerMessages.{admit_incarnation, begin_transaction, direct_answer, named_txn, server_take, take_current}
+use Rattle.cb_protocol.specs.Settling.{settle_pages}
 use Rattle.cb_protocol.specs.WaitsFor.{on_cycle}
 use Rattle.cb_server.specs.Answering.{is_hello}
+use Rattle.cb_server.proofs.Making.{begins_none}
 
 pub is_unknown : (s : Server) (c i : ℕ) → admission.Unknown ≡ admission_in s c i → (s.session c).current < i
 is_unknown s c i e = go (nat_lt (s.session c).current i) (i == (s.session c).current) refl e
@@ -64,3 +66,29 @@ other_ignored s c i b h n = serves_no_other_incarnation on_cycle s c i b (no_hel
 
 pub current_taken : (s : Server) (c i : ℕ) (b : Body) → is_hello b ≡ false → i ≡ (s.session c).current → server_take on_cycle s c i b ≡ take_current on_cycle s c b
 current_taken s c i b h e = serves_current on_cycle s c i b (no_hello b h) e
+
+-- what goes to clients is ignored, where nothing is left to be settled
+pub ignored : (s : Server) (c : ℕ) (b : Body) → to_server b ≡ false → settle_pages on_cycle s s.pages ≡ [] → take_current on_cycle s c b ≡ []
+ignored s c b way settled = rw (begins b way, answers b way, settled) refl
+  where
+    begins : (b : Body) → to_server b ≡ false → begin_transaction s c (named_txn b) ≡ []
+    begins Hello e = absurd cc
+    begins (AskRead t p) e = absurd cc
+    begins (AskWrite t p g) e = absurd cc
+    begins (GiveBack p g) e = absurd cc
+    begins (InUse t p g) e = absurd cc
+    begins (Commit t ws) e = absurd cc
+    begins (Drop t) e = absurd cc
+    begins (Downgraded p g t) e = absurd cc
+    begins _ e = begins_none s c
+
+    answers : (b : Body) → to_server b ≡ false → direct_answer on_cycle s c b ≡ []
+    answers Hello e = absurd cc
+    answers (AskRead t p) e = absurd cc
+    answers (AskWrite t p g) e = absurd cc
+    answers (GiveBack p g) e = absurd cc
+    answers (InUse t p g) e = absurd cc
+    answers (Commit t ws) e = absurd cc
+    answers (Drop t) e = absurd cc
+    answers (Downgraded p g t) e = absurd cc
+    answers _ e = refl

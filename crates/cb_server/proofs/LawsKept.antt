@@ -65,7 +65,7 @@ reached_by_clients : (L : Limits) (o : Opening) (s : Server) → ReachedBy L on_
 reached_by_clients L o s Opened = Opened
 reached_by_clients L o s (AfterInput {server = k} r i f) = AfterInput (reached_by_clients L o k r) i (by_client L k i f)
 
-reached : (state : ServerState) → IsServer state → ReachedServer (server_of state)
+pub reached : (state : ServerState) → IsServer state → ReachedServer (server_of state)
 reached state is = (limits_at state, opening_at state, reached_in_range (limits_at state) (opening_at state) (server_of state) is.reached)
 
 pub rules_kept : RulesAreKept

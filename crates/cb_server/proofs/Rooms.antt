@@ -1,52 +1,37 @@
 -- Room for settling, once a message is answered.
-use Rattle.std.proofs.Common.{◌≡◌, ℕ, ◌+◌, ◌*◌, ◌≤◌, min, false, List, [], ◌∷◌, ◌++◌, length, sym, ap, ◌∙◌, subst, arith}
-use Rattle.std.proofs.Math.Nat.{le-min, le_trans, min-eq_left, min-le_left, min-le_right}
+use Rattle.std.proofs.Common.{◌≡◌, ℕ, ◌+◌, ◌≤◌, false, List, ◌++◌, length, sym, ap, ◌∙◌, subst, arith}
 use Rattle.std.proofs.lemmas.List.{length-append}
 use Rattle.cb_outbox.proofs.Saying.{after_append, copies_append, sent_append}
 use Rattle.cb_protocol.proofs.GrantNumbers.{left_at_admission, left_at_answer, left_at_begin}
-use Rattle.cb_protocol.proofs.ReadAsksWaiting.{count_without, reads_fewer}
-use Rattle.cb_protocol.specs.Messages.{Body, Message, Welcome}
+use Rattle.cb_protocol.specs.Messages.{AskRead, AskWrite, Body, Commit, Hello, Message}
 use Rattle.cb_protocol.specs.Numbers.{HasGrantsLeft, copies_sent}
-use Rattle.cb_protocol.specs.Server.{ChangeSession, ForgetTransaction, Send, Server, ServerStep, server_after}
+use Rattle.cb_protocol.specs.Server.{Server, ServerStep, server_after}
 use Rattle.cb_protocol.specs.ServerMessages.{begin_transaction, direct_answer, named_txn}
-use Rattle.cb_protocol.specs.Session.{Admit}
 use Rattle.cb_protocol.specs.WaitsFor.{on_cycle}
 use Rattle.cb_protocol.specs.World.{messages_sent}
-use Rattle.cb_server.specs.Answering.{asks_in_all, CanAnswer, CanSettle, LacksNumber, Makes, answer_to, server_in}
+use Rattle.cb_server.specs.Answering.{CanAnswer, CanSayTo, CanSettle, HasRoom, LacksNumber, Makes, answer_to, copies_for_body, messages_for_body, messages_in_all, read_asks_in_all, server_in}
 use Rattle.cb_server.specs.declared.engine.Engine.{Engine}
-use Rattle.cb_server.proofs.Counting.{Costs, answer_costs, begins_quietly, begins_with_fewer, begins_with_fewer_asks, begins_with_no_copy, reads, waiting, waits_fewer, without}
+use Rattle.cb_server.proofs.Counting.{Costs, admission, admission_costs, answer_costs, begins_as_many, begins_quietly, begins_with_fewer, begins_with_less, begins_with_no_copy, most, reads}
 
--- steps that send one message at most, and leave at most one copy more to send, and one more ask
-abbrev Leaves : Server → List ServerStep → Type 0
-Leaves s ds = (length (messages_sent ds) ≤ 1) × (copies_sent ds + reads (server_after s ds) ≤ reads s + 1) × (waiting (server_after s ds) ≤ waiting s + 1)
-
--- fewer asks want no more room
-fewer_most : (few many : ℕ) → few ≤ many → min few 32 ≤ min many 32
-fewer_most few many le = le-min (le_trans (min-le_left few 32) le) (min-le_right few 32)
-
--- where at most 32 asks wait there is room for each
-pub all_fit : (e : Engine) → CanSettle e → asks_in_all e ≤ 32 → length e.outbox.sent + 33 * asks_in_all e ≤ e.outbox.room
-all_fit e room few = subst (λ (n : ℕ). length e.outbox.sent + 33 * n ≤ e.outbox.room) (min-eq_left few) room.frames
-
-settles_by : (old new : Engine) (f : Server → List ServerStep) → CanAnswer old → Makes old f new → Leaves (server_in old) (f (server_in old))
-    → HasGrantsLeft (server_after (server_in old) (f (server_in old))) → CanSettle new
-settles_by old new f room m l grants = record {
+-- steps that cost no more than there is room for leave room for settling
+settles_by : (old new : Engine) (f : Server → List ServerStep) (m k : ℕ) → HasRoom old (messages_in_all old + m) (read_asks_in_all old + k) → Makes old f new
+    → Costs (server_in old) (f (server_in old)) m k → HasGrantsLeft (server_after (server_in old) (f (server_in old))) → CanSettle new
+settles_by old new f m k room makes costs grants = record {
   frames =
-      let more = ap (λ (x : List Message). length x) m.says.sends ∙ length-append old.outbox.sent (messages_sent (f (server_in old))) in
-      let one = l.0 in let same = m.says.room in let had = room.frames in
-      let now = ap waiting m.says.becomes in
-      let asks = fewer_most (waiting (server_in new)) (waiting (server_in old) + 1) (let le : waiting (server_in new) ≤ waiting (server_in old) + 1 = (let l2 = l.2 in omega (arith, now, l2)) in le) in
-      omega (arith, more, one, same, had, asks);
+      let more = ap (λ (x : List Message). length x) makes.says.sends ∙ length-append old.outbox.sent (messages_sent (f (server_in old))) in
+      let cost = costs.sends in let same = makes.says.room in let had = room.frames in
+      let now = ap most makes.says.becomes in
+      omega (arith, more, cost, same, had, now);
   copies_of_pages =
-      let now = ap reads m.says.becomes in
-      let cost = l.1 in let spare = m.says.spare in let had = room.copies_of_pages in
+      let now = ap reads makes.says.becomes in
+      let cost = costs.copies in let spare = makes.says.spare in let had = room.copies_of_pages in
       omega (arith, now, cost, spare, had);
-  grants = subst HasGrantsLeft (sym m.says.becomes) grants;
-  size = m.says.page_size ∙ room.size ∙ sym m.stays.page_size;
+  grants = subst HasGrantsLeft (sym makes.says.becomes) grants;
+  size = makes.says.page_size ∙ room.size ∙ sym makes.stays.page_size;
 }
 
-answer_leaves : (s : Server) (c : ℕ) (b : Body) → Leaves s (answer_to on_cycle c b s)
-answer_leaves s c b = (few, kept, asks)
+answer_leaves : (s : Server) (c : ℕ) (b : Body) → Costs s (answer_to on_cycle c b s) (messages_for_body s.clients b) (copies_for_body b)
+answer_leaves s c b = record { sends = few; copies = kept }
   where
     first : List ServerStep
     first = begin_transaction s c (named_txn b)
@@ -54,16 +39,22 @@ answer_leaves s c b = (few, kept, asks)
     next : List ServerStep
     next = direct_answer on_cycle (server_after s first) c b
 
-    cost : Costs (server_after s first) next
+    cost : Costs (server_after s first) next (messages_for_body (server_after s first).clients b) (copies_for_body b)
     cost = answer_costs on_cycle (server_after s first) c b
 
     sent : messages_sent (first ++ next) ≡ messages_sent next
     sent = sent_append first next ∙ ap (λ (l : List Message). l ++ messages_sent next) (begins_quietly s c (named_txn b))
 
-    few : length (messages_sent (first ++ next)) ≤ 1
-    few = subst (λ (l : List Message). length l ≤ 1) (sym sent) cost.sends
+    few : length (messages_sent (first ++ next)) + most (server_after s (first ++ next)) ≤ most s + messages_for_body s.clients b
+    few =
+        let said = ap (λ (l : List Message). length l) sent in
+        let fewer = begins_with_less s c (named_txn b) in
+        let after = ap most (after_append s first next) in
+        let costs = cost.sends in
+        let many = ap (λ (n : ℕ). messages_for_body n b) (begins_as_many s c (named_txn b)) in
+        omega (arith, said, fewer, after, costs, many)
 
-    kept : copies_sent (first ++ next) + reads (server_after s (first ++ next)) ≤ reads s + 1
+    kept : copies_sent (first ++ next) + reads (server_after s (first ++ next)) ≤ reads s + copies_for_body b
     kept =
         let all = copies_append first next in
         let none = begins_with_no_copy s c (named_txn b) in
@@ -72,33 +63,26 @@ answer_leaves s c b = (few, kept, asks)
         let costs = cost.copies in
         omega (arith, all, none, fewer, after, costs)
 
-    asks : waiting (server_after s (first ++ next)) ≤ waiting s + 1
-    asks =
-        let fewer = begins_with_fewer_asks s c (named_txn b) in
-        let after = ap waiting (after_append s first next) in
-        let costs = cost.asks in
-        omega (arith, fewer, after, costs)
-
-pub settles_after_answer : (old new : Engine) (c : ℕ) (b : Body) → CanAnswer old → LacksNumber old c b false → Makes old (answer_to on_cycle c b) new → CanSettle new
-settles_after_answer old new c b room left m =
-    settles_by old new (answer_to on_cycle c b) room m (answer_leaves (server_in old) c b)
+pub settles_after_answer : (old new : Engine) (c : ℕ) (b : Body) → CanAnswer old b → LacksNumber old c b false → Makes old (answer_to on_cycle c b) new → CanSettle new
+settles_after_answer old new c b room left makes =
+    settles_by old new (answer_to on_cycle c b) (messages_for_body s.clients b) (copies_for_body b) room makes (answer_leaves (server_in old) c b)
     (subst HasGrantsLeft (sym (after_append s (begin_transaction s c (named_txn b)) (direct_answer on_cycle (server_after s (begin_transaction s c (named_txn b))) c b)))
     (left_at_answer on_cycle (server_after s (begin_transaction s c (named_txn b))) c b (left_at_begin s c (named_txn b) room.grants) left))
   where
     s : Server
     s = server_in old
 
--- a greater incarnation
-abbrev pub admission : ℕ → ℕ → List ServerStep
-admission c i = ForgetTransaction c ∷ ChangeSession c (Admit i) ∷ Send c i Welcome ∷ []
+pub settles_after_admission : (old new : Engine) (c i : ℕ) → CanAnswer old Hello → Makes old (λ s. admission c i) new → CanSettle new
+settles_after_admission old new c i room makes =
+    settles_by old new (λ s. admission c i) 1 0 room makes (admission_costs (server_in old) c i) (left_at_admission (server_in old) c i room.grants)
 
-admission_leaves : (s : Server) (c i : ℕ) → Leaves s (admission c i)
-admission_leaves s c i = (
-  omega arith,
-  (let fewer = reads_fewer s (server_after s (admission c i)) s.pages (λ p. count_without c (s.queue p)) in omega (arith, fewer)),
-  (let fewer = waits_fewer s (server_after s (admission c i)) s.pages (λ p. without c (s.queue p)) in omega (arith, fewer)),
-)
-
-pub settles_after_admission : (old new : Engine) (c i : ℕ) → CanAnswer old → Makes old (λ s. admission c i) new → CanSettle new
-settles_after_admission old new c i room m =
-    settles_by old new (λ s. admission c i) room m (admission_leaves (server_in old) c i) (left_at_admission (server_in old) c i room.grants)
+-- there is room for the answer alone
+pub can_say_to : (e : Engine) (b : Body) → CanAnswer e b → CanSayTo b e
+can_say_to e (AskRead t p) r = record {
+  say = record { frames = let f = r.frames in omega (arith, f) };
+  copy = let k = r.copies_of_pages in omega (arith, k);
+  size = r.size;
+}
+can_say_to e (AskWrite t p g) r = record { frames = let f = r.frames in omega (arith, f) }
+can_say_to e (Commit t ws) r = record { frames = let f = r.frames in omega (arith, f) }
+can_say_to e _ r = tt

@@ -22,6 +22,8 @@ use Rattle.cb_server.specs.Answering.{FitsIn, IsLeft, IsReady, Serves, server_in
 use Rattle.cb_server.specs.ServerState.{IsAtRest, IsUnchanged, ServerState}
 use Rattle.cb_server.specs.Taking.{Does, Takes, input_of}
 use Rattle.cb_server.specs.declared.engine.Engine.{Engine}
+use Rattle.cb_protocol.proofs.SettlingAgain.{settled}
+use Rattle.cb_server.proofs.LawsKept.{reached}
 use Rattle.cb_server.proofs.Arising.{arises, body_fits_in, frame_comes, has_grants, said_fits, store_fits}
 
 -- a server of these parts
@@ -31,6 +33,7 @@ state limits e = record { limits = limits; tables = e.callbacks.tables }
 pub ready : (limits : Bounds) (e : Engine) → IsAtRest (state limits e) e.outbox → IsReady e
 ready limits e rest = record {
   sent = rest.sent;
+  settled = settled (server_in e) (reached (state limits e) rest.is);
   grants = has_grants (limits_of limits) (opening_of e.callbacks.tables.holdings.commits.opening) (server_in e) rest.is.reached;
   size = rest.page_size ∙ sym rest.is.of.store.page_size;
 }

@@ -1,8 +1,8 @@
 -- What a server's engine does for a message, and the room that it has for it.
-use Rattle.std.specs.Prelude.{◌≡◌, ◌≤◌, ◌<◌, ◌+◌, ◌*◌, ◌&&◌, ℕ, Bool, true, false, List}
+use Rattle.std.specs.Prelude.{◌≡◌, ◌≤◌, ◌<◌, ◌+◌, ◌&&◌, ℕ, Bool, true, false, List}
 use Rattle.std.specs.Prelude.{[], ◌++◌}
-use Rattle.std.specs.Prelude.{length, min, ⊤}
-use Rattle.cb_asks.specs.Asks.{asks_below, room_at}
+use Rattle.std.specs.Prelude.{length, ⊤}
+use Rattle.cb_asks.specs.Asks.{room_at}
 use Rattle.cb_callbacks.specs.Numbers as numbers
 use Rattle.cb_callbacks.specs.Numbers.{IsLiveOne}
 use Rattle.cb_tables.specs.Tables.{IsAsLarge, server_of}
@@ -14,12 +14,14 @@ use Rattle.cb_outbox.specs.Messages.{short_of}
 use Rattle.cb_outbox.specs.Saying.{Says}
 use Rattle.cb_protocol.specs.Basics.{Limits}
 use Rattle.cb_protocol.specs.Messages as protocol
-use Rattle.cb_protocol.specs.Numbers.{HasGrantsLeft}
+use Rattle.cb_protocol.specs.Numbers.{HasGrantsLeft, messages_for_pages}
 use Rattle.cb_protocol.specs.Ranges.{BodyFits}
 use Rattle.cb_protocol.specs.Server.{DeadlockTest, Server, ServerStep, has_not_ended, server_after}
 use Rattle.cb_protocol.specs.ServerMessages.{and_then, begin_transaction, commit_allowed}
 use Rattle.cb_protocol.specs.ServerMessages.{direct_answer, may_proceed, named_txn}
 use Rattle.cb_protocol.specs.ServerMessages.{read_asks_below}
+use Rattle.cb_protocol.specs.Settling.{settle_pages}
+use Rattle.cb_protocol.specs.WaitsFor.{on_cycle}
 use Rattle.cb_protocol.specs.World.{messages_sent}
 use Rattle.cb_server.specs.declared.engine.Engine.{Engine}
 use Rattle.cb_server.specs.declared.engine.answers.Begun.{Begun}
@@ -41,26 +43,50 @@ pub record HasRoom (engine : Engine) (messages copies : ℕ) : Type 0 where
 abbrev pub read_asks_in_all : Engine → ℕ
 read_asks_in_all engine = read_asks_below (server_in engine) (server_in engine).pages
 
--- how many asks wait
-abbrev pub asks_in_all : Engine → ℕ
-asks_in_all engine = asks_below (server_in engine) (server_in engine).pages
+-- how many messages settling may send for them: two for an ask to read, and for an ask to write one
+-- to each client and one more to its own (this project's rule)
+abbrev pub messages_in_all : Engine → ℕ
+messages_in_all engine = messages_for_pages (server_in engine) (server_in engine).pages
 
--- Room for all that settling sends: for each ask that waits at most a message to each of 32 clients
--- and one more to its own, and a copy for each ask to read; 32 asks wait at most, one of each client
--- (this project's rule).
+-- room for all that settling sends, and a copy for each ask to read
 abbrev pub CanSettle : Engine → Type 0
-CanSettle engine = HasRoom engine (33 * min (asks_in_all engine) 32) (read_asks_in_all engine)
+CanSettle engine = HasRoom engine (messages_in_all engine) (read_asks_in_all engine)
 
--- So much with one ask more, and one message and one copy for an answer.
-abbrev pub CanAnswer : Engine → Type 0
-CanAnswer engine =
-    HasRoom engine (33 * min (asks_in_all engine + 1) 32 + 1) (read_asks_in_all engine + 1)
+-- how many messages more a body can need: its answer, or what settling may send for its ask
+abbrev pub messages_for_body : (clients : ℕ) → protocol.Body → ℕ
+messages_for_body clients protocol.Hello = 1
+messages_for_body clients (protocol.AskRead txn page) = 2
+messages_for_body clients (protocol.AskWrite txn page grant) = clients + 1
+messages_for_body clients (protocol.Commit txn writes) = 1
+messages_for_body clients _ = 0
 
--- Room for one answer, with a copy of a page.
+-- how many copies of pages more it can need
+abbrev pub copies_for_body : protocol.Body → ℕ
+copies_for_body (protocol.AskRead txn page) = 1
+copies_for_body _ = 0
+
+-- room for a body's answer, and for settling once it is answered
+abbrev pub CanAnswer : Engine → protocol.Body → Type 0
+CanAnswer engine body = HasRoom engine
+    (messages_in_all engine + messages_for_body (server_in engine).clients body)
+    (read_asks_in_all engine + copies_for_body body)
+
+-- Room for one answer without page bytes.
 pub record CanSay (engine : Engine) : Type 0 where
   pub frames : length engine.outbox.sent < engine.outbox.room
+
+-- Room for one answer, with a copy of a page.
+pub record CanGrant (engine : Engine) : Type 0 where
+  pub say : CanSay engine
   pub copy : 0 < engine.outbox.spare
   pub size : IsAsLarge engine.outbox engine.callbacks.tables
+
+-- room for the answer to a body alone
+abbrev pub CanSayTo : protocol.Body → Engine → Type 0
+CanSayTo (protocol.AskRead txn page) engine = CanGrant engine
+CanSayTo (protocol.AskWrite txn page grant) engine = CanSay engine
+CanSayTo (protocol.Commit txn writes) engine = CanSay engine
+CanSayTo _ engine = ⊤
 
 -- The engine does these steps of the protocol's server, and says what they send.
 pub record Makes (old : Engine) (steps : Server → List ServerStep) (new : Engine) : Type 0 where
@@ -90,10 +116,11 @@ applies server client txn writes =
     let begun = server_after server (begin_transaction server client txn) in
     may_proceed begun client txn && commit_allowed begun client writes
 
--- Between two messages: nothing is to be sent yet, and each ask to read that waits can have a grant
--- number.
+-- Between two messages: nothing is to be sent yet, settling would do nothing, and each ask to read
+-- that waits can have a grant number.
 pub record IsReady (engine : Engine) : Type 0 where
   pub sent : engine.outbox.sent ≡ []
+  pub settled : settle_pages on_cycle (server_in engine) (server_in engine).pages ≡ []
   pub grants : HasGrantsLeft (server_in engine)
   pub size : IsAsLarge engine.outbox engine.callbacks.tables
 

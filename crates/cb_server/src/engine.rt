@@ -1,10 +1,10 @@
 //! What a server does for a message, step by step.
-ghost use Rattle.std.specs.Prelude.{◌≡◌, ◌<◌, ◌∷◌, [], ℕ, false, true, IfErr, OnErr, OnOk};
+ghost use Rattle.std.specs.Prelude.{◌≡◌, ◌<◌, ◌≤◌, ◌∷◌, [], ℕ, false, true, IfErr, OnErr, OnOk};
 ghost use Rattle.cb_tables.specs.Tables.{HasClient};
 ghost use Rattle.cb_tables.specs.Waits.{IsGreeted};
 ghost use Rattle.cb_holdings.specs.Holdings.{AreOf};
 ghost use Rattle.cb_outbox.specs.Messages.{body_of};
-ghost use Rattle.cb_protocol.specs.Messages.{Hello, Welcome};
+ghost use Rattle.cb_protocol.specs.Messages.{Hello, Welcome, to_server};
 ghost use Rattle.cb_protocol.specs.Resend.{server_again};
 ghost use Rattle.cb_protocol.specs.Server.{Send};
 ghost use Rattle.cb_protocol.specs.ServerMessages.{admit_incarnation, is_exhausted};
@@ -13,7 +13,7 @@ ghost use Rattle.cb_protocol.specs.Settling.{settle_pages};
 ghost use Rattle.cb_protocol.specs.WaitsFor.{on_cycle};
 ghost use Rattle.cb_server.specs.Answering.{CanAnswer, CanSettle, FitsIn, IsCurrent, IsLeft};
 ghost use Rattle.cb_server.specs.Answering.{IsReady, LacksNumber, Makes, Serves, is_hello};
-ghost use Rattle.cb_server.specs.Answering.{server_in};
+ghost use Rattle.cb_server.specs.Answering.{copies_for_body, messages_for_body, server_in};
 ghost use Rattle.cb_server.specs.Taking.{is_exhaustion};
 
 mod answers;
@@ -40,11 +40,13 @@ impl Engine {
     pub(crate) fn take(
         &mut self,
         alloc: Global,
+        limits: &Limits,
         client: ClientNo,
         incarnation: Incarnation,
         body: Body,
     ) -> Result<(), ServerFault>
         requires ready { IsReady self.old }
+        requires of { AreOf limits.now self.old.callbacks.tables.holdings }
         requires client { HasClient self.old.callbacks.tables client }
         requires fits { FitsIn self.old body }
         ensures ok { OnOk result (Serves self.old
@@ -57,24 +59,26 @@ impl Engine {
         ensures left { OnErr result (IsLeft self.old self.new) }
     {
         if is_hello(&body) {
-            self.hello(alloc, client, incarnation)?;
+            self.hello(alloc, limits, client, incarnation)?;
             return Ok(());
         }
         if self.callbacks.holdings().admission(client, incarnation) != Admission::Current {
             return Ok(());
         }
-        self.take_current(alloc, client, incarnation, body)
+        self.take_current(alloc, limits, client, incarnation, body)
     }
 
     /// Takes another message than Hello, of the current incarnation.
     fn take_current(
         &mut self,
         alloc: Global,
+        limits: &Limits,
         client: ClientNo,
         incarnation: Incarnation,
         body: Body,
     ) -> Result<(), ServerFault>
         requires ready { IsReady self.old }
+        requires of { AreOf limits.now self.old.callbacks.tables.holdings }
         requires client { HasClient self.old.callbacks.tables client }
         requires current { IsCurrent self.old client incarnation }
         requires fits { FitsIn self.old body }
@@ -88,7 +92,10 @@ impl Engine {
         if self.lacks_number(client, &body) {
             return Err(ServerFault::Exhausted);
         }
-        self.reserve(alloc)?;
+        if !is_for_server(&body) {
+            return Ok(());
+        }
+        self.reserve(alloc, limits, &body)?;
         self.answer(client, incarnation, body)?;
         self.settle();
         Ok(())
@@ -129,10 +136,12 @@ impl Engine {
     fn hello(
         &mut self,
         alloc: Global,
+        limits: &Limits,
         client: ClientNo,
         incarnation: Incarnation,
     ) -> Result<(), AllocError>
         requires ready { IsReady self.old }
+        requires of { AreOf limits.now self.old.callbacks.tables.holdings }
         requires client { HasClient self.old.callbacks.tables client }
         ensures ok { OnOk result (Serves self.old
             (λ server. server_take on_cycle server client incarnation Hello) self.new) }
@@ -141,7 +150,7 @@ impl Engine {
         match self.callbacks.holdings().admission(client, incarnation) {
             Admission::Stale => Ok(()),
             Admission::Current => self.welcome(alloc, client, incarnation),
-            Admission::Unknown => self.admit(alloc, client, incarnation),
+            Admission::Unknown => self.admit(alloc, limits, client, incarnation),
         }
     }
 
@@ -165,38 +174,39 @@ impl Engine {
     fn admit(
         &mut self,
         alloc: Global,
+        limits: &Limits,
         client: ClientNo,
         incarnation: Incarnation,
     ) -> Result<(), AllocError>
         requires ready { IsReady self.old }
+        requires of { AreOf limits.now self.old.callbacks.tables.holdings }
         requires client { HasClient self.old.callbacks.tables client }
         requires newer { ((server_in self.old).session client).current < incarnation }
         ensures ok { OnOk result (Serves self.old
             (λ server. admit_incarnation on_cycle server client incarnation) self.new) }
         ensures left { OnErr result (IsLeft self.old self.new) }
     {
-        self.reserve(alloc)?;
+        self.reserve(alloc, limits, &Body::Short(ShortBody::Hello))?;
         self.callbacks.admit(client, incarnation);
         self.outbox.say(client, incarnation, ShortBody::Welcome);
         self.settle();
         Ok(())
     }
 
-    /// Room for one answer, with a copy of a page, and for settling.
-    fn reserve(&mut self, alloc: Global) -> Result<(), AllocError>
-        requires { IsReady self.old }
-        ensures ok { OnOk result (CanAnswer self.new) }
+    /// Room for the body's answer, and for settling once it is answered.
+    fn reserve(&mut self, alloc: Global, limits: &Limits, body: &Body) -> Result<(), AllocError>
+        requires ready { IsReady self.old }
+        requires of { AreOf limits.now self.old.callbacks.tables.holdings }
+        ensures ok { OnOk result (CanAnswer self.new (body_of body.now)) }
         ensures callbacks { self.new.callbacks ≡ self.old.callbacks }
         ensures left { IsLeft self.old self.new }
     {
-        let asks = (self.callbacks.waiting_asks() + 1).min(32);
-        let messages = 33 * asks + 1;
-        let copies = self.callbacks.read_asks() + 1;
+        let messages = self.callbacks.messages_to_settle(limits) + messages_for_body(limits, body);
+        let copies = self.callbacks.read_asks() + copies_for_body(body);
         self.outbox.reserve(alloc, messages, copies)
     }
 
     /// Every page with asks is settled.
-    #[tactic(auto, using(crate::proofs::Rooms::all_fit))]
     fn settle(&mut self)
         requires { CanSettle self.old }
         ensures { Makes self.old (λ server. settle_pages on_cycle server server.pages) self.new }
@@ -215,7 +225,8 @@ impl Engine {
         ensures callbacks { self.new.callbacks ≡ self.old.callbacks }
         ensures left { OnErr result (IsLeft self.old self.new) }
     {
-        let messages = 33 * self.callbacks.waiting_asks() + limits.clients() as usize;
+        let clients = usize::from(limits.clients());
+        let messages = self.callbacks.messages_to_settle(limits) + clients;
         self.outbox.reserve(alloc, messages, 0)?;
         // The law of how much is said.
         self.callbacks.resending_is_bounded();
@@ -231,5 +242,49 @@ fn is_hello(body: &Body) -> bool
     match body {
         Body::Short(ShortBody::Hello) => true,
         _ => false,
+    }
+}
+
+/// Whether the server does anything for a body of that kind: the others go to clients.
+fn is_for_server(body: &Body) -> bool
+    ensures { result ≡ to_server (body_of body.now) }
+{
+    match body {
+        Body::Commit { .. } => true,
+        Body::Granted { .. } => false,
+        Body::Short(body) => match body {
+            ShortBody::Welcome
+            | ShortBody::MayWrite { .. }
+            | ShortBody::Callback { .. }
+            | ShortBody::Done { .. }
+            | ShortBody::AbortNow { .. }
+            | ShortBody::Downgrade { .. } => false,
+            _ => true,
+        },
+    }
+}
+
+/// How many messages a body can need beside those for the asks that wait: its answer, or what
+/// settling may send for its ask.
+fn messages_for_body(limits: &Limits, body: &Body) -> usize
+    ensures messages { result ≡ messages_for_body limits.now.clients (body_of body.now) }
+    ensures few { result ≤ 33 }
+{
+    match body {
+        Body::Short(ShortBody::AskRead { .. }) => 2,
+        Body::Short(ShortBody::AskWrite { .. }) => usize::from(limits.clients()) + 1,
+        Body::Short(ShortBody::Hello) | Body::Commit { .. } => 1,
+        _ => 0,
+    }
+}
+
+/// How many copies of pages a body can need beside those for the asks to read that wait.
+fn copies_for_body(body: &Body) -> usize
+    ensures copies { result ≡ copies_for_body (body_of body.now) }
+    ensures few { result ≤ 1 }
+{
+    match body {
+        Body::Short(ShortBody::AskRead { .. }) => 1,
+        _ => 0,
     }
 }

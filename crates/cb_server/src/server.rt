@@ -104,8 +104,9 @@ impl Server {
         ensures err { IfErr result (Refuses self.old frame) }
         ensures unchanged { OnErr result (IsUnchanged self.old self.new) }
     {
+        let (client, incarnation) = (frame.client, frame.incarnation);
         self.engine
-            .take(alloc, frame.client, frame.incarnation, frame.body)?;
+            .take(alloc, &self.limits, client, incarnation, frame.body)?;
         Ok(self.engine.outbox.take(alloc))
     }
 

@@ -1,8 +1,8 @@
 //! The office: a station that the threads of a running program share.
 //!
-//! An [`Office`] is the station under one lock, with a condition on which threads wait until it has
-//! changed. What holds of the station whenever the lock is free, and of the flags beside it,
-//! `lock` says.
+//! An [`Office`] is the station under one lock, with conditions on which threads wait until it has
+//! changed: one for each client, for its frames, and one for all else. What holds of the station
+//! whenever the lock is free, and of the flags beside it, `lock` says.
 #![tactic(auto)]
 
 mod office;

@@ -5,6 +5,7 @@ ghost use Rattle.cb_tables.specs.Tables.{server_of};
 ghost use Rattle.cb_tables.specs.Waits.{IsGreeted};
 ghost use Rattle.cb_holdings.specs.Holdings.{AreOf};
 ghost use Rattle.cb_outbox.specs.Saying.{HasRoomFor, OutboxState, Says};
+ghost use Rattle.cb_protocol.specs.Numbers.{messages_for_pages};
 ghost use Rattle.cb_protocol.specs.Resend.{server_again};
 
 use crate::Callbacks;
@@ -26,12 +27,16 @@ impl Callbacks {
         self.tables.again_doomed(limits.clients(), outbox);
     }
 
-    /// It sends at most 33 messages for each ask that waits, an AbortNow to each client, and no
-    /// copy.
+    /// It sends at most as many messages as settling may, so at most 33 for each ask that waits, an
+    /// AbortNow to each client, and no copy.
     ///
     /// It does nothing: who is to send again cites it for the room that is needed.
     pub fn resending_is_bounded(&self)
-        ensures { (outbox : OutboxState) → length outbox.sent
+        ensures by_kind { (outbox : OutboxState) → length outbox.sent
+            + (messages_for_pages (server_of self.now.tables) (server_of self.now.tables).pages
+            + (server_of self.now.tables).clients) ≤ outbox.room
+            → HasRoomFor (server_again (server_of self.now.tables)) outbox }
+        ensures room { (outbox : OutboxState) → length outbox.sent
             + (33 * asks_below (server_of self.now.tables) (server_of self.now.tables).pages
             + (server_of self.now.tables).clients) ≤ outbox.room
             → HasRoomFor (server_again (server_of self.now.tables)) outbox }

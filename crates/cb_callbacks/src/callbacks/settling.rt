@@ -5,10 +5,10 @@ ghost use Rattle.cb_tables.specs.Tables.{IsAsLarge};
 ghost use Rattle.cb_callbacks.specs.Deciding.{StartsWith};
 ghost use Rattle.cb_callbacks.specs.Leaving.{FollowsLeft};
 ghost use Rattle.cb_tables.specs.Tables.{AreTables, HasPage, server_of};
-ghost use Rattle.cb_holdings.specs.Holdings.{Stays};
+ghost use Rattle.cb_holdings.specs.Holdings.{AreOf, Stays};
 ghost use Rattle.cb_outbox.specs.Saying.{HasRoomFor, OutboxState, Says};
 ghost use Rattle.cb_protocol.specs.Basics.{is_none, max_number};
-ghost use Rattle.cb_protocol.specs.Numbers.{first_free_grant};
+ghost use Rattle.cb_protocol.specs.Numbers.{first_free_grant, messages_for_pages};
 ghost use Rattle.cb_protocol.specs.Server.{has_ask};
 ghost use Rattle.cb_protocol.specs.ServerMessages.{read_asks_below};
 ghost use Rattle.cb_protocol.specs.Settling.{doom_client, grant_row, no_other_holder};
@@ -18,7 +18,7 @@ ghost use Rattle.cb_protocol.specs.WaitsFor.{on_cycle};
 use crate::Callbacks;
 use cb_clients::ClientSet;
 use cb_outbox::Outbox;
-use cb_page::{ClientNo, GrantNo, PageNo};
+use cb_page::{ClientNo, GrantNo, Limits, PageNo};
 use cb_tables::Tables;
 use cb_waits::View;
 
@@ -44,12 +44,32 @@ impl Callbacks {
         }
     }
 
-    /// Settling sends at most 33 messages for each ask that waits (to each of 32 clients, and one
-    /// more to its own), and a copy for each ask to read; and at most 32 asks wait, one of each
-    /// client.
+    /// How many messages settling sends at most, by the asks that wait: two for each ask to read,
+    /// and for each ask to write one to each client and one more to its own.
+    pub fn messages_to_settle(&self, limits: &Limits) -> usize
+        requires { AreOf limits.now self.now.tables.holdings }
+        ensures messages { result ≡ messages_for_pages (server_of self.now.tables)
+            (server_of self.now.tables).pages }
+        ensures few { result ≤ 1056 }
+    {
+        let reads = self.read_asks();
+        let writes = self.waiting_asks() - reads;
+        2 * reads + (usize::from(limits.clients()) + 1) * writes
+    }
+
+    /// Settling sends at most as many messages as `messages_to_settle` says, so at most 33 for each
+    /// ask that waits (to each of 32 clients, and one more to its own), and a copy for each ask to
+    /// read; and at most 32 asks wait, one of each client.
     ///
     /// It changes nothing: who is to settle cites it for the room that is needed.
     pub fn settling_is_bounded(&self)
+        ensures by_kind { (outbox : OutboxState) → length outbox.sent
+            + messages_for_pages (server_of self.now.tables) (server_of self.now.tables).pages
+            ≤ outbox.room
+            → read_asks_below (server_of self.now.tables) (server_of self.now.tables).pages
+            ≤ outbox.spare
+            → HasRoomFor (settle_pages on_cycle (server_of self.now.tables)
+            (server_of self.now.tables).pages) outbox }
         ensures room { (outbox : OutboxState) → length outbox.sent
             + 33 * asks_below (server_of self.now.tables) (server_of self.now.tables).pages
             ≤ outbox.room

@@ -6,7 +6,7 @@ ghost use Rattle.cb_protocol.specs.Messages.{Downgraded, Drop as DropBody, GiveB
 ghost use Rattle.cb_protocol.specs.Ranges.{BodyFits};
 ghost use Rattle.cb_protocol.specs.Server.{Server, has_not_ended};
 ghost use Rattle.cb_protocol.specs.WaitsFor.{on_cycle};
-ghost use Rattle.cb_server.specs.Answering.{Begins, CanSay, FitsIn, IsCurrent, IsLeft};
+ghost use Rattle.cb_server.specs.Answering.{Begins, CanSayTo, FitsIn, IsCurrent, IsLeft};
 ghost use Rattle.cb_server.specs.Answering.{LacksNumber, Makes, Stands, answer_to, limits_in};
 ghost use Rattle.cb_server.specs.Answering.{server_in};
 
@@ -54,7 +54,7 @@ impl Engine {
         requires client { HasClient self.old.callbacks.tables client }
         requires current { IsCurrent self.old client incarnation }
         requires fits { FitsIn self.old body }
-        requires room { CanSay self.old }
+        requires room { CanSayTo (body_of body) self.old }
         requires number { LacksNumber self.old client (body_of body) false }
         ensures ok { OnOk result (Makes self.old (answer_to on_cycle client (body_of body))
             self.new) }
@@ -77,7 +77,7 @@ impl Engine {
         requires client { HasClient self.old.callbacks.tables client }
         requires current { IsCurrent self.old client incarnation }
         requires fits { BodyFits (limits_in self.old) (short_of body) }
-        requires room { CanSay self.old }
+        requires room { CanSayTo (short_of body) self.old }
         ensures ok { OnOk result (Makes self.old (answer_to on_cycle client (short_of body))
             self.new) }
         ensures left { OnErr result (IsLeft self.old self.new) }

@@ -9,7 +9,7 @@ ghost use Rattle.cb_protocol.specs.ServerMessages.{take_ask_read, take_ask_write
 ghost use Rattle.cb_protocol.specs.Session.{has_live_txn};
 ghost use Rattle.cb_protocol.specs.Settling.{give_permission, send_granted, sole_row};
 ghost use Rattle.cb_protocol.specs.WaitsFor.{on_cycle};
-ghost use Rattle.cb_server.specs.Answering.{CanSay, IsCurrent, IsLeft, Makes};
+ghost use Rattle.cb_server.specs.Answering.{CanGrant, CanSay, IsCurrent, IsLeft, Makes};
 ghost use Rattle.cb_server.specs.Answering.{answer_to, server_in};
 
 use crate::engine::Engine;
@@ -31,7 +31,7 @@ impl Engine {
         requires client { HasClient self.old.callbacks.tables client }
         requires page { HasPage self.old.callbacks.tables page }
         requires current { IsCurrent self.old client incarnation }
-        requires room { CanSay self.old }
+        requires room { CanGrant self.old }
         ensures ok { OnOk result (Makes self.old (answer_to on_cycle client (AskRead txn page))
             self.new) }
         ensures left { OnErr result (IsLeft self.old self.new) }
@@ -55,7 +55,7 @@ impl Engine {
         requires current { IsCurrent self.old client incarnation }
         requires live { has_live_txn ((server_in self.old).session client) ≡ true }
         requires place { 0 < room_at self.old.callbacks.tables.asks page }
-        requires room { CanSay self.old }
+        requires room { CanGrant self.old }
         ensures { Makes self.old
             (λ server. take_ask_read on_cycle server client page ((server.session client).row page))
             self.new }
@@ -76,7 +76,7 @@ impl Engine {
     )
         requires page { HasPage self.old.callbacks.tables page }
         requires current { IsCurrent self.old client incarnation }
-        requires room { CanSay self.old }
+        requires room { CanGrant self.old }
         ensures { Makes self.old (λ server. send_granted server client page grant ∷ []) self.new }
     {
         let store = self.callbacks.holdings().store();

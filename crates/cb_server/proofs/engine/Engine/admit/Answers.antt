@@ -2,7 +2,8 @@ use Rattle.cb_protocol.specs.ServerMessages.{admit_incarnation}
 use Rattle.cb_protocol.specs.Settling.{settle_pages}
 use Rattle.cb_protocol.specs.WaitsFor.{on_cycle}
 use Rattle.cb_server.proofs.Making.{admits, makes_then, serves}
-use Rattle.cb_server.proofs.Rooms.{admission, settles_after_admission}
+use Rattle.cb_server.proofs.Counting.{admission}
+use Rattle.cb_server.proofs.Rooms.{settles_after_admission}
 use Rattle.cb_server.proofs.engine.Engine.admit.Goals as goal
 
 pub settle-requires : goal.settle-requires

@@ -1,4 +1,4 @@
-use Rattle.std.proofs.Common.{length, refl, ap, arith}
+use Rattle.std.proofs.Common.{length, refl, sym, ap, ◌∙◌, arith}
 use Rattle.cb_protocol.specs.Resend.{server_again}
 use Rattle.cb_server.specs.declared.engine.Engine.{Engine}
 use Rattle.cb_server.proofs.Making.{serves, stays_same}
@@ -7,7 +7,8 @@ use Rattle.cb_server.proofs.engine.Engine.again.Goals as goal
 pub again-requires-clause-room : goal.again-requires-clause-room
 again-requires-clause-room c =
     let more = c.in_ok-reserve.ensures.room in let same = ap length c.reserve.ensures.sent in
-    c.resending_is_bounded.ensures c.reserve.new.self (omega (arith, more, same))
+    let few = c.messages_to_settle.ensures.messages in let clients = c.clients.ensures.value ∙ sym c.requires.of.clients in
+    c.resending_is_bounded.ensures.by_kind c.reserve.new.self (omega (arith, more, same, few, clients))
 
 pub returns-clause-ok : goal.returns-clause-ok
 returns-clause-ok c =

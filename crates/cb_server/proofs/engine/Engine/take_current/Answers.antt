@@ -1,11 +1,21 @@
-use Rattle.std.proofs.Common.{◌≡◌, ◌∙◌, false, sym, subst}
+use Rattle.std.proofs.Common.{rules, ◌≡◌, ◌∙◌, [], false, sym, subst}
 use Rattle.cb_outbox.specs.Messages.{body_of}
 use Rattle.cb_protocol.specs.Server.{Server, server_after}
 use Rattle.cb_protocol.specs.ServerMessages.{begin_transaction, lacks_number, named_txn, take_current}
 use Rattle.cb_protocol.specs.WaitsFor.{on_cycle}
-use Rattle.cb_server.proofs.Making.{serves, takes}
-use Rattle.cb_server.proofs.Rooms.{settles_after_answer}
+use Rattle.cb_server.specs.Answering.{server_in}
+use Rattle.cb_server.proofs.Greeting.{ignored}
+use Rattle.cb_server.proofs.Making.{serves, serves_as, serves_nothing, takes}
+use Rattle.cb_server.proofs.Rooms.{can_say_to, settles_after_answer}
 use Rattle.cb_server.proofs.engine.Engine.take_current.Goals as goal
+
+pub answer-requires-clause-room : goal.answer-requires-clause-room
+answer-requires-clause-room c = can_say_to c.reserve.new.self (body_of c.args.body) c.in_ok-reserve.ensures.ok
+
+pub returns-then-not-is_for_server-clause-ok : goal.returns-then-not-is_for_server-clause-ok
+returns-then-not-is_for_server-clause-ok c =
+    serves_as c.args.self.now c.args.self.now (λ s. take_current on_cycle s c.args.client (body_of c.args.body)) (λ s. [])
+    (ignored (server_in c.args.self.now) c.args.client (body_of c.args.body) (search rules) c.requires.ready.settled) (serves_nothing c.args.self.now)
 
 pub settle-requires : goal.settle-requires
 settle-requires c =
