@@ -1,3 +1,4 @@
 pub mod PageSteps
 pub mod Walk
 pub mod Ends
+pub mod Room

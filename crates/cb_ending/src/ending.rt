@@ -9,10 +9,11 @@ ghost use Rattle.cb_protocol.specs.Client.{bodies_said};
 ghost use Rattle.cb_outbox.specs.Messages.{messages_of, short_of};
 ghost use Rattle.cb_copies.specs.ByTable.{Does};
 ghost use Rattle.cb_copies.specs.CopiesState.{copy_at};
-ghost use Rattle.cb_locks.specs.Dues.{called_by};
+ghost use Rattle.cb_locks.specs.Dues.{bit, called_by};
 ghost use Rattle.cb_locks.specs.Locks.{due_at, ended, unlocked};
 ghost use Rattle.cb_ending.specs.Ending.{Ends, all_sent_by, page_steps, pages_steps};
 ghost use Rattle.cb_ending.specs.Owing.{OwesLocked};
+ghost use Rattle.cb_ending.specs.Room.{room_below, speaks};
 
 use crate::page_end::{end_page, may_say};
 use cb_copies::Copies;
@@ -28,6 +29,8 @@ fn most_frames<Q: Chooser>(copies: &Copies<Q>, locks: &ReadLocks, dropped: bool)
     requires { OwesLocked copies.now locks.now }
     ensures said { length (bodies_said
         (pages_steps copies.now locks.now dropped copies.now.limits.pages)) ≤ result }
+    ensures counted { result
+        ≡ room_below copies.now locks.now dropped copies.now.limits.pages }
     ensures most { result ≤ 4096 }
 {
     let mut count = 0;
@@ -42,6 +45,7 @@ fn most_frames<Q: Chooser>(copies: &Copies<Q>, locks: &ReadLocks, dropped: bool)
 /// How many it may say of a page.
 fn most_of<Q: Chooser>(copies: &Copies<Q>, locks: &ReadLocks, page: PageNo, dropped: bool) -> usize
     ensures said { length (bodies_said (page_steps copies.now locks.now dropped page)) ≤ result }
+    ensures value { result ≡ bit (speaks copies.now locks.now dropped page) }
     ensures most { result ≤ 1 }
 {
     may_say(copies, locks, page, dropped) as usize

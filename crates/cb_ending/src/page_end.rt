@@ -11,6 +11,7 @@ ghost use Rattle.cb_copies.specs.CopiesState.{content_at, copy_at};
 ghost use Rattle.cb_locks.specs.Dues.{bit, called_by};
 ghost use Rattle.cb_locks.specs.Locks.{due_at, unlocked};
 ghost use Rattle.cb_ending.specs.Ending.{all_sent_by, page_steps};
+ghost use Rattle.cb_ending.specs.Room.{speaks};
 
 use cb_copies::Copies;
 use cb_frame::Frame;
@@ -25,7 +26,9 @@ pub(crate) fn may_say<Q: Chooser>(
     page: PageNo,
     dropped: bool,
 ) -> bool
-    ensures { length (bodies_said (page_steps copies.now locks.now dropped page)) ≤ bit result }
+    ensures value { result ≡ speaks copies.now locks.now dropped page }
+    ensures said { length (bodies_said (page_steps copies.now locks.now dropped page))
+        ≤ bit result }
 {
     let due = locks.due().contains(page);
     let goes = goes(copies, page, dropped);

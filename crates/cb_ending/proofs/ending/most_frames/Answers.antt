@@ -1,4 +1,5 @@
-use Rattle.std.proofs.Common.{◌≡◌, ◌≤◌, ◌<◌, arith, rules}
+use Rattle.std.proofs.Common.{◌≡◌, ◌≤◌, ◌<◌, ◌∙◌, sym, arith, rules}
+use Rattle.cb_ending.proofs.Room.{room_next, room_to}
 use Rattle.cb_ending.proofs.Walk.{count_ends, count_goes_on, locked_page}
 use Rattle.cb_ending.proofs.ending.most_frames.Goals as goal
 
@@ -12,6 +13,7 @@ loop-page-preserved g c =
     let lt : c.in-Some.page < c.args.copies.now.limits.pages = locked_page c.args.copies.now c.args.locks.now c.in-Some.page c.requires found.1 in
     record {
       said = rw at (count_goes_on c.args.copies.now c.args.locks.now c.args.dropped c.loop-page.from c.in-Some.page c.loop-page.count c.most_of-count.result c.requires found.0 found.2 c.loop-page.invariant.said c.most_of-count.ensures.said);
+      counted = rw at (room_next c.args.copies.now c.args.locks.now c.args.dropped c.loop-page.from c.in-Some.page c.loop-page.count c.most_of-count.result found.0 found.1 found.2 c.loop-page.invariant.counted c.most_of-count.ensures.value);
       count = let le = found.0 in omega arith;
       most = omega arith;
       within = omega arith;
@@ -19,3 +21,8 @@ loop-page-preserved g c =
 
 pub returns-clause-said : goal.returns-clause-said
 returns-clause-said g c = count_ends c.args.copies.now c.args.locks.now c.args.dropped c.loop-page.from c.loop-page.count c.requires c.loop-page.invariant.within (rw c.locked.ensures at c.in_default.ensures) c.loop-page.invariant.said
+
+pub returns-clause-counted : goal.returns-clause-counted
+returns-clause-counted g c =
+    let none = rw c.locked.ensures at c.in_default.ensures in
+    c.loop-page.invariant.counted ∙ sym (room_to c.args.copies.now c.args.locks.now c.args.dropped c.loop-page.from c.args.copies.now.limits.pages c.loop-page.invariant.within (λ k le lt. none k le))

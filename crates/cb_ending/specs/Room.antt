@@ -1,0 +1,20 @@
+-- How many frames the end of a transaction may say of its pages.
+use Rattle.std.specs.Prelude.{◌+◌, ℕ, zero, suc, Bool, ◌&&◌, ◌||◌, not, map}
+use Rattle.std.specs.Option.{is_some}
+use Rattle.cb_page.specs.Flags.{has}
+use Rattle.cb_copies.specs.CopiesState.{CopiesState, content_at}
+use Rattle.cb_locks.specs.Dues.{bit, is_due}
+use Rattle.cb_locks.specs.Locks.{LocksState}
+
+-- something is due of the page, or it is bare, or a transaction that is dropped wrote it
+abbrev pub speaks : CopiesState → LocksState → (dropped : Bool) → (page : ℕ) → Bool
+speaks copies locks dropped page =
+    has (map is_due locks.dues) page
+    || (dropped && has copies.wrote page || not (is_some (content_at copies page)))
+
+-- how many of the pages before `end` are locked and are so
+abbrev pub room_below : CopiesState → LocksState → (dropped : Bool) → (end : ℕ) → ℕ
+room_below copies locks dropped zero = 0
+room_below copies locks dropped (suc page) =
+    room_below copies locks dropped page
+    + bit (has locks.locked page && speaks copies locks dropped page)
