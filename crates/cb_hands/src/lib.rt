@@ -2,8 +2,12 @@
 //!
 //! A cached copy is the permission to read it (Franklin, Carey and Livny, TODS 1997). A [`Grant`]
 //! is that permission of one page, a [`Hand`] all those of one client: neither can be copied or let
-//! go, so each stands for one row of the server's directory. A [`StoredHand`] is what the owner of
-//! the server keeps of a hand: it tells whether a hand that it is lent is that one.
+//! go. A [`StoredHand`] is what the owner of the server keeps of a hand: it tells whether a hand
+//! that it is lent is equal to that one.
+//!
+//! Where that owner alone makes and changes hands, each grant in one stands for one row of the
+//! server's directory. Who lists this crate can make a hand that equals another, which the owner
+//! takes for it.
 //!
 //! Each change of a hand costs what it changes; clearing a hand and comparing it cost the pages
 //! that it holds, and what [`PageSet`](cb_page::PageSet) says of a walk.
