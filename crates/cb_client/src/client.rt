@@ -8,7 +8,8 @@ ghost use Rattle.cb_copies.specs.CopiesState.{content_at, copy_at};
 ghost use Rattle.cb_client.specs.CallAnswers.{held_copy};
 ghost use Rattle.cb_twoq.specs.Pages.{has as on};
 ghost use Rattle.cb_protocol.specs.Serial.{Operation};
-ghost use Rattle.cb_client_engine.specs.ClientState.{client_of, new_state, outcome_of, status_of};
+ghost use Rattle.cb_client_engine.specs.ClientState.{IsClient, client_of, new_state, outcome_of};
+ghost use Rattle.cb_client_engine.specs.ClientState.{status_of};
 
 mod again;
 mod calls;
@@ -26,7 +27,8 @@ use std::marker::Model;
 
 /// One incarnation of a client over any pool.
 ///
-/// `new`, `finish`, `drop_txn`, `take`, `take_bytes` and `again` take memory; no other call does.
+/// `new`, `finish`, `commit_again`, `drop_txn`, `take`, `take_bytes` and `again` take memory; no
+/// other call does.
 pub struct Client<Q: Chooser> {
     engine: Engine<Q>,
 }
@@ -92,9 +94,11 @@ impl<Q: Chooser> Client<Q> {
         self.engine.incarnation
     }
 
-    /// The limits of its store and its pool.
+    /// The limits of its store and its pool. The client arose by the protocol's steps, whatever was
+    /// called and came before: so the laws that hold of every client hold of it.
     pub fn limits(&self) -> &Limits
-        ensures { result.now ≡ self.now.copies.limits }
+        ensures value { result.now ≡ self.now.copies.limits }
+        ensures arose { IsClient self.now }
     {
         self.engine.copies.limits()
     }

@@ -1,6 +1,6 @@
 //! What may be lost is said again.
 ghost use Rattle.std.specs.Prelude.{◌≡◌, ◌+◌, ◌<◌, ◌≤◌, ◌++◌, List, option_to_list, IfErr, IfOk};
-ghost use Rattle.std.specs.Prelude.{true, unwrap_or};
+ghost use Rattle.std.specs.Prelude.{IfSome, length, true, unwrap_or};
 ghost use Rattle.std.specs.List.{AllByRecursion};
 ghost use Rattle.std.specs.Option.{option_map};
 ghost use Rattle.std.specs.Vec.{vec_capacity, vec_len};
@@ -27,22 +27,27 @@ impl<Q: Chooser> Client<Q> {
     /// Says again what may be lost: Hello until the Welcome came; then the Drop of the last
     /// transaction, the ask and the Commit, as far as each is still open.
     ///
-    /// `Memory` only where memory for these was refused.
+    /// `Memory` only where memory for these was refused; it takes no more than they need.
     pub fn again(&self, alloc: Global) -> Result<Vec<Frame>, ClientFault>
         ensures by_table { IfOk result (λ frames. Calls self.now CallAgain AnsweredOk
             (messages_of frames.items) as_before self.now) }
         ensures memory { IfErr result (λ fault. fault ≡ Memory) }
         ensures fits { IfOk result (λ frames.
             AllByRecursion (Fits self.now.copies.limits) frames.items) }
+        ensures room { IfOk result (λ frames. vec_capacity frames ≡ vec_len frames) }
     {
-        let mut frames = Vec::with_capacity(alloc, 3)?;
         if !self.engine.welcomed {
+            let mut frames = Vec::with_capacity(alloc, 1)?;
             frames.push_reserved(self.hello());
             return Ok(frames);
         }
         let commit = self.commit_again(alloc)?;
-        push_short(&mut frames, self.drop_again());
-        push_short(&mut frames, self.ask());
+        let dropped = self.drop_again();
+        let ask = self.ask();
+        let count = count_of(&dropped) + count_of(&ask) + count_of(&commit);
+        let mut frames = Vec::with_capacity(alloc, count)?;
+        push_short(&mut frames, dropped);
+        push_short(&mut frames, ask);
         push(&mut frames, commit);
         Ok(frames)
     }
@@ -83,10 +88,11 @@ impl<Q: Chooser> Client<Q> {
     ///
     /// `AllocError` only where memory for its pages was refused.
     pub fn commit_again(&self, alloc: Global) -> Result<Option<Frame>, AllocError>
-        ensures { IfOk result (λ commit. (operations : List Operation)
+        ensures by_table { IfOk result (λ commit. (operations : List Operation)
             → messages_from self.now
             (bodies_said (commit_again (limits_at self.now) (client_of self.now operations)))
             ≡ option_to_list (option_map message_of commit)) }
+        ensures fits { IfOk result (λ commit. IfSome commit (Fits self.now.copies.limits)) }
     {
         match self.engine.stage {
             Stage::Idle | Stage::Open => Ok(None),
@@ -95,11 +101,24 @@ impl<Q: Chooser> Client<Q> {
     }
 }
 
+/// How many there are: one or none.
+fn count_of<T>(frame: &Option<T>) -> usize
+    ensures count { result ≡ length (option_to_list frame.now) }
+    ensures most { result ≤ 1 }
+{
+    match frame {
+        Some(_) => 1,
+        None => 0,
+    }
+}
+
 /// Puts a frame behind the others, if there is one.
 fn push(frames: &mut Vec<Frame>, frame: Option<Frame>)
-    requires { vec_len frames.old < vec_capacity frames.old }
-    ensures { messages_of frames.new.items
+    requires { vec_len frames.old + length (option_to_list frame) ≤ vec_capacity frames.old }
+    ensures messages { messages_of frames.new.items
         ≡ messages_of frames.old.items ++ option_to_list (option_map message_of frame) }
+    ensures len { vec_len frames.new ≡ vec_len frames.old + length (option_to_list frame) }
+    ensures capacity { vec_capacity frames.new ≡ vec_capacity frames.old }
 {
     if let Some(frame) = frame {
         frames.push_reserved(frame);
@@ -108,10 +127,10 @@ fn push(frames: &mut Vec<Frame>, frame: Option<Frame>)
 
 /// The same of a frame without page bytes.
 fn push_short(frames: &mut Vec<Frame>, frame: Option<ShortFrame>)
-    requires { vec_len frames.old < vec_capacity frames.old }
+    requires { vec_len frames.old + length (option_to_list frame) ≤ vec_capacity frames.old }
     ensures messages { messages_of frames.new.items
         ≡ messages_of frames.old.items ++ option_to_list (option_map short_message frame) }
-    ensures len { vec_len frames.new ≤ vec_len frames.old + 1 }
+    ensures len { vec_len frames.new ≡ vec_len frames.old + length (option_to_list frame) }
     ensures capacity { vec_capacity frames.new ≡ vec_capacity frames.old }
 {
     if let Some(frame) = frame {

@@ -131,7 +131,8 @@ impl<Q: Chooser> Client<Q> {
     fn is_here(&self, page: PageNo) -> bool
         ensures { result ≡ is_some (content_at self.now.copies page) }
     {
-        self.engine.copies.peek(page).is_some()
+        let bytes = self.engine.copies.peek(page);
+        bytes.is_some()
     }
 
     /// That besides the transaction has read the page, and its bytes are in the pool: what `want`

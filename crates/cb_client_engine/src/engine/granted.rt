@@ -29,7 +29,7 @@ use std::alloc::AllocError;
 
 /// What becomes of a grant that comes.
 #[derive(Clone, Copy, Debug, PartialEq, Eq)]
-enum GrantCase {
+pub(super) enum GrantCase {
     /// Nothing: its bytes are here, or were not asked for.
     Ignored,
     /// It is given back: it isn't the one held, or not a new one that was asked for.
@@ -76,7 +76,7 @@ impl<Q: Chooser> Engine<Q> {
     }
 
     /// What becomes of a grant.
-    fn case_of(&self, page: PageNo, grant: GrantNo, version: Version) -> GrantCase
+    pub(super) fn case_of(&self, page: PageNo, grant: GrantNo, version: Version) -> GrantCase
         requires page { page < self.now.copies.limits.pages }
         requires grant { IsNumber grant }
         ensures { result ≡ case_at (client_in self.now) page grant version }
@@ -94,6 +94,7 @@ impl<Q: Chooser> Engine<Q> {
     /// page that went for it, back.
     pub(super) fn take_granted(
         &mut self,
+        case: GrantCase,
         page: PageNo,
         grant: GrantNo,
         version: Version,
@@ -103,13 +104,14 @@ impl<Q: Chooser> Engine<Q> {
         requires welcomed { self.old.welcomed ≡ true }
         requires fits { BodyFits (limits_at (client_in self.old))
             (Granted page grant version bytes) }
+        requires case { case ≡ case_at (client_in self.old) page grant version }
         ensures ok { IfOk result (λ frame. Takes (client_in self.old)
             (Granted page grant version bytes)
             (messages_of (option_to_list frame)) (client_in self.new)) }
         ensures err { OnErr result (self.new ≡ self.old) }
         ensures sound { IsClient (client_in self.new) }
     {
-        match self.case_of(page, grant, version) {
+        match case {
             GrantCase::Ignored => Ok(None),
             GrantCase::Refused => {
                 let due = self.locks.called(page, grant);

@@ -1,12 +1,12 @@
 //! The messages that bring no page and end no transaction.
-ghost use Rattle.std.specs.Prelude.{◌≡◌, ◌==◌, ◌&&◌, ◌<◌, [], ◌∷◌, true, option_to_list, unwrap_or};
+ghost use Rattle.std.specs.Prelude.{◌≡◌, ◌==◌, ◌&&◌, ◌<◌, [], ◌∷◌, true, unwrap_or};
 ghost use Rattle.cb_page.specs.Flags.{has};
 ghost use Rattle.cb_page.specs.Numbers.{IsNumber};
 ghost use Rattle.cb_copies.specs.CopiesState.{copy_at};
 ghost use Rattle.cb_client_engine.specs.ByTable.{Takes, limits_at};
 ghost use Rattle.cb_client_engine.specs.ClientState.{IsClient, ask_of, client_of};
 ghost use Rattle.cb_client_engine.specs.Parts.{client_in};
-ghost use Rattle.cb_outbox.specs.Messages.{message_of, messages_of};
+ghost use Rattle.cb_outbox.specs.Messages.{message_of};
 ghost use Rattle.cb_protocol.specs.Basics.{is_exactly};
 ghost use Rattle.cb_protocol.specs.Client.{asks_to_write};
 ghost use Rattle.cb_protocol.specs.ClientMessages.{of_open_txn};
@@ -75,38 +75,31 @@ impl<Q: Chooser> Engine<Q> {
         self.copies.may_write(page) && tagged
     }
 
-    /// A permission to write a page is called back alone, which is so only where permissions are
-    /// kept: in use where the transaction wrote the page or wants to, else given up.
-    pub(super) fn take_downgrade(
-        &mut self,
-        page: PageNo,
-        grant: GrantNo,
-        tag: TxnNo,
-    ) -> Option<Frame>
+    /// A permission to write a page is called back alone, where permissions are kept: in use where
+    /// the transaction wrote the page or wants to, else given up.
+    pub(super) fn take_downgrade(&mut self, page: PageNo, grant: GrantNo, tag: TxnNo) -> Frame
         requires sound { IsClient (client_in self.old) }
         requires welcomed { self.old.welcomed ≡ true }
         requires fits { BodyFits (limits_at (client_in self.old)) (Downgrade page grant tag) }
+        requires kept { self.old.copies.limits.keep_write ≡ true }
         ensures by_table { Takes (client_in self.old) (Downgrade page grant tag)
-            (messages_of (option_to_list result)) (client_in self.new) }
+            (message_of result ∷ []) (client_in self.new) }
         ensures sound { IsClient (client_in self.new) }
     {
-        if !self.copies.limits().keep_write() {
-            return None;
-        }
         if !self.holds(page, grant) {
             let due = self.locks.called(page, grant);
             self.copies.refuse(page, grant);
-            return Some(due.give_back());
+            return due.give_back();
         }
         let due = self.locks.permission_called(page, grant, tag);
         if !self.is_permitted(page, tag) {
-            return Some(due.give_down());
+            return due.give_down();
         }
         if self.copies.is_fixed(page) {
-            return Some(due.in_use(&mut self.locks));
+            return due.in_use(&mut self.locks);
         }
         self.copies.yield_permission(page);
-        Some(due.give_down())
+        due.give_down()
     }
 
     /// Whether the open transaction is that one.

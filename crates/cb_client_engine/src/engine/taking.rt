@@ -9,6 +9,7 @@ ghost use Rattle.cb_protocol.specs.Messages.{Downgrade, Granted};
 ghost use Rattle.cb_protocol.specs.Ranges.{BodyFits as MessageFits};
 
 use crate::engine::Engine;
+use crate::engine::granted::GrantCase;
 use cb_frame::{Body, Frame, ShortBody};
 use cb_page::{GrantNo, Page, PageNo, TxnNo, Version};
 use cb_twoq::Chooser;
@@ -74,7 +75,7 @@ impl<Q: Chooser> Engine<Q> {
         }
     }
 
-    /// Takes a Downgrade.
+    /// Takes a Downgrade, which is ignored where permissions aren't kept.
     fn say_downgrade(
         &mut self,
         alloc: Global,
@@ -90,14 +91,15 @@ impl<Q: Chooser> Engine<Q> {
         ensures err { OnErr result (self.new ≡ self.old) }
         ensures sound { IsClient (client_in self.new) }
     {
-        let mut frames = Vec::with_capacity(alloc, 1)?;
-        if let Some(frame) = self.take_downgrade(page, grant, tag) {
-            frames.push_reserved(frame);
+        if !self.copies.limits().keep_write() {
+            return Ok(Vec::new(alloc));
         }
+        let mut frames = Vec::with_capacity(alloc, 1)?;
+        frames.push_reserved(self.take_downgrade(page, grant, tag));
         Ok(frames)
     }
 
-    /// Takes a Granted, where the client is welcomed.
+    /// Takes a Granted, where the client is welcomed. One that is ignored takes no room.
     fn say_granted(
         &mut self,
         alloc: Global,
@@ -118,8 +120,12 @@ impl<Q: Chooser> Engine<Q> {
         if !self.welcomed {
             return Ok(Vec::new(alloc));
         }
+        let case = self.case_of(page, grant, version);
+        if let GrantCase::Ignored = case {
+            return Ok(Vec::new(alloc));
+        }
         let mut frames = Vec::with_capacity(alloc, 1)?;
-        if let Some(frame) = self.take_granted(page, grant, version, bytes)? {
+        if let Some(frame) = self.take_granted(case, page, grant, version, bytes)? {
             frames.push_reserved(frame);
         }
         Ok(frames)

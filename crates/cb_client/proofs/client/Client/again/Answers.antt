@@ -20,24 +20,24 @@ returns-then-not-self-clause-fits g c = rw (c.push_reserved.ensures.items, c.in_
 pub returns-clause-by_table : goal.returns-clause-by_table
 returns-clause-by_table g c =
     let welcomed : c.args.self.now.welcomed ≡ true = rw (← c.self.view_is) c.if-not-self.false in
-    let drop : List Message = option_to_list (option_map short_message c.drop_again.result) in
-    let ask : List Message = option_to_list (option_map short_message c.ask.result) in
+    let drop : List Message = option_to_list (option_map short_message c.drop_again-dropped.result) in
+    let ask : List Message = option_to_list (option_map short_message c.ask-ask.result) in
     let commit : List Message = option_to_list (option_map message_of c.in_ok-commit.commit) in
-    let none : messages_of c.in_ok-frames.frames.items ≡ [] = rw c.in_ok-frames.ensures.items refl in
+    let none : messages_of c.in_ok-frames-2.frames.items ≡ [] = rw c.in_ok-frames-2.ensures.items refl in
     let first : messages_of c.push_short.new.frames.items ≡ drop = c.push_short.ensures.messages ∙ ap (λ (said : List Message). said ++ drop) none in
     let second : messages_of c.push_short-2.new.frames.items ≡ drop ++ ask = c.push_short-2.ensures.messages ∙ ap (λ (said : List Message). said ++ ask) first in
-    all_again c.args.self.now drop ask commit (messages_of c.push.new.frames.items) welcomed c.drop_again.ensures c.ask.ensures.by_table c.in_ok-commit.ensures
-    (c.push.ensures ∙ ap (λ (said : List Message). said ++ commit) second)
+    all_again c.args.self.now drop ask commit (messages_of c.push.new.frames.items) welcomed c.drop_again-dropped.ensures c.ask-ask.ensures.by_table c.in_ok-commit.ensures.by_table
+    (c.push.ensures.messages ∙ ap (λ (said : List Message). said ++ commit) second)
 
 pub returns-clause-fits : goal.returns-clause-fits
 returns-clause-fits g c =
     let welcomed : c.args.self.now.welcomed ≡ true = rw (← c.self.view_is) c.if-not-self.false in
-    let drop : List Message = option_to_list (option_map short_message c.drop_again.result) in
-    let ask : List Message = option_to_list (option_map short_message c.ask.result) in
+    let drop : List Message = option_to_list (option_map short_message c.drop_again-dropped.result) in
+    let ask : List Message = option_to_list (option_map short_message c.ask-ask.result) in
     let commit : List Message = option_to_list (option_map message_of c.in_ok-commit.commit) in
-    let none : messages_of c.in_ok-frames.frames.items ≡ [] = rw c.in_ok-frames.ensures.items refl in
+    let none : messages_of c.in_ok-frames-2.frames.items ≡ [] = rw c.in_ok-frames-2.ensures.items refl in
     let first : messages_of c.push_short.new.frames.items ≡ drop = c.push_short.ensures.messages ∙ ap (λ (said : List Message). said ++ drop) none in
     let second : messages_of c.push_short-2.new.frames.items ≡ drop ++ ask = c.push_short-2.ensures.messages ∙ ap (λ (said : List Message). said ++ ask) first in
     let sound : IsClient c.args.self.now = rw (← c.self.view_is) c.self.invariant in
-    call_frames_fit c.args.self.now c.args.self.now CallAgain c.push.new.frames.items sound (all_again c.args.self.now drop ask commit (messages_of c.push.new.frames.items) welcomed c.drop_again.ensures c.ask.ensures.by_table c.in_ok-commit.ensures
-    (c.push.ensures ∙ ap (λ (said : List Message). said ++ commit) second))
+    call_frames_fit c.args.self.now c.args.self.now CallAgain c.push.new.frames.items sound (all_again c.args.self.now drop ask commit (messages_of c.push.new.frames.items) welcomed c.drop_again-dropped.ensures c.ask-ask.ensures.by_table c.in_ok-commit.ensures.by_table
+    (c.push.ensures.messages ∙ ap (λ (said : List Message). said ++ commit) second))

@@ -18,11 +18,11 @@ returns-then-is_out-clause-causes g c =
 pub returns-then-not-has_page-clause-causes : goal.returns-then-not-has_page-clause-causes
 returns-then-not-has_page-clause-causes g c =
     let asks : is_asking (ask_of c.args.self.now.ask) ≡ false = rw (← c.self.view_is) (sym c.if-is_out.ensures) in
-    let past : nat_le c.args.self.now.copies.limits.pages c.args.page ≡ true = grind (arith, nat_tests, c.has_page.ensures.value, c.if-not-has_page.true, c.get.ensures.value, c.limits.ensures) in
+    let past : nat_le c.args.self.now.copies.limits.pages c.args.page ≡ true = grind (arith, nat_tests, c.has_page.ensures.value, c.if-not-has_page.true, c.get.ensures.value, c.limits.ensures.value) in
     page_past c.args.self.now c.args.page c.in_ok-check_open.ensures.causes asks past
 
 pub returns-clause-causes : goal.returns-clause-causes
 returns-clause-causes g c =
     let asks : is_asking (ask_of c.args.self.now.ask) ≡ false = rw (← c.self.view_is) (sym c.if-is_out.ensures) in
-    let within : nat_le c.args.self.now.copies.limits.pages c.args.page ≡ false = grind (arith, nat_tests, c.has_page.ensures.value, c.if-not-has_page.false, c.get.ensures.value, c.limits.ensures) in
+    let within : nat_le c.args.self.now.copies.limits.pages c.args.page ≡ false = grind (arith, nat_tests, c.has_page.ensures.value, c.if-not-has_page.false, c.get.ensures.value, c.limits.ensures.value) in
     page_free c.args.self.now c.args.page c.in_ok-check_open.ensures.causes asks within

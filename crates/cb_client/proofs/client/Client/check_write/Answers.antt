@@ -17,11 +17,11 @@ returns-then-not-may_write-clause-decided g c =
 pub returns-then-bytes-page_size-clause-decided : goal.returns-then-bytes-page_size-clause-decided
 returns-then-bytes-page_size-clause-decided g c =
     let permitted : has c.args.self.now.copies.may_write c.args.page ≡ true = rw (← c.self.view_is) (sym c.if-not-may_write.ensures) in
-    let sized : (length c.args.bytes.now == c.args.self.now.copies.limits.page_size) ≡ false = grind (arith, nat_tests, c.if-bytes-page_size.true, c.page_size.ensures.value, c.limits.ensures) in
+    let sized : (length c.args.bytes.now == c.args.self.now.copies.limits.page_size) ≡ false = grind (arith, nat_tests, c.if-bytes-page_size.true, c.page_size.ensures.value, c.limits.ensures.value) in
     write_is c.args.self.now c.args.page c.args.bytes.now _ (write_sized c.args.self.now c.args.page c.args.bytes.now c.in_ok-check_read.ensures.causes permitted sized)
 
 pub returns-clause-decided : goal.returns-clause-decided
 returns-clause-decided g c =
     let permitted : has c.args.self.now.copies.may_write c.args.page ≡ true = rw (← c.self.view_is) (sym c.if-not-may_write.ensures) in
-    let sized : (length c.args.bytes.now == c.args.self.now.copies.limits.page_size) ≡ true = grind (arith, nat_tests, c.if-bytes-page_size.false, c.page_size.ensures.value, c.limits.ensures) in
+    let sized : (length c.args.bytes.now == c.args.self.now.copies.limits.page_size) ≡ true = grind (arith, nat_tests, c.if-bytes-page_size.false, c.page_size.ensures.value, c.limits.ensures.value) in
     write_is c.args.self.now c.args.page c.args.bytes.now _ (write_free c.args.self.now c.args.page c.args.bytes.now c.in_ok-check_read.ensures.causes permitted sized)

@@ -1,9 +1,6 @@
 use Rattle.std.proofs.Common.{rules}
-use Rattle.cb_client_engine.proofs.Taking.{downgrade_answered, downgrade_ignored, downgrade_in_use_keeps, downgrade_in_use_takes, downgrade_refused, downgrade_refused_keeps, downgrade_yields, downgrade_yields_keeps, fixed_locked, locked_begun}
+use Rattle.cb_client_engine.proofs.Taking.{downgrade_answered, downgrade_in_use_keeps, downgrade_in_use_takes, downgrade_refused, downgrade_refused_keeps, downgrade_yields, downgrade_yields_keeps, fixed_locked, locked_begun}
 use Rattle.cb_client_engine.proofs.engine.Engine.take_downgrade.Goals as goal
-
-pub returns-then-not-keep_write-clause-by_table : goal.returns-then-not-keep_write-clause-by_table
-returns-then-not-keep_write-clause-by_table g c = downgrade_ignored _ c.args.page c.args.grant c.args.tag c.requires.welcomed (search rules)
 
 pub returns-then-not-holds-clause-sound : goal.returns-then-not-holds-clause-sound
 returns-then-not-holds-clause-sound g c = downgrade_refused_keeps _ c.args.page c.args.grant c.args.tag _ c.requires.sound (search rules) c.requires.fits (search rules) (search rules) c.refuse.ensures

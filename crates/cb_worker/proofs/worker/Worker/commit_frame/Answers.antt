@@ -9,4 +9,4 @@ returns-then-not-is_committing-clause-says g c = finish_says _ _ _ c.finish.ensu
 pub unreachable-requires : goal.unreachable-requires
 unreachable-requires g c =
     let is : IsCommitting c.args.self.now.client = search rules in
-    again_none c.self.inside.client (rw (← c.self.view_is) at is) (λ ops. rw c.in_default.is at (c.in_ok-frame.ensures ops))
+    again_none c.self.inside.client (rw (← c.self.view_is) at is) (λ ops. rw c.in_default.is at (c.in_ok-frame.ensures.by_table ops))
