@@ -1,6 +1,8 @@
 #!/usr/bin/env bash
 # Runs the built program where something fails around it, and compares its statuses and lines: a full disk, a closed pipe,
-# unreadable files, the two files changed over, words that aren't text, and limits of memory.
+# unreadable files, the two files changed over, words that aren't text, and limits of memory; and runs of workers with their
+# progress shown, over a locked file (by the machine's sqlite3), a full disk (a mount of 64 KB, which only root can make), and
+# under limits of memory and of threads (a limit that root has not). What can't be had here is skipped with a line.
 #
 #   scripts/program_faults.sh
 #
@@ -100,4 +102,75 @@ for limit in $(seq 4000 4000 120000); do
 done
 echo "limits of memory: $ended_before ended before an event, $ended_amid amid the events, $ended_whole whole"
 [ $ended_amid -gt 0 ] && [ $ended_whole -gt 0 ] || { echo "the limits decide nothing: FAILED"; bad=1; }
+
+# Runs of workers: 100 jobs of four clients over a new store.
+counters=$PWD/crates/cb_play/data/counters.toml
+counted=$'committed 100\nsum 200'
+
+"$program" run --progress "$counters" "$room/shown.db" >"$room/out" 2>"$room/err"; status=$?
+if [ "$status" = 0 ] && [ "$(cat "$room/out")" = "$counted" ] && [ -s "$room/err" ] \
+  && ! grep -qvE '^committed [0-9]+ of 100, [0-9]+\.[0-9] a batch$' "$room/err"; then
+  echo "a run with its progress shown: ok"
+else
+  echo "a run with its progress shown: FAILED, status $status, said: $(cat "$room/err")"
+  bad=1
+fi
+
+if command -v sqlite3 >/dev/null; then
+  "$program" run "$counters" "$room/locked.db" >"$room/out" 2>"$room/err"
+  (echo "PRAGMA locking_mode=EXCLUSIVE; BEGIN EXCLUSIVE;"; sleep 4) | sqlite3 "$room/locked.db" >/dev/null &
+  holder=$!
+  sleep 1
+  "$program" run "$counters" "$room/locked.db" >"$room/out" 2>"$room/err"; status=$?
+  wait "$holder"
+  wanted "a run over a locked file" 3 "store: Store"
+  [ ! -s "$room/out" ] || { echo "a run over a locked file: FAILED, it prints on the output"; bad=1; }
+else
+  echo "a run over a locked file: skipped, there is no sqlite3"
+fi
+
+mkdir "$room/small"
+if mount -t tmpfs -o size=64k tmpfs "$room/small" 2>/dev/null; then
+  "$program" run "$counters" "$room/small/full.db" >"$room/out" 2>"$room/err"; status=$?
+  umount "$room/small"
+  wanted "a run on a full disk" 3 "store: Store"
+  [ ! -s "$room/out" ] || { echo "a run on a full disk: FAILED, it prints on the output"; bad=1; }
+else
+  echo "a run on a full disk: skipped, nothing can be mounted here"
+fi
+
+# A run under a limit ends whole, or with status 4, `memory`, and nothing on the output.
+limited() {
+  if [ "$status" = 0 ] && [ "$(cat "$room/out")" = "$counted" ] && [ ! -s "$room/err" ]; then
+    run_whole=$((run_whole + 1))
+  elif [ "$status" = 4 ] && [ "$(cat "$room/err")" = memory ] && [ ! -s "$room/out" ]; then
+    run_refused=$((run_refused + 1))
+  elif [ "$status" -ge 126 ]; then
+    : # too little to start a process at all
+  else
+    echo "a run with $1: FAILED, status $status, said: $(cat "$room/err")"
+    bad=1
+  fi
+}
+
+run_whole=0 run_refused=0
+for limit in $(seq 4000 8000 200000); do
+  rm -f "$room"/limit.db*
+  (ulimit -v "$limit"; "$program" run "$counters" "$room/limit.db" >"$room/out" 2>"$room/err"); status=$?
+  limited "$limit KB"
+done
+echo "runs under limits of memory: $run_refused refused, $run_whole whole"
+
+if [ "$(id -u)" = 0 ]; then
+  echo "runs under limits of threads: skipped, root has no such limit"
+else
+  run_whole=0 run_refused=0
+  threads=$(ps -L -u "$(id -u)" -o lwp= | wc -l)
+  for more in 1 2 3 4 5 8; do
+    rm -f "$room"/limit.db*
+    (ulimit -u $((threads + more)); exec "$program" run "$counters" "$room/limit.db" >"$room/out" 2>"$room/err"); status=$?
+    limited "$((threads + more)) threads"
+  done
+  echo "runs under limits of threads: $run_refused refused, $run_whole whole"
+fi
 exit $bad
