@@ -1,6 +1,8 @@
 //! A client alone with the office, on one thread, which does the flusher's part too.
 use crate::offices::{Trial, goes_well};
-use cb_page::{CommitNo, PageNo};
+use cb_commit::Store;
+use cb_office::{OfficeFault, Station};
+use cb_page::{ClientNo, CommitNo, Limits, PageNo};
 use cb_shared::Office;
 use cb_twoq::Chooser;
 use cb_worker::{Fetched, Finished, Wanted, Worker, WorkerFault};
@@ -34,7 +36,23 @@ fn reads<Q: Chooser, R: Wait>(
     Ok(absent && fetched && here && permitted)
 }
 
-/// It writes the page, and commits; the commit is reported as on disk.
+/// Whether its commit is `Foreign` to another station.
+fn is_foreign_elsewhere<Q: Chooser>(alloc: Global, worker: &mut Worker<Q>) -> bool {
+    let Ok(limits) = Limits::new(1, 2, 16, 2, 1, 1) else {
+        return false;
+    };
+    let Ok(store) = Store::zeros(alloc, &limits) else {
+        return false;
+    };
+    match Station::new(alloc, &limits, store) {
+        Ok(mut other) => {
+            worker.commit_at(alloc, &mut other) == Err(WorkerFault::Office(OfficeFault::Foreign))
+        }
+        Err(_) => false,
+    }
+}
+
+/// It writes the page, and commits, once in vain; the commit is reported as on disk.
 fn writes<Q: Chooser, R: Wait>(
     rt: &R,
     alloc: Global,
@@ -45,10 +63,11 @@ fn writes<Q: Chooser, R: Wait>(
     let first = CommitNo::new(1);
     worker.write(page, &[7; 16])?;
     let written = is_all(worker.hit(page), 7);
+    let refused = is_foreign_elsewhere(alloc, worker);
     let number = worker.commit_at(alloc, office.lock(rt).station_mut())?;
     office.lock(rt).station_mut().flushed(alloc, first)?;
     let finished = worker.finish(rt, alloc, office)? == Finished::Committed(first);
-    Ok(written && number == first && finished && is_all(worker.peek(page), 7))
+    Ok(written && refused && number == first && finished && is_all(worker.peek(page), 7))
 }
 
 /// Whether the history has one entry, with page 0 read and written.
@@ -65,7 +84,27 @@ fn is_noted<R: Wait>(rt: &R, office: &Office) -> bool {
     entry.reads[0].page == PageNo::new(0) && entry.writes[0] == PageNo::new(0)
 }
 
-/// It reads, writes, commits and leaves.
+/// Whether the client can join again, and leaves once more.
+fn comes_back<Q: Chooser, R: Wait>(rt: &R, alloc: Global, office: &Office) -> bool {
+    let Ok(limits) = Limits::new(1, 2, 16, 2, 1, 1) else {
+        return false;
+    };
+    let Ok(chooser) = Q::make(alloc, &limits) else {
+        return false;
+    };
+    match Worker::join(rt, alloc, office, &limits, ClientNo::new(0), chooser) {
+        Ok(worker) => match worker.leave(rt, alloc, office) {
+            Ok(()) => true,
+            Err((_, worker)) => {
+                worker.abandon();
+                false
+            }
+        },
+        Err(_) => false,
+    }
+}
+
+/// It reads, writes, commits and leaves; then its number may join again.
 pub(crate) fn commits_and_leaves<Q: Chooser, R: Wait>(
     rt: &R,
     alloc: Global,
@@ -75,7 +114,7 @@ pub(crate) fn commits_and_leaves<Q: Chooser, R: Wait>(
     let read = reads(rt, alloc, office, &mut worker) == Ok(true);
     let wrote = writes(rt, alloc, office, &mut worker) == Ok(true);
     match worker.leave(rt, alloc, office) {
-        Ok(()) => read && wrote && is_noted(rt, office),
+        Ok(()) => read && wrote && is_noted(rt, office) && comes_back::<Q, R>(rt, alloc, office),
         Err((_, worker)) => {
             worker.abandon();
             false

@@ -20,6 +20,7 @@ use Rattle.cb_protocol.specs.Serial.{Operation}
 use Rattle.cb_hands.specs.Hands.{HandState}
 use Rattle.cb_office.specs.Stations.{StationState}
 use Rattle.cb_office.specs.declared.office_fault.OfficeFault.{OfficeFault}
+use Rattle.cb_worker.proofs.Standing.{is_then}
 use Rattle.cb_worker.specs.Calls.{Committed}
 use Rattle.cb_worker.specs.Workers.{WorkerState, with_client}
 use Rattle.cb_worker.specs.Committing.{AreLocked, FinishesOrAgain, HandsCommitIn, IsCommitting, RefusesFrame, SaysCommit}
@@ -65,11 +66,11 @@ finished_says old new frame calls ops = go (call_fault (limits_at old) (client_o
 pub again_says : (v : ClientState) (frame : Frame) → IsCommitting v
     → ((ops : List Operation) → messages_from v (bodies_said (commit_again (limits_at v) (client_of v ops))) ≡ option_to_list (option_map message_of (Some frame)))
     → SaysCommit v frame
-again_says v frame is said ops = rw is at (said ops)
+again_says v frame is said ops = rw (is_then v is) at (said ops)
 
 pub again_none : (v : ClientState) → IsCommitting v
     → ((ops : List Operation) → messages_from v (bodies_said (commit_again (limits_at v) (client_of v ops))) ≡ option_to_list (option_map message_of None)) → ⊥
-again_none v is said = absurd (let e = rw is at (said []) in cc)
+again_none v is said = absurd (let e = rw (is_then v is) at (said []) in cc)
 
 -- what a client's finish is answered
 pub finishes : (old new : ClientState) (r : Result Frame ClientFault) → Finishes old r new → IfOk r (λ frame. FinishesOrAgain old frame new)
@@ -80,9 +81,9 @@ pub finish_says : (old new : ClientState) (r : Result Frame ClientFault) → Fin
 finish_says old new (Ok frame) f = finished_says old new frame f
 finish_says old new (Err e) f = tt
 
-pub finish_refused : (old new : ClientState) (r : Result Frame ClientFault) → Finishes old r new → IfErr r (λ e. RefusesFrame old e new)
-finish_refused old new (Ok frame) f = tt
-finish_refused old new (Err e) f = inl f
+pub finish_refused : (old new : ClientState) (r : Result Frame ClientFault) → (IsCommitting old → ⊥) → Finishes old r new → IfErr r (λ e. RefusesFrame old e new)
+finish_refused old new (Ok frame) n f = tt
+finish_refused old new (Err e) n f = inl (n, f)
 
 -- a refusal leaves the client as it was
 as_it_was : (old new : ClientState) (f : ClientFault) → RefusesOrLacks old CallFinish f new → new ≡ old
@@ -90,7 +91,7 @@ as_it_was old new fault.Memory r = r.1
 as_it_was old new _ r = r.1
 
 pub refusal_leaves : (old new : ClientState) (f : ClientFault) → RefusesFrame old f new → new ≡ old
-refusal_leaves old new f (inl r) = as_it_was old new f r
+refusal_leaves old new f (inl r) = as_it_was old new f r.1
 refusal_leaves old new f (inr r) = r.2
 
 -- the commit is handed in, once the client has said it

@@ -1,17 +1,23 @@
 -- What the client's words of its transaction mean.
-use Rattle.std.proofs.Common.{◌≡◌, ◌≢◌, Bool, true, false, List, [], Option, Some, None, Result, Ok, Err, IfSome, OnOk, refl, sym, ◌∙◌, not, if◌then◌else◌}
+use Rattle.std.proofs.Common.{◌≡◌, ◌≢◌, inl, Bool, true, false, List, [], Option, Some, None, Result, Ok, Err, IfSome, OnOk, ap, refl, sym, ◌∙◌, not, if◌then◌else◌}
 use Rattle.std.specs.Prelude.{⊤}
+use Rattle.cb_client.specs.ByTable.{Calls, limits_at, over}
 use Rattle.cb_client_engine.specs.ClientState.{ClientState, client_of, outcome_of, status_of}
 use Rattle.cb_client_engine.specs.declared.standing.Outcome.{Outcome}
 use Rattle.cb_client_engine.specs.declared.standing.ClientStatus as says
 use Rattle.cb_client_engine.specs.declared.standing.ClientStatus.TheVariants as statuses
 use Rattle.cb_client_engine.specs.declared.standing.Stage.TheVariants as stages
-use Rattle.cb_protocol.specs.Cache.{Committing, Idle, Open, TransactionState, is_committing, is_open}
-use Rattle.cb_protocol.specs.Client.{Ask, LastOutcome, StatusCommitting, StatusIdle, StatusNotWelcome, StatusOpen, StatusWaiting, client_status, is_asking, welcomed_status}
+use Rattle.cb_protocol.proofs.PagesStay.{last_outcome_is_true}
+use Rattle.cb_protocol.specs.Answers as table
+use Rattle.cb_protocol.specs.Cache.{Committing, Idle, Open, TransactionState, is_committing}
+use Rattle.cb_protocol.specs.Client.{Ask, Client, Dropped, StatusCommitting, StatusIdle, StatusNotWelcome, StatusOpen, StatusWaiting, client_status, is_asking, welcomed_status}
+use Rattle.cb_protocol.specs.ClientAlone.{ReceivesCall}
+use Rattle.cb_protocol.specs.ClientCalls.{CallDrop, accept_or_refuse, call_fault, client_call, first_refusal, open_causes}
+use Rattle.cb_protocol.specs.Messages.{Message}
 use Rattle.cb_protocol.specs.Serial.{Operation}
 use Rattle.cb_worker.specs.Committing.{IsCommitting}
-use Rattle.cb_worker.specs.Waiting.{Finishes, HasNoneOpen, ending_of}
-use Rattle.cb_worker.specs.Workers.{Ended, WorkerState}
+use Rattle.cb_worker.specs.Waiting.{Drops, Finishes, ending_of}
+use Rattle.cb_worker.specs.Workers.{Ended, IsIdle, WorkerState}
 use Rattle.cb_worker.specs.declared.answers.Finished.{Finished}
 use Rattle.cb_worker.specs.declared.worker_fault.WorkerFault.{WorkerFault}
 
@@ -25,7 +31,7 @@ committing true Open a e = absurd (go (is_asking a) e)
     go false e = absurd cc
 committing true Committing a e = refl
 
-idle : (w : Bool) (s : TransactionState) (a : Ask) → StatusIdle ≡ (if not w then StatusNotWelcome else welcomed_status s a) → is_open s ≡ false
+idle : (w : Bool) (s : TransactionState) (a : Ask) → StatusIdle ≡ (if not w then StatusNotWelcome else welcomed_status s a) → s ≡ Idle
 idle false s a e = absurd cc
 idle true Idle a e = refl
 idle true Open a e = absurd (go (is_asking a) e)
@@ -33,24 +39,53 @@ idle true Open a e = absurd (go (is_asking a) e)
     go : (b : Bool) → StatusIdle ≡ (if b then StatusWaiting else StatusOpen) → ⊥
     go true e = absurd cc
     go false e = absurd cc
-idle true Committing a e = refl
+idle true Committing a e = absurd cc
+
+said_committing : (s : says.ClientStatus) → status_of s ≡ StatusCommitting → s ≡ statuses.Committing
+said_committing statuses.NotWelcome e = absurd cc
+said_committing statuses.Idle e = absurd cc
+said_committing statuses.Open e = absurd cc
+said_committing statuses.Waiting e = absurd cc
+said_committing statuses.Committing e = refl
 
 -- one that says so is committing
 pub committing_so : (v : ClientState) (s : says.ClientStatus) → ((ops : List Operation) → status_of s ≡ client_status (client_of v ops)) → s ≡ statuses.Committing → IsCommitting v
-committing_so v s says_so is = committing _ _ _ (rw is at (says_so []))
+committing_so v s says_so is = sym (rw is at (says_so []))
 
--- one that says that it is idle has no open transaction
-pub none_open : (v : ClientState) (s : says.ClientStatus) → ((ops : List Operation) → status_of s ≡ client_status (client_of v ops)) → s ≡ statuses.Idle → (ops : List Operation) → is_open (client_of v ops).cache.status ≡ false
-none_open v s says_so is ops = idle _ _ _ (rw is at (says_so ops))
+pub says_committing : (v : ClientState) (s : says.ClientStatus) → ((ops : List Operation) → status_of s ≡ client_status (client_of v ops)) → IsCommitting v → s ≡ statuses.Committing
+says_committing v s says_so c = said_committing s (says_so [] ∙ c)
 
--- nor has one whose transaction was dropped
-pub none_open_idle : (w : WorkerState) → w.client.stage ≡ stages.Idle → HasNoneOpen w
-none_open_idle w e ops = rw e refl
+-- and its transaction is then
+pub is_then : (v : ClientState) → IsCommitting v → is_committing (client_of v []).cache.status ≡ true
+is_then v c = committing v.welcomed (client_of v []).cache.status (client_of v []).ask (sym c)
 
--- nor has one whose client stayed as it was
-pub still_none_open : (old new : WorkerState) (r : Result ⊤ WorkerFault) → HasNoneOpen old → new.client ≡ old.client → OnOk r (HasNoneOpen new)
-still_none_open old new (Ok done) none same = λ ops. rw same (none ops)
-still_none_open old new (Err fault) none same = tt
+-- one that says that it is idle is
+pub idle_so : (w : WorkerState) (s : says.ClientStatus) → ((ops : List Operation) → status_of s ≡ client_status (client_of w.client ops)) → s ≡ statuses.Idle → IsIdle w
+idle_so w s says_so is ops = idle _ _ _ (rw is at (says_so ops))
+
+-- a call that is answered isn't refused
+unrefused : (v : ClientState) (ops : List Operation) → (client_call (limits_at v) (client_of v ops) CallDrop).word ≡ table.AnsweredOk → first_refusal (open_causes (client_of v ops)) ≡ None
+unfolding call_fault client_call
+unrefused v ops e = go (first_refusal (open_causes (client_of v ops))) refl e
+  where
+    go : (f : Option table.ClientFault) → first_refusal (open_causes (client_of v ops)) ≡ f → (accept_or_refuse (limits_at v) (client_of v ops) CallDrop f).word ≡ table.AnsweredOk → first_refusal (open_causes (client_of v ops)) ≡ None
+    go None e w = e
+    go (Some f) e w = absurd cc
+
+-- a client that was told to drop its transaction has dropped it
+pub dropped : (old : ClientState) (new : WorkerState) (messages : List Message) → Calls old CallDrop table.AnsweredOk messages over new.client → new.client.stage ≡ stages.Idle → Ended new Dropped
+dropped old new messages calls idle = record {
+  idle = λ ops. rw idle refl;
+  so = λ ops.
+      let law = last_outcome_is_true (limits_at old) (client_of old ops) (ReceivesCall CallDrop) in
+      let so = rw (unrefused old ops (calls.word ops)) at law in
+      ap (λ (c : Client). c.last_outcome) (sym (calls.makes.after ops)) ∙ so;
+}
+
+-- one whose client stayed as it was has dropped its transaction too
+pub still_dropped : (old new : WorkerState) (r : Result ⊤ WorkerFault) → Ended old Dropped → new.client ≡ old.client → OnOk r (Drops new)
+still_dropped old new (Ok done) is same = inl (record { idle = λ ops. rw same (is.idle ops); so = λ ops. rw same (is.so ops) })
+still_dropped old new (Err fault) is same = tt
 
 -- one that says anything but that it isn't welcomed is
 pub welcomed_so : (v : ClientState) (s : says.ClientStatus) → ((ops : List Operation) → status_of s ≡ client_status (client_of v ops)) → s ≢ statuses.NotWelcome → v.welcomed ≡ true
@@ -68,10 +103,7 @@ welcomed_so v s says_so n = go v.welcomed refl
     go false f = absurd (n (unsaid s (rw f at (says_so []))))
 
 -- how the last transaction ended, by what the client says of it
-pub ended_so : (w : WorkerState) (last : Option Outcome) (ending : LastOutcome) → ((ops : List Operation) → outcome_of last ≡ (client_of w.client ops).last_outcome) → outcome_of last ≡ ending → Ended w ending
-ended_so w last ending says_so is ops = sym (says_so ops) ∙ is
-
-pub finished_so : (w : WorkerState) (last : Outcome) (r : Option Finished) → ((ops : List Operation) → outcome_of (Some last) ≡ (client_of w.client ops).last_outcome)
+pub finished_so : (w : WorkerState) (last : Outcome) (r : Option Finished) → IsIdle w → ((ops : List Operation) → outcome_of (Some last) ≡ (client_of w.client ops).last_outcome)
     → IfSome r (λ finished. outcome_of (Some last) ≡ ending_of finished) → IfSome r (Finishes w)
-finished_so w last None says_so is = tt
-finished_so w last (Some f) says_so is = ended_so w (Some last) (ending_of f) says_so is
+finished_so w last None idle says_so is = tt
+finished_so w last (Some f) idle says_so is = record { idle = idle; so = λ ops. sym (says_so ops) ∙ is }

@@ -86,17 +86,18 @@ collected_same before after hand next (Ok (Some frame)) t =
     (ap (λ (h : HandState). h.client) moved ∙ got.0, ap (λ (h : HandState). h.incarnation) moved ∙ got.1)
 
 -- a client stays the same one by what it takes
-takes_same : (old new : ClientState) (frame : Frame) (said : List Message) → TakesFrame old frame said new → (new.no ≡ old.no) × (new.incarnation ≡ old.incarnation)
+takes_same : (old new : ClientState) (frame : Frame) (said : List Message) → TakesFrame old frame said new → (new.no ≡ old.no) × (new.incarnation ≡ old.incarnation) × (new.copies.limits ≡ old.copies.limits)
 takes_same old new frame said t = by (is_for old frame) refl
   where
-    by : (b : Bool) → is_for old frame ≡ b → (new.no ≡ old.no) × (new.incarnation ≡ old.incarnation)
-    by true e = ((t.own e).makes.no, (t.own e).makes.incarnation)
-    by false e = (ap (λ (c : ClientState). c.no) (t.unchanged e), ap (λ (c : ClientState). c.incarnation) (t.unchanged e))
+    by : (b : Bool) → is_for old frame ≡ b → (new.no ≡ old.no) × (new.incarnation ≡ old.incarnation) × (new.copies.limits ≡ old.copies.limits)
+    by true e = ((t.own e).makes.no, (t.own e).makes.incarnation, (t.own e).makes.limits)
+    by false e = (ap (λ (c : ClientState). c.no) (t.unchanged e), ap (λ (c : ClientState). c.incarnation) (t.unchanged e), ap (λ (c : ClientState). c.copies.limits) (t.unchanged e))
 
 pub same : (old new : WorkerState) → new ≡ old → IsStill old new
 same old new e = record {
   no = ap (λ (w : WorkerState). w.client.no) e;
   incarnation = ap (λ (w : WorkerState). w.client.incarnation) e;
+  limits = ap (λ (w : WorkerState). w.client.copies.limits) e;
   hand = ap (λ (w : WorkerState). w.hand.client) e;
   hand_incarnation = ap (λ (w : WorkerState). w.hand.incarnation) e;
 }
@@ -108,6 +109,7 @@ taken_still old new frame (Ok turned) h =
     record {
       no = c.0;
       incarnation = c.1;
+      limits = c.2;
       hand = ap (λ (h : HandState). h.client) e;
       hand_incarnation = ap (λ (h : HandState). h.incarnation) e;
     }
@@ -125,6 +127,7 @@ handed_still old new before after frame rest r h = by h.answer h.took h.left
         record {
           no = ap (λ (w : WorkerState). w.client.no) e;
           incarnation = ap (λ (w : WorkerState). w.client.incarnation) e;
+          limits = ap (λ (w : WorkerState). w.client.copies.limits) e;
           hand = hand.0;
           hand_incarnation = hand.1;
         }
@@ -138,7 +141,7 @@ collects_still old new before after r h = by h.answer h.collected h.taken
     by (Ok (Some frame)) c t =
         let hand = collected_same before after old.hand new.hand (Ok (Some frame)) c in
         let next = taken_still (record old { hand = new.hand; collected = Some frame }) new frame r t in
-        record { no = next.no; incarnation = next.incarnation; hand = hand.0; hand_incarnation = hand.1 }
+        record { no = next.no; incarnation = next.incarnation; limits = next.limits; hand = hand.0; hand_incarnation = hand.1 }
 
 -- a turn leaves it the same
 pub turned : (old new : WorkerState) (before after : StationState) (r : Result Bool WorkerFault) → Turns old before r new after → IsStill old new
@@ -154,6 +157,7 @@ pub after : (one two three : WorkerState) → IsStill one two → IsStill two th
 after one two three p q = record {
   no = q.no ∙ p.no;
   incarnation = q.incarnation ∙ p.incarnation;
+  limits = q.limits ∙ p.limits;
   hand = q.hand ∙ p.hand;
   hand_incarnation = q.hand_incarnation ∙ p.hand_incarnation;
 }

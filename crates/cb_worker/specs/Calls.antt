@@ -15,13 +15,16 @@ use Rattle.cb_office.specs.declared.office_fault.OfficeFault.TheVariants as offi
 use Rattle.cb_outbox.specs.Messages.{page_writes}
 use Rattle.cb_page.specs.Numbers.{max_number}
 use Rattle.cb_protocol.specs.CommitLaws.{IsApplied}
-use Rattle.cb_server.specs.Taking.{input_of}
+use Rattle.cb_server.specs.Taking.{input_of, lacks_number_for}
 
 -- A frame was handed in with the hand: what that made of both, and why it was refused.
 pub record Took (before : StationState) (frame : Frame) (hand : HandState)
     (result : Result ⊤ OfficeFault) (after : StationState) (next : HandState) : Type 0 where
   pub foreign : (result ≡ Err office.Foreign)
       ↔ (IsOwn before frame hand × (is_plain frame.body ≡ true) → ⊥)
+  pub exhausted : (result ≡ Err office.Exhausted)
+      ↔ (IsOwn before frame hand × (is_plain frame.body ≡ true)
+      × (lacks_number_for before.dispatcher.server frame ≡ true))
   pub faults : IfErr result (λ fault. (fault ≡ office.Foreign)
       ⊎ (fault ≡ office.Exhausted) ⊎ (fault ≡ office.Memory))
   pub err : OnErr result (IsUnchanged before after × (next ≡ hand))
@@ -29,6 +32,7 @@ pub record Took (before : StationState) (frame : Frame) (hand : HandState)
       → IsUnchanged before after × (next ≡ hand))
   pub posts : OnOk result (is_stray hand frame.body ≡ false
       → Posts before.dispatcher (input_of frame) (outbox_of before) Everybody after.dispatcher)
+  pub taken : OnOk result (lacks_number_for before.dispatcher.server frame ≡ false)
   pub moved : OnOk result (is_stray hand frame.body ≡ false
       → next ≡ ended_if_over (server_of after) (given_back hand frame.body))
   pub stored : OnOk result (Follow before.hands after.hands hand next)

@@ -1,5 +1,5 @@
 -- How a worker's transaction commits.
-use Rattle.std.specs.Prelude.{◌≡◌, ◌⊎◌, ℕ, Bool, true, List, [], ◌∷◌, Result, Ok, Err}
+use Rattle.std.specs.Prelude.{◌≡◌, ◌⊎◌, ℕ, Bool, List, [], ◌∷◌, Result, Ok, Err}
 use Rattle.cb_client.specs.ByTable.{RefusesOrLacks, limits_at, messages_from}
 use Rattle.cb_client.specs.CallAnswers.{Finishes}
 use Rattle.cb_client.specs.declared.client_fault.ClientFault.{ClientFault}
@@ -10,8 +10,7 @@ use Rattle.cb_office.specs.Stations.{StationState}
 use Rattle.cb_office.specs.declared.office_fault.OfficeFault.{OfficeFault}
 use Rattle.cb_outbox.specs.Messages.{message_of}
 use Rattle.cb_page.specs.Flags.{has}
-use Rattle.cb_protocol.specs.Cache.{is_committing}
-use Rattle.cb_protocol.specs.Client.{bodies_said}
+use Rattle.cb_protocol.specs.Client.{StatusCommitting, bodies_said, client_status}
 use Rattle.cb_protocol.specs.ClientCalls.{CallFinish, say_commit}
 use Rattle.cb_protocol.specs.Serial.{Operation}
 use Rattle.cb_worker.specs.Calls.{Committed}
@@ -26,9 +25,9 @@ SaysCommit client frame = (operations : List Operation)
     (bodies_said (say_commit (limits_at client) (client_of client operations)))
     ≡ message_of frame ∷ []
 
--- the client is committing
+-- the client says that it is committing
 abbrev pub IsCommitting : ClientState → Type 0
-IsCommitting client = is_committing (client_of client []).cache.status ≡ true
+IsCommitting client = client_status (client_of client []) ≡ StatusCommitting
 
 -- the client finishes, by that frame; or it has finished before, and says it again
 abbrev pub FinishesOrAgain : (old : ClientState) → Frame → (new : ClientState) → Type 0
@@ -40,9 +39,10 @@ abbrev pub AreLocked : ClientState → List Bool → Type 0
 AreLocked client reads = (operations : List Operation) (page : ℕ)
     → has reads page ≡ (client_of client operations).cache.locked page
 
--- the client has no such commit: it refuses to finish, or lacks memory; nothing changes
+-- The client has no such commit: one that isn't committing refuses to finish, or lacks memory; one
+-- that is lacks memory. Nothing changes.
 abbrev pub RefusesFrame : (old : ClientState) → ClientFault → (new : ClientState) → Type 0
-RefusesFrame old fault new = RefusesOrLacks old CallFinish fault new
+RefusesFrame old fault new = ((IsCommitting old → ⊥) × RefusesOrLacks old CallFinish fault new)
     ⊎ (IsCommitting old × (fault ≡ client.Memory) × (new ≡ old))
 
 -- The commit of the worker's transaction is handed in, with exactly its locked pages as reads and

@@ -1,5 +1,5 @@
 -- What the calls that take the office are answered, where they return.
-use Rattle.std.specs.Prelude.{◌≡◌, ◌&&◌, ℕ, true, false, List, [], None}
+use Rattle.std.specs.Prelude.{◌≡◌, ◌&&◌, ◌⊎◌, ℕ, true, List, [], None}
 use Rattle.cb_client_engine.specs.ClientState.{client_of}
 use Rattle.cb_protocol.specs.Cache.{is_open}
 use Rattle.cb_protocol.specs.Client as protocol
@@ -43,11 +43,10 @@ abbrev pub ending_of : Finished → protocol.LastOutcome
 ending_of (finished.Committed number) = protocol.Committed number
 ending_of finished.Aborted = protocol.Aborted
 
--- the last transaction ended so
+-- the last transaction is over, and ended so
 abbrev pub Finishes : WorkerState → Finished → Type 0
 Finishes worker answer = Ended worker (ending_of answer)
 
--- no transaction is open
-abbrev pub HasNoneOpen : WorkerState → Type 0
-HasNoneOpen worker = (operations : List Operation)
-    → is_open (client_of worker.client operations).cache.status ≡ false
+-- the transaction is over without a commit: it was dropped, or had been aborted
+abbrev pub Drops : WorkerState → Type 0
+Drops worker = Ended worker protocol.Dropped ⊎ Ended worker protocol.Aborted

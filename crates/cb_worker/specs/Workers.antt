@@ -11,6 +11,7 @@ use Rattle.cb_hands.specs.Hands.{HandState, held_at}
 use Rattle.cb_hands.specs.declared.grant.Held.{Held}
 use Rattle.cb_protocol.specs.Answers.{AnsweredBytes}
 use Rattle.cb_protocol.specs.Basics.{Bytes, is_none}
+use Rattle.cb_protocol.specs.Cache.{Idle}
 use Rattle.cb_protocol.specs.Client.{LastOutcome}
 use Rattle.cb_protocol.specs.ClientCalls.{CallRead, call_fault}
 use Rattle.cb_protocol.specs.Serial.{Operation}
@@ -30,10 +31,12 @@ pub record IsOf (worker : WorkerState) (number current : ℕ) : Type 0 where
   pub hand : worker.hand.client ≡ number
   pub hand_incarnation : worker.hand.incarnation ≡ current
 
--- It is still the same one: of the same incarnation of the same client, and so is its hand.
+-- It is still the same one: of the same incarnation of the same client, with the same limits, and
+-- so is its hand.
 pub record IsStill (old new : WorkerState) : Type 0 where
   pub no : new.client.no ≡ old.client.no
   pub incarnation : new.client.incarnation ≡ old.client.incarnation
+  pub limits : new.client.copies.limits ≡ old.client.copies.limits
   pub hand : new.hand.client ≡ old.hand.client
   pub hand_incarnation : new.hand.incarnation ≡ old.hand.incarnation
 
@@ -79,7 +82,13 @@ abbrev pub Hits : WorkerState → (page : ℕ) → Option Bytes → Type 0
 Hits worker page None = may_hit worker page ≡ false
 Hits worker page (Some bytes) = Hit worker page bytes
 
--- the worker's last transaction ended so, whatever operations it did
-abbrev pub Ended : WorkerState → LastOutcome → Type 0
-Ended worker outcome = (operations : List Operation)
-    → (client_of worker.client operations).last_outcome ≡ outcome
+-- no transaction is open, and none is committing
+abbrev pub IsIdle : WorkerState → Type 0
+IsIdle worker = (operations : List Operation)
+    → (client_of worker.client operations).cache.status ≡ Idle
+
+-- The worker's last transaction is over, and ended so, whatever operations it did.
+pub record Ended (worker : WorkerState) (outcome : LastOutcome) : Type 0 where
+  pub idle : IsIdle worker
+  pub so : (operations : List Operation)
+      → (client_of worker.client operations).last_outcome ≡ outcome

@@ -1,5 +1,5 @@
 //! Workers join, begin another incarnation, and end.
-ghost use Rattle.std.specs.Prelude.{◌≡◌, ◌⊎◌, [], true, IfErr, IfOk, None, OnOk};
+ghost use Rattle.std.specs.Prelude.{◌≡◌, ◌≤◌, ◌⊎◌, [], true, Err, IfErr, IfOk, None, OnOk};
 ghost use Rattle.cb_client_engine.specs.ClientState.{new_state};
 ghost use Rattle.cb_worker.specs.Workers.{IsOf, IsStill};
 
@@ -16,7 +16,7 @@ use std::sync::Wait;
 
 impl<Q: Chooser> Worker<Q> {
     /// The client joins the office, over an empty chooser, and is welcomed. Its incarnation is the one
-    /// that the station gave its hand.
+    /// that the station gave its hand. A client that these limits haven't got is `Foreign`.
     pub fn join<R: Wait>(
         rt: &R,
         alloc: Global,
@@ -29,6 +29,9 @@ impl<Q: Chooser> Worker<Q> {
         requires slots { Q.slots chooser ≡ limits.now.slots }
         ensures welcomed { IfOk result (λ worker. worker.client.welcomed ≡ true) }
         ensures of { IfOk result (λ worker. IsOf worker client worker.hand.incarnation) }
+        ensures same_limits { IfOk result (λ worker. worker.client.copies.limits ≡ limits.now) }
+        ensures foreign { limits.now.clients ≤ client
+            → result ≡ Err (WorkerFault.Office OfficeFault.Foreign) }
     {
         if !limits.has_client(client.get()) {
             return Err(WorkerFault::Office(OfficeFault::Foreign));
@@ -62,6 +65,8 @@ impl<Q: Chooser> Worker<Q> {
     ) -> Result<Worker<Q>, (WorkerFault, Worker<Q>)>
         ensures welcomed { IfOk result (λ worker. worker.client.welcomed ≡ true) }
         ensures of { IfOk result (λ worker. IsOf worker self.hand.client incarnation) }
+        ensures same_limits { IfOk result (λ worker.
+            worker.client.copies.limits ≡ self.client.copies.limits) }
         ensures refused { IfErr result (λ refused.
             (refused.1 ≡ self) ⊎ IsOf refused.1 self.hand.client incarnation) }
     {

@@ -1,9 +1,9 @@
 //! What the client says of its transaction.
-ghost use Rattle.std.specs.Prelude.{◌≡◌, true, IfSome, IsSome, IsTrue, Some};
+ghost use Rattle.std.specs.Prelude.{◌≡◌, ◌↔◌, true, IfSome, IsTrue, Some};
 ghost use Rattle.cb_client_engine.specs.ClientState.{outcome_of};
 ghost use Rattle.cb_protocol.specs.Client as protocol;
 ghost use Rattle.cb_worker.specs.Committing.{IsCommitting};
-ghost use Rattle.cb_worker.specs.Waiting.{Finishes, HasNoneOpen, ending_of};
+ghost use Rattle.cb_worker.specs.Waiting.{Finishes, ending_of};
 ghost use Rattle.cb_worker.specs.Workers.{Ended};
 
 use crate::answers::Finished;
@@ -32,7 +32,7 @@ impl<Q: Chooser> Worker<Q> {
 
     /// Whether a commit is out.
     pub(super) fn is_committing(&self) -> bool
-        ensures { IsTrue result → IsCommitting self.now.client }
+        ensures { IsTrue result ↔ IsCommitting self.now.client }
     {
         match self.client.status() {
             ClientStatus::Committing => true,
@@ -42,8 +42,7 @@ impl<Q: Chooser> Worker<Q> {
 
     /// How the last transaction ended, where that one is over and was not dropped.
     pub(super) fn ended(&self) -> Option<Finished>
-        ensures ended { IfSome result (Finishes self.now) }
-        ensures none_open { IsSome result → HasNoneOpen self.now }
+        ensures { IfSome result (Finishes self.now) }
     {
         let ClientStatus::Idle = self.client.status() else {
             return None;
@@ -53,8 +52,7 @@ impl<Q: Chooser> Worker<Q> {
 
     /// Whether the last transaction is over and was aborted.
     pub(super) fn is_aborted(&self) -> bool
-        ensures aborted { IsTrue result → Ended self.now protocol.Aborted }
-        ensures none_open { IsTrue result → HasNoneOpen self.now }
+        ensures { IsTrue result → Ended self.now protocol.Aborted }
     {
         let Some(Finished::Aborted) = self.ended() else {
             return false;

@@ -3,7 +3,7 @@ ghost use Rattle.std.specs.Prelude.{◌≡◌, IfOk, IsTrue, MatchBool, OnOk};
 ghost use Rattle.std.specs.Borrow.{sem};
 ghost use Rattle.cb_protocol.specs.Client as protocol;
 ghost use Rattle.cb_worker.specs.Lending.{worker_ends};
-ghost use Rattle.cb_worker.specs.Waiting.{Fetches, Finishes, HasNoneOpen, HasRead, IsServed, Wants};
+ghost use Rattle.cb_worker.specs.Waiting.{Drops, Fetches, Finishes, HasRead, IsServed, Wants};
 ghost use Rattle.cb_worker.specs.Workers.{Ended, IsStill};
 
 use crate::answers::{Fetched, Finished, Wanted};
@@ -68,9 +68,7 @@ impl<Q: Chooser> Worker<Q> {
         office: &Office,
         shared: &mut SharedStation,
     ) -> Result<bool, WorkerFault>
-        ensures aborted { IfOk result (λ aborted.
-            IsTrue aborted → Ended self.new protocol.Aborted) }
-        ensures none_open { IfOk result (λ aborted. IsTrue aborted → HasNoneOpen self.new) }
+        ensures { IfOk result (λ aborted. IsTrue aborted → Ended self.new protocol.Aborted) }
     {
         let had_one = self.has_transaction();
         self.serve_at(rt, alloc, office, shared)?;
@@ -184,14 +182,14 @@ impl<Q: Chooser> Worker<Q> {
         Ok(())
     }
 
-    /// Ends the open transaction without a commit.
+    /// Ends the open transaction without a commit; nothing is open or committing then.
     pub fn drop_txn<R: Wait>(
         &mut self,
         rt: &R,
         alloc: Global,
         office: &Office,
     ) -> Result<(), WorkerFault>
-        ensures { OnOk result (HasNoneOpen self.new) }
+        ensures { OnOk result (Drops self.new) }
     {
         let mut shared = office.lock(rt);
         self.drop_at(rt, alloc, office, &mut shared)
@@ -205,7 +203,7 @@ impl<Q: Chooser> Worker<Q> {
         office: &Office,
         shared: &mut SharedStation,
     ) -> Result<(), WorkerFault>
-        ensures { OnOk result (HasNoneOpen self.new) }
+        ensures { OnOk result (Drops self.new) }
     {
         if self.serve_first(rt, alloc, office, shared)? {
             return Ok(());
@@ -216,7 +214,7 @@ impl<Q: Chooser> Worker<Q> {
 
     /// The client drops its transaction; what it says of that is kept.
     fn drop_open(&mut self, alloc: Global) -> Result<(), WorkerFault>
-        ensures { OnOk result (HasNoneOpen self.new) }
+        ensures { OnOk result (Ended self.new protocol.Dropped) }
     {
         let mut said = self.client.drop_txn(alloc)?;
         said.reverse();

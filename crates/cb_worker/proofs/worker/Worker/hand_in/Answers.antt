@@ -11,10 +11,12 @@ pub returns-in-Err-clause-turns : goal.returns-in-Err-clause-turns
 returns-in-Err-clause-turns g c =
     let took : Took c.args.station.now c.in-Some.frame.now c.args.self.now.hand c.take.result c.take.new.self c.take.new.hand = rw (← c.self.view_is) (record {
       foreign = c.take.ensures.foreign;
+      exhausted = c.take.ensures.exhausted;
       faults = c.take.ensures.faults;
       err = c.take.ensures.err;
       stray = c.take.ensures.stray;
       posts = c.take.ensures.posts;
+      taken = c.take.ensures.taken;
       moved = c.take.ensures.hand;
       stored = c.take.ensures.stored;
       history = c.take.ensures.history;
@@ -32,10 +34,12 @@ pub returns-in-Ok-clause-turns : goal.returns-in-Ok-clause-turns
 returns-in-Ok-clause-turns g c =
     let took : Took c.args.station.now c.in-Some.frame.now c.args.self.now.hand c.take.result c.take.new.self c.take.new.hand = rw (← c.self.view_is) (record {
       foreign = c.take.ensures.foreign;
+      exhausted = c.take.ensures.exhausted;
       faults = c.take.ensures.faults;
       err = c.take.ensures.err;
       stray = c.take.ensures.stray;
       posts = c.take.ensures.posts;
+      taken = c.take.ensures.taken;
       moved = c.take.ensures.hand;
       stored = c.take.ensures.stored;
       history = c.take.ensures.history;
