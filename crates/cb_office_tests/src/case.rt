@@ -2,7 +2,7 @@
 use crate::frames::{
     ask_read, ask_write, commit, commit_one, insert, is_granted, is_told, no_writes, shown,
 };
-use crate::stations::over_zeros;
+use crate::stations::{over_zeros, two_join};
 use cb_frame::ShortBody;
 use cb_hands::Hand;
 use cb_office::{OfficeFault, Station};
@@ -150,11 +150,7 @@ fn leaves(alloc: Global, station: &mut Station, hand: Hand) -> bool {
 
 /// The whole case.
 fn grants_and_commits(alloc: Global, station: &mut Station) -> bool {
-    let Ok(mut one) = station.join(alloc, ClientNo::new(0)) else {
-        return false;
-    };
-    let Ok(mut two) = station.join(alloc, ClientNo::new(1)) else {
-        one.abandon();
+    let Some((mut one, mut two)) = two_join(alloc, station) else {
         return false;
     };
     let mut good = prepare(alloc, station, &mut one);

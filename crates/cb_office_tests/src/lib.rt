@@ -4,7 +4,11 @@
 #[cfg(test)]
 mod case;
 #[cfg(test)]
+mod doomed;
+#[cfg(test)]
 mod drawn;
+#[cfg(test)]
+mod exhausted;
 #[cfg(test)]
 mod frames;
 #[cfg(test)]

@@ -1,7 +1,7 @@
 //! Bad input: each has its fault, and everything stays as it was.
 use crate::case::prepare;
 use crate::frames::{ask_read, commit, commit_one, insert, no_writes, said, shown};
-use crate::stations::over_zeros;
+use crate::stations::{over_zeros, two_join};
 use cb_frame::{Frame, ShortBody};
 use cb_hands::Hand;
 use cb_office::{OfficeFault, Station};
@@ -22,7 +22,7 @@ fn refused(
 }
 
 /// Whether the commit is refused for this, and nothing of the hand changed.
-fn refused_commit(
+pub(crate) fn refused_commit(
     alloc: Global,
     station: &mut Station,
     hand: &mut Hand,
@@ -115,44 +115,94 @@ fn other_calls(
     Ok(ended == Err(OfficeFault::NotLive) && good)
 }
 
-/// A hand of another station is none of this one's.
-fn strangers(
+/// Whether each call that a hand is lent to refuses this one, which isn't stored.
+fn lent_in_vain(
     alloc: Global,
     station: &mut Station,
-    other: &mut Station,
-    one: &Hand,
+    hand: &mut Hand,
+    two: &Hand,
 ) -> Result<bool, AllocError> {
-    let Ok(mut stranger) = other.join(alloc, ClientNo::new(0)) else {
-        return Ok(false);
-    };
     let foreign = OfficeFault::Foreign;
-    let frame = ask_read(&stranger, TxnNo::new(1), PageNo::new(0));
-    let mut good = station.meet(&stranger, one) == Err(foreign);
-    good = other.meet(&stranger, one) == Err(foreign) && good;
-    good = station.take(alloc, &frame, &mut stranger) == Err(foreign) && good;
-    good = station.collect(&mut stranger).is_err() && good;
-    match station.leave(alloc, stranger) {
-        Ok(()) => Ok(false),
+    let txn = TxnNo::new(1);
+    let none = PageSet::new(alloc, 4)?;
+    let ask = ask_read(hand, txn, PageNo::new(1));
+    let empty = commit(hand, txn, no_writes(alloc));
+    let mut good = station.meet(hand, two) == Err(foreign);
+    good = station.meet(two, hand) == Err(foreign) && good;
+    good = refused(alloc, station, hand, &ask, foreign) && good;
+    good = refused_commit(alloc, station, hand, &empty, &none, foreign) && good;
+    Ok(match station.collect(hand) {
+        Ok(_) => false,
+        Err(fault) => fault == foreign && good,
+    })
+}
+
+/// How a restart in that incarnation is answered, and the hand.
+pub(crate) fn restarted(
+    alloc: Global,
+    station: &mut Station,
+    hand: Hand,
+    incarnation: Incarnation,
+) -> (Result<(), OfficeFault>, Hand) {
+    match station.restart(alloc, hand, incarnation) {
+        Ok(hand) => (Ok(()), hand),
+        Err((fault, hand)) => (Err(fault), hand),
+    }
+}
+
+/// Whether each call refuses this hand, which isn't stored. It ends then.
+fn is_stranger(alloc: Global, station: &mut Station, hand: Hand, two: &Hand) -> bool {
+    let foreign = OfficeFault::Foreign;
+    let mut hand = hand;
+    let lent = lent_in_vain(alloc, station, &mut hand, two).unwrap_or(false);
+    let (next, hand) = restarted(alloc, station, hand, Incarnation::new(9));
+    match station.leave(alloc, hand) {
+        Ok(()) => false,
         Err((fault, hand)) => {
             hand.abandon();
-            Ok(fault == foreign && good)
+            fault == foreign && next == Err(foreign) && lent
         }
     }
 }
 
-/// All of them, with the hand of another station.
-fn all_refused(alloc: Global, station: &mut Station, other: &mut Station) -> bool {
-    let Ok(mut one) = station.join(alloc, ClientNo::new(0)) else {
+/// A hand of another station is none of this one's, whose client holds something; nor is one as it
+/// was before a restart.
+fn strangers(alloc: Global, station: &mut Station, other: &mut Station, two: &Hand) -> bool {
+    let Ok(stranger) = other.join(alloc, ClientNo::new(0)) else {
         return false;
     };
-    let Ok(mut two) = station.join(alloc, ClientNo::new(1)) else {
-        one.abandon();
+    let mut good = other.meet(&stranger, two) == Err(OfficeFault::Foreign);
+    good = is_stranger(alloc, station, stranger, two) && good;
+    restarts(alloc, station, two) && good
+}
+
+/// The third client's hand begins another incarnation; one like that before is a stranger then.
+fn restarts(alloc: Global, station: &mut Station, two: &Hand) -> bool {
+    let client = ClientNo::new(2);
+    let Ok(hand) = station.join(alloc, client) else {
+        return false;
+    };
+    let Ok(before) = Hand::new(alloc, client, hand.incarnation(), 4) else {
+        hand.abandon();
+        return false;
+    };
+    let mut good = station.meet(&before, two) == Ok(());
+    let (next, hand) = restarted(alloc, station, hand, Incarnation::new(2));
+    good = is_stranger(alloc, station, before, two) && good;
+    good = station.meet(&hand, two) == Ok(()) && good;
+    hand.abandon();
+    next == Ok(()) && good
+}
+
+/// All of them, with the hand of another station.
+fn all_refused(alloc: Global, station: &mut Station, other: &mut Station) -> bool {
+    let Some((mut one, mut two)) = two_join(alloc, station) else {
         return false;
     };
     let mut good = prepare(alloc, station, &mut one);
     good = foreign_frames(alloc, station, &mut one, &mut two).unwrap_or(false) && good;
     good = commits_not_held(alloc, station, &mut one).unwrap_or(false) && good;
-    good = strangers(alloc, station, other, &one).unwrap_or(false) && good;
+    good = strangers(alloc, station, other, &two) && good;
     good = other_calls(alloc, station, &mut one, &two).unwrap_or(false) && good;
     one.abandon();
     two.abandon();
