@@ -4,8 +4,8 @@
 #   scripts/sides.sh FILE..
 #
 # A FILE is a list of a client or of a server as docs/FORMATS.md says, packed by gzip where its name ends in .gz. For each it
-# prints how many lines were compared and how many differ; the status is 1 where one does, and 2 where the program isn't
-# proved or built. RT is the command, `rt` if it isn't set.
+# prints how many lines were compared and how many differ; the status is 1 where one does or a client's references aren't
+# those that its answers tell of, and 2 where the program isn't proved or built. RT is the command, `rt` if it isn't set.
 set -u
 top=$(cd "$(dirname "$0")/.." && pwd)
 program="$top/crates/cb_sides/out/cb_sides"
@@ -20,6 +20,9 @@ for file in "$@"; do
     *) cat "$file" >"$list" ;;
   esac || { bad=1; continue; }
   "$program" <"$list" >"$answers"
+  ! grep '^references differ' "$answers" || bad=1
+  # What is said of references stands in no list that is handed in.
+  sed -i '/^references /d' "$answers"
   lines=$(wc -l <"$list")
   differ=$(paste -d '\t' "$list" "$answers" | awk -F '\t' '$1 "" != $2 ""' | wc -l)
   echo "$file: $lines lines compared, $differ differ"

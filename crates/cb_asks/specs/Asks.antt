@@ -61,7 +61,7 @@ pub record HasQueues (server : Server) (state : AsksState) : Type 0 where
   pub queues : (page : ℕ) → server.queue page ≡ queue_at state page
   pub pages : server.pages ≡ length state.queues
 
--- the queues are these; there are as many, and no less room
+-- the queues are these; there are as many
 pub record Has (before after : AsksState) (all_queues : ℕ → List WaitingAsk) : Type 0 where
   pub queues : (page : ℕ) → queue_at after page ≡ all_queues page
   pub pages : length after.queues ≡ length before.queues

@@ -1,7 +1,7 @@
 //! The queues of all pages.
 ghost use Rattle.std.specs.Prelude.{◌≡◌, ◌≢◌, ◌⊎◌, ℕ, ◌+◌, ◌<◌, ◌≤◌, [], length, None, Some};
 ghost use Rattle.std.specs.Prelude.{slice_get};
-ghost use Rattle.std.specs.Prelude.{slice_index_or, IfOk, IfSome, OnOk, MatchOption};
+ghost use Rattle.std.specs.Prelude.{slice_index_or, IfOk, IfSome, OnErr, OnOk, MatchOption};
 ghost use Rattle.std.specs.Option.{is_some, option_map};
 ghost use Rattle.cb_protocol.specs.Basics.{is_exactly};
 ghost use Rattle.cb_protocol.specs.Deadlock.{OneAsk, ask_count};
@@ -126,8 +126,9 @@ impl Asks {
 
     /// How many asks to read wait.
     pub fn read_asks(&self) -> usize
-        ensures { (server : Server) → HasQueues server self.now
+        ensures reads { (server : Server) → HasQueues server self.now
             → read_asks_below server server.pages ≡ result }
+        ensures few { result ≤ 32 }
     {
         self.places.reads()
     }
@@ -157,10 +158,13 @@ impl Asks {
 
     /// Makes room for one more ask at the page. Whether it is refused or not, nobody asks more or
     /// less.
+    ///
+    /// `AllocError` only where memory was refused, so never where nobody waits for the page.
     pub fn reserve(&mut self, page: PageNo) -> Result<(), AllocError>
         requires { HasPage self.old page }
         ensures reserves { Reserves self.old self.new }
         ensures ok { OnOk result (0 < room_at self.new page) }
+        ensures err { OnErr result (queue_at self.old page ≢ []) }
     {
         self.queues[page.index()].reserve()
     }

@@ -1,6 +1,6 @@
 //! The queue of a page.
-ghost use Rattle.std.specs.Prelude.{◌≡◌, ◌++◌, ◌∷◌, [], ◌<◌, ◌≤◌, ◌+◌, ℕ, length, OnOk};
-ghost use Rattle.std.specs.Prelude.{MatchOption};
+ghost use Rattle.std.specs.Prelude.{◌≡◌, ◌≢◌, ◌++◌, ◌∷◌, [], ◌<◌, ◌≤◌, ◌+◌, ℕ, length, OnErr};
+ghost use Rattle.std.specs.Prelude.{MatchOption, OnOk};
 ghost use Rattle.cb_clients.specs.Clients.{has};
 ghost use Rattle.cb_protocol.specs.Deadlock.{ask_count};
 ghost use Rattle.cb_protocol.specs.Server.{after_first, has_ask, set_called_back};
@@ -145,10 +145,13 @@ impl Queue {
     }
 
     /// Makes room for one more ask. Where nobody waits there is room.
+    ///
+    /// `AllocError` only where memory was refused, so never where nobody waits.
     pub(crate) fn reserve(&mut self) -> Result<(), AllocError>
         ensures asks { self.new.asks ≡ self.old.asks }
         ensures kept { self.old.room ≤ self.new.room }
         ensures ok { OnOk result (0 < self.new.room) }
+        ensures err { OnErr result (self.old.asks ≢ []) }
     {
         match &mut self.entries {
             Some(entries) => entries.reserve(1),

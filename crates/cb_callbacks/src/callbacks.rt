@@ -135,8 +135,9 @@ impl Callbacks {
 
     /// How many asks to read wait.
     pub fn read_asks(&self) -> usize
-        ensures { result ≡ read_asks_below (server_of self.now.tables)
+        ensures reads { result ≡ read_asks_below (server_of self.now.tables)
             (server_of self.now.tables).pages }
+        ensures few { result ≤ 32 }
     {
         self.tables.asks.read_asks()
     }

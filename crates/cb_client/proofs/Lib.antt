@@ -7,3 +7,4 @@ pub mod FramesFit
 pub mod Answering
 pub mod SayingAgain
 pub mod Ending
+pub mod Room

@@ -1,5 +1,6 @@
 -- What a client does at a frame.
-use Rattle.std.specs.Prelude.{◌≡◌, ◌==◌, ◌≤◌, ℕ, Bool, true, false, ◌&&◌, List, [], length, take}
+use Rattle.std.specs.Prelude.{if◌then◌else◌, ◌≡◌, ◌==◌, ◌<◌, ◌≤◌, ℕ, Bool, true, false, ◌&&◌, List}
+use Rattle.std.specs.Prelude.{[], length, take}
 use Rattle.cb_page.specs.Bounds.{Bounds}
 use Rattle.cb_page.specs.Faults.{first_fault}
 use Rattle.cb_frame.specs.Checks.{causes, fault_in_bytes}
@@ -11,6 +12,7 @@ use Rattle.cb_outbox.specs.Messages.{body_of}
 use Rattle.cb_protocol.specs.Messages.{Message}
 use Rattle.cb_client.specs.ByTable.{Takes}
 use Rattle.cb_client_engine.specs.ClientState.{ClientState}
+use Rattle.cb_client_engine.specs.Room.{room_at}
 use Rattle.cb_client.specs.declared.client_fault.ClientFault.{ClientFault}
 use Rattle.cb_client.specs.declared.client_fault.ClientFault.TheVariants as faults
 
@@ -25,6 +27,11 @@ pub record TakesFrame (old : ClientState) (frame : Frame) (messages : List Messa
   pub ignored : is_for old frame ≡ false → messages ≡ []
   pub unchanged : is_for old frame ≡ false → new ≡ old
 
+-- how many frames it makes room for at a frame
+abbrev pub room_to_take : ClientState → Frame → ℕ
+room_to_take client frame =
+    if is_for client frame then room_at client (body_of frame.body) else 0
+
 -- the first of the bytes, as many as that, are the frame as it is decoded
 pub record BeginWith (limits : Bounds) (bytes : List ℕ) (frame : Frame) (used : ℕ) : Type 0 where
   pub within : used ≤ length bytes
@@ -37,15 +44,18 @@ pub record TakesBytes (old : ClientState) (bytes : List ℕ) (used : ℕ) (messa
   pub begin : BeginWith old.copies.limits bytes frame used
   pub takes : TakesFrame old frame messages new
 
--- a growth was refused for the frame that the bytes begin with
-pub record LacksMemoryFor (limits : Bounds) (bytes : List ℕ) (found : ClientFault) : Type 0 where
+-- A growth was refused for the frame that the bytes begin with, which is for this client and needs
+-- room.
+pub record LacksMemoryFor (old : ClientState) (bytes : List ℕ) (found : ClientFault) : Type 0 where
   pub memory : found ≡ faults.Memory
   pub frame : Frame
   pub used : ℕ
-  pub begin : BeginWith limits bytes frame used
+  pub begin : BeginWith old.copies.limits bytes frame used
+  pub own : is_for old frame ≡ true
+  pub needed : 0 < room_at old (body_of frame.body)
 
 -- the bytes begin with no frame, for that cause; or a growth was refused for the frame
-abbrev pub IsBytesFault : Bounds → List ℕ → BytesFault ClientFault → Type 0
-IsBytesFault limits bytes (reading.Frame found) =
-    first_fault (causes limits bytes) ≡ fault_in_bytes found
-IsBytesFault limits bytes (reading.Taker found) = LacksMemoryFor limits bytes found
+abbrev pub IsBytesFault : (old : ClientState) → List ℕ → BytesFault ClientFault → Type 0
+IsBytesFault old bytes (reading.Frame found) =
+    first_fault (causes old.copies.limits bytes) ≡ fault_in_bytes found
+IsBytesFault old bytes (reading.Taker found) = LacksMemoryFor old bytes found

@@ -6,3 +6,4 @@ pub mod Granting
 pub mod Ending
 pub mod Frames
 pub mod Writing
+pub mod Room

@@ -47,6 +47,10 @@ no_more k from end le none =
     let gap : end ≡ from + (end - from) = omega arith in
     sym (ap (written_pages k) gap ∙ skips (end - from) k from (λ q a lt. none q a))
 
+-- of a transaction that wrote nothing no page is said
+pub none_written : (copies : CopiesState) (k : Client) (end : ℕ) → ((page : ℕ) → has copies.wrote page ≡ false) → length (written_pages (client_with copies k) end) ≡ 0
+none_written copies k end none = ap length (sym (no_more (client_with copies k) 0 end (omega arith) (λ q le. none q)))
+
 -- each of them is counted
 pub one_write : (copies : CopiesState) → AreCopies copies → (k : Client) (page : ℕ) → has copies.wrote page ≡ true
     → length (written_page (client_with copies k) page (copy_at copies page).held (content_at copies page)) ≡ 1

@@ -3,3 +3,4 @@ pub mod ClientState
 pub mod Parts
 pub mod ByTable
 pub mod GrantCases
+pub mod Room

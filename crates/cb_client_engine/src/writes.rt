@@ -1,5 +1,5 @@
 //! What a commit says of the pages that the transaction wrote.
-ghost use Rattle.std.specs.Prelude.{◌≡◌, true, [], ◌∷◌, length, IfOk};
+ghost use Rattle.std.specs.Prelude.{◌≡◌, ℕ, true, false, [], ◌∷◌, length, IfOk, IsOk};
 ghost use Rattle.cb_copies.specs.CopiesState.{AreCopies, client_with};
 ghost use Rattle.cb_outbox.specs.Messages.{page_write, page_writes};
 ghost use Rattle.cb_page.specs.Flags.{has};
@@ -13,10 +13,12 @@ use cb_twoq::Chooser;
 use std::alloc::{AllocError, Global};
 
 /// What a commit says of the pages that the transaction wrote, rising. Room for all of them is made
-/// before the first is copied. `AllocError` only where memory for them was refused.
+/// before the first is copied. `AllocError` only where memory for them was refused, so never where
+/// it wrote nothing.
 pub fn written_so_far<Q: Chooser>(alloc: Global, copies: &Copies<Q>) -> Result<Writes, AllocError>
-    ensures { IfOk result (λ writes. (client : TableClient) → page_writes writes
+    ensures said { IfOk result (λ writes. (client : TableClient) → page_writes writes
         ≡ written_pages (client_with copies.now client) copies.now.limits.pages) }
+    ensures nothing { ((page : ℕ) → has copies.now.wrote page ≡ false) → IsOk result }
 {
     let mut writes = Vec::with_capacity(alloc, count_written(copies))?;
     let mut from = 0;

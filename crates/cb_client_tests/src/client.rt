@@ -1,4 +1,4 @@
-ghost use Rattle.std.specs.Prelude.{◌<◌, ◌≤◌};
+ghost use Rattle.std.specs.Prelude.{◌≡◌, ◌<◌, ◌≤◌, []};
 
 use cb_client::{Client, ClientFault, ReadAnswer};
 use cb_frame::{Body, Frame, ShortBody, encode};
@@ -8,7 +8,9 @@ use cb_twoq::{Chooser, PlainTwoQ, TwoQ};
 use std::alloc::Global;
 
 /// A frame for client 0 at incarnation 1.
-fn frame(body: Body) -> Frame {
+pub(crate) fn frame(body: Body) -> Frame
+    ensures { result ≡ record { client = 0; incarnation = 1; body = body } }
+{
     Frame {
         client: ClientNo::new(0),
         incarnation: Incarnation::new(1),
@@ -16,13 +18,13 @@ fn frame(body: Body) -> Frame {
     }
 }
 
-/// Client 0 at incarnation 1 over a new chooser; None where memory is refused.
-fn new_client<Q: Chooser>(alloc: Global, limits: &Limits) -> Option<Client<Q>> {
+/// Client 0 at incarnation 1 over this chooser; None where memory is refused.
+fn client_over<Q: Chooser>(alloc: Global, limits: &Limits, chooser: Q) -> Option<Client<Q>>
+    requires members { Q.members chooser ≡ [] }
+    requires slots { Q.slots chooser ≡ limits.now.slots }
+{
     // There is one client at least: `clients` says so.
     let _in_range = limits.clients();
-    let Ok(chooser) = Q::make(alloc, limits) else {
-        return None;
-    };
     match Client::new(
         alloc,
         ClientNo::new(0),
@@ -35,8 +37,27 @@ fn new_client<Q: Chooser>(alloc: Global, limits: &Limits) -> Option<Client<Q>> {
     }
 }
 
+/// The same over a new chooser.
+pub(crate) fn new_client<Q: Chooser>(alloc: Global, limits: &Limits) -> Option<Client<Q>> {
+    match Q::make(alloc, limits) {
+        Ok(chooser) => client_over(alloc, limits, chooser),
+        Err(_) => None,
+    }
+}
+
+/// The same over one that keeps the list of its calls, and has one on it.
+fn recorded<Q: Chooser>(alloc: Global, limits: &Limits) -> Option<Client<Recorder<Q>>> {
+    match Recorder::<Q>::make(alloc, limits) {
+        Ok(mut recorder) => {
+            recorder.note(Called::Reference(PageNo::new(7)));
+            client_over(alloc, limits, recorder)
+        }
+        Err(_) => None,
+    }
+}
+
 /// What the client says to that frame; nothing where it doesn't fit, or memory is refused.
-fn taken<Q: Chooser>(alloc: Global, client: &mut Client<Q>, body: Body) -> Vec<Frame> {
+pub(crate) fn taken<Q: Chooser>(alloc: Global, client: &mut Client<Q>, body: Body) -> Vec<Frame> {
     let frame = frame(body);
     if !frame.fits(client.limits()) {
         return Vec::new(alloc);
@@ -58,7 +79,7 @@ fn says<Q: Chooser>(
 }
 
 /// Whether the frames have these bodies, one after another.
-fn are(frames: &[Frame], bodies: &[ShortBody]) -> bool {
+pub(crate) fn are(frames: &[Frame], bodies: &[ShortBody]) -> bool {
     frames.len() == bodies.len()
         && frames
             .iter()
@@ -167,11 +188,12 @@ fn reads_of_the_next<Q: Chooser>(alloc: Global, client: &mut Client<Q>) -> bool 
         )
 }
 
-/// Whether the chooser was called for these, in order.
+/// Whether the chooser that was handed in was called for these, in order.
 fn refers_as_wanted<Q: Chooser>(alloc: Global, client: &mut Client<Recorder<Q>>) -> bool {
     let (low, high, last) = (PageNo::new(0), PageNo::new(3), PageNo::new(2));
     let played = reads_of_one_transaction(alloc, client) && reads_of_the_next(alloc, client);
     let calls = [
+        Called::Reference(PageNo::new(7)),
         Called::Reference(low),
         Called::Reference(low),
         Called::Reference(low),
@@ -186,7 +208,7 @@ fn refers_as_wanted<Q: Chooser>(alloc: Global, client: &mut Client<Recorder<Q>>)
 
 /// The same of a new client.
 fn new_one_refers<Q: Chooser>(alloc: Global, limits: &Limits) -> bool {
-    match new_client::<Recorder<Q>>(alloc, limits) {
+    match recorded::<Q>(alloc, limits) {
         Some(mut client) => refers_as_wanted(alloc, &mut client),
         None => false,
     }
@@ -433,6 +455,32 @@ fn new_one_has_memory<Q: Chooser>(alloc: Global, limits: &Limits) -> bool {
 fn greatest_client(rt: HostRuntime) -> anyhow::Result<()> {
     let limits = Limits::new(32, 4096, 4096, 1024, 256, 512)?;
     assert!(rt; new_one_has_memory::<TwoQ>(rt.alloc(), &limits));
+    Ok(())
+}
+
+/// The texts of the faults, by their numbers.
+const TEXTS: [(ClientFault, &str); 13] = [
+    (ClientFault::NotWelcome, "1 NotWelcome"),
+    (ClientFault::NoTransaction, "2 NoTransaction"),
+    (ClientFault::TransactionOpen, "3 TransactionOpen"),
+    (ClientFault::Committing, "4 Committing"),
+    (ClientFault::Waiting, "5 Waiting"),
+    (ClientFault::PageRange, "6 PageRange"),
+    (ClientFault::NotRead, "7 NotRead"),
+    (ClientFault::NotHere, "8 NotHere"),
+    (ClientFault::NotWritable, "9 NotWritable"),
+    (ClientFault::WrongLength, "10 WrongLength"),
+    (ClientFault::PoolFull, "11 PoolFull"),
+    (ClientFault::Exhausted, "12 Exhausted"),
+    (ClientFault::Memory, "13 Memory"),
+];
+
+#[test]
+fn texts_of_client_faults(rt: HostRuntime) -> anyhow::Result<()> {
+    for (fault, text) in TEXTS {
+        let printed = format!(in rt.alloc(); "{fault}")?;
+        assert_eq!(rt; printed.as_str(), text);
+    }
     Ok(())
 }
 

@@ -133,11 +133,12 @@ impl Commits {
     /// What is to be written to disk next: each page that a commit changed which isn't on disk yet,
     /// as it is now; `None` where every commit is on disk. It costs no more than those pages.
     ///
-    /// `AllocError` only where memory was refused.
+    /// `AllocError` only where memory was refused, so never where there is nothing to write.
     pub fn batch(&self, alloc: Global) -> Result<Option<Batch>, AllocError>
         ensures batch { IfOk result (λ batch. batch ≡ next_batch self.now) }
         ensures catches_up { IfOk result (λ batch. IfSome batch (CatchesUp self.now)) }
         ensures can_flush { IfOk result (λ batch. IfSome batch (λ b. CanFlush self.now b.number)) }
+        ensures err { OnErr result (self.now.flushed < self.now.store.number) }
     {
         if self.flushed == self.store.number() {
             return Ok(None);

@@ -1,6 +1,7 @@
 -- What a run of the program is: which events are played, what is printed of them, and the status.
 -- This project's rules.
-use Rattle.std.specs.Prelude.{◌≡◌, ◌≢◌, ◌⊎◌, ℕ, Bool, true, false, Option, Some, None, option_map}
+use Rattle.std.specs.Prelude.{◌≡◌, ◌≢◌, ◌<◌, ◌⊎◌, ℕ, Bool, true, false, Option, Some, None}
+use Rattle.std.specs.Prelude.{option_map}
 use Rattle.std.specs.Prelude.{Result, Ok, Err, IfSome, List, [], ◌∷◌, ◌++◌, length, take, codes}
 use Rattle.std.specs.Io.KnownBytes.{Appends}
 use Rattle.cb_page.specs.Bounds.{Bounds}
@@ -40,18 +41,20 @@ pub record Tells (config_bytes schedule_bytes : List ℕ) (chosen : List Event �
   pub is_schedule : text.IsSchedule settings.limits schedule_bytes events
   pub plays : PlaysFromZeros settings.limits (chosen events) transcript
 
--- what became of events: they were played to the end, or the first ones up to want of memory
+-- what became of events: they were played to the end, or the first ones up to want of memory, but
+-- not all
 abbrev pub IsPlayOf : Bounds → List Event → Play → Type 0
 IsPlayOf bounds events (play.Whole transcript) = PlaysFromZeros bounds events transcript
 IsPlayOf bounds events (play.Part transcript) =
-    (n : ℕ) × PlaysFromZeros bounds (take n events) transcript
+    (n : ℕ) × (n < length events) × PlaysFromZeros bounds (take n events) transcript
 
 -- the same of a schedule's text
 abbrev pub IsPlay : List ℕ → List ℕ → Play → Type 0
 IsPlay config_bytes schedule_bytes (play.Whole transcript) =
     Tells config_bytes schedule_bytes (λ events. events) transcript
 IsPlay config_bytes schedule_bytes (play.Part transcript) =
-    (n : ℕ) × Tells config_bytes schedule_bytes (take n) transcript
+    (n : ℕ) × (tells : Tells config_bytes schedule_bytes (take n) transcript)
+    × (n < length tells.events)
 
 -- want of memory in a reader is want of memory; any other fault is kept
 abbrev pub BecomesOfConfig : ConfigFault → ReadFault → Type 0

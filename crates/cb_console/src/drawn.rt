@@ -140,7 +140,7 @@ fn first_byte(bytes: &[u8]) -> u8
     }
 }
 
-/// The law of what is printed of an event: it is one line, which means the event.
+/// The law of what is printed of an event: it is one line, which means the event and has no fault.
 fn line_law()
     ensures { LinesMeanEvents }
 {}

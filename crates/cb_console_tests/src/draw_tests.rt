@@ -20,7 +20,7 @@ fn drawn(alloc: Global, config: &str, seed: u64, count: usize) -> Option<Vec<u8>
 
 /// Whether the schedule of a seed plays to its end, and is serial.
 fn plays_serially(alloc: Global, config: &str, seed: u64) -> Option<bool> {
-    let schedule = drawn(alloc, config, seed, 300)?;
+    let schedule = drawn(alloc, config, seed, 2_000)?;
     let mut out = Vec::new(alloc);
     let mut err = Vec::new(alloc);
     let status = play_to(

@@ -1,5 +1,5 @@
 ghost use Rattle.std.specs.Prelude.{◌≡◌, ℕ, ◌<◌, ◌≤◌, ◌↔◌, ◌||◌, [], ◌∷◌, length, true, false};
-ghost use Rattle.std.specs.Prelude.{Some, None, Err, IfOk, OnErr, IsTrue, MatchOption};
+ghost use Rattle.std.specs.Prelude.{Some, None, Ok, Err, IfOk, OnErr, IsTrue, MatchOption};
 ghost use Rattle.std.specs.Borrow.{sem};
 ghost use Rattle.std.specs.Option.{is_some, option_copied};
 ghost use Rattle.cb_page.specs.Bounds.{AreInRange};
@@ -205,6 +205,7 @@ impl<Q: Chooser> Copies<Q> {
             BringsIn self.old page (ChangeCache (Install page grant version bytes)) gone self.new) }
         ensures full { (result ≡ Err PoolFault.Full)
             ↔ ((content_at self.old page ≡ None) × IsFull self.old) }
+        ensures here { is_some (content_at self.old page) ≡ true → result ≡ Ok None }
         ensures err { OnErr result (self.new ≡ self.old) }
         ensures limits { self.new.limits ≡ self.old.limits }
     {
@@ -231,6 +232,7 @@ impl<Q: Chooser> Copies<Q> {
             → BringsIn self.old page (ChangeCache (Fill page grant bytes)) gone self.new) }
         ensures full { (result ≡ Err PoolFault.Full)
             ↔ ((content_at self.old page ≡ None) × IsFull self.old) }
+        ensures here { is_some (content_at self.old page) ≡ true → result ≡ Ok None }
         ensures err { OnErr result (self.new ≡ self.old) }
         ensures limits { self.new.limits ≡ self.old.limits }
     {

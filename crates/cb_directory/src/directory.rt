@@ -171,7 +171,8 @@ impl Directory {
         }
     }
 
-    /// All rows and permissions of the client go. It costs as many steps as there are of them.
+    /// All rows and permissions of the client go. It costs a step for each of them, and two for
+    /// each 64 pages.
     pub fn forget_client(&mut self, client: ClientNo)
         requires { HasClient self.old client }
         ensures { Forgets self.old client self.new }

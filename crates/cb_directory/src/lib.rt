@@ -6,8 +6,9 @@
 //! was given, are this project's.
 //!
 //! The directory rule is the type's invariant: a page with a write holder has rows of no other
-//! client, and a client has one row a page at most. The calls that read hand it out. An example
-//! that is run as a test is `rows_and_permissions` in `cb_server_tests`.
+//! client, and a client has one row a page at most. The calls that read hand it out, but for
+//! [`Directory::tag`]. An example that is run as a test is `rows_and_permissions` in
+//! `cb_server_tests`.
 #![tactic(auto)]
 
 mod directory;

@@ -17,6 +17,7 @@ use Rattle.cb_locks.specs.Dues.{bit, called_by, copy_first, is_due}
 use Rattle.cb_locks.specs.Locks.{LocksState, callback, callback_by, due_at, owed_at}
 use Rattle.cb_ending.specs.Owing.{downgrade_of, holder}
 use Rattle.cb_ending.specs.Ending.{page_steps}
+use Rattle.cb_ending.specs.Room.{answers}
 
 -- at most one message
 at_most_one : (k : Client) (d : Bool) (p : ℕ) (r : Option ℕ) → length (bodies_said (end_page k d p r)) ≤ 1
@@ -51,16 +52,20 @@ bare None t = refl
 bare (Some bytes) t = absurd (true≢false (sym t))
 
 -- the tests of the code
-pub says_at_most : (v : CopiesState) (l : LocksState) (p : ℕ) (d due goes : Bool) → is_due (due_at l p) ≡ due → goes ≡ (d && has v.wrote p || not (is_some (content_at v p)))
+pub says_at_most : (v : CopiesState) (l : LocksState) (p : ℕ) (d due goes : Bool) → answers l d p ≡ due → goes ≡ (d && has v.wrote p || not (is_some (content_at v p)))
     → length (bodies_said (page_steps v l d p)) ≤ bit (due || goes)
 says_at_most v l p d true goes e f = at_most_one (holder v l) d p (copy_at v p).held
 says_at_most v l p d false true e f = at_most_one (holder v l) d p (copy_at v p).held
 says_at_most v l p d false false e f =
-    let s : page_steps v l d p ≡ [] = silent (holder v l) d p (copy_at v p).held (grind arith) (none (due_at l p) e) (λ _. down (due_at l p) e) (λ _. here (content_at v p) (grind arith)) in
+    let s : page_steps v l d p ≡ [] = silent (holder v l) d p (copy_at v p).held (grind arith) (copy d e) (λ k. down (due_at l p) (subst (λ (x : Bool). answers l x p ≡ false) k e)) (λ _. here (content_at v p) (grind arith)) in
     rw s (omega arith)
   where
     none : (x : PageDue) → is_due x ≡ false → is_some x.callback ≡ false
     none x i = grind (arith, common_steps)
+
+    copy : (x : Bool) → answers l x p ≡ false → is_some (due_at l p).callback ≡ false
+    copy true i = i
+    copy false i = none (due_at l p) i
 
     down : (x : PageDue) → is_due x ≡ false → downgrade_of x.downgrade ≡ None
     down x i = by x.downgrade refl

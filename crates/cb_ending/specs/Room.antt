@@ -1,15 +1,21 @@
 -- How many frames the end of a transaction may say of its pages.
-use Rattle.std.specs.Prelude.{◌+◌, ℕ, zero, suc, Bool, ◌&&◌, ◌||◌, not, map}
+use Rattle.std.specs.Prelude.{◌+◌, ℕ, zero, suc, Bool, true, false, ◌&&◌, ◌||◌, not}
 use Rattle.std.specs.Option.{is_some}
 use Rattle.cb_page.specs.Flags.{has}
 use Rattle.cb_copies.specs.CopiesState.{CopiesState, content_at}
 use Rattle.cb_locks.specs.Dues.{bit, is_due}
-use Rattle.cb_locks.specs.Locks.{LocksState}
+use Rattle.cb_locks.specs.Locks.{LocksState, due_at}
 
--- something is due of the page, or it is bare, or a transaction that is dropped wrote it
+-- something is due of the page that is answered at the end: a permission alone isn't where the
+-- transaction is dropped
+abbrev pub answers : LocksState → (dropped : Bool) → (page : ℕ) → Bool
+answers locks true page = is_some (due_at locks page).callback
+answers locks false page = is_due (due_at locks page)
+
+-- so is due of the page, or it is bare, or a transaction that is dropped wrote it
 abbrev pub speaks : CopiesState → LocksState → (dropped : Bool) → (page : ℕ) → Bool
 speaks copies locks dropped page =
-    has (map is_due locks.dues) page
+    answers locks dropped page
     || (dropped && has copies.wrote page || not (is_some (content_at copies page)))
 
 -- how many of the pages before `end` are locked and are so

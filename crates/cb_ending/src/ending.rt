@@ -1,6 +1,6 @@
 //! The end of a transaction, over all pages that it has locked.
 ghost use Rattle.std.specs.Prelude.{◌≡◌, ℕ, ◌+◌, ◌<◌, ◌≤◌, [], ◌∷◌, ◌++◌, false, true, length};
-ghost use Rattle.std.specs.Prelude.{IfOk, IfSome, OnErr, Some};
+ghost use Rattle.std.specs.Prelude.{IfOk, IfSome, IsOk, OnErr, Some};
 ghost use Rattle.std.specs.Vec.{vec_capacity, vec_len};
 ghost use Rattle.cb_page.specs.Flags.{has};
 ghost use Rattle.cb_protocol.specs.Cache.{Abandon, TakeDone};
@@ -44,6 +44,7 @@ fn most_frames<Q: Chooser>(copies: &Copies<Q>, locks: &ReadLocks, dropped: bool)
 
 /// How many it may say of a page.
 fn most_of<Q: Chooser>(copies: &Copies<Q>, locks: &ReadLocks, page: PageNo, dropped: bool) -> usize
+    requires { page < length locks.now.locked }
     ensures said { length (bodies_said (page_steps copies.now locks.now dropped page)) ≤ result }
     ensures value { result ≡ bit (speaks copies.now locks.now dropped page) }
     ensures most { result ≤ 1 }
@@ -95,6 +96,7 @@ fn end_pages<Q: Chooser>(
     ensures says { messages_of frames.new.items ≡ messages_of frames.old.items
         ++ all_sent_by locks.old (bodies_said
         (pages_steps copies.old locks.old dropped copies.old.limits.pages)) }
+    ensures capacity { vec_capacity frames.new ≡ vec_capacity frames.old }
     ensures locks { locks.new ≡ ended locks.old }
 {
     let mut from = 0;
@@ -120,6 +122,10 @@ pub fn commit_ends<Q: Chooser>(
         (EndTransaction outcome ∷ ChangeCache (TakeDone number) ∷ []) false
         frames.items copies.new locks.new) }
     ensures err { OnErr result ((copies.new ≡ copies.old) × (locks.new ≡ locks.old)) }
+    ensures room { IfOk result (λ frames. vec_capacity frames
+        ≡ room_below copies.old locks.old false copies.old.limits.pages) }
+    ensures none { room_below copies.old locks.old false copies.old.limits.pages ≡ 0
+        → IsOk result }
 {
     let most = most_frames(copies, locks, false);
     let mut frames = Vec::with_capacity(alloc, most)?;
@@ -146,6 +152,8 @@ pub fn drop_ends<Q: Chooser>(
         (EndTransaction outcome ∷ ChangeCache Abandon ∷ Say (short_of said.body) ∷ []) true
         frames.items copies.new locks.new) }
     ensures err { OnErr result ((copies.new ≡ copies.old) × (locks.new ≡ locks.old)) }
+    ensures room { IfOk result (λ frames. vec_capacity frames
+        ≡ room_below copies.old locks.old true copies.old.limits.pages + 1) }
 {
     let most = most_frames(copies, locks, true);
     let mut frames = Vec::with_capacity(alloc, most + 1)?;

@@ -11,7 +11,7 @@ ghost use Rattle.cb_copies.specs.CopiesState.{content_at, copy_at};
 ghost use Rattle.cb_locks.specs.Dues.{bit, called_by};
 ghost use Rattle.cb_locks.specs.Locks.{due_at, unlocked};
 ghost use Rattle.cb_ending.specs.Ending.{all_sent_by, page_steps};
-ghost use Rattle.cb_ending.specs.Room.{speaks};
+ghost use Rattle.cb_ending.specs.Room.{answers, speaks};
 
 use cb_copies::Copies;
 use cb_frame::Frame;
@@ -26,13 +26,27 @@ pub(crate) fn may_say<Q: Chooser>(
     page: PageNo,
     dropped: bool,
 ) -> bool
+    requires { page < length locks.now.locked }
     ensures value { result ≡ speaks copies.now locks.now dropped page }
     ensures said { length (bodies_said (page_steps copies.now locks.now dropped page))
         ≤ bit result }
 {
-    let due = locks.due().contains(page);
+    let due = answers(locks, page, dropped);
     let goes = goes(copies, page, dropped);
     due || goes
+}
+
+/// Whether something is due of the page that is answered at the end: where the transaction is
+/// dropped, the permission alone isn't.
+#[tactic(auto, using(cb_locks::proofs::Counted::flag_at))]
+fn answers(locks: &ReadLocks, page: PageNo, dropped: bool) -> bool
+    requires { page < length locks.now.locked }
+    ensures { result ≡ answers locks.now dropped page }
+{
+    if dropped {
+        return locks.is_copy_due(page);
+    }
+    locks.due().contains(page)
 }
 
 /// The page at the transaction's end. Answers the frame to say of it, if any.

@@ -45,18 +45,20 @@ within flags page is = by (nat_lt page (length flags)) refl
 -- the walk over the flags is one over the pages of which something is held
 pub next_held : (held : List (Option Held)) (flags : List Bool) (from : ℕ) (found : Option ℕ) → AreHeld flags held
     → MatchOption found ((k : ℕ) → from ≤ k → get_or flags k false ≡ false) (λ page. (from ≤ page) × (get_or flags page false ≡ true) × ((k : ℕ) → from ≤ k → k < page → get_or flags k false ≡ false))
-    → MatchOption found ((k : ℕ) → from ≤ k → get_or held k None ≡ None) (λ page. (from ≤ page) × (page < length held) × ((k : ℕ) → from ≤ k → k < page → get_or held k None ≡ None))
+    → MatchOption found ((k : ℕ) → from ≤ k → get_or held k None ≡ None)
+    (λ page. (from ≤ page) × (page < length held) × ((k : ℕ) → from ≤ k → k < page → get_or held k None ≡ None) × (is_some (get_or held page None) ≡ true))
 next_held held flags from found are next = by found next
   where
     none_at : (k : ℕ) → get_or flags k false ≡ false → get_or held k None ≡ None
     none_at k e = none_of _ (sym (ap (λ fs. get_or fs k false) are ∙ flag_at held k) ∙ e)
 
     by : (o : Option ℕ) → MatchOption o ((k : ℕ) → from ≤ k → get_or flags k false ≡ false) (λ page. (from ≤ page) × (get_or flags page false ≡ true) × ((k : ℕ) → from ≤ k → k < page → get_or flags k false ≡ false))
-        → MatchOption o ((k : ℕ) → from ≤ k → get_or held k None ≡ None) (λ page. (from ≤ page) × (page < length held) × ((k : ℕ) → from ≤ k → k < page → get_or held k None ≡ None))
+        → MatchOption o ((k : ℕ) → from ≤ k → get_or held k None ≡ None)
+        (λ page. (from ≤ page) × (page < length held) × ((k : ℕ) → from ≤ k → k < page → get_or held k None ≡ None) × (is_some (get_or held page None) ≡ true))
     by None none = λ k le. none_at k (none k le)
     by (Some page) some =
         let many = as_many flags held are in let lt = within flags page some.1 in
-        (some.0, omega (arith, many, lt), λ k le lt. none_at k (some.2 k le lt))
+        (some.0, omega (arith, many, lt), (λ k le lt. none_at k (some.2 k le lt)), sym (ap (λ fs. get_or fs page false) are ∙ flag_at held page) ∙ some.1)
 
 -- the pages of the first table before a place hold nothing now
 pub record Cleared (first now : List (Option Held)) (from : ℕ) : Type 0 where

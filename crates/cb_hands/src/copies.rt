@@ -1,6 +1,6 @@
 //! A table of what is held.
 ghost use Rattle.std.specs.Prelude.{◌≡◌, ℕ, ◌↔◌, ◌<◌, ◌≤◌, IsTrue, None, length, map, replicate};
-ghost use Rattle.std.specs.Prelude.{slice_set, IfOk, MatchOption};
+ghost use Rattle.std.specs.Prelude.{slice_set, true, IfOk, MatchOption};
 ghost use Rattle.std.specs.Option.{is_some};
 ghost use Rattle.cb_hands.specs.Hands.{held_at};
 
@@ -60,7 +60,8 @@ impl Copies {
         ensures { MatchOption result
             ((k : ℕ) → from ≤ k → held_at self.now k ≡ None)
             (λ page. (from ≤ page) × (page < length self.now)
-            × ((k : ℕ) → from ≤ k → k < page → held_at self.now k ≡ None)) }
+            × ((k : ℕ) → from ≤ k → k < page → held_at self.now k ≡ None)
+            × (is_some (held_at self.now page) ≡ true)) }
     {
         self.pages.next(from)
     }

@@ -13,8 +13,8 @@ use cb_page::{ClientNo, GrantNo, Incarnation, PageNo, TxnNo};
 /// alone, whose copy stays (Downgrade, of kept write permission).
 ///
 /// It can't be copied or let go. Its answer is the frame by which it is spent: `give_back`,
-/// `in_use`, or `give_down` for a permission alone. A permission that ended with its transaction's
-/// Drop needs none: `dropped`.
+/// `in_use`, or `give_down` for a permission alone. One of a permission alone can also be spent
+/// without a frame, by `dropped`.
 #[derive(Debug)]
 pub struct CallbackDue {
     pub(crate) client: ClientNo,
@@ -85,8 +85,9 @@ impl CallbackDue {
         self.say(body)
     }
 
-    /// A permission that is called back alone has ended with the Drop of the transaction that used
-    /// it: there is nothing to answer.
+    /// Spends a callback of a permission alone without a frame: for one that has ended with the
+    /// Drop of the transaction that used it, of which there is nothing to answer. That it has, the
+    /// caller knows; all that is asked for here is the tag.
     pub fn dropped(self)
         requires { IsSome self.tag }
     {

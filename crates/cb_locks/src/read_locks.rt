@@ -1,7 +1,8 @@
 //! The pages that a client's transaction reads.
 ghost use Rattle.std.specs.Prelude.{◌≡◌, ℕ, ◌+◌, ◌<◌, ◌≤◌, IsSome, Some, None, [], ◌++◌, true};
 ghost use Rattle.std.specs.Prelude.{false, length, map, count_by, option_to_list, reverse};
-ghost use Rattle.std.specs.Prelude.{slice_set, IfOk, IfSome, OnOk, OnErr};
+ghost use Rattle.std.specs.Prelude.{slice_set, IfOk, IfSome, IsOk, OnOk, OnErr};
+ghost use Rattle.std.specs.Option.{is_some};
 ghost use Rattle.std.specs.Vec.{vec_capacity, vec_len};
 ghost use Rattle.cb_page.specs.Flags.{has};
 ghost use Rattle.cb_locks.specs.Dues.{is_due, nothing_due};
@@ -131,6 +132,14 @@ impl ReadLocks {
         self.dues.pages()
     }
 
+    /// Whether the page's copy is due at the transaction's end, whatever is due of its permission.
+    pub fn is_copy_due(&self, page: PageNo) -> bool
+        requires { page < length self.now.locked }
+        ensures { result ≡ is_some (due_at self.now page).callback }
+    {
+        self.dues.at(page).callback.is_some()
+    }
+
     /// How many pages there are of which something is due.
     pub fn due_count(&self) -> usize
         ensures { result ≡ count_by is_due self.now.dues }
@@ -159,6 +168,9 @@ impl ReadLocks {
             reverse dues.items ≡ owed_below self.old (length self.old.locked)) }
         ensures ok { OnOk result (self.new ≡ ended self.old) }
         ensures err { OnErr result (self.new ≡ self.old) }
+        ensures room { IfOk result (λ dues.
+            vec_capacity dues ≡ count_by is_due self.old.dues) }
+        ensures none { count_by is_due self.old.dues ≡ 0 → IsOk result }
     {
         let mut handed = Vec::with_capacity(alloc, self.due_count())?;
         self.hand_out(&mut handed);
@@ -172,6 +184,7 @@ impl ReadLocks {
         requires empty { handed.old.items ≡ [] }
         requires room { count_by is_due self.old.dues ≤ vec_capacity handed.old }
         ensures handed { handed.new.items ≡ owed_below self.old (length self.old.locked) }
+        ensures capacity { vec_capacity handed.new ≡ vec_capacity handed.old }
         ensures state { self.new ≡ with_nothing_due self.old }
     {
         let mut from = 0;

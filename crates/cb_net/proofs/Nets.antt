@@ -1,7 +1,8 @@
 -- What each kind of event makes of the net.
-use Rattle.std.proofs.Common.{◌≡◌, ℕ, true, false, List, [], ◌++◌, Option, None, Some, length, map, refl, ap, sym, ◌∙◌, subst, Result, IfOk}
+use Rattle.std.proofs.Common.{◌≡◌, ◌≢◌, ◌<◌, ℕ, Bool, true, false, nat_le, nat_lt, ◌==◌, List, [], ◌∷◌, ◌++◌, Option, None, Some, length, map, refl, ap, sym, ◌∙◌, subst, arith, Result, IfOk}
 use Rattle.std.specs.Prelude.{slice_get}
 use Rattle.std.specs.List.{AllByRecursion}
+use Rattle.std.proofs.lemmas.Bool.Decides.{nat_tests}
 use Rattle.std.proofs.lemmas.List.{append-nil}
 use Rattle.std.proofs.lemmas.Result.{IfOk-weaker}
 use Rattle.cb_copies.specs.CopiesState.{limits_of}
@@ -15,30 +16,34 @@ use Rattle.cb_frame_types.specs.declared.frame.Frame.{Frame}
 use Rattle.cb_outbox.specs.Messages.{body_of, message_of, messages_of}
 use Rattle.cb_packets.specs.Packets.{IsFrameAt, PacketsState}
 use Rattle.cb_packets.specs.Wire.{AllSpell, Spells}
-use Rattle.cb_protocol.proofs.Cases.{step_again, step_flush_all, step_flush_to, step_take}
+use Rattle.cb_page.specs.Bounds.{Bounds}
+use Rattle.cb_protocol.proofs.Cases.{call_accepted, call_refused, step_again, step_call, step_call_no_client, step_flush_all, step_flush_to, step_restart, step_take}
 use Rattle.cb_protocol.specs.AnyMessages.{Input, ReachesDisk, SendsAgain, input_steps}
-use Rattle.cb_protocol.specs.Answers.{AnswerWord, AnsweredOk, Flushed, NoPacket, Nothing, ServerExhausted, Taken}
-use Rattle.cb_protocol.specs.Basics.{Limits}
+use Rattle.cb_protocol.specs.Answers.{AnswerWord, AnsweredOk, ClientFault, Flushed, NoPacket, Nothing, ServerExhausted, Taken}
+use Rattle.cb_protocol.specs.Basics.{Bytes, Limits, max_number}
 use Rattle.cb_protocol.specs.ClientMessages.{ChoiceAllowed}
 use Rattle.cb_protocol.specs.Flush.{can_flush}
 use Rattle.cb_protocol.specs.Messages.{Granted, Message, to_server}
 use Rattle.cb_protocol.specs.Server.{Server, server_after}
 use Rattle.cb_protocol.specs.ServerMessages.{is_exhausted, server_take}
 use Rattle.cb_protocol.specs.Client.{Client}
+use Rattle.cb_protocol.specs.ClientCalls.{Call, CallAgain, CallBegin, CallDrop, CallFinish, CallHello, CallPeek, CallRead, CallWant, CallWrite, Reply, accept_call, call_fault, peek_word, read_page, want_page}
 use Rattle.cb_protocol.specs.WaitsFor.{on_cycle}
-use Rattle.cb_protocol.specs.World.{Event, EventChoiceAllowed, FlushAll, FlushTo, MessageChoiceAllowed, ServerAgain, TakePacket, World, answer_only, answer_with, deliver, flush_up_to, messages_sent, packet_at, server_does, step, take_packet}
+use Rattle.cb_protocol.specs.Serial.{Operation}
+use Rattle.cb_protocol.specs.World.{SentPacket as Packet}
+use Rattle.cb_protocol.specs.World.{ClientCalls, Event, EventChoiceAllowed, FlushAll, FlushTo, MessageChoiceAllowed, Restart, ServerAgain, StepResult, TakePacket, World, answer_only, answer_with, client_does, deliver, flush_up_to, messages_sent, numbered_from, packet_at, server_does, step, take_packet}
 use Rattle.cb_holdings.specs.Holdings.{HoldingsState}
 use Rattle.cb_server.specs.ServerState.{IsUnchanged, ServerState, commits_of, server_of}
 use Rattle.cb_server.specs.Taking.{Does, Takes}
 use Rattle.cb_sites.specs.ByWorld.{Answers, Delivers}
 use Rattle.cb_sites.specs.SitesState as sites
-use Rattle.cb_sites.specs.SitesState.{SitesState}
+use Rattle.cb_sites.specs.SitesState.{SitesState, client_at}
 use Rattle.cb_transcript.specs.ProtocolEvents.{sent_of, word_of}
 use Rattle.cb_transcript.specs.declared.answer.Answer.{Answer}
 use Rattle.cb_transcript.specs.declared.answer.AnswerWord.{AnswerWord as Word}
 use Rattle.cb_transcript.specs.declared.answer.SentPacket.{SentPacket}
 use Rattle.cb_net.proofs.Packing.{SpelledAt, all_spell, frames_spell, frames_spelled, numbered, sent_length, spelled_at}
-use Rattle.cb_net.specs.NetMoves.{Adds, FlushesTo, NetBecomes, Sends, sending, sent_as}
+use Rattle.cb_net.specs.NetMoves.{Adds, FlushesTo, IsAccepted, NetBecomes, Sends, is_refusal_word, sending, sent_as}
 use Rattle.cb_net.specs.NetState.{IsNet, NetState, RepresentsNet}
 
 -- nothing was sent
@@ -335,3 +340,133 @@ unchanged_becomes n v e a same b = record {
         record { server = by.6.server ∙ sym same.server; sites = record { clients = by.6.sites.clients; incarnations = by.6.sites.incarnations }; packets = by.6.packets },
       );
 }
+
+-- the answer is no refusal
+abbrev Accepts : StepResult → Type 0
+Accepts r = is_refusal_word r.answer.word ≡ false
+
+not_both : true ≡ false → ⊥
+not_both e = cc
+
+-- an accepted call is answered by no refusal
+read_word : (k : Client) (page : ℕ) (content : Option Bytes) → is_refusal_word (read_page k page content).word ≡ false
+read_word k page None = refl
+read_word k page (Some bytes) = refl
+
+want_word : (k : Client) (page : ℕ) (may : Bool) → k.cache.may_write page ≡ may → is_refusal_word (want_page k page).word ≡ false
+want_word k page true e = rw e refl
+want_word k page false e = rw e refl
+
+peeked_word : (content : Option Bytes) → is_refusal_word (peek_word content) ≡ false
+peeked_word None = refl
+peeked_word (Some bytes) = refl
+
+accepted_word : (L : Limits) (k : Client) (call : Call) → is_refusal_word (accept_call L k call).word ≡ false
+accepted_word L k CallHello = refl
+accepted_word L k CallBegin = refl
+accepted_word L k (CallRead page) = read_word k page (k.cache.content page)
+accepted_word L k (CallWant page) = want_word k page (k.cache.may_write page) refl
+accepted_word L k (CallWrite page bytes) = refl
+accepted_word L k CallFinish = refl
+accepted_word L k CallDrop = refl
+accepted_word L k CallAgain = refl
+accepted_word L k (CallPeek page) = peeked_word (k.cache.content page)
+
+accepted_step : (L : Limits) (w : World) (c : ℕ) (call : Call) (let_go : Option ℕ) → c < L.clients → call_fault L (w.client c) call ≡ None → Accepts (step L on_cycle w (ClientCalls c call) let_go)
+accepted_step L w c call let_go h e =
+    ap (λ (r : StepResult). is_refusal_word r.answer.word) (step_call L on_cycle w c call let_go h)
+    ∙ (ap (λ (r : Reply). is_refusal_word r.word) (call_accepted L (w.client c) call e) ∙ accepted_word L (w.client c) call)
+
+-- So a call that the table of its client accepts; `of` is the client, by what its transaction has done.
+pub accepts_call : (n : NetState) (c : ℕ) (call : Call) (limits : Bounds) (of : List Operation → Client) → ((operations : List Operation) → call_fault (limits_of limits) (of operations) call ≡ None) → limits ≡ n.sites.limits
+    → ((w : World) → RepresentsNet n w → w.client c ≡ of (w.client c).cache.operations) → c < n.sites.limits.clients → IsAccepted n (ClientCalls c call)
+accepts_call n c call limits of accepts l k h = λ w sh let_go.
+    let fault : call_fault (limits_of n.sites.limits) (w.client c) call ≡ None = (λ i. call_fault (limits_of (sym l i)) (k w sh i) call) ∙ accepts (w.client c).cache.operations in
+    accepted_step (limits_of n.sites.limits) w c call let_go h fault
+
+-- a refused call says nothing
+refused_is_silent : (L : Limits) (w : World) (c : ℕ) (call : Call) (let_go : Option ℕ) → (Accepts (step L on_cycle w (ClientCalls c call) let_go) → ⊥) → (step L on_cycle w (ClientCalls c call) let_go).answer.sent ≡ []
+refused_is_silent L w c call let_go refused = by (nat_lt c L.clients) refl
+  where
+    there : c < L.clients → (found : Option ClientFault) → call_fault L (w.client c) call ≡ found → (step L on_cycle w (ClientCalls c call) let_go).answer.sent ≡ []
+    there h None e = absurd (refused (accepted_step L w c call let_go h e))
+    there h (Some reason) e = ap (λ (r : StepResult). r.answer.sent) (step_call L on_cycle w c call let_go h)
+        ∙ ap (λ (r : Reply). (client_does L w (ClientCalls c call) c r.word r.steps).answer.sent) (call_refused L (w.client c) call reason e)
+
+    by : (x : Bool) → nat_lt c L.clients ≡ x → (step L on_cycle w (ClientCalls c call) let_go).answer.sent ≡ []
+    by true e =
+        let h : c < L.clients = grind (arith, nat_tests) in
+        there h (call_fault L (w.client c) call) refl
+    by false e = ap (λ (r : StepResult). r.answer.sent) (step_call_no_client L on_cycle w c call let_go e)
+
+not_nothing : (first : Packet) (more : List Packet) → first ∷ more ≡ [] → ⊥
+not_nothing first more e = cc
+
+some_sent : (place : ℕ) (frames : List Frame) → 0 < length frames → numbered_from place (messages_of frames) ≡ [] → ⊥
+some_sent place [] some e = omega (arith, some)
+some_sent place (f ∷ fs) some e = not_nothing _ _ e
+
+-- so a call at which frames are said was accepted
+pub said_by_accepted : (n : NetState) (c : ℕ) (call : Call) (word : AnswerWord) (frames : List Frame) (s : SitesState) → Answers n.sites (ClientCalls c call) word (messages_of frames) s → 0 < length frames → IsAccepted n (ClientCalls c call)
+said_by_accepted n c call word frames s answers some = λ w sh let_go.
+    by w sh let_go (is_refusal_word (step (limits_of n.sites.limits) on_cycle w (ClientCalls c call) let_go).answer.word) refl
+  where
+    by : (w : World) → RepresentsNet n w → (let_go : Option ℕ) → (x : Bool) → is_refusal_word (step (limits_of n.sites.limits) on_cycle w (ClientCalls c call) let_go).answer.word ≡ x
+        → is_refusal_word (step (limits_of n.sites.limits) on_cycle w (ClientCalls c call) let_go).answer.word ≡ false
+    by w sh let_go false e = e
+    by w sh let_go true e =
+        let made = answers.by_event w sh.sites let_go in
+        let none : (step (limits_of n.sites.limits) on_cycle w (ClientCalls c call) let_go).answer.sent ≡ []
+        = refused_is_silent (limits_of n.sites.limits) w c call let_go (λ accepts. not_both (sym e ∙ accepts)) in
+        absurd (some_sent (length w.packets) frames some (sym (ap (λ (r : StepResult). r.answer.sent) made.1) ∙ none))
+
+-- a client restarts that is there, and has an incarnation left
+pub accepts_restart : (n : NetState) (c : ℕ) → c < n.sites.limits.clients → (client_at n.sites c).incarnation < max_number → IsAccepted n (Restart c)
+accepts_restart n c h left = λ w sh let_go.
+    let fewer : w.incarnation c < max_number = subst (λ (i : ℕ). i < max_number) (sym (sh.sites.incarnations c h)) left in
+    ap (λ (r : StepResult). is_refusal_word r.answer.word) (step_restart (limits_of n.sites.limits) on_cycle w c let_go h) ∙ rw (below (w.incarnation c) fewer) refl
+  where
+    below : (i : ℕ) → i < max_number → nat_le max_number i ≡ false
+    below i less = grind (arith, nat_tests)
+
+-- a packet that is there is taken, or the server has no number left for it
+taken_word : (L : Limits) (w : World) (k : ℕ) (m : Message) (let_go : Option ℕ) (goes lacks same : Bool) → to_server m.body ≡ goes → is_exhausted w.server m.client m.incarnation m.body ≡ lacks
+    → (m.incarnation == w.incarnation m.client) ≡ same → Accepts (deliver L on_cycle w (TakePacket k) m let_go)
+taken_word L w k m let_go true true same a b c = rw (a, b) refl
+taken_word L w k m let_go true false same a b c = rw (a, b) refl
+taken_word L w k m let_go false lacks true a b c = rw (a, c) refl
+taken_word L w k m let_go false lacks false a b c = rw (a, c) refl
+
+pub accepts_take : (n : NetState) (k : ℕ) → slice_get n.packets.sent k ≢ None → IsAccepted n (TakePacket k)
+accepts_take n k there = λ w sh let_go.
+    ap (λ (r : StepResult). is_refusal_word r.answer.word) (step_take (limits_of n.sites.limits) on_cycle w k let_go)
+    ∙ by w let_go (slice_get n.packets.sent k) (packet_at w.packets k) there (spelled_at n.sites.limits n.packets.sent w.packets k sh.packets)
+  where
+    by : (w : World) (let_go : Option ℕ) (o : Option (List ℕ)) (m : Option Message) → o ≢ None → SpelledAt n.sites.limits o m → Accepts (take_packet (limits_of n.sites.limits) on_cycle w (TakePacket k) m let_go)
+    by w let_go None m some e = absurd (some refl)
+    by w let_go (Some bytes) None some e = absurd e
+    by w let_go (Some bytes) (Some m) some e = taken_word (limits_of n.sites.limits) w k m let_go (to_server m.body) (is_exhausted w.server m.client m.incarnation m.body) (m.incarnation == w.incarnation m.client) refl refl refl
+
+-- so a packet of which the frame is known
+pub accepts_frame : (n : NetState) (k : ℕ) (f : Frame) → IsFrameAt n.packets k f → IsAccepted n (TakePacket k)
+accepts_frame n k f at = accepts_take n k (λ none. apart at.bytes (sym at.is_sent ∙ none))
+  where
+    apart : (bytes : List ℕ) → Some bytes ≡ None → ⊥
+    apart bytes e = cc
+
+-- the server's own events
+flush_accepted : (w : World) (e : Event) (number : ℕ) (can : Bool) → can_flush w.server number ≡ can → Accepts (flush_up_to w e number)
+flush_accepted w e number true can = rw can refl
+flush_accepted w e number false can = rw can refl
+
+pub accepts_again : (n : NetState) → IsAccepted n ServerAgain
+accepts_again n = λ w sh let_go. ap (λ (r : StepResult). is_refusal_word r.answer.word) (step_again (limits_of n.sites.limits) on_cycle w let_go)
+
+pub accepts_flush : (n : NetState) → IsAccepted n FlushAll
+accepts_flush n = λ w sh let_go.
+    let last = w.server.store.last_commit in
+    ap (λ (r : StepResult). is_refusal_word r.answer.word) (step_flush_all (limits_of n.sites.limits) on_cycle w let_go) ∙ flush_accepted w FlushAll last (can_flush w.server last) refl
+
+pub accepts_flush_to : (n : NetState) (number : ℕ) → IsAccepted n (FlushTo number)
+accepts_flush_to n number = λ w sh let_go.
+    ap (λ (r : StepResult). is_refusal_word r.answer.word) (step_flush_to (limits_of n.sites.limits) on_cycle w number let_go) ∙ flush_accepted w (FlushTo number) number (can_flush w.server number) refl

@@ -1,12 +1,13 @@
 -- What an event makes of the net.
-use Rattle.std.specs.Prelude.{◌≡◌, ◌+◌, ◌++◌, ℕ, true, false, List, [], ◌∷◌, length, map, Option}
-use Rattle.std.specs.Prelude.{None, Some}
+use Rattle.std.specs.Prelude.{◌≡◌, ◌+◌, ◌++◌, ℕ, Bool, true, false, List, [], ◌∷◌, length, map}
+use Rattle.std.specs.Prelude.{Option, None, Some}
 use Rattle.std.specs.List.{AllByRecursion}
 use Rattle.cb_copies.specs.CopiesState.{limits_of}
 use Rattle.cb_frame_types.specs.Kinds.{kind_of_body}
 use Rattle.cb_frame_types.specs.Spelling.{spelling}
 use Rattle.cb_frame_types.specs.declared.frame.Frame.{Frame}
 use Rattle.cb_packets.specs.Packets.{IsSpelled}
+use Rattle.cb_protocol.specs.Answers.{AnswerWord, NoClient, NoPacket, Refused}
 use Rattle.cb_protocol.specs.Flush.{can_flush}
 use Rattle.cb_protocol.specs.Messages.{Message}
 use Rattle.cb_protocol.specs.WaitsFor.{on_cycle}
@@ -15,7 +16,7 @@ use Rattle.cb_protocol.specs.World.{numbered_from, step}
 use Rattle.cb_server.specs.ServerState.{commits_of, server_of}
 use Rattle.cb_transcript.specs.ProtocolEvents.{sent_of, word_of}
 use Rattle.cb_transcript.specs.declared.answer.Answer.{Answer}
-use Rattle.cb_transcript.specs.declared.answer.AnswerWord.{AnswerWord}
+use Rattle.cb_transcript.specs.declared.answer.AnswerWord.{AnswerWord as Word}
 use Rattle.cb_transcript.specs.declared.answer.SentPacket.{SentPacket}
 use Rattle.cb_net.specs.NetState.{NetState, RepresentsNet, limits_in}
 
@@ -41,7 +42,7 @@ pub record Adds (old : NetState) (count : ℕ) (new : NetState) : Type 0 where
   pub spelled : AllByRecursion (IsSpelled (limits_in old)) sent
 
 -- The frames were sent, in order, and the answer names them behind that word.
-pub record Sends (old : NetState) (said : AnswerWord) (frames : List Frame) (answer : Answer)
+pub record Sends (old : NetState) (said : Word) (frames : List Frame) (answer : Answer)
     (new : NetState) : Type 0 where
   pub word : answer.word ≡ said
   pub sent : answer.sent ≡ sent_as (length old.packets.sent) frames
@@ -62,6 +63,20 @@ pub record NetBecomes (old : NetState) (event : Event) (answer : Answer) (new : 
       ≡ answer_with world event (word_of answer.word) messages after)
       × (numbered_from (length old.packets.sent) messages ≡ map sent_of answer.sent)
       × RepresentsNet new (answer_with world event (word_of answer.word) messages after).world
+
+-- the word by which a client refuses a call, or that says that what the event names isn't there
+abbrev pub is_refusal_word : AnswerWord → Bool
+is_refusal_word (Refused reason) = true
+is_refusal_word NoClient = true
+is_refusal_word NoPacket = true
+is_refusal_word _ = false
+
+-- The protocol answers the event by no such word: so in whatever world of it the net is.
+abbrev pub IsAccepted : NetState → Event → Type 0
+IsAccepted net event = (world : World) → RepresentsNet net world → (let_go : Option ℕ)
+    → is_refusal_word
+    (step (limits_of (limits_in net)) on_cycle world event let_go).answer.word
+    ≡ false
 
 -- The event says that the commits up to that number are on disk: so in whatever world of the
 -- protocol the net is.

@@ -1,18 +1,21 @@
 //! What each event makes of the net.
-ghost use Rattle.std.specs.Prelude.{◌≡◌, ◌≤◌, ◌+◌, ℕ, false, true, [], IfOk, OnErr, length, take};
+ghost use Rattle.std.specs.Prelude.{◌≡◌, ◌<◌, ◌≤◌, ◌+◌, ℕ, false, true, [], IfOk, OnErr, length};
+ghost use Rattle.std.specs.Prelude.{take};
 ghost use Rattle.std.specs.List.{AllByRecursion};
 ghost use Rattle.cb_commit.specs.Stores.{IsOf};
 ghost use Rattle.cb_copies.specs.CopiesState.{limits_of};
 ghost use Rattle.cb_frame_types.specs.Grammar.{Fits};
 ghost use Rattle.cb_frame_types.specs.Kinds.{goes_to_server, kind_of_body};
 ghost use Rattle.cb_holdings.specs.Holdings.{opening_of};
-ghost use Rattle.cb_net.specs.NetMoves.{CanFlush, FlushesTo, NetBecomes, Sends, sent_as};
+ghost use Rattle.cb_net.specs.NetMoves.{CanFlush, FlushesTo, IsAccepted, NetBecomes, Sends};
+ghost use Rattle.cb_net.specs.NetMoves.{sent_as};
 ghost use Rattle.cb_net.specs.NetState.{RepresentsNet, limits_in};
 ghost use Rattle.cb_packets.specs.Packets.{IsFrameAt};
 ghost use Rattle.cb_protocol.specs.World.{Event as WorldEvent};
 ghost use Rattle.cb_protocol.specs.World.{ClientCalls, FlushAll, Restart as RestartEvent};
 ghost use Rattle.cb_protocol.specs.World.{ServerAgain, TakePacket, new_world};
 ghost use Rattle.cb_server.specs.ServerState.{commits_of};
+ghost use Rattle.cb_server.specs.Taking.{lacks_number_for};
 ghost use Rattle.cb_transcript.specs.ProtocolEvents.{call_of, event_of};
 
 use cb_commit::Store;
@@ -106,12 +109,14 @@ impl<Q: Chooser> Net<Q> {
         self.packets.keep(count);
     }
 
-    /// One event happens. `AllocError` only where memory was refused: no packet is sent then, but a
+    /// One event happens. `AllocError` only where memory was refused, and never in place of a
+    /// client's refusal, nor where there is no such client or packet: no packet is sent then, but a
     /// client may have changed.
     pub fn event(&mut self, alloc: Global, event: &Event) -> Result<Answer, AllocError>
         ensures ok { IfOk result (λ answer.
             NetBecomes self.old (event_of event.now) answer self.new) }
         ensures err { OnErr result (self.new.packets ≡ self.old.packets) }
+        ensures fails { OnErr result (IsAccepted self.old (event_of event.now)) }
     {
         match event {
             Event::Call { client, call } => self.call(alloc, *client, call),
@@ -128,7 +133,11 @@ impl<Q: Chooser> Net<Q> {
         ensures ok { IfOk result (λ answer.
             NetBecomes self.old (ClientCalls client (call_of call.now)) answer self.new) }
         ensures err { OnErr result (self.new.packets ≡ self.old.packets) }
+        ensures fails { OnErr result
+            (IsAccepted self.old (ClientCalls client (call_of call.now))) }
     {
+        // What holds of all clients, `limits` says.
+        let _limits = self.sites.limits();
         let reply = self.sites.call(alloc, client, call)?;
         self.answer(alloc, reply.word, reply.said.as_slice())
     }
@@ -138,6 +147,7 @@ impl<Q: Chooser> Net<Q> {
         ensures ok { IfOk result (λ answer.
             NetBecomes self.old (TakePacket packet) answer self.new) }
         ensures err { OnErr result (self.new.packets ≡ self.old.packets) }
+        ensures fails { OnErr result (IsAccepted self.old (TakePacket packet)) }
     {
         match self.packets.frame(alloc, packet)? {
             None => Ok(Answer::silent(alloc, AnswerWord::NoPacket)),
@@ -180,6 +190,7 @@ impl<Q: Chooser> Net<Q> {
         ensures ok { IfOk result (λ answer.
             NetBecomes self.old (TakePacket packet) answer self.new) }
         ensures err { OnErr result (self.new.packets ≡ self.old.packets) }
+        ensures fails { OnErr result (lacks_number_for self.old.server frame ≡ false) }
     {
         match self.server.take(alloc, frame) {
             Ok(said) => self.answer(alloc, AnswerWord::Taken, said.as_slice()),
@@ -193,6 +204,7 @@ impl<Q: Chooser> Net<Q> {
         ensures ok { IfOk result (λ answer.
             NetBecomes self.old (RestartEvent client) answer self.new) }
         ensures err { OnErr result (self.new.packets ≡ self.old.packets) }
+        ensures fails { OnErr result (IsAccepted self.old (RestartEvent client)) }
     {
         let word = self.sites.restart(alloc, client)?;
         Ok(Answer::silent(alloc, word))
@@ -257,6 +269,7 @@ impl<Q: Chooser> Net<Q> {
         requires { AllByRecursion (Fits (limits_in self.old)) frames.now }
         ensures ok { IfOk result (λ answer. Sends self.old word frames.now answer self.new) }
         ensures err { OnErr result (self.new.packets ≡ self.old.packets) }
+        ensures fails { OnErr result (0 < length frames.now) }
     {
         let first = self.packets.len();
         self.packets.send_all(alloc, frames)?;
@@ -274,8 +287,9 @@ impl<Q: Chooser> Net<Q> {
 /// only where memory was refused.
 fn numbered(alloc: Global, end: usize, frames: &[Frame]) -> Result<SentPackets, AllocError>
     requires { length frames.now ≤ end }
-    ensures { IfOk result (λ sent. (first : ℕ) → end ≡ first + length frames.now
+    ensures ok { IfOk result (λ sent. (first : ℕ) → end ≡ first + length frames.now
         → sent ≡ sent_as first frames.now) }
+    ensures fails { OnErr result (0 < length frames.now) }
 {
     let first = end - frames.len();
     let mut list = Vec::with_capacity(alloc, frames.len())?;

@@ -21,7 +21,7 @@ use Rattle.cb_holdings.specs.Holdings.{HoldingsState, limits_of, opening_of as o
 use Rattle.cb_joined.specs.Joined.{Follow, IsHeld, stored_at}
 use Rattle.cb_office.proofs.Following.{follow_length, has_place}
 use Rattle.cb_office.proofs.Keeping.{Step, commit_others_stored, commit_stored, follow_stored, goes_stored, new_stored, others_stored, own_stored_by, received_stored, told_stored}
-use Rattle.cb_office.proofs.Reached.{rules}
+use Rattle.cb_server.proofs.LawsKept.{rules_kept}
 use Rattle.cb_office.proofs.Stations.{Steps, all_permitted, commits_station, keeps_station, may_be_applied}
 use Rattle.cb_office.specs.Commits.{is_live}
 use Rattle.cb_office.specs.Moves.{IsEntryOf, MayWriteAll, collected, committed, ended_if_over, given_back, is_by, is_plain, is_stray, received_of}
@@ -64,7 +64,7 @@ new_station limits store station new arisen plain hands history = record {
 -- two stored hands
 pub meets : (station : StationState) (one other : HandState) → IsStation station → IsHeld station.hands one → IsHeld station.hands other → one.client ≢ other.client → Meet one other
 meets station one other is first second apart =
-    hands_meet (server_of station) one other (rules station.dispatcher.server is.arisen).0 (is.hand one.client one first).agrees (is.hand other.client other second).agrees apart
+    hands_meet (server_of station) one other (rules_kept station.dispatcher.server is.arisen).0 (is.hand one.client one first).agrees (is.hand other.client other second).agrees apart
 
 -- what is stored of each client once one entry was set
 set_stored : (P : ℕ → HandState → Type 0) (old new : List (Option HandState)) (client : ℕ) (entry : Option HandState) → new ≡ slice_set old client entry → client < length old

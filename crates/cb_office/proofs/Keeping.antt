@@ -16,7 +16,8 @@ use Rattle.cb_hands.specs.declared.grant.Held.{Held}
 use Rattle.cb_holdings.specs.Holdings.{opening_of}
 use Rattle.cb_joined.specs.Joined.{Follow, stored_at}
 use Rattle.cb_office.proofs.Onward.{Onward, goes_on}
-use Rattle.cb_office.proofs.Reached.{in_order, keeps_none, rules}
+use Rattle.cb_office.proofs.Reached.{in_order, keeps_none}
+use Rattle.cb_server.proofs.LawsKept.{rules_kept}
 use Rattle.cb_office.specs.Moves.{committed, ended_if_over, is_by, is_lasting, is_over, received, told}
 use Rattle.cb_office.specs.Stations.{IsStored}
 use Rattle.cb_outbox.specs.Messages.{page_writes}
@@ -47,7 +48,7 @@ pub record Step (before after : ServerState) : Type 0 where
   pub opening : (commits_of after).opening ≡ (commits_of before).opening
 
 pub ledgers : (before after : ServerState) → Step before after → Ledger (opening_at before) (server_of before) × Ledger (opening_at before) (server_of after)
-ledgers before after step = ((rules before step.arose).1, subst (λ (o : StoreState). Ledger (opening_of o) (server_of after)) step.opening (rules after step.arises).1)
+ledgers before after step = ((rules_kept before step.arose).1, subst (λ (o : StoreState). Ledger (opening_of o) (server_of after)) step.opening (rules_kept after step.arises).1)
 
 -- another client's hand, where no commit is applied
 pub others_stored : (before after : ServerState) (pages d : ℕ) (hand : HandState) → Step before after → (server_of after).commits ≡ (server_of before).commits
@@ -72,7 +73,7 @@ commit_others_stored before after pages d c i txn writes hand step applied holde
   current = keeps.incarnation ∙ is.current;
   flags = is.flags;
   size = is.size;
-  agrees = let l = ledgers before after step in commit_leaves_others (opening_at before) (server_of before) (server_of after) hand c i txn writes l.0 l.1 (rules before step.arose).0
+  agrees = let l = ledgers before after step in commit_leaves_others (opening_at before) (server_of before) (server_of after) hand c i txn writes l.0 l.1 (rules_kept before step.arose).0
       applied holders (λ e. apart (sym is.name ∙ e)) (subst (λ (k : ℕ). KeepsClient (server_of before) (server_of after) k) (sym is.name) keeps) is.agrees;
   lasts = λ t e. let l = is.lasts t e in (keeps.begun ∙ l.0, (let k = keeps.ended in let m = l.1 in omega (arith, k, m)));
   told = is.told;

@@ -1,5 +1,6 @@
 //! What is to be sent, in order.
 ghost use Rattle.std.specs.Prelude.{◌≡◌, ◌+◌, ◌++◌, ◌∷◌, ◌-◌, [], ◌<◌, ◌≤◌, ℕ, length, IfOk, OnOk};
+ghost use Rattle.std.specs.Prelude.{IsOk, max};
 ghost use Rattle.cb_outbox.specs.Messages.{messages_of, short_of};
 ghost use Rattle.cb_protocol.specs.Messages.{Granted};
 
@@ -52,6 +53,7 @@ impl Outbox {
     /// Nothing is sent, and there is no room. It takes no memory.
     pub fn new(alloc: Global, limits: &Limits) -> Outbox
         ensures sent { result.sent ≡ [] }
+        ensures spare { result.spare ≡ 0 }
         ensures page_size { result.page_size ≡ limits.now.page_size }
     {
         Outbox {
@@ -62,14 +64,20 @@ impl Outbox {
     }
 
     /// Room for so many frames more, and at least so many spare pages. Spare pages that no step
-    /// used are there the next time.
+    /// used are there the next time: no more are made than lack, so there are never more than the
+    /// most that were asked for at once.
     ///
-    /// `AllocError` only where memory was refused; what is sent is as before.
+    /// `AllocError` only where memory was refused, so never where that room and these pages are
+    /// there; what is sent is as before.
     pub fn reserve(&mut self, alloc: Global, frames: usize, copies: usize) -> Result<(), AllocError>
         ensures sent { self.new.sent ≡ self.old.sent }
         ensures page_size { self.new.page_size ≡ self.old.page_size }
         ensures room { OnOk result (length self.old.sent + frames ≤ self.new.room) }
         ensures spare { OnOk result (copies ≤ self.new.spare) }
+        ensures kept { self.old.spare ≤ self.new.spare }
+        ensures most { self.new.spare ≤ max self.old.spare copies }
+        ensures succeeds { length self.old.sent + frames ≤ self.old.room
+            → copies ≤ self.old.spare → IsOk result }
     {
         self.frames.reserve(frames)?;
         for _made in self.spare.len()..copies {

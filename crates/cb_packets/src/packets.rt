@@ -1,6 +1,6 @@
 //! The type, how a frame is sent, and how it is found again.
-ghost use Rattle.std.specs.Prelude.{◌≡◌, ℕ, [], ◌∷◌, ◌++◌, length, map, take};
-ghost use Rattle.std.specs.Prelude.{option_copied, slice_get, IfOk, OnErr, OnOk};
+ghost use Rattle.std.specs.Prelude.{◌≡◌, ◌≢◌, ◌<◌, ℕ, [], ◌∷◌, ◌++◌, length, map, take};
+ghost use Rattle.std.specs.Prelude.{option_copied, slice_get, IfOk, None, OnErr, OnOk};
 ghost use Rattle.std.specs.List.{AllByRecursion};
 ghost use Rattle.cb_frame_types.specs.Grammar.{Fits};
 ghost use Rattle.cb_frame_types.specs.Spelling.{spelling};
@@ -84,6 +84,7 @@ impl Packets {
         ensures ok { OnOk result (self.new
             ≡ record self.old { sent = self.old.sent ++ map spelling frames.now }) }
         ensures err { OnErr result (self.new ≡ self.old) }
+        ensures fails { OnErr result (0 < length frames.now) }
     {
         let before = self.len();
         let sent = self.send_each(alloc, frames);
@@ -100,6 +101,7 @@ impl Packets {
             ≡ record self.old { sent = self.old.sent ++ map spelling frames.now }) }
         ensures err { OnErr result ((n : ℕ) × (self.new
             ≡ record self.old { sent = self.old.sent ++ map spelling (take n frames.now) })) }
+        ensures fails { OnErr result (0 < length frames.now) }
     {
         for frame in frames {
             self.send(alloc, frame)?;
@@ -127,7 +129,8 @@ impl Packets {
     /// The frame of the packet of that number; `None` where it was not sent yet. `AllocError` only
     /// where memory for the bytes of its pages was refused.
     pub fn frame(&self, alloc: Global, number: u64) -> Result<Option<Frame>, AllocError>
-        ensures { IfOk result (IsAt self.now number) }
+        ensures ok { IfOk result (IsAt self.now number) }
+        ensures fails { OnErr result (slice_get self.now.sent number ≢ None) }
     {
         // A look at a field tells the prover what holds of all packets.
         let limits = &self.limits;

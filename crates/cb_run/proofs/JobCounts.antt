@@ -1,15 +1,44 @@
--- What a page's count leaves.
-use Rattle.std.proofs.Common.{◌≡◌, ℕ, Ok}
-use Rattle.cb_client.specs.CallAnswers.{Writes}
+-- What a page's count leaves, and in which transaction.
+use Rattle.std.proofs.Common.{◌≡◌, ◌<◌, ◌≤◌, ◌+◌, ℕ, List, [], Option, Some, None, Ok, ap, arith, refl, sym, ◌∙◌}
+use Rattle.cb_client.specs.ByTable.{Calls, limits_at}
+use Rattle.cb_client.specs.CallAnswers.{Begins, Writes}
+use Rattle.cb_client_engine.specs.ClientState.{ClientState, client_of}
+use Rattle.cb_protocol.proofs.Cases.{call_accepted, call_refused}
+use Rattle.cb_protocol.specs.Answers as table
 use Rattle.cb_protocol.specs.Basics.{Bytes}
+use Rattle.cb_protocol.specs.Client.{Client, client_after}
+use Rattle.cb_protocol.specs.ClientCalls.{Call, CallBegin, CallWrite, Reply, accept_call, call_fault}
+use Rattle.cb_protocol.specs.Serial.{Operation}
 use Rattle.cb_worker.specs.Waiting.{MayWrite}
-use Rattle.cb_worker.specs.Workers.{WorkerState, with_client}
-use Rattle.cb_run.specs.Jobs.{CountsUp, HasBytes, IsOneMore}
+use Rattle.cb_worker.specs.Workers.{WorkerState, last_txn, with_client}
+use Rattle.cb_run.specs.Jobs.{CommitsJob, CountsUp, HasBytes, IsAborted, IsOneMore}
+
+-- the number of the last transaction after a call that is answered so
+number_after : (old new : ClientState) (call : Call) (history : List Operation → List Operation) → Calls old call table.AnsweredOk [] history new
+    → last_txn new ≡ (client_after old.copies.limits.keep_write (client_of old []) (accept_call (limits_at old) (client_of old []) call).steps).cache.number
+number_after old new call history calls = go (call_fault (limits_at old) (client_of old []) call) refl
+  where
+    go : (f : Option table.ClientFault) → call_fault (limits_at old) (client_of old []) call ≡ f
+        → last_txn new ≡ (client_after old.copies.limits.keep_write (client_of old []) (accept_call (limits_at old) (client_of old []) call).steps).cache.number
+    go (Some f) e = absurd (let w = ap (λ (r : Reply). r.word) (call_refused (limits_at old) (client_of old []) call f e) in let b = calls.word [] in cc)
+    go None e =
+        ap (λ (c : Client). c.cache.number) (sym (calls.makes.after []))
+        ∙ ap (λ (r : Reply). (client_after old.copies.limits.keep_write (client_of old []) r.steps).cache.number) (call_accepted (limits_at old) (client_of old []) call e)
+
+-- a transaction that begins is a later one
+pub begins_later : (old new : ClientState) (txn : ℕ) → Begins old (Ok txn) new → last_txn old < last_txn new
+begins_later old new txn begins =
+    let next : last_txn new ≡ last_txn old + 1 = number_after old new CallBegin (λ ops. ops) begins.1 in
+    omega arith
+
+-- one that writes a page is the same
+pub writes_same : (old new : ClientState) (page : ℕ) (bytes : Bytes) → Writes old page bytes (Ok tt) new → last_txn new ≡ last_txn old
+writes_same old new page bytes writes = number_after old new (CallWrite page bytes) _ writes
 
 -- a page that was read, permitted and written with its bytes counted up was counted up
-pub counts_up : (page : ℕ) (reading permitted worker : WorkerState) (bytes counted : Bytes) → HasBytes reading page bytes → MayWrite permitted page → IsOneMore bytes counted
-    → Writes permitted.client page counted (Ok tt) worker.client → worker ≡ with_client permitted worker.client → CountsUp page worker
-counts_up page reading permitted worker bytes counted read may more writes others = record {
+pub counts_up : (page txn : ℕ) (reading permitted worker : WorkerState) (bytes counted : Bytes) → HasBytes reading page bytes → MayWrite permitted page → IsOneMore bytes counted
+    → Writes permitted.client page counted (Ok tt) worker.client → worker ≡ with_client permitted worker.client → last_txn permitted.client ≡ txn → CountsUp page txn worker
+counts_up page txn reading permitted worker bytes counted read may more writes others last = record {
   bytes = bytes;
   reading = reading;
   read = read;
@@ -19,4 +48,17 @@ counts_up page reading permitted worker bytes counted read may more writes other
   more = more;
   writes = writes;
   others = others;
+  last = writes_same permitted.client worker.client page counted writes ∙ last;
 }
+
+-- what was done since a worker was done since it was an earlier one
+pub commits_since : (client number : ℕ) (older old new : WorkerState) → last_txn older.client ≤ last_txn old.client → CommitsJob client number old new → CommitsJob client number older new
+commits_since client number older old new before commits =
+    let begun : last_txn old.client < commits.txn = commits.begun in
+    record { txn = commits.txn; begun = omega arith; counted = commits.counted; counts = commits.counts; committed = commits.committed }
+
+pub aborts_since : (older old new : WorkerState) → last_txn older.client ≤ last_txn old.client → IsAborted old new → last_txn older.client ≤ last_txn new.client
+aborts_since older old new before aborted =
+    let begun : last_txn old.client < aborted.0 = aborted.1 in
+    let last : last_txn new.client ≡ aborted.0 = aborted.2.last in
+    omega arith

@@ -8,17 +8,24 @@ use Rattle.cb_jobs.specs.declared.tally.JobDone.{JobDone}
 use Rattle.cb_protocol.specs.Basics.{Bytes}
 use Rattle.cb_protocol.specs.Client as protocol
 use Rattle.cb_worker.specs.Waiting.{MayWrite}
-use Rattle.cb_worker.specs.Workers.{Ended, Hit, WorkerState, after_hit, with_client}
+use Rattle.cb_worker.specs.Workers.{Ended, Hit, WorkerState, after_hit, last_txn, with_client}
 
 -- the worker has just read the page, with these bytes
 abbrev pub HasBytes : WorkerState → (page : ℕ) → Bytes → Type 0
 HasBytes worker page bytes = (before : WorkerState) × Hit before page bytes
     × (worker ≡ after_hit before page)
 
--- so after a copy of the page's bytes was taken; or the transaction was aborted
-abbrev pub Copies : WorkerState → (page : ℕ) → Option (Vec ℕ Global) → Type 0
-Copies worker page (Some copy) = HasBytes worker page copy.items
-Copies worker page None = Ended worker protocol.Aborted
+-- The transaction of that number, the worker's last, is over, and ended so.
+pub record HasEnded (txn : ℕ) (worker : WorkerState) (outcome : protocol.LastOutcome) : Type 0 where
+  pub last : last_txn worker.client ≡ txn
+  pub ended : Ended worker outcome
+
+-- so after a copy of the page's bytes was taken, in the transaction of that number; or that was
+-- aborted
+abbrev pub Copies : (txn : ℕ) → WorkerState → (page : ℕ) → Option (Vec ℕ Global) → Type 0
+Copies txn worker page (Some copy) =
+    HasBytes worker page copy.items × (last_txn worker.client ≡ txn)
+Copies txn worker page None = HasEnded txn worker protocol.Aborted
 
 -- The counter that bytes begin with is one more, modulo 2^64, and the rest of them is the same.
 -- Fewer than eight bytes are the same.
@@ -29,8 +36,8 @@ pub record IsOneMore (bytes counted : Bytes) : Type 0 where
   pub short : length bytes < 8 → counted ≡ bytes
 
 -- The page was read, was permitted to be written, and was written with the bytes that were read,
--- counted up.
-pub record CountsUp (page : ℕ) (worker : WorkerState) : Type 0 where
+-- counted up; that transaction is the worker's last.
+pub record CountsUp (page txn : ℕ) (worker : WorkerState) : Type 0 where
   pub bytes : Bytes
   pub reading : WorkerState
   pub read : HasBytes reading page bytes
@@ -40,23 +47,34 @@ pub record CountsUp (page : ℕ) (worker : WorkerState) : Type 0 where
   pub more : IsOneMore bytes counted
   pub writes : Writes permitted.client page counted (Ok tt) worker.client
   pub others : worker ≡ with_client permitted worker.client
+  pub last : last_txn worker.client ≡ txn
 
--- pages 0 and 1 were counted up; a client of even number took page 0 first, one of odd number page 1
-abbrev pub CountsBoth : (client : ℕ) → WorkerState → Type 0
-CountsBoth client worker = (first : WorkerState) × CountsUp (client % 2) first
-    × CountsUp (1 - client % 2) worker
+-- pages 0 and 1 were counted up in that transaction; a client of even number took page 0 first, one
+-- of odd number page 1
+abbrev pub CountsBoth : (client txn : ℕ) → WorkerState → Type 0
+CountsBoth client txn worker = (first : WorkerState) × CountsUp (client % 2) txn first
+    × CountsUp (1 - client % 2) txn worker
 
--- both were, and then the transaction committed, by that number
-abbrev pub CommitsJob : (client : ℕ) → (number : ℕ) → WorkerState → Type 0
-CommitsJob client number worker = (counted : WorkerState) × CountsBoth client counted
-    × Ended worker (protocol.Committed number)
+-- Both were, in a transaction that began since the worker was the old one, and then that
+-- transaction committed, by that number.
+pub record CommitsJob (client number : ℕ) (old new : WorkerState) : Type 0 where
+  pub txn : ℕ
+  pub begun : last_txn old.client < txn
+  pub counted : WorkerState
+  pub counts : CountsBoth client txn counted
+  pub committed : HasEnded txn new (protocol.Committed number)
 
--- so after one try of a job; or its transaction was aborted
-abbrev pub EndsJob : (client : ℕ) → Option ℕ → WorkerState → Type 0
-EndsJob client (Some number) worker = CommitsJob client number worker
-EndsJob client None worker = Ended worker protocol.Aborted
+-- a transaction that began since then was aborted
+abbrev pub IsAborted : (old new : WorkerState) → Type 0
+IsAborted old new =
+    (txn : ℕ) × (last_txn old.client < txn) × HasEnded txn new protocol.Aborted
+
+-- after one try of a job: it is committed, or its transaction was aborted
+abbrev pub EndsJob : (client : ℕ) → Option ℕ → (old new : WorkerState) → Type 0
+EndsJob client (Some number) old new = CommitsJob client number old new
+EndsJob client None old new = IsAborted old new
 
 -- what is told of the client's job is so
-abbrev pub TellsJob : (client : ℕ) → (job : ℕ) → JobDone → WorkerState → Type 0
-TellsJob client job done worker = (done.client ≡ client) × (done.job ≡ job)
-    × CommitsJob client done.number worker
+abbrev pub TellsJob : (client job : ℕ) → JobDone → (old new : WorkerState) → Type 0
+TellsJob client job done old new = (done.client ≡ client) × (done.job ≡ job)
+    × CommitsJob client done.number old new

@@ -1,5 +1,6 @@
 //! What is counted of a run.
-ghost use Rattle.std.specs.Prelude.{◌≡◌, IfOk};
+ghost use Rattle.std.specs.Prelude.{◌≡◌, ◌≤◌, true, length, Err, IfOk};
+ghost use Rattle.cb_jobs.specs.Tallies.{is_done, jobs_of};
 ghost use Rattle.cb_run.specs.Runs.{HasRows, IsCounted, KeepsRows};
 
 use crate::faults::of_shelf;
@@ -42,7 +43,10 @@ pub(crate) fn count_results<R: Wait>(
 /// Counts a result; a double or a stranger is a worker's fault.
 #[tactic(auto, using(crate::proofs::Counts::counts_one, crate::proofs::Counts::counts_none))]
 fn count(tally: &mut Tally, done: JobDone) -> Result<(), Ending>
-    ensures { KeepsRows tally.old tally.new }
+    ensures rows { KeepsRows tally.old tally.new }
+    ensures double { is_done tally.old done.client done.job ≡ true → result ≡ Err Ending.Worker }
+    ensures stranger { length (jobs_of tally.old done.client) ≤ done.job
+        → result ≡ Err Ending.Worker }
 {
     match tally.add(done) {
         Ok(()) => Ok(()),

@@ -1,9 +1,9 @@
 //! One job.
 ghost use Rattle.std.specs.Prelude.{◌≡◌, ◌-◌, ◌%◌, IfOk, MatchBool};
 ghost use Rattle.cb_protocol.specs.Client as protocol;
-ghost use Rattle.cb_run.specs.Jobs.{CommitsJob, Copies, CountsBoth, CountsUp, EndsJob, IsOneMore};
-ghost use Rattle.cb_run.specs.Jobs.{TellsJob};
-ghost use Rattle.cb_worker.specs.Workers.{Ended};
+ghost use Rattle.cb_run.specs.Jobs.{CommitsJob, Copies, CountsBoth, CountsUp, EndsJob, HasEnded};
+ghost use Rattle.cb_run.specs.Jobs.{IsOneMore, TellsJob};
+ghost use Rattle.cb_worker.specs.Workers.{last_txn};
 
 use cb_jobs::{JobDone, count_up};
 use cb_page::{ClientNo, CommitNo, PageNo};
@@ -22,7 +22,7 @@ pub(crate) fn do_job<R: Wait, Q: Chooser>(
     client: ClientNo,
     job: u64,
 ) -> Result<JobDone, WorkerFault>
-    ensures { IfOk result (λ done. TellsJob client job done worker.new) }
+    ensures { IfOk result (λ done. TellsJob client job done worker.old worker.new) }
 {
     let number = run_job(rt, alloc, office, worker, client)?;
     Ok(JobDone {
@@ -40,7 +40,8 @@ fn run_job<R: Wait, Q: Chooser>(
     worker: &mut Worker<Q>,
     client: ClientNo,
 ) -> Result<CommitNo, WorkerFault>
-    ensures { IfOk result (λ number. CommitsJob client number worker.new) }
+    ensures { IfOk result (λ number.
+        CommitsJob client number worker.old worker.new) }
 {
     for _ in rt.forever() {
         if let Some(number) = try_job(rt, alloc, office, worker, client)? {
@@ -58,7 +59,7 @@ fn try_job<R: Wait, Q: Chooser>(
     worker: &mut Worker<Q>,
     client: ClientNo,
 ) -> Result<Option<CommitNo>, WorkerFault>
-    ensures { IfOk result (λ ended. EndsJob client ended worker.new) }
+    ensures { IfOk result (λ ended. EndsJob client ended worker.old worker.new) }
 {
     let _txn = worker.begin()?;
     if !count_both(rt, alloc, office, worker, client)? {
@@ -80,7 +81,8 @@ fn count_both<R: Wait, Q: Chooser>(
     client: ClientNo,
 ) -> Result<bool, WorkerFault>
     ensures { IfOk result (λ counted. MatchBool counted
-        (CountsBoth client worker.new) (Ended worker.new protocol.Aborted)) }
+        (CountsBoth client (last_txn worker.old.client) worker.new)
+        (HasEnded (last_txn worker.old.client) worker.new protocol.Aborted)) }
 {
     let first = u32::from(client.get() % 2);
     if !count_page(rt, alloc, office, worker, PageNo::new(first))? {
@@ -98,7 +100,8 @@ fn count_page<R: Wait, Q: Chooser>(
     page: PageNo,
 ) -> Result<bool, WorkerFault>
     ensures { IfOk result (λ counted. MatchBool counted
-        (CountsUp page worker.new) (Ended worker.new protocol.Aborted)) }
+        (CountsUp page (last_txn worker.old.client) worker.new)
+        (HasEnded (last_txn worker.old.client) worker.new protocol.Aborted)) }
 {
     let Some(bytes) = copy_page(rt, alloc, office, worker, page)? else {
         return Ok(false);
@@ -129,7 +132,8 @@ fn copy_page<R: Wait, Q: Chooser>(
     worker: &mut Worker<Q>,
     page: PageNo,
 ) -> Result<Option<Vec<u8>>, WorkerFault>
-    ensures { IfOk result (λ copy. Copies worker.new page copy) }
+    ensures { IfOk result (λ copy.
+        Copies (last_txn worker.old.client) worker.new page copy) }
 {
     match worker.fetch(rt, alloc, office, page)? {
         Fetched::Aborted => Ok(None),

@@ -1,8 +1,9 @@
 //! What the tests share: an office and a database, commits by hand, and looks at what a shelf holds.
 ghost use Rattle.std.specs.Prelude.{◌≡◌, false};
 
+use crate::cut_off::{ends_at_once, is_one_refused};
 use crate::endings::{ends_well, flushes_beside};
-use crate::refusals::{is_refused_at_first, waits_for_its_done};
+use crate::refusals::{is_refused_after_a_commit, is_refused_at_first};
 use cb_commit::Store;
 use cb_frame::{Body, Frame, ShortBody, ShortFrame, Write, Writes};
 use cb_hands::Hand;
@@ -15,7 +16,7 @@ use std::alloc::{AllocError, Global};
 use std::sync::Wait;
 use std::thread::Threads;
 
-/// What is tried over an office for one call of `work`, and a shelf, both of zeros.
+/// What is tried over an office and a shelf, both of zeros.
 #[derive(Drop)]
 pub(crate) enum Trial {
     /// So many commits, then the office is closed, or halted.
@@ -24,8 +25,20 @@ pub(crate) enum Trial {
     Waited,
     /// Two commits are given up, and then written.
     Refused,
-    /// A client waits for its Done.
-    Awaited,
+    /// A client waits for its Done, or commits again meanwhile.
+    Awaited { again: bool },
+    /// Workers run, of whom one can't join.
+    OneRefused,
+    /// Workers run, and the office is closed, or halted, at a call of their gate.
+    CutOff { at: u64, halts: bool },
+}
+
+/// How many calls of `work` the office is for.
+fn calls_of(trial: &Trial) -> usize {
+    match trial {
+        Trial::OneRefused | Trial::CutOff { .. } => 2,
+        _ => 1,
+    }
 }
 
 /// Whether all is as it should be.
@@ -43,7 +56,13 @@ fn goes_well_in<R: Wait + Threads + Sync, S: Alter>(
         }
         Trial::Waited => flushes_beside(rt, alloc, limits, office, shelf),
         Trial::Refused => is_refused_at_first(rt, alloc, limits, office, shelf),
-        Trial::Awaited => waits_for_its_done(rt, alloc, limits, office, shelf),
+        Trial::Awaited { again } => {
+            is_refused_after_a_commit(rt, alloc, limits, office, shelf, *again)
+        }
+        Trial::OneRefused => is_one_refused(rt, alloc, limits, office, shelf),
+        Trial::CutOff { at, halts } => {
+            ends_at_once(rt, alloc, limits, office, shelf, *at, *halts)
+        }
     }
 }
 
@@ -62,7 +81,10 @@ fn goes_well_over<R: Wait + Threads + Sync, S: Alter>(
         return false;
     };
     match Station::new(alloc, limits, store) {
-        Ok(station) => goes_well_in(trial, rt, alloc, limits, &Office::new(station, 1), shelf),
+        Ok(station) => {
+            let office = Office::new(station, calls_of(trial));
+            goes_well_in(trial, rt, alloc, limits, &office, shelf)
+        }
         Err(_) => false,
     }
 }

@@ -9,21 +9,36 @@ use std::thread;
 /// How often a gate says `Later` in all.
 const TURNS: u64 = 10_000_000;
 
-/// A second job waits for the other client's first commit.
+/// Each job is let go at its second asking at the earliest, and a client's second one only after the
+/// other client's first commit.
 #[derive(Drop)]
 struct Mutual {
+    /// How many jobs of each client were asked for: by client.
+    asked: [AtomicU64; 2],
+    /// How many were let go: by client.
+    let_go: [AtomicU64; 2],
     /// How often each client's first job was committed: by client.
     first: [AtomicU64; 2],
+    /// How many commits came of jobs that had not been let go.
+    ungated: AtomicU64,
     spent: AtomicU64,
+}
+
+impl Mutual {
+    /// Whether a job may begin that is asked for once more.
+    fn may_go(&self, client: usize, job: u64) -> bool {
+        let number = job.saturating_add(1);
+        let is_new = self.asked[client % 2].fetch_max(number, Ordering::SeqCst) < number;
+        let is_second = job > 0 && self.first[(client + 1) % 2].load(Ordering::SeqCst) == 0;
+        !is_new && !is_second
+    }
 }
 
 impl Gate for Mutual {
     fn before_job(&self, client: ClientNo, job: u64) -> Turn {
-        let other = (client.index() + 1) % 2;
-        if job == 0 || self.first[other].load(Ordering::SeqCst) > 0 {
-            return Turn::Go;
-        }
-        if self.spent.fetch_add(1, Ordering::SeqCst) >= TURNS {
+        let client = client.index();
+        if self.may_go(client, job) || self.spent.fetch_add(1, Ordering::SeqCst) >= TURNS {
+            self.let_go[client % 2].store(job.saturating_add(1), Ordering::SeqCst);
             return Turn::Go;
         }
         thread::yield_now();
@@ -31,8 +46,12 @@ impl Gate for Mutual {
     }
 
     fn after_commit(&self, client: ClientNo, job: u64) {
+        let client = client.index() % 2;
+        if self.let_go[client].load(Ordering::SeqCst) != job.saturating_add(1) {
+            self.ungated.fetch_add(1, Ordering::SeqCst);
+        }
         if job == 0 {
-            self.first[client.index() % 2].fetch_add(1, Ordering::SeqCst);
+            self.first[client].fetch_add(1, Ordering::SeqCst);
         }
     }
 }
@@ -50,10 +69,14 @@ static MUTUAL: Row<'static> = Row {
 #[test]
 fn two_at_once(rt: HostRuntime) -> Result<(), Fail> {
     let gate = Mutual {
+        asked: [AtomicU64::new(0), AtomicU64::new(0)],
+        let_go: [AtomicU64::new(0), AtomicU64::new(0)],
         first: [AtomicU64::new(0), AtomicU64::new(0)],
+        ungated: AtomicU64::new(0),
         spent: AtomicU64::new(0),
     };
     assert!(rt; comes_of(&rt, rt.alloc(), &MUTUAL, &gate));
+    assert!(rt; gate.ungated.load(Ordering::SeqCst) == 0);
     assert!(rt; gate.spent.load(Ordering::SeqCst) < TURNS);
     Ok(())
 }

@@ -6,9 +6,13 @@
 #[cfg(test)]
 mod alone;
 #[cfg(test)]
+mod balky;
+#[cfg(test)]
 mod bench;
 #[cfg(test)]
 mod counting;
+#[cfg(test)]
+mod cut_off;
 #[cfg(test)]
 mod endings;
 #[cfg(test)]
@@ -17,6 +21,8 @@ mod flags;
 mod gates;
 #[cfg(test)]
 mod giving_up;
+#[cfg(test)]
+mod greatest;
 #[cfg(test)]
 mod lines;
 #[cfg(test)]

@@ -2,8 +2,8 @@
 use crate::bench::{Trial, commit_page, goes_well, holds, is_reported, visit};
 use cb_frame::{Body, ShortBody};
 use cb_hands::Hand;
-use cb_page::{ClientNo, Limits, TxnNo};
-use cb_progress::Unwatched;
+use cb_page::{ClientNo, CommitNo, Limits, TxnNo};
+use cb_progress::{Unwatched, Watch};
 use cb_run::{FlushStop, flush_again, flush_in_tries, flush_loop};
 use cb_shared::Office;
 use cb_shelf::{Shelf, ShelfFault};
@@ -114,13 +114,55 @@ fn is_done_at_last<R: Wait, S: Alter>(
     !early && before && written && late && holds(alloc, limits, shelf, 1)
 }
 
-/// A client waits for its Done.
-pub(crate) fn waits_for_its_done<R: Wait, S: Alter>(
+/// The numbers of the batches that were told of as on disk, in their order.
+#[derive(Drop)]
+struct Numbers {
+    told: Vec<u64>,
+}
+
+impl Watch for Numbers {
+    fn begins(&mut self, _jobs: u64, _number: u64) {}
+
+    fn flushed(&mut self, number: CommitNo) {
+        // One that is lost for want of memory fails the test.
+        let _ = self.told.push(number.get());
+    }
+}
+
+/// Whether a batch that was refused is written before that of a commit that came since.
+fn is_written_first<R: Wait, S: Alter>(
     rt: &R,
     alloc: Global,
     limits: &Limits,
     office: &Office,
     shelf: &mut Shelf<S>,
+    hand: &mut Hand,
+) -> bool {
+    let mut numbers = Numbers {
+        told: Vec::new(alloc),
+    };
+    shelf.limit_steps(1);
+    let Err(stop) = flush_loop(rt, alloc, office, shelf, &mut numbers) else {
+        return false;
+    };
+    shelf.limit_steps(0);
+    let refused = is_refused(&stop, 1) && numbers.told.is_empty();
+    let txn = TxnNo::new(2);
+    let committed = commit_page(alloc, office.lock(rt).station_mut(), hand, txn).is_ok();
+    let written = flush_again(rt, alloc, office, shelf, &mut numbers, stop).is_ok();
+    let in_order = numbers.told.as_slice() == [1, 2].as_slice();
+    refused && committed && written && in_order && holds(alloc, limits, shelf, 2)
+}
+
+/// A client commits, the office is closed, and the batch is refused at first. Then the client waits
+/// for its Done, or commits again.
+pub(crate) fn is_refused_after_a_commit<R: Wait, S: Alter>(
+    rt: &R,
+    alloc: Global,
+    limits: &Limits,
+    office: &Office,
+    shelf: &mut Shelf<S>,
+    again: bool,
 ) -> bool {
     let joined = office.lock(rt).station_mut().join(alloc, ClientNo::new(0));
     let Ok(mut hand) = joined else {
@@ -129,13 +171,23 @@ pub(crate) fn waits_for_its_done<R: Wait, S: Alter>(
     let txn = TxnNo::new(1);
     let committed = commit_page(alloc, office.lock(rt).station_mut(), &mut hand, txn).is_ok();
     office.close(rt);
-    let done = is_done_at_last(rt, alloc, limits, office, shelf, &mut hand);
+    let well = if again {
+        is_written_first(rt, alloc, limits, office, shelf, &mut hand)
+    } else {
+        is_done_at_last(rt, alloc, limits, office, shelf, &mut hand)
+    };
     hand.abandon();
-    committed && done
+    committed && well && is_reported(rt, alloc, office)
 }
 
 #[test]
 fn no_done_before_its_batch_is_written(rt: HostRuntime) -> Result<(), Fail> {
-    assert!(rt; goes_well(&Trial::Awaited, &rt, rt.alloc()));
+    assert!(rt; goes_well(&Trial::Awaited { again: false }, &rt, rt.alloc()));
+    Ok(())
+}
+
+#[test]
+fn refused_batch_goes_first(rt: HostRuntime) -> Result<(), Fail> {
+    assert!(rt; goes_well(&Trial::Awaited { again: true }, &rt, rt.alloc()));
     Ok(())
 }

@@ -1,9 +1,11 @@
-//! Whole runs over a store whose disk stops: at each of its calls in turn, while the workers run.
-ghost use Rattle.std.specs.Prelude.{◌≡◌, false};
+//! Whole runs over a store whose disk stops, at each of its calls in turn, while the workers run, or
+//! refuses some writes.
+ghost use Rattle.std.specs.Prelude.{◌≡◌, false, IfOk};
 
+use crate::balky::Balky;
 use cb_commit::Store;
 use cb_jobs::{Gate, Turn, counter_sum};
-use cb_page::{ClientNo, Limits, PageNo};
+use cb_page::{ClientNo, LimitFault, Limits, PageNo};
 use cb_progress::Unwatched;
 use cb_run::run_over;
 use cb_settings::Config;
@@ -19,17 +21,47 @@ use std::thread::Threads;
 /// How many jobs two clients have together.
 const JOBS: u64 = 4;
 
-/// The files of a database on disks in memory, of which the log's stops after a number of calls.
+/// The files of a database on disks in memory, of which one stops after a number of calls.
 type Disks = Files<Fuse<Memory>>;
 
-/// Counts the jobs that were answered as done.
+/// Which file's disk stops.
+#[derive(Clone, Copy)]
+enum Stopping {
+    /// The log's.
+    Log,
+    /// The database's own.
+    Database,
+}
+
+/// Counts the jobs that were answered as done. As the first job begins, writes are set to be refused.
 #[derive(Drop)]
 struct Answered {
     count: AtomicU64,
+    /// How many writes are to be refused from the first job on.
+    refusals: u64,
+    /// How often the gate was asked.
+    asked: AtomicU64,
+    /// How many writes are left to be refused.
+    left: AtomicU64,
+}
+
+impl Answered {
+    /// None was answered yet.
+    fn none(refusals: u64) -> Answered {
+        Answered {
+            count: AtomicU64::new(0),
+            refusals,
+            asked: AtomicU64::new(0),
+            left: AtomicU64::new(0),
+        }
+    }
 }
 
 impl Gate for Answered {
     fn before_job(&self, _client: ClientNo, _job: u64) -> Turn {
+        if self.asked.fetch_add(1, Ordering::SeqCst) == 0 {
+            self.left.store(self.refusals, Ordering::SeqCst);
+        }
         Turn::Go
     }
 
@@ -172,38 +204,63 @@ fn done<R: Threads + Wait + Sync, D: Disk + Drop>(
     }
 }
 
-/// What comes of a run whose log stops after so many calls. After a crash the database holds what the
-/// first commits left, at least as many as were answered as done; else the run is wrong.
-fn stopped_after<R: Threads + Wait + Sync>(
+/// New files, of which one's disk stops after so many calls.
+fn stopping_files(alloc: Global, stopping: Stopping, calls: u64) -> Disks {
+    let (log, db) = match stopping {
+        Stopping::Log => (calls, u64::MAX),
+        Stopping::Database => (u64::MAX, calls),
+    };
+    Files {
+        log: Fuse::new(Memory::new(alloc), log),
+        db: Fuse::new(Memory::new(alloc), db),
+    }
+}
+
+/// What comes of a run over new files. After a crash the database holds what the first commits left,
+/// at least as many as were answered as done; else the run is wrong.
+fn came_over<R: Threads + Wait + Sync, D: Crash + Drop>(
     rt: &R,
     alloc: Global,
     config: &Config,
-    calls: u64,
+    answered: &Answered,
+    files: Files<D>,
 ) -> Came
     requires { config.now.limits.keep_write ≡ false }
 {
-    let answered = Answered {
-        count: AtomicU64::new(0),
-    };
-    let files: Disks = Files {
-        log: Fuse::new(Memory::new(alloc), calls),
-        db: Fuse::new(Memory::new(alloc), u64::MAX),
-    };
-    let (ran, mut files) = done(rt, alloc, config, &answered, Task::Run, files);
+    let (ran, mut files) = done(rt, alloc, config, answered, Task::Run, files);
     files.log.crash();
     files.db.crash();
-    match done(rt, alloc, config, &answered, Task::Look, files).0 {
+    match done(rt, alloc, config, answered, Task::Look, files).0 {
         Came::Whole => ran,
         _ => Came::Wrong,
     }
 }
 
+/// What comes of a run of which one disk stops after so many calls.
+fn stopped_after<R: Threads + Wait + Sync>(
+    rt: &R,
+    alloc: Global,
+    config: &Config,
+    stopping: Stopping,
+    calls: u64,
+) -> Came
+    requires { config.now.limits.keep_write ≡ false }
+{
+    let files = stopping_files(alloc, stopping, calls);
+    came_over(rt, alloc, config, &Answered::none(0), files)
+}
+
 /// How many runs stop, one for each call in turn, until one doesn't; `None` where a run is wrong.
-fn stops<R: Threads + Wait + Sync>(rt: &R, alloc: Global, config: &Config) -> Option<u64>
+fn stops<R: Threads + Wait + Sync>(
+    rt: &R,
+    alloc: Global,
+    config: &Config,
+    stopping: Stopping,
+) -> Option<u64>
     requires { config.now.limits.keep_write ≡ false }
 {
     for calls in 0..1_000 {
-        match stopped_after(rt, alloc, config, calls) {
+        match stopped_after(rt, alloc, config, stopping, calls) {
             Came::Stopped => {}
             Came::Whole => return Some(calls),
             Came::Wrong => return None,
@@ -212,16 +269,50 @@ fn stops<R: Threads + Wait + Sync>(rt: &R, alloc: Global, config: &Config) -> Op
     None
 }
 
+/// The configuration of the runs.
+fn config() -> Result<Config, LimitFault>
+    ensures { IfOk result (λ config. config.limits.keep_write ≡ false) }
+{
+    Ok(Config {
+        limits: Limits::new(2, 2, 16, 2, 1, 1)?,
+        jobs: JOBS / 2,
+    })
+}
+
 #[test]
 fn store_that_stops_at_each_call(rt: HostRuntime) -> Result<(), Fail> {
-    let limits = Limits::new(2, 2, 16, 2, 1, 1)?;
-    let config = Config {
-        limits,
-        jobs: JOBS / 2,
+    let config = config()?;
+    let log = stops(&rt, rt.alloc(), &config, Stopping::Log);
+    assert!(rt; log.is_some_and(|stops| stops > 20));
+    let database = stops(&rt, rt.alloc(), &config, Stopping::Database);
+    assert!(rt; database.is_some_and(|stops| stops > 8));
+    Ok(())
+}
+
+/// What comes of a run of which so many writes of the log are refused, from the first job on.
+fn refused_so_often<R: Threads + Wait + Sync>(
+    rt: &R,
+    alloc: Global,
+    config: &Config,
+    refusals: u64,
+) -> Came
+    requires { config.now.limits.keep_write ≡ false }
+{
+    let answered = Answered::none(refusals);
+    let none = AtomicU64::new(0);
+    let files = Files {
+        log: Balky::new(Memory::new(alloc), &answered.left),
+        db: Balky::new(Memory::new(alloc), &none),
     };
-    match stops(&rt, rt.alloc(), &config) {
-        Some(stops) => assert!(rt; stops > 20),
-        None => return Err("a run was wrong".into()),
+    came_over(rt, alloc, config, &answered, files)
+}
+
+#[test]
+fn third_refusal_is_the_last(rt: HostRuntime) -> Result<(), Fail> {
+    let config = config()?;
+    for refusals in 0..3 {
+        assert!(rt; refused_so_often(&rt, rt.alloc(), &config, refusals) == Came::Whole);
     }
+    assert!(rt; refused_so_often(&rt, rt.alloc(), &config, 3) == Came::Stopped);
     Ok(())
 }

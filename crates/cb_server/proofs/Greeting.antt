@@ -1,5 +1,5 @@
 -- Hello, by its incarnation, and every other message.
-use Rattle.std.proofs.Common.{◌≡◌, ◌≢◌, ℕ, ◌<◌, nat_lt, Bool, true, false, ◌==◌, if◌then◌else◌, [], ◌∷◌, refl, ap, ◌∙◌, arith}
+use Rattle.std.proofs.Common.{◌≡◌, ◌≢◌, ℕ, ◌<◌, ◌≤◌, nat_lt, nat_le, Bool, true, false, ◌==◌, ◌&&◌, if◌then◌else◌, [], ◌∷◌, refl, ap, ◌∙◌, arith}
 use Rattle.std.proofs.lemmas.Bool.Decides.{nat_tests}
 use Rattle.cb_holdings.specs.Questions.{admission_in}
 use Rattle.cb_links.specs.declared.sessions.Admission.{Admission}
@@ -7,10 +7,11 @@ use Rattle.cb_links.specs.declared.sessions.Admission.TheVariants as admission
 use Rattle.cb_protocol.proofs.Cases.{serves_current, serves_hello_again, serves_new_hello, serves_no_old_hello, serves_no_other_incarnation}
 use Rattle.cb_protocol.specs.Messages.{AskRead, AskWrite, Body, Commit, Downgraded, Drop, GiveBack, Hello, InUse, Welcome, to_server}
 use Rattle.cb_protocol.specs.Server.{Send, Server}
-use Rattle.cb_protocol.specs.ServerMessages.{admit_incarnation, begin_transaction, direct_answer, named_txn, server_take, take_current}
+use Rattle.cb_protocol.specs.ServerMessages.{admit_incarnation, begin_transaction, direct_answer, lacks_number, named_txn, server_take, take_current}
 use Rattle.cb_protocol.specs.Settling.{settle_pages}
 use Rattle.cb_protocol.specs.WaitsFor.{on_cycle}
 use Rattle.cb_server.specs.Answering.{is_hello}
+use Rattle.cb_server.specs.Taking.{may_want_memory}
 use Rattle.cb_server.proofs.Making.{begins_none}
 
 pub is_unknown : (s : Server) (c i : ℕ) → admission.Unknown ≡ admission_in s c i → (s.session c).current < i
@@ -92,3 +93,29 @@ ignored s c b way settled = rw (begins b way, answers b way, settled) refl
     answers (Drop t) e = absurd cc
     answers (Downgraded p g t) e = absurd cc
     answers _ e = refl
+
+-- a number is lacking only for what goes to a server
+pub lacks_at_server : (s : Server) (c : ℕ) (b : Body) → lacks_number s c b ≡ true → to_server b ≡ true
+lacks_at_server s c (AskRead t p) e = refl
+lacks_at_server s c (Commit t ws) e = refl
+lacks_at_server s c _ e = absurd cc
+
+-- for which messages memory may be wanted
+both : (a b : Bool) → a ≡ true → b ≡ true → (a && b) ≡ true
+both true true e f = refl
+both true false e f = absurd cc
+both false b e f = absurd cc
+
+same_number : (i n : ℕ) → i ≡ n → (i == n) ≡ true
+same_number i n e = grind (arith, nat_tests)
+
+at_most : (n i : ℕ) → n ≤ i → nat_le n i ≡ true
+at_most n i l = grind (arith, nat_tests)
+
+pub hello_may_want : (s : Server) (c i : ℕ) (b : Body) → is_hello b ≡ true → (s.session c).current ≤ i → may_want_memory s c i b ≡ true
+hello_may_want s c i Hello h l = at_most _ _ l
+hello_may_want s c i _ h l = absurd cc
+
+pub current_may_want : (s : Server) (c i : ℕ) (b : Body) → is_hello b ≡ false → i ≡ (s.session c).current → to_server b ≡ true → may_want_memory s c i b ≡ true
+current_may_want s c i Hello h e t = absurd cc
+current_may_want s c i b h e t = both _ _ (same_number i _ e) t

@@ -1,5 +1,5 @@
 -- Steps of the engine, one after another, and what one change of its tables is.
-use Rattle.std.proofs.Common.{◌≡◌, ℕ, nat_lt, Bool, true, false, if◌then◌else◌, List, [], ◌∷◌, ◌++◌, Result, Ok, Err, OnOk, refl, sym, ap, ◌∙◌, subst, arith}
+use Rattle.std.proofs.Common.{◌≡◌, ℕ, nat_lt, Bool, true, false, if◌then◌else◌, List, [], ◌∷◌, ◌++◌, Result, Ok, Err, OnOk, OnErr, refl, sym, ap, ◌∙◌, subst, arith}
 use Rattle.std.proofs.lemmas.Bool.Decides.{nat_tests}
 use Rattle.std.proofs.lemmas.List.{append-nil, append_assoc}
 use Rattle.cb_callbacks.proofs.Settling.{stays_then}
@@ -96,6 +96,7 @@ serves old mid new f l m = record {
       ∙ ap (λ (s : Server). old.outbox.sent ++ messages_sent (f s)) l.server);
   stays = subst (λ (h : HoldingsState). Stays h new.callbacks.tables.holdings) l.holdings m.stays;
   page_size = m.says.page_size ∙ l.page_size;
+  few = λ few. let middle = l.few few in let spare = m.says.spare in omega (arith, middle, spare);
 }
 
 pub serves_as : (old new : Engine) (f g : Server → List ServerStep) → f (server_in old) ≡ g (server_in old) → Serves old g new → Serves old f new
@@ -104,10 +105,11 @@ serves_as old new f g e m = record {
   sends = m.sends ∙ ap (λ (l : List ServerStep). old.outbox.sent ++ messages_sent l) (sym e);
   stays = m.stays;
   page_size = m.page_size;
+  few = m.few;
 }
 
 pub serves_nothing : (e : Engine) → Serves e (λ s. []) e
-serves_nothing e = record { becomes = refl; sends = sym (append-nil e.outbox.sent); stays = stays_same e.callbacks.tables.holdings; page_size = refl }
+serves_nothing e = record { becomes = refl; sends = sym (append-nil e.outbox.sent); stays = stays_same e.callbacks.tables.holdings; page_size = refl; few = λ few. few }
 
 -- room for an ask's place is made before
 pub reserved : (old res : Engine) → Changes old.callbacks.tables [] res.callbacks.tables → res.outbox ≡ old.outbox → Makes old (λ s. []) res
@@ -136,3 +138,22 @@ admits old new c i changes o = record {
 pub on_ok : {X F : Type 0} (r : Result X F) {P Q : Type 0} → (P → Q) → OnOk r P → OnOk r Q
 on_ok (Ok x) f p = f p
 on_ok (Err x) f p = p
+
+pub on_err : {X F : Type 0} (r : Result X F) {P Q : Type 0} → (P → Q) → OnErr r P → OnErr r Q
+on_err (Ok x) f p = p
+on_err (Err x) f p = f p
+
+-- what holds anyway
+pub if_err : {X F : Type 0} (r : Result X F) {P : Type 0} → P → OnErr r P
+if_err (Ok x) p = tt
+if_err (Err x) p = p
+
+-- what is left is left again
+pub left_then : (old mid new : Engine) → IsLeft old mid → IsLeft mid new → IsLeft old new
+left_then old mid new a b = record {
+  server = b.server ∙ a.server;
+  holdings = b.holdings ∙ a.holdings;
+  sent = b.sent ∙ a.sent;
+  page_size = b.page_size ∙ a.page_size;
+  few = λ few. b.few (a.few few);
+}

@@ -1,5 +1,5 @@
 -- The server between two calls, and after each.
-use Rattle.std.proofs.Common.{◌≡◌, ℕ, ◌<◌, false, List, [], ◌++◌, refl, sym, ap, ◌∙◌, subst}
+use Rattle.std.proofs.Common.{◌≡◌, ℕ, ◌<◌, ◌≤◌, false, List, [], ◌++◌, refl, sym, ap, ◌∙◌, subst, arith}
 use Rattle.std.specs.List.{AllByRecursion}
 use Rattle.cb_tables.specs.Tables as tables
 use Rattle.cb_tables.specs.declared.tables.Tables.{Tables}
@@ -48,12 +48,13 @@ into_tables limits e frame rest fits = body_fits_in e limits frame.body rest.is.
 
 -- it is at rest again once it has served an input and what it says was handed out
 pub rests : (limits : Bounds) (old new : Engine) (outbox : OutboxState) (input : Input) → IsAtRest (state limits old) old.outbox → InputTaken (limits_of limits) (server_in old) input
-    → Serves old (λ s. input_steps on_cycle s input) new → outbox.sent ≡ [] → outbox.page_size ≡ new.outbox.page_size
+    → Serves old (λ s. input_steps on_cycle s input) new → outbox.sent ≡ [] → outbox.page_size ≡ new.outbox.page_size → outbox.spare ≡ new.outbox.spare
     → IsAtRest (record { limits = limits; tables = new.callbacks.tables }) outbox
-rests limits old new outbox input rest taken serves sent size = record {
+rests limits old new outbox input rest taken serves sent size spare = record {
   is = arises limits old.callbacks.tables new.callbacks.tables input rest.is taken serves.stays serves.becomes;
   sent = sent;
   page_size = size ∙ serves.page_size ∙ rest.page_size;
+  spare = let few = serves.few rest.spare in omega (arith, few, spare);
 }
 
 -- and where nothing changed but room
@@ -67,6 +68,7 @@ rests_unchanged limits old new rest left = record {
   };
   sent = left.sent ∙ rest.sent;
   page_size = left.page_size ∙ rest.page_size;
+  spare = left.few rest.spare;
 }
 
 pub is_unchanged : (limits : Bounds) (old new : Engine) → IsLeft old new → IsUnchanged (state limits old) (state limits new)
@@ -104,8 +106,8 @@ fits_said limits old new input frames rest taken serves is =
 pub begins_at_rest : (limits : Bounds) (store : StoreState) (kept : Tables) (outbox : OutboxState) → IsSound store → IsOf limits store → AreOf limits kept.holdings
     → kept.holdings.commits ≡ begun store
     → tables.server_of kept ≡ new_server limits.clients limits.pages (opening_store (limits_of limits) (opening_of store))
-    → outbox.sent ≡ [] → outbox.page_size ≡ limits.page_size → IsAtRest (record { limits = limits; tables = kept }) outbox
-begins_at_rest limits store kept outbox sound of are commits server sent size = record {
+    → outbox.sent ≡ [] → outbox.page_size ≡ limits.page_size → outbox.spare ≡ 0 → IsAtRest (record { limits = limits; tables = kept }) outbox
+begins_at_rest limits store kept outbox sound of are commits server sent size spare = record {
   is = record {
     opening = subst (λ (o : StoreState). StoreFits (limits_of limits) (opening_of o)) (sym same) (store_fits limits store sound of);
     reached = subst (λ (o : StoreState). ReachedBy (limits_of limits) on_cycle (opening_of o) (InputTaken (limits_of limits)) (tables.server_of kept)) (sym same)
@@ -114,6 +116,7 @@ begins_at_rest limits store kept outbox sound of are commits server sent size = 
   };
   sent = sent;
   page_size = size;
+  spare = omega (arith, spare);
 }
   where
     same : kept.holdings.commits.opening ≡ store

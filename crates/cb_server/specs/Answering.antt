@@ -93,12 +93,18 @@ pub record Makes (old : Engine) (steps : Server → List ServerStep) (new : Engi
   pub says : Says (server_in old) steps (server_in new) old.outbox new.outbox
   pub stays : Stays old.callbacks.tables.holdings new.callbacks.tables.holdings
 
+-- There are no more spare pages than copies that one message can need: at most 32 asks to read
+-- wait, and its own comes.
+abbrev pub HasFewSpare : Engine → Type 0
+HasFewSpare engine = engine.outbox.spare ≤ 33
+
 -- So it does, in whatever room.
 pub record Serves (old : Engine) (steps : Server → List ServerStep) (new : Engine) : Type 0 where
   pub becomes : server_in new ≡ server_after (server_in old) (steps (server_in old))
   pub sends : new.outbox.sent ≡ old.outbox.sent ++ messages_sent (steps (server_in old))
   pub stays : Stays old.callbacks.tables.holdings new.callbacks.tables.holdings
   pub page_size : new.outbox.page_size ≡ old.outbox.page_size
+  pub few : HasFewSpare old → HasFewSpare new
 
 -- a message's transaction begins, and it is answered; settling is still to come
 abbrev pub answer_to : DeadlockTest → ℕ → protocol.Body → Server → List ServerStep
@@ -137,6 +143,7 @@ pub record IsLeft (old new : Engine) : Type 0 where
   pub holdings : new.callbacks.tables.holdings ≡ old.callbacks.tables.holdings
   pub sent : new.outbox.sent ≡ old.outbox.sent
   pub page_size : new.outbox.page_size ≡ old.outbox.page_size
+  pub few : HasFewSpare old → HasFewSpare new
 
 -- the client's incarnation that is current
 abbrev pub IsCurrent : Engine → (client incarnation : ℕ) → Type 0

@@ -1,5 +1,5 @@
 -- A server as its callers see it: the protocol's server, and how it arose.
-use Rattle.std.specs.Prelude.{◌≡◌, []}
+use Rattle.std.specs.Prelude.{◌≡◌, ◌≤◌, []}
 use Rattle.cb_tables.specs.Tables as tables
 use Rattle.cb_tables.specs.declared.tables.Tables.{Tables}
 use Rattle.cb_commit.specs.History.{CommitsState, begun}
@@ -56,8 +56,10 @@ pub record IsUnchanged (old new : ServerState) : Type 0 where
   pub server : server_of new ≡ server_of old
   pub holdings : new.tables.holdings ≡ old.tables.holdings
 
--- between two calls nothing is to be sent
+-- Between two calls nothing is to be sent, and there are no more spare pages than one message can
+-- need: at most 32 asks to read wait, and its own comes.
 pub record IsAtRest (state : ServerState) (outbox : OutboxState) : Type 0 where
   pub is : IsServer state
   pub sent : outbox.sent ≡ []
   pub page_size : outbox.page_size ≡ state.limits.page_size
+  pub spare : outbox.spare ≤ 33

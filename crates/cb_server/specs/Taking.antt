@@ -1,5 +1,6 @@
 -- What a server answers and does, by the protocol's tables.
-use Rattle.std.specs.Prelude.{◌≡◌, ◌≤◌, ℕ, Bool, true, false, List, length, take}
+use Rattle.std.specs.Prelude.{◌≡◌, ◌≤◌, ◌==◌, ◌&&◌, nat_le, ℕ, Bool, true, false, List, length}
+use Rattle.std.specs.Prelude.{take}
 use Rattle.cb_frame.specs.Checks.{causes, fault_in_bytes}
 use Rattle.cb_frame.specs.declared.fault.BytesFault.{BytesFault}
 use Rattle.cb_frame.specs.declared.fault.BytesFault.TheVariants as reading
@@ -8,8 +9,9 @@ use Rattle.cb_frame_types.specs.declared.frame.Frame.{Frame}
 use Rattle.cb_outbox.specs.Messages.{body_of}
 use Rattle.cb_page.specs.Faults.{first_fault}
 use Rattle.cb_protocol.specs.AnyMessages.{Input, MessageComes, input_steps}
-use Rattle.cb_protocol.specs.Messages.{Message}
-use Rattle.cb_protocol.specs.Server.{server_after}
+use Rattle.cb_protocol.specs.Messages as protocol
+use Rattle.cb_protocol.specs.Messages.{Message, to_server}
+use Rattle.cb_protocol.specs.Server.{Server, server_after}
 use Rattle.cb_protocol.specs.ServerMessages.{is_exhausted}
 use Rattle.cb_protocol.specs.WaitsFor.{on_cycle}
 use Rattle.cb_protocol.specs.World.{messages_sent}
@@ -47,6 +49,19 @@ abbrev pub is_exhaustion : ServerFault → Bool
 is_exhaustion fault.Exhausted = true
 is_exhaustion fault.Memory = false
 
+-- Memory may be wanted for it: a Hello that isn't stale, or another message to a server, of the
+-- current incarnation. Whatever else comes is let go (this project's rule).
+abbrev pub may_want_memory : Server → (client incarnation : ℕ) → protocol.Body → Bool
+may_want_memory server client incarnation protocol.Hello =
+    nat_le (server.session client).current incarnation
+may_want_memory server client incarnation body =
+    (incarnation == (server.session client).current) && to_server body
+
+-- A frame for which memory may be wanted.
+abbrev pub MayWantMemory : ServerState → Frame → Type 0
+MayWantMemory state frame =
+    may_want_memory (server_of state) frame.client frame.incarnation (body_of frame.body) ≡ true
+
 -- A frame is refused as exhausted exactly where a number is lacking for it.
 abbrev pub Refuses : ServerState → Frame → ServerFault → Type 0
 Refuses state frame refused = lacks_number_for state frame ≡ is_exhaustion refused
@@ -59,7 +74,7 @@ pub record TakesBytes (old : ServerState) (bytes : List ℕ) (used : ℕ) (messa
   pub within : used ≤ length bytes
   pub takes : Takes old frame messages new
 
--- The bytes begin with a frame, which is refused.
+-- The bytes begin with a frame, for which memory may be wanted, and which is refused.
 pub record RefusesBytes (state : ServerState) (bytes : List ℕ) (refused : ServerFault)
     : Type 0 where
   pub frame : Frame
@@ -67,6 +82,7 @@ pub record RefusesBytes (state : ServerState) (bytes : List ℕ) (refused : Serv
   pub within : used ≤ length bytes
   pub read : IsFrameInSome state.limits frame (take used bytes)
   pub refuses : Refuses state frame refused
+  pub needed : MayWantMemory state frame
 
 -- the bytes begin with no frame, for that cause; or with one that is refused
 abbrev pub IsBytesFault : ServerState → List ℕ → BytesFault ServerFault → Type 0

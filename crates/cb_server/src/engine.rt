@@ -14,7 +14,7 @@ ghost use Rattle.cb_protocol.specs.WaitsFor.{on_cycle};
 ghost use Rattle.cb_server.specs.Answering.{CanAnswer, CanSettle, FitsIn, IsCurrent, IsLeft};
 ghost use Rattle.cb_server.specs.Answering.{IsReady, LacksNumber, Makes, Serves, is_hello};
 ghost use Rattle.cb_server.specs.Answering.{copies_for_body, messages_for_body, server_in};
-ghost use Rattle.cb_server.specs.Taking.{is_exhaustion};
+ghost use Rattle.cb_server.specs.Taking.{is_exhaustion, may_want_memory};
 
 mod answers;
 mod asks;
@@ -56,6 +56,8 @@ impl Engine {
         ensures err { IfErr result (λ fault.
             is_exhausted (server_in self.old) client incarnation (body_of body)
             ≡ is_exhaustion fault) }
+        ensures needed { OnErr result
+            (may_want_memory (server_in self.old) client incarnation (body_of body) ≡ true) }
         ensures left { OnErr result (IsLeft self.old self.new) }
     {
         if is_hello(&body) {
@@ -87,6 +89,7 @@ impl Engine {
         ensures taken { OnOk result (LacksNumber self.old client (body_of body) false) }
         ensures err { IfErr result (λ fault.
             LacksNumber self.old client (body_of body) (is_exhaustion fault)) }
+        ensures needed { OnErr result (to_server (body_of body) ≡ true) }
         ensures left { OnErr result (IsLeft self.old self.new) }
     {
         if self.lacks_number(client, &body) {
@@ -145,6 +148,8 @@ impl Engine {
         requires client { HasClient self.old.callbacks.tables client }
         ensures ok { OnOk result (Serves self.old
             (λ server. server_take on_cycle server client incarnation Hello) self.new) }
+        ensures needed { OnErr result
+            (((server_in self.old).session client).current ≤ incarnation) }
         ensures left { OnErr result (IsLeft self.old self.new) }
     {
         match self.callbacks.holdings().admission(client, incarnation) {

@@ -11,8 +11,8 @@ ghost use Rattle.cb_outbox.specs.Messages.{messages_of};
 ghost use Rattle.cb_protocol.specs.AnyMessages.{ReachesDisk, SendsAgain};
 ghost use Rattle.cb_protocol.specs.Flush.{can_flush, next_batch};
 ghost use Rattle.cb_server.specs.ServerState.{IsNew, IsServer, IsUnchanged, commits_of, server_of};
-ghost use Rattle.cb_server.specs.Taking.{Does, IsBytesFault, Refuses, Takes, TakesBytes};
-ghost use Rattle.cb_server.specs.Taking.{lacks_number_for};
+ghost use Rattle.cb_server.specs.Taking.{Does, IsBytesFault, MayWantMemory, Refuses, Takes};
+ghost use Rattle.cb_server.specs.Taking.{TakesBytes, lacks_number_for};
 ghost use Rattle.cb_waits.specs.Follows.{Follows};
 
 use crate::engine::Engine;
@@ -96,12 +96,15 @@ impl Server {
     ///
     /// `Exhausted` exactly where no number is left for it: a grant number for an ask to read that
     /// would enter a queue, beyond one for each that waits, or a commit number for a commit that
-    /// would be applied. `Memory` only where a growth was refused. Nothing changes then.
+    /// would be applied. `Memory` only where a growth was refused, so never for a frame that is let
+    /// go: of another incarnation than the current one, but for a greater one's Hello, or of a kind
+    /// that goes to clients. Nothing changes then.
     pub fn take(&mut self, alloc: Global, frame: Frame) -> Result<Vec<Frame>, ServerFault>
         requires { Fits self.old.limits frame }
         ensures ok { IfOk result (λ said. Takes self.old frame (messages_of said.items) self.new) }
         ensures fits { IfOk result (λ said. AllByRecursion (Fits self.old.limits) said.items) }
         ensures err { IfErr result (Refuses self.old frame) }
+        ensures needed { OnErr result (MayWantMemory self.old frame) }
         ensures unchanged { OnErr result (IsUnchanged self.old self.new) }
     {
         let (client, incarnation) = (frame.client, frame.incarnation);
@@ -122,7 +125,7 @@ impl Server {
     /// Takes the frame that the bytes begin with, whatever follows it; answers what is said to it
     /// and how many bytes the frame has.
     ///
-    /// A fault of the taker is `take`'s, of that frame.
+    /// A fault of the taker is `take`'s, of that frame: so `Memory` of none that is let go.
     pub fn take_bytes(
         &mut self,
         alloc: Global,
@@ -161,13 +164,15 @@ impl Server {
     /// What is to be written to disk next: each page that a commit changed which isn't on disk yet,
     /// as it is now; `None` where every commit is on disk. It costs no more than those pages.
     ///
-    /// `AllocError` only where memory was refused.
+    /// `AllocError` only where memory was refused, so never where there is nothing to write.
     pub fn batch(&self, alloc: Global) -> Result<Option<Batch>, AllocError>
         ensures batch { IfOk result (λ batch.
             option_map batch_of batch ≡ next_batch (server_of self.now)) }
         ensures catches_up { IfOk result (λ batch. IfSome batch (CatchesUp (commits_of self.now))) }
         ensures can_flush { IfOk result (λ batch.
             IfSome batch (λ b. can_flush (server_of self.now) b.number ≡ true)) }
+        ensures err { OnErr result
+            ((server_of self.now).flushed < (server_of self.now).store.last_commit) }
     {
         self.engine.callbacks.holdings().batch(alloc)
     }

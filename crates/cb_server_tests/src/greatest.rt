@@ -1,8 +1,8 @@
-//! The calls of a server that can answer want of memory, with 32 clients and 4,096 pages: one that
-//! gives up from some number of clients, of pages or of bytes on is refused here, which no clause
-//! can say.
+//! The calls of a server that can answer want of memory, with 32 clients and 4,096 pages, and with
+//! pages of 65,536 bytes: one that gives up from some number of clients, of pages or of bytes on is
+//! refused here, which no clause can say.
 use cb_commit::Store;
-use cb_frame::{Body, Frame, ShortBody, Write, Writes};
+use cb_frame::{Body, Frame, ShortBody, Write, Writes, encode};
 use cb_page::{ClientNo, CommitNo, GrantNo, Incarnation, Limits, Page, PageNo, TxnNo};
 use cb_server::Server;
 use std::alloc::Global;
@@ -97,6 +97,52 @@ fn commits_all(alloc: Global, limits: &Limits, server: &mut Server) -> Option<[u
     Some([waiting, granted, written, done])
 }
 
+/// How many frames are answered to a frame's bytes; `None` where it doesn't fit or is refused, or
+/// where not all of its bytes are used.
+fn answered_by_bytes(
+    alloc: Global,
+    server: &mut Server,
+    client: ClientNo,
+    body: Body,
+) -> Option<usize> {
+    let frame = Frame {
+        client,
+        incarnation: Incarnation::new(1),
+        body,
+    };
+    if !frame.fits(server.limits()) {
+        return None;
+    }
+    let bytes = encode(alloc, &frame).ok()?;
+    let (said, used) = server.take_bytes(alloc, bytes.as_slice()).ok()?;
+    if used == bytes.len() {
+        Some(said.len())
+    } else {
+        None
+    }
+}
+
+/// How many frames are answered as a client greets, reads a page, asks to write it and commits it,
+/// all by bytes; and how many pages reach the disk.
+fn commits_by_bytes(alloc: Global, limits: &Limits, server: &mut Server) -> Option<[usize; 5]> {
+    let client = ClientNo::in_store(limits, 31)?;
+    let page = PageNo::in_store(limits, 3)?;
+    let (txn, grant) = (TxnNo::new(1), GrantNo::new(1));
+    let hello = Body::Short(ShortBody::Hello);
+    let greeted = answered_by_bytes(alloc, server, client, hello)?;
+    let ask = Body::Short(ShortBody::AskRead { txn, page });
+    let read = answered_by_bytes(alloc, server, client, ask)?;
+    let ask = Body::Short(ShortBody::AskWrite { txn, page, grant });
+    let permitted = answered_by_bytes(alloc, server, client, ask)?;
+    let bytes = Page::from_vec(vec![in alloc; 7u8; limits.page_size()].ok()?);
+    let mut writes = Vec::new(alloc);
+    writes.push(Write { page, grant, bytes }).ok()?;
+    let writes = Writes::from_vec(writes);
+    let committed = answered_by_bytes(alloc, server, client, Body::Commit { txn, writes })?;
+    let written = server.batch(alloc).ok()??.pages().len();
+    Some([greeted, read, permitted, committed, written])
+}
+
 /// The limits, and a server of zeros.
 fn greatest(alloc: Global) -> Option<(Limits, Server)> {
     let limits = Limits::new(32, 4096, 4096, 1024, 1, 4096).ok()?;
@@ -117,6 +163,14 @@ fn committed(alloc: Global) -> Option<[usize; 4]> {
     commits_all(alloc, &limits, &mut server)
 }
 
+/// What is committed by bytes at a server of pages of the greatest size.
+fn committed_by_bytes(alloc: Global) -> Option<[usize; 5]> {
+    let limits = Limits::new(32, 4, 65_536, 1024, 1, 4096).ok()?;
+    let store = Store::zeros(alloc, &limits).ok()?;
+    let mut server = Server::new(alloc, &limits, store).ok()?;
+    commits_by_bytes(alloc, &limits, &mut server)
+}
+
 #[test]
 fn all_clients_are_called_back(rt: HostRuntime) {
     assert!(rt; called_back(rt.alloc()) == Some([64, 31, 31]));
@@ -125,4 +179,9 @@ fn all_clients_are_called_back(rt: HostRuntime) {
 #[test]
 fn all_pages_are_committed(rt: HostRuntime) {
     assert!(rt; committed(rt.alloc()) == Some([31, 31, 4096, 1]));
+}
+
+#[test]
+fn greatest_page_is_committed_by_bytes(rt: HostRuntime) {
+    assert!(rt; committed_by_bytes(rt.alloc()) == Some([1, 1, 1, 0, 1]));
 }

@@ -10,6 +10,8 @@ mod commits;
 #[cfg(test)]
 mod directory;
 #[cfg(test)]
+mod faults;
+#[cfg(test)]
 mod great_commits;
 #[cfg(test)]
 mod greatest;

@@ -6,7 +6,7 @@ use Rattle.cb_commit.specs.declared.commit.Commit.{Commit}
 use Rattle.cb_commit.specs.Stores.{StoreState, IsSound}
 use Rattle.cb_commit.specs.Batches.{BatchState, after_batch}
 use Rattle.cb_commit.specs.History.{CommitsState, FitsInto, applied, begun, store_at}
-use Rattle.cb_statements.specs.Inside.{IsSame}
+use Rattle.cb_statements.specs.Inside.{IsSame, IsSettled}
 use Rattle.cb_statements.specs.Statements.{MakesAll, batch_statements}
 use Rattle.cb_shelf.specs.Flushing.{to_write, once_written}
 
@@ -73,12 +73,15 @@ TablesFollow = (store : StoreState) → IsSound store → (events : List Event)
     × (now.commits.flushed ≤ number) × (number ≤ now.commits.store.number)
     × (now.tables ≡ store_at now.commits number)
 
--- what the tables are told by an event of a flush: the statements of its batch, if it is written
+-- what the tables are told by an event of a flush: the statements of its batch, if it is written,
+-- and nothing is left open then
 abbrev pub Writes : {S : Type 0} → Ghosts S → Event → Option BatchState → Held S → Held S → Type 0
 Writes g reported (Some batch) old new =
     MakesAll g (batch_statements batch) (state g old).now (state g new).committed
+    × IsSettled (state g new)
 Writes g unreported (Some batch) old new =
     MakesAll g (batch_statements batch) (state g old).now (state g new).committed
+    × IsSettled (state g new)
 Writes g (committed commit) batch old new = ⊥
 Writes g _ batch old new = IsSame (state g old) (state g new)
 

@@ -1,12 +1,12 @@
 //! Writing what was committed, and reporting it.
-ghost use Rattle.std.specs.Prelude.{◌≡◌, ◌⊎◌, None, Some, Err, IfOk, IfSome, OnOk, OnErr};
+ghost use Rattle.std.specs.Prelude.{◌≡◌, ◌≢◌, ◌⊎◌, None, Some, Err, IfOk, IfSome, IsOk, OnOk, OnErr};
 ghost use Rattle.sqlite.specs.State.{HasCleanDisk, Survives};
 ghost use Rattle.sqlite.specs.Held.{state};
 ghost use Rattle.cb_commit.specs.History.{CanFlush, next_batch};
 ghost use Rattle.cb_statements.specs.Statements.{MakesAll, batch_statements};
 ghost use Rattle.cb_statements.specs.Inside.{IsSame, IsSettled};
-ghost use Rattle.cb_statements.specs.Writing.{Wrote};
-ghost use Rattle.cb_shelf.specs.Flushing.{to_write, once_written, dones_of};
+ghost use Rattle.cb_statements.specs.Writing.{Fits, Wrote};
+ghost use Rattle.cb_shelf.specs.Flushing.{IsMisfit, to_write, once_written, dones_of};
 ghost use Rattle.cb_shelf.specs.Events.{IsEvent};
 
 use crate::{Shelf, ShelfFault};
@@ -21,6 +21,7 @@ fn hold(alloc: Global, commits: &Commits, held: &mut Option<Batch>) -> Result<()
     ensures ok { OnOk result (held.new ≡ to_write held.old commits.now) }
     ensures err { OnErr result ((result ≡ Err ShelfFault.Memory) × (held.old ≡ None)
         × (held.new ≡ None)) }
+    ensures needed { OnErr result (to_write held.old commits.now ≢ None) }
     ensures can_flush { IfSome held.new (λ batch. CanFlush commits.now batch.number) }
 {
     if held.is_some() {
@@ -35,8 +36,9 @@ fn hold(alloc: Global, commits: &Commits, held: &mut Option<Batch>) -> Result<()
 /// it that wasn't reported before. Where it is refused the batch stays held, and is written again
 /// before another is taken.
 ///
-/// `Memory` besides where the database answers it: where memory was refused for the batch (then
-/// none is held), or for the Dones (then the batch is in the tables).
+/// Where there is nothing to write it is not refused. `Shape` only where there is a batch and it
+/// doesn't fit. `Memory` besides where the database answers it: where memory was refused for the
+/// batch (then none is held), or for the Dones (then the batch is in the tables).
 pub fn flush_once<S: Alter>(
     alloc: Global,
     commits: &mut Commits,
@@ -51,8 +53,12 @@ pub fn flush_once<S: Alter>(
     ensures err { OnErr result ((commits.new ≡ commits.old)
         × ((held.new ≡ to_write held.old commits.old) ⊎ ((result ≡ Err ShelfFault.Memory)
         × (held.old ≡ None) × (held.new ≡ None) × (shelf.new ≡ shelf.old)))) }
+    ensures fits { OnOk result (IfSome (to_write held.old commits.old) (Fits shelf.old.limits)) }
+    ensures shape { result ≡ Err ShelfFault.Shape
+        → IsMisfit shelf.old.limits (to_write held.old commits.old) }
     ensures can_flush { IfSome held.new (λ batch. CanFlush commits.new batch.number) }
     ensures nothing { to_write held.old commits.old ≡ None → shelf.new ≡ shelf.old }
+    ensures idle { to_write held.old commits.old ≡ None → IsOk result }
     ensures limits { shelf.new.limits ≡ shelf.old.limits }
     ensures written { HasCleanDisk (state S.Store shelf.new.conn)
         → OnOk result (IfSome (to_write held.old commits.old) (λ batch.

@@ -2,9 +2,14 @@
 //!
 //! A call that memory was refused for is made once more: it changed nothing, so that where one
 //! growth of the client's is refused the same is printed as where none is.
+//!
+//! At its end the references that the pool's chooser was called for are compared with those that
+//! the answers tell of: each read that was answered with bytes, and each copy that came of a page
+//! that wasn't here and is then.
 
 use crate::frames::{put_digits, put_frame, put_frames};
-use crate::words::{bytes, is_opening, limits, not_a_line, page};
+use crate::references::Noting;
+use crate::words::{bytes, is_opening, limits, not_a_line, page, page_at};
 use cb_client::{Client, ClientFault, Outcome, ReadAnswer, WantAnswer};
 use cb_frame::{BytesFault, Frame, FrameFault};
 use cb_page::{ClientNo, Incarnation, Limits, PageNo};
@@ -13,6 +18,9 @@ use std::alloc::Global;
 use std::io;
 use std::io::Write;
 use std::str::SplitWhitespace;
+
+/// The client that a list is played to.
+type Alone = Client<Noting<TwoQ>>;
 
 /// Plays the list that the line opens: what follows it, up to where another list begins.
 pub(crate) fn play_list<O: Write>(
@@ -23,15 +31,29 @@ pub(crate) fn play_list<O: Write>(
 ) -> io::Result<()> {
     let limits = limits(line)?;
     let number = ClientNo::new(0);
-    let chooser = TwoQ::make(alloc, &limits)?;
+    let lines = following.len();
+    let chooser = Noting::new(alloc, TwoQ::make(alloc, &limits)?, lines)?;
     let mut client = Client::new(alloc, number, Incarnation::new(1), &limits, chooser)?;
-    play_lines(alloc, &mut client, following, out)
+    let mut told = Vec::with_capacity(alloc, lines)?;
+    play_lines(alloc, &mut client, &mut told, following, out)?;
+    put_references(&client, told.as_slice(), out)
 }
 
-/// Plays the lines of a list.
+/// Prints how many references there were, if those that were made are those told of.
+fn put_references<O: Write>(client: &Alone, told: &[PageNo], out: &mut O) -> io::Result<()> {
+    let made = client.chooser().made();
+    if made == told {
+        writeln!(out, "references {count}", count = made.len())
+    } else {
+        writeln!(out, "references differ")
+    }
+}
+
+/// Plays the lines of a list, and adds the references that the answers tell of.
 fn play_lines<O: Write>(
     alloc: Global,
-    client: &mut Client<TwoQ>,
+    client: &mut Alone,
+    told: &mut Vec<PageNo>,
     lines: &[String],
     out: &mut O,
 ) -> io::Result<()> {
@@ -39,48 +61,83 @@ fn play_lines<O: Write>(
         if is_opening(line.as_str()) {
             break;
         }
-        play(alloc, client, line.as_str(), out)?;
+        if let Some(page) = play(alloc, client, line.as_str(), out)? {
+            told.push(page)?;
+        }
     }
     Ok(())
 }
 
-/// Plays one line.
+/// Plays one line. Answers the page that its answer tells to be referred to.
 fn play<O: Write>(
     alloc: Global,
-    client: &mut Client<TwoQ>,
+    client: &mut Alone,
     line: &str,
     out: &mut O,
-) -> io::Result<()> {
+) -> io::Result<Option<PageNo>> {
     let mut words = line.split_whitespace();
     match words.next() {
-        None | Some("<" | "!") => Ok(()),
         Some(">") => take(alloc, client, words.next().ok_or(not_a_line())?, out),
-        Some("again") => say_again(alloc, client, out),
-        Some("begin") => begin(client, out),
-        Some("finish") => finish(alloc, client, out),
-        Some("drop") => drop_txn(alloc, client, out),
-        Some("status") => writeln!(out, "status = {status:?}", status = client.status()),
-        Some("last") => put_last(client.last(), out),
-        Some(word) => play_page(alloc, client, word, &mut words, out),
+        Some("read") => read(alloc, client, page(&mut words)?, out),
+        Some(word) => {
+            play_other(alloc, client, word, &mut words, out)?;
+            Ok(None)
+        }
+        None => Ok(None),
     }
 }
 
-/// A frame comes, whose bytes the word spells.
-fn take<O: Write>(
+/// Plays a line that refers to no page.
+fn play_other<O: Write>(
     alloc: Global,
-    client: &mut Client<TwoQ>,
-    digits: &str,
+    client: &mut Alone,
+    word: &str,
+    words: &mut SplitWhitespace<'_>,
     out: &mut O,
 ) -> io::Result<()> {
+    match word {
+        "<" | "!" | "references" => Ok(()),
+        "again" => say_again(alloc, client, out),
+        "begin" => begin(client, out),
+        "finish" => finish(alloc, client, out),
+        "drop" => drop_txn(alloc, client, out),
+        "status" => writeln!(out, "status = {status:?}", status = client.status()),
+        "last" => put_last(client.last(), out),
+        _ => play_page(alloc, client, word, words, out),
+    }
+}
+
+/// A frame comes, whose bytes the word spells. Answers the page whose bytes came into the pool.
+fn take<O: Write>(
+    alloc: Global,
+    client: &mut Alone,
+    digits: &str,
+    out: &mut O,
+) -> io::Result<Option<PageNo>> {
     writeln!(out, "> {digits}")?;
     let bytes = bytes(alloc, digits)?;
-    take_bytes(alloc, client, bytes.as_slice(), out)
+    let page = page_at(bytes.as_slice());
+    let was = is_here(client, page);
+    take_bytes(alloc, client, bytes.as_slice(), out)?;
+    if !was && is_here(client, page) {
+        Ok(page)
+    } else {
+        Ok(None)
+    }
+}
+
+/// Whether the page's bytes are in the pool.
+fn is_here(client: &Alone, page: Option<PageNo>) -> bool {
+    match page {
+        Some(page) => client.peek(page).is_some(),
+        None => false,
+    }
 }
 
 /// What the client answers to the frame that the bytes begin with.
 fn taken(
     alloc: Global,
-    client: &mut Client<TwoQ>,
+    client: &mut Alone,
     bytes: &[u8],
 ) -> Result<(Vec<Frame>, usize), BytesFault<ClientFault>> {
     match client.take_bytes(alloc, bytes) {
@@ -94,7 +151,7 @@ fn taken(
 /// A frame of these bytes comes.
 fn take_bytes<O: Write>(
     alloc: Global,
-    client: &mut Client<TwoQ>,
+    client: &mut Alone,
     bytes: &[u8],
     out: &mut O,
 ) -> io::Result<()> {
@@ -105,7 +162,7 @@ fn take_bytes<O: Write>(
 }
 
 /// What is unanswered is sent again.
-fn say_again<O: Write>(alloc: Global, client: &Client<TwoQ>, out: &mut O) -> io::Result<()> {
+fn say_again<O: Write>(alloc: Global, client: &Alone, out: &mut O) -> io::Result<()> {
     writeln!(out, "again")?;
     let said = match client.again(alloc) {
         Err(ClientFault::Memory) => client.again(alloc),
@@ -123,7 +180,7 @@ fn refused<O: Write>(word: &str, fault: ClientFault, out: &mut O) -> io::Result<
 }
 
 /// A transaction is opened.
-fn begin<O: Write>(client: &mut Client<TwoQ>, out: &mut O) -> io::Result<()> {
+fn begin<O: Write>(client: &mut Alone, out: &mut O) -> io::Result<()> {
     match client.begin() {
         Ok(txn) => writeln!(out, "begin = {txn}", txn = txn.get()),
         Err(fault) => refused("begin", fault, out),
@@ -131,7 +188,7 @@ fn begin<O: Write>(client: &mut Client<TwoQ>, out: &mut O) -> io::Result<()> {
 }
 
 /// The transaction is committed.
-fn finish<O: Write>(alloc: Global, client: &mut Client<TwoQ>, out: &mut O) -> io::Result<()> {
+fn finish<O: Write>(alloc: Global, client: &mut Alone, out: &mut O) -> io::Result<()> {
     let finished = match client.finish(alloc) {
         Err(ClientFault::Memory) => client.finish(alloc),
         finished => finished,
@@ -154,7 +211,7 @@ fn put_finished<O: Write>(
 }
 
 /// The transaction is dropped.
-fn drop_txn<O: Write>(alloc: Global, client: &mut Client<TwoQ>, out: &mut O) -> io::Result<()> {
+fn drop_txn<O: Write>(alloc: Global, client: &mut Alone, out: &mut O) -> io::Result<()> {
     let dropped = match client.drop_txn(alloc) {
         Err(ClientFault::Memory) => client.drop_txn(alloc),
         dropped => dropped,
@@ -198,7 +255,7 @@ fn put_outcome<O: Write>(outcome: Outcome, out: &mut O) -> io::Result<()> {
 /// A call that names a page.
 fn play_page<O: Write>(
     alloc: Global,
-    client: &mut Client<TwoQ>,
+    client: &mut Alone,
     word: &str,
     words: &mut SplitWhitespace<'_>,
     out: &mut O,
@@ -206,7 +263,6 @@ fn play_page<O: Write>(
     let page = page(words)?;
     write!(out, "{word} {number}", number = page.get())?;
     match word {
-        "read" => read(alloc, client, page, out),
         "want" => want(alloc, client, page, out),
         "write" => write(alloc, client, page, words.next().unwrap_or("!"), out),
         "peek" => put_bytes(alloc, client.peek(page), out),
@@ -226,27 +282,32 @@ fn put_bytes<O: Write>(alloc: Global, bytes: Option<&[u8]>, out: &mut O) -> io::
     }
 }
 
-/// The transaction reads a page.
+/// The transaction reads a page. Answers it, if its bytes were answered.
 fn read<O: Write>(
     alloc: Global,
-    client: &mut Client<TwoQ>,
+    client: &mut Alone,
     page: PageNo,
     out: &mut O,
-) -> io::Result<()> {
+) -> io::Result<Option<PageNo>> {
+    write!(out, "read {number}", number = page.get())?;
     match client.read(page) {
-        Ok(ReadAnswer::Bytes(bytes)) => put_bytes(alloc, Some(bytes), out),
-        Ok(ReadAnswer::Asked) => asked(alloc, client, out),
-        Err(fault) => writeln!(out, " ! {fault:?}"),
+        Ok(ReadAnswer::Bytes(bytes)) => {
+            put_bytes(alloc, Some(bytes), out)?;
+            Ok(Some(page))
+        }
+        Ok(ReadAnswer::Asked) => {
+            asked(alloc, client, out)?;
+            Ok(None)
+        }
+        Err(fault) => {
+            writeln!(out, " ! {fault:?}")?;
+            Ok(None)
+        }
     }
 }
 
 /// The transaction wants to write a page.
-fn want<O: Write>(
-    alloc: Global,
-    client: &mut Client<TwoQ>,
-    page: PageNo,
-    out: &mut O,
-) -> io::Result<()> {
+fn want<O: Write>(alloc: Global, client: &mut Alone, page: PageNo, out: &mut O) -> io::Result<()> {
     match client.want(page) {
         Ok(WantAnswer::Permitted) => writeln!(out, " permitted"),
         Ok(WantAnswer::Asked(_)) => asked(alloc, client, out),
@@ -255,7 +316,7 @@ fn want<O: Write>(
 }
 
 /// An ask is out.
-fn asked<O: Write>(alloc: Global, client: &Client<TwoQ>, out: &mut O) -> io::Result<()> {
+fn asked<O: Write>(alloc: Global, client: &Alone, out: &mut O) -> io::Result<()> {
     writeln!(out, " asked")?;
     match client.ask() {
         Some(ask) => put_frame(alloc, client.limits(), &Frame::from(ask), out),
@@ -266,7 +327,7 @@ fn asked<O: Write>(alloc: Global, client: &Client<TwoQ>, out: &mut O) -> io::Res
 /// The transaction writes a page, whose bytes the word spells; a mark of refusal stands for none.
 fn write<O: Write>(
     alloc: Global,
-    client: &mut Client<TwoQ>,
+    client: &mut Alone,
     page: PageNo,
     word: &str,
     out: &mut O,

@@ -7,6 +7,7 @@
 
 mod client_side;
 mod frames;
+mod references;
 mod server_side;
 mod words;
 

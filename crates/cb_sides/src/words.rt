@@ -37,6 +37,22 @@ pub(crate) fn page(words: &mut SplitWhitespace<'_>) -> io::Result<PageNo> {
     Ok(PageNo::new(page))
 }
 
+/// The page that a frame of these bytes names, if it is a Granted and there may be such a page.
+pub(crate) fn page_at(bytes: &[u8]) -> Option<PageNo> {
+    if *bytes.get(1)? != 0x42 {
+        return None;
+    }
+    let [a, b, c, d] = *bytes.get(16..20)? else {
+        return None;
+    };
+    let number = u32::from_be_bytes([a, b, c, d]);
+    if number < 4096 {
+        Some(PageNo::new(number))
+    } else {
+        None
+    }
+}
+
 /// The bytes that a word of hexadecimal digits spells.
 pub(crate) fn bytes(alloc: Global, digits: &str) -> io::Result<Vec<u8>> {
     match hex::decode(alloc, digits) {

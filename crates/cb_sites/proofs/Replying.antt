@@ -1,9 +1,9 @@
 -- What a client replies, by the table of calls.
-use Rattle.std.proofs.Common.{◌≡◌, ℕ, if◌then◌else◌, List, [], ◌∷◌, Option, Some, None, Result, Ok, refl, sym, ◌∙◌, ap, subst}
-use Rattle.std.specs.Prelude.{IfOk}
+use Rattle.std.proofs.Common.{◌≡◌, ◌≢◌, ℕ, if◌then◌else◌, List, [], ◌∷◌, Option, Some, None, Result, Ok, Err, refl, sym, ◌∙◌, ap, subst}
+use Rattle.std.specs.Prelude.{IfOk, OnErr}
 use Rattle.std.specs.Option.{is_some, option_map}
 use Rattle.std.specs.List.{AllByRecursion}
-use Rattle.std.proofs.lemmas.Result.{IfOk-weaker}
+use Rattle.std.proofs.lemmas.Result.{IfOk-weaker, on_err_weaker}
 use Rattle.cb_client.specs.ByTable.{Called, Calls, IsRefusal, IsRefused, Refuses, RefusesOrLacks, as_before, limits_at, messages_from, refusal}
 use Rattle.cb_client.specs.CallAnswers.{Answers, ShortFrameFits, after_read, page_asked, page_read, read_ask, short_message}
 use Rattle.cb_client.specs.ClientState.{ClientState, ask_of, client_of}
@@ -107,6 +107,38 @@ pub refused_or_lacks : {X : Type 0} (old new : ClientState) (call : Call) (refus
     → IfOk result (λ reply. (reply.said.items ≡ []) × (Some (word_of reply.word) ≡ option_map table.Refused (refusal refused))) → IfOk result (λ reply. Replies old call reply new)
 refused_or_lacks old new call fault.Memory result is said = IfOk-weaker result (OfRefusal fault.Memory) (λ reply. Replies old call reply new) (λ reply of. absurd (lacks_none _ of.1)) said
 refused_or_lacks old new call refused result is said = refusal_reply old new call refused result is.0 is.1 said
+
+-- A call that is answered by anything but a refusal is one that the table accepts.
+accepted : (old : ClientState) (call : Call) (said : table.AnswerWord) → ((operations : List Operation) → (client_call (limits_at old) (client_of old operations) call).word ≡ said)
+    → ((reason : table.ClientFault) → said ≢ table.Refused reason) → IsRefusal old call None
+accepted old call said at other = λ operations. by operations (call_fault (limits_at old) (client_of old operations) call) refl
+  where
+    by : (operations : List Operation) (found : Option table.ClientFault) → call_fault (limits_at old) (client_of old operations) call ≡ found → call_fault (limits_at old) (client_of old operations) call ≡ None
+    by operations None e = e
+    by operations (Some reason) e =
+        absurd (other reason (sym (at operations) ∙ ap (λ (x : TableReply). x.word) (call_refused (limits_at old) (client_of old operations) call reason e)))
+
+-- a refusal of the table is no want of memory
+pub refusal_told : {X E : Type 0} (old : ClientState) (call : Call) (refused : ClientFault) (result : Result X E) → IsRefused old call refused → OnErr result (refusal refused ≡ None) → OnErr result (IsRefusal old call None)
+refusal_told old call refused result is fails = on_err_weaker result (λ lacks. absurd (apart is.reason (sym is.named ∙ lacks))) fails
+  where
+    apart : (reason : table.ClientFault) → Some reason ≡ None → ⊥
+    apart reason e = cc
+
+-- so what is no refusal of the table is of a call that it accepts
+pub lack_told : {X E : Type 0} (old new : ClientState) (call : Call) (refused : ClientFault) (result : Result X E) → RefusesOrLacks old call refused new → OnErr result (refusal refused ≡ None) → OnErr result (IsRefusal old call None)
+lack_told old new call fault.Memory result is fails = on_err_weaker result (λ lacks. is.0) fails
+lack_told old new call refused result is fails = refusal_told old call refused result is.0 fails
+
+-- what holds anyhow holds where a call fails
+pub on_any_err : {T E P : Type 0} (r : Result T E) → P → OnErr r P
+on_any_err (Ok value) p = tt
+on_any_err (Err e) p = p
+
+-- where memory for what it says is refused, the call was accepted
+pub said_nothing : {X E : Type 0} (old : ClientState) (call : Call) (answered : table.AnswerWord) (result : Result X E) → ((operations : List Operation) → (client_call (limits_at old) (client_of old operations) call).word ≡ answered)
+    → ((reason : table.ClientFault) → answered ≢ table.Refused reason) → OnErr result (IsRefusal old call None)
+said_nothing old call said result at other = on_any_err result (accepted old call said at other)
 
 -- the message of the ask that is out
 ask_message : (client : ClientState) (page : ℕ) → client.ask ≡ asks.Read page

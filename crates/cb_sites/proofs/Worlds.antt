@@ -6,12 +6,12 @@ use Rattle.std.proofs.lemmas.Grind.{get_or-set_at}
 use Rattle.std.proofs.lemmas.List.{get_or-set_other, get_or_read_under, length-set, set-get_or}
 use Rattle.cb_page.specs.Bounds.{AreInRange, Bounds}
 use Rattle.std.specs.List.{AllByRecursion, range_with_len}
-use Rattle.std.specs.Prelude.{IfOk}
+use Rattle.std.specs.Prelude.{IfOk, OnErr}
 use Rattle.std.proofs.lemmas.List.FromFn.{get_or-map-range_with_len, length-map-range_with_len, map-range_with_len_more}
-use Rattle.std.proofs.lemmas.Result.{IfOk-weaker}
+use Rattle.std.proofs.lemmas.Result.{IfOk-weaker, on_err_weaker}
 use Rattle.cb_frame_types.specs.Grammar.{Fits}
 use Rattle.cb_client_engine.proofs.Reaching.{starts}
-use Rattle.cb_client.specs.ByTable.{Calls, Takes, messages_from}
+use Rattle.cb_client.specs.ByTable.{Calls, IsRefusal, Takes, messages_from}
 use Rattle.cb_client.specs.ClientState.{ClientState, client_of, new_state}
 use Rattle.cb_client.specs.FramesTaken.{TakesFrame, is_for}
 use Rattle.cb_copies.specs.CopiesState.{limits_of}
@@ -321,6 +321,11 @@ called_stays s n i c u t l stays =
     subst (λ (x : SitesState). StaysOne (client_at x c) (client_at (with_client s i t) c)) l.same
     (subst (λ (x : ClientState). StaysOne (client_at s c) x) (sym (set_there s n i c u t l)) (own_stays s n i c u t l stays))
 
+-- memory was refused for a call that its table accepts
+pub called_fails : {X E : Type 0} (s n : SitesState) (i c : ℕ) (call : Call) (u : ClientState) (result : Result X E) → IsLent s n i c u → OnErr result (IsRefusal u call None) → OnErr result (IsRefusal (client_at n c) call None)
+called_fails s n i c call u result l fails =
+    on_err_weaker result (λ accepts. subst (λ (x : SitesState). IsRefusal (client_at x c) call None) l.same (subst (λ (x : ClientState). IsRefusal x call None) (its_own s n i c u l) accepts)) fails
+
 -- what a client replied is the answer
 pub called_answers : {X : Type 0} (s n : SitesState) (c : ℕ) (call : Call) (result : Result Reply X) → AreSites s → c < s.limits.clients → n ≡ with_client s c (client_at n c)
     → IfOk result (λ reply. Replies (client_at s c) call reply (client_at n c))
@@ -381,6 +386,12 @@ restart_becomes s n i j c k next u t l was follows left e made =
     (subst (λ (x : ℕ). Answers s (Restart c) AnsweredOk [] (with_client s x t)) (sym e)
     (subst (λ (x : ClientState). Answers s (Restart c) AnsweredOk [] (with_client s c x)) (sym fresh)
     (restart_answers s c l.sites (here s n i c u l) (subst (λ (x : ℕ). x + 1 ≤ max_number) own left))))
+
+-- an incarnation is left for it
+pub restart_fails : (s n : SitesState) (i c k : ℕ) (u : ClientState) → IsLent s n i c u → k ≡ u.incarnation → k + 1 ≤ max_number → (c < n.limits.clients) × ((client_at n c).incarnation < max_number)
+restart_fails s n i c k u l was left =
+    let own : k ≡ (client_at n c).incarnation = was ∙ ap (λ (x : ClientState). x.incarnation) (its_own s n i c u l) ∙ ap (λ (x : SitesState). (client_at x c).incarnation) l.same in
+    (l.has, subst (λ (x : ℕ). x < max_number) own (omega (arith, left)))
 
 no_more : (k m : ℕ) → (k + 1 ≤ m → false ≡ true) → m ≤ k
 no_more k m h = by (nat_lt k m) refl

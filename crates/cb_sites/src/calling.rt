@@ -1,6 +1,7 @@
 //! What one client answers to each call.
-ghost use Rattle.std.specs.Prelude.{◌≡◌, ℕ, IfOk, OnErr};
+ghost use Rattle.std.specs.Prelude.{◌≡◌, ℕ, IfOk, None, OnErr};
 ghost use Rattle.std.specs.List.{AllByRecursion};
+ghost use Rattle.cb_client.specs.ByTable.{IsRefusal};
 ghost use Rattle.cb_client.specs.FramesTaken.{TakesFrame};
 ghost use Rattle.cb_frame_types.specs.Grammar.{Fits};
 ghost use Rattle.cb_outbox.specs.Messages.{messages_of};
@@ -19,8 +20,8 @@ use cb_transcript::AnswerWord;
 use cb_twoq::Chooser;
 use std::alloc::{AllocError, Global};
 
-/// The client is called. `AllocError` only where memory was refused; the client may have changed
-/// then.
+/// The client is called. `AllocError` only where memory was refused for a call that the table
+/// accepts; the client may have changed then.
 pub(crate) fn answer<Q: Chooser>(
     alloc: Global,
     client: &mut Client<Q>,
@@ -28,6 +29,7 @@ pub(crate) fn answer<Q: Chooser>(
 ) -> Result<Reply, AllocError>
     ensures ok { IfOk result (λ reply. Replies client.old (call_of call.now) reply client.new) }
     ensures stays { StaysOne client.old client.new }
+    ensures fails { OnErr result (IsRefusal client.old (call_of call.now) None) }
 {
     match call {
         Call::Hello => hello(alloc, client),
@@ -63,7 +65,8 @@ pub(crate) fn deliver<Q: Chooser>(
 }
 
 fn hello<Q: Chooser>(alloc: Global, client: &Client<Q>) -> Result<Reply, AllocError>
-    ensures { IfOk result (λ reply. Replies client.now CallHello reply client.now) }
+    ensures ok { IfOk result (λ reply. Replies client.now CallHello reply client.now) }
+    ensures fails { OnErr result (IsRefusal client.now CallHello None) }
 {
     let frame = client.hello();
     Reply::one(alloc, AnswerWord::Ok, frame)
@@ -72,6 +75,7 @@ fn hello<Q: Chooser>(alloc: Global, client: &Client<Q>) -> Result<Reply, AllocEr
 fn begin<Q: Chooser>(alloc: Global, client: &mut Client<Q>) -> Result<Reply, AllocError>
     ensures ok { IfOk result (λ reply. Replies client.old CallBegin reply client.new) }
     ensures stays { StaysOne client.old client.new }
+    ensures fails { OnErr result (IsRefusal client.old CallBegin None) }
 {
     match client.begin() {
         Ok(_) => Ok(Reply::silent(alloc, AnswerWord::Ok)),
@@ -86,6 +90,7 @@ fn read<Q: Chooser>(
 ) -> Result<Reply, AllocError>
     ensures ok { IfOk result (λ reply. Replies client.old (CallRead page) reply client.new) }
     ensures stays { StaysOne client.old client.new }
+    ensures fails { OnErr result (IsRefusal client.old (CallRead page) None) }
 {
     match client.read(page) {
         Ok(ReadAnswer::Bytes(bytes)) => {
@@ -117,6 +122,7 @@ fn want<Q: Chooser>(
 ) -> Result<Reply, AllocError>
     ensures ok { IfOk result (λ reply. Replies client.old (CallWant page) reply client.new) }
     ensures stays { StaysOne client.old client.new }
+    ensures fails { OnErr result (IsRefusal client.old (CallWant page) None) }
 {
     match client.want(page) {
         Ok(WantAnswer::Permitted) => Ok(Reply::silent(alloc, AnswerWord::Permitted)),
@@ -134,6 +140,7 @@ fn write<Q: Chooser>(
     ensures ok { IfOk result
         (λ reply. Replies client.old (CallWrite page bytes.now) reply client.new) }
     ensures stays { StaysOne client.old client.new }
+    ensures fails { OnErr result (IsRefusal client.old (CallWrite page bytes.now) None) }
 {
     match client.write(page, bytes) {
         Ok(()) => Ok(Reply::silent(alloc, AnswerWord::Ok)),
@@ -144,6 +151,7 @@ fn write<Q: Chooser>(
 fn finish<Q: Chooser>(alloc: Global, client: &mut Client<Q>) -> Result<Reply, AllocError>
     ensures ok { IfOk result (λ reply. Replies client.old CallFinish reply client.new) }
     ensures stays { StaysOne client.old client.new }
+    ensures fails { OnErr result (IsRefusal client.old CallFinish None) }
 {
     match client.finish(alloc) {
         Ok(frame) => Reply::one(alloc, AnswerWord::Ok, frame),
@@ -154,6 +162,7 @@ fn finish<Q: Chooser>(alloc: Global, client: &mut Client<Q>) -> Result<Reply, Al
 fn drop_txn<Q: Chooser>(alloc: Global, client: &mut Client<Q>) -> Result<Reply, AllocError>
     ensures ok { IfOk result (λ reply. Replies client.old CallDrop reply client.new) }
     ensures stays { StaysOne client.old client.new }
+    ensures fails { OnErr result (IsRefusal client.old CallDrop None) }
 {
     match client.drop_txn(alloc) {
         Ok(said) => Ok(Reply {
@@ -165,7 +174,8 @@ fn drop_txn<Q: Chooser>(alloc: Global, client: &mut Client<Q>) -> Result<Reply, 
 }
 
 fn again<Q: Chooser>(alloc: Global, client: &Client<Q>) -> Result<Reply, AllocError>
-    ensures { IfOk result (λ reply. Replies client.now CallAgain reply client.now) }
+    ensures ok { IfOk result (λ reply. Replies client.now CallAgain reply client.now) }
+    ensures fails { OnErr result (IsRefusal client.now CallAgain None) }
 {
     match client.again(alloc) {
         Ok(said) => Ok(Reply {
@@ -177,7 +187,8 @@ fn again<Q: Chooser>(alloc: Global, client: &Client<Q>) -> Result<Reply, AllocEr
 }
 
 fn peek<Q: Chooser>(alloc: Global, client: &Client<Q>, page: PageNo) -> Result<Reply, AllocError>
-    ensures { IfOk result (λ reply. Replies client.now (CallPeek page) reply client.now) }
+    ensures ok { IfOk result (λ reply. Replies client.now (CallPeek page) reply client.now) }
+    ensures fails { OnErr result (IsRefusal client.now (CallPeek page) None) }
 {
     match client.peek(page) {
         Some(bytes) => {

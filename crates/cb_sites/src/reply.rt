@@ -1,5 +1,5 @@
 //! What a client answers to a call, and the frames that it says.
-ghost use Rattle.std.specs.Prelude.{◌≡◌, [], ◌∷◌, IfOk, Some};
+ghost use Rattle.std.specs.Prelude.{◌≡◌, [], ◌∷◌, IfOk, None, OnErr, Some};
 ghost use Rattle.cb_protocol.specs.Answers.{Refused};
 ghost use Rattle.cb_transcript.specs.ProtocolEvents.{fault_of, word_of};
 ghost use Rattle.std.specs.Option.{option_map};
@@ -40,8 +40,9 @@ impl Reply {
 
     /// The call was refused for that reason; `AllocError` where it is want of memory.
     pub(crate) fn refused(alloc: Global, fault: ClientFault) -> Result<Reply, AllocError>
-        ensures { IfOk result (λ reply. (reply.said.items ≡ [])
+        ensures ok { IfOk result (λ reply. (reply.said.items ≡ [])
             × (Some (word_of reply.word) ≡ option_map Refused (refusal fault))) }
+        ensures fails { OnErr result (refusal fault ≡ None) }
     {
         match refusal_of(fault) {
             Some(refusal) => Ok(Reply::silent(alloc, AnswerWord::Refused(refusal))),

@@ -1,13 +1,16 @@
 //! The clients by their numbers.
-ghost use Rattle.std.specs.Prelude.{◌≡◌, ◌<◌, [], IfOk, OnErr};
+ghost use Rattle.std.specs.Prelude.{◌≡◌, ◌<◌, [], IfOk, None, OnErr};
 ghost use Rattle.std.specs.List.{AllByRecursion};
 ghost use Rattle.cb_copies.specs.CopiesState.{limits_of};
 ghost use Rattle.cb_frame_types.specs.Grammar.{Fits};
 ghost use Rattle.cb_outbox.specs.Messages.{message_of, messages_of};
+ghost use Rattle.cb_protocol.specs.Basics.{max_number};
 ghost use Rattle.cb_protocol.specs.World.{ClientCalls, Opening, Restart as RestartEvent, new_world};
 ghost use Rattle.cb_sites.specs.ByWorld.{Answers, Delivers, Replies, StaysOne};
+ghost use Rattle.cb_client.specs.ByTable.{IsRefusal};
 ghost use Rattle.cb_client.specs.ClientState.{new_state};
-ghost use Rattle.cb_sites.specs.SitesState.{Represents, client_at, first_clients, with_client};
+ghost use Rattle.cb_sites.specs.SitesState.{AreSites, Represents, client_at, first_clients};
+ghost use Rattle.cb_sites.specs.SitesState.{with_client};
 ghost use Rattle.cb_transcript.specs.ProtocolEvents.{call_of, word_of};
 
 use crate::calling::{answer, deliver};
@@ -72,13 +75,14 @@ impl<Q: Chooser> Sites<Q> {
 
     /// The limits of the world.
     pub fn limits(&self) -> &Limits
-        ensures { result.now ≡ self.now.limits }
+        ensures value { result.now ≡ self.now.limits }
+        ensures arose { AreSites self.now }
     {
         &self.limits
     }
 
     /// Calls the client of that number, if there is one. `AllocError` only where memory was
-    /// refused; the client may have changed then.
+    /// refused, for a call that the client's table accepts; the client may have changed then.
     pub fn call(
         &mut self,
         alloc: Global,
@@ -90,6 +94,8 @@ impl<Q: Chooser> Sites<Q> {
         ensures fits { IfOk result (λ reply.
             AllByRecursion (Fits self.old.limits) reply.said.items) }
         ensures limits { self.new.limits ≡ self.old.limits }
+        ensures fails { OnErr result ((client < self.old.limits.clients)
+            × IsRefusal (client_at self.old client) (call_of call.now) None) }
     {
         if !self.limits.has_client(client.get()) {
             return Ok(Reply::silent(alloc, AnswerWord::NoClient));
@@ -104,6 +110,8 @@ impl<Q: Chooser> Sites<Q> {
             (call_of call.now) reply (client_at self.new client)) }
         ensures stays { StaysOne (client_at self.old client) (client_at self.new client) }
         ensures rest { self.new ≡ with_client self.old client (client_at self.new client) }
+        ensures fails { OnErr result
+            (IsRefusal (client_at self.old client) (call_of call.now) None) }
     {
         let caller = &mut self.clients[client.index()];
         answer(alloc, caller, call)
@@ -123,11 +131,13 @@ impl<Q: Chooser> Sites<Q> {
     }
 
     /// The client of that number is new, at its next incarnation, if there is such a client and one
-    /// is left. `AllocError` only where memory was refused; then nothing changes.
+    /// is left. `AllocError` only where memory was refused for that; then nothing changes.
     pub fn restart(&mut self, alloc: Global, client: ClientNo) -> Result<AnswerWord, AllocError>
         ensures ok { IfOk result (λ word. Answers self.old (RestartEvent client) (word_of word) []
             self.new) }
         ensures err { OnErr result (self.new ≡ self.old) }
+        ensures fails { OnErr result ((client < self.old.limits.clients)
+            × ((client_at self.old client).incarnation < max_number)) }
     {
         if !self.limits.has_client(client.get()) {
             return Ok(AnswerWord::NoClient);

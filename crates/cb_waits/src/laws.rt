@@ -1,8 +1,8 @@
 //! Laws of the kept waits-for view.
 ghost use Rattle.std.specs.Prelude.{◌≡◌, ◌<◌, ◌++◌, ◌∷◌, ◌&&◌, ◌==◌, ◌↔◌, not, ℕ, List, Bool};
-ghost use Rattle.std.specs.Prelude.{IsTrue};
+ghost use Rattle.std.specs.Prelude.{IsTrue, false};
 ghost use Rattle.cb_protocol.specs.Deadlock.{OneAsk};
-ghost use Rattle.cb_protocol.specs.Server.{Server, WaitingAsk};
+ghost use Rattle.cb_protocol.specs.Server.{Server, WaitingAsk, has_ask};
 ghost use Rattle.cb_protocol.specs.WaitsFor.{AsksInRange, LiesOnCycle, holds_up, on_cycle};
 ghost use Rattle.cb_protocol.specs.WaitsFor.{waits_for};
 ghost use Rattle.cb_waits.specs.Graph.{Edges, Waits};
@@ -16,6 +16,9 @@ pub fn waits_by_place()
         → server.queue page ≡ front ++ ask ∷ back
         → (other : ℕ) → waits_for server ask.client other
         ≡ (not (ask.client == other) && waited_for (holds_up server page ask) front other) }
+    ensures none { (server : Server) (client : ℕ)
+        → ((page : ℕ) → has_ask client (server.queue page) ≡ false)
+        → (other : ℕ) → waits_for server client other ≡ false }
     ensures test { (view : Edges) (server : Server) → AsksInRange server
         → Follows view server → (client : ℕ) (answer : Bool)
         → IsTrue answer ↔ LiesOnCycle (Waits view) client → answer ≡ on_cycle server client }

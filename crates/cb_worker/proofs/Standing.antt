@@ -16,8 +16,8 @@ use Rattle.cb_protocol.specs.ClientCalls.{CallDrop, accept_or_refuse, call_fault
 use Rattle.cb_protocol.specs.Messages.{Message}
 use Rattle.cb_protocol.specs.Serial.{Operation}
 use Rattle.cb_worker.specs.Committing.{IsCommitting}
-use Rattle.cb_worker.specs.Waiting.{Drops, Finishes, ending_of}
-use Rattle.cb_worker.specs.Workers.{Ended, IsIdle, WorkerState}
+use Rattle.cb_worker.specs.Waiting.{IsDropped, IsFinished, ending_of}
+use Rattle.cb_worker.specs.Workers.{Ended, HasTransaction, IsIdle, WorkerState}
 use Rattle.cb_worker.specs.declared.answers.Finished.{Finished}
 use Rattle.cb_worker.specs.declared.worker_fault.WorkerFault.{WorkerFault}
 
@@ -83,7 +83,7 @@ dropped old new messages calls idle = record {
 }
 
 -- one whose client stayed as it was has dropped its transaction too
-pub still_dropped : (old new : WorkerState) (r : Result ⊤ WorkerFault) → Ended old Dropped → new.client ≡ old.client → OnOk r (Drops new)
+pub still_dropped : (old new : WorkerState) (r : Result ⊤ WorkerFault) → Ended old Dropped → new.client ≡ old.client → OnOk r (IsDropped new)
 still_dropped old new (Ok done) is same = inl (record { idle = λ ops. rw same (is.idle ops); so = λ ops. rw same (is.so ops) })
 still_dropped old new (Err fault) is same = tt
 
@@ -104,6 +104,43 @@ welcomed_so v s says_so n = go v.welcomed refl
 
 -- how the last transaction ended, by what the client says of it
 pub finished_so : (w : WorkerState) (last : Outcome) (r : Option Finished) → IsIdle w → ((ops : List Operation) → outcome_of (Some last) ≡ (client_of w.client ops).last_outcome)
-    → IfSome r (λ finished. outcome_of (Some last) ≡ ending_of finished) → IfSome r (Finishes w)
+    → IfSome r (λ finished. outcome_of (Some last) ≡ ending_of finished) → IfSome r (IsFinished w)
 finished_so w last None idle says_so is = tt
 finished_so w last (Some f) idle says_so is = record { idle = idle; so = λ ops. sym (says_so ops) ∙ is }
+
+unwelcomed : (w : Bool) (s : TransactionState) (a : Ask) → StatusNotWelcome ≡ (if not w then StatusNotWelcome else welcomed_status s a) → w ≡ false
+unwelcomed false s a e = refl
+unwelcomed true Idle a e = absurd cc
+unwelcomed true Open a e = absurd (go (is_asking a) e)
+  where
+    go : (b : Bool) → StatusNotWelcome ≡ (if b then StatusWaiting else StatusOpen) → ⊥
+    go true e = absurd cc
+    go false e = absurd cc
+unwelcomed true Committing a e = absurd cc
+
+-- one that says that it isn't welcomed isn't
+pub unwelcomed_so : (v : ClientState) (s : says.ClientStatus) → ((ops : List Operation) → status_of s ≡ client_status (client_of v ops)) → s ≡ statuses.NotWelcome → v.welcomed ≡ false
+unwelcomed_so v s says_so is = unwelcomed v.welcomed (client_of v []).cache.status (client_of v []).ask (rw is at (says_so []))
+
+said_idle : (s : says.ClientStatus) → status_of s ≡ StatusIdle → s ≡ statuses.Idle
+said_idle statuses.NotWelcome e = absurd cc
+said_idle statuses.Idle e = refl
+said_idle statuses.Open e = absurd cc
+said_idle statuses.Waiting e = absurd cc
+said_idle statuses.Committing e = absurd cc
+
+resting : (k : Client) → k.cache.welcomed ≡ true → k.cache.status ≡ Idle → client_status k ≡ StatusIdle
+resting k f e = rw (f, e) refl
+
+-- one that says neither that it isn't welcomed nor that it is idle has a transaction
+pub busy_so : (w : WorkerState) (s : says.ClientStatus) → ((ops : List Operation) → status_of s ≡ client_status (client_of w.client ops)) → s ≢ statuses.NotWelcome → s ≢ statuses.Idle → HasTransaction w
+busy_so w s says_so n i =
+    let is : w.client.welcomed ≡ true = welcomed_so w.client s says_so n in
+    record { welcomed = is; busy = λ ops e. i (said_idle s (says_so ops ∙ resting (client_of w.client ops) is e)) }
+
+-- one that isn't welcomed, or is idle, has none
+pub none_unwelcomed : (w : WorkerState) → w.client.welcomed ≡ false → HasTransaction w → ⊥
+none_unwelcomed w f h = absurd (let e : true ≡ false = sym h.welcomed ∙ f in cc)
+
+pub none_idle : (w : WorkerState) → IsIdle w → HasTransaction w → ⊥
+none_idle w is h = h.busy [] (is [])

@@ -1,23 +1,41 @@
--- A worker stays the one that it is: of the same incarnation of the same client.
-use Rattle.std.proofs.Common.{◌≡◌, ℕ, Bool, true, false, List, [], ◌∷◌, Option, Some, None, Result, Ok, Err, refl, sym, ◌∙◌, ap, if◌then◌else◌}
+-- A worker stays the one that it is: of the same incarnation of the same client, and no transaction begins.
+use Rattle.std.proofs.Common.{◌≡◌, inl, inr, ℕ, Bool, true, false, List, [], ◌∷◌, Option, Some, None, Result, Ok, Err, refl, sym, ◌∙◌, ap, if◌then◌else◌}
 use Rattle.std.specs.Prelude.{⊤}
+use Rattle.cb_client.specs.ByTable.{Calls, Makes, limits_at, over}
+use Rattle.cb_client.specs.CallAnswers.{Wants, page_read}
 use Rattle.cb_client.specs.FramesTaken.{TakesFrame, is_for}
-use Rattle.cb_client_engine.specs.ClientState.{ClientState}
+use Rattle.cb_client.specs.declared.answers.WantAnswer.{WantAnswer}
+use Rattle.cb_client.specs.declared.answers.WantAnswer.TheVariants as want
+use Rattle.cb_client.specs.declared.client_fault.ClientFault.{ClientFault}
+use Rattle.cb_client_engine.specs.ClientState.{ClientState, client_of}
 use Rattle.cb_frame_types.specs.declared.frame.Body.{Body}
 use Rattle.cb_frame_types.specs.declared.frame.Body.TheVariants as body
 use Rattle.cb_frame_types.specs.declared.frame.Frame.{Frame}
 use Rattle.cb_frame_types.specs.declared.frame.ShortBody.TheVariants as short
-use Rattle.cb_hands.specs.Hands.{HandState, permitted, with_copy, without_permissions}
-use Rattle.cb_hands.specs.declared.grant.Held.{Held}
-use Rattle.cb_office.specs.Moves.{collected, ended_if_over, given_back, is_over, is_stray, received_of}
+use Rattle.cb_frame_types.specs.declared.writes.Write.{Write}
+use Rattle.cb_hands.specs.Hands.{HandState, restamped, without_permissions}
+use Rattle.cb_office.specs.Commits.{writes_of}
+use Rattle.cb_office.specs.Moves.{committed, ended_if_over, given_back, is_over, is_stray, received_of}
 use Rattle.cb_office.specs.Stations.{StationState, server_of}
 use Rattle.cb_office.specs.declared.office_fault.OfficeFault.{OfficeFault}
-use Rattle.cb_outbox.specs.Messages.{messages_of}
+use Rattle.cb_outbox.specs.Messages.{body_of, messages_of}
+use Rattle.cb_protocol.proofs.Cases.{call_accepted, call_refused}
+use Rattle.cb_protocol.proofs.ClientReady.{Plain, PlainChange, plain_pages}
+use Rattle.cb_protocol.proofs.TranscriptStill.{Still, StillChange, still_number, still_takes}
+use Rattle.cb_protocol.specs.Answers as table
+use Rattle.cb_protocol.specs.Basics.{Limits}
+use Rattle.cb_protocol.specs.Cache.{CacheChange, LetGo, MakeBare, RefuseGrant, YieldPermission}
+use Rattle.cb_protocol.specs.Client.{ChangeCache, Client, ClientStep, EndTransaction, MarkDue, MarkDueDowngrade, MarkWanted, Say, SetAsk, WriteAsk}
+use Rattle.cb_protocol.specs.ClientCalls.{Call, CallDrop, CallFinish, CallWant, accept_call, call_fault, client_call, reply_with, say_ask_write}
+use Rattle.cb_protocol.specs.ClientEnd.{end_pages}
+use Rattle.cb_protocol.specs.ClientMessages.{client_take}
 use Rattle.cb_protocol.specs.Messages.{Message}
+use Rattle.cb_protocol.specs.Serial.{Operation}
 use Rattle.cb_protocol.specs.Server.{Server}
-use Rattle.cb_worker.specs.Calls.{Collected, Took}
+use Rattle.cb_worker.specs.Calls.{Collected, Committed, Took}
+use Rattle.cb_worker.specs.Committing.{CommitsAt, FinishesOrAgain, HandsCommitIn}
 use Rattle.cb_worker.specs.Turns.{AfterCollecting, Collects, HandsIn, TakesCollected, Turns, TurnsBy, without_first}
-use Rattle.cb_worker.specs.Workers.{IsOf, IsStill, WorkerState}
+use Rattle.cb_worker.specs.Workers.{IsOf, IsStill, WorkerState, after_hit, last_txn, may_hit, with_client}
 use Rattle.cb_worker.specs.declared.worker_fault.WorkerFault.{WorkerFault}
 use Rattle.cb_worker.specs.declared.worker_fault.WorkerFault.TheVariants as worker
 
@@ -85,34 +103,155 @@ collected_same before after hand next (Ok (Some frame)) t =
     let moved = t.moved in let got = received_same (server_of before) hand frame.body in
     (ap (λ (h : HandState). h.client) moved ∙ got.0, ap (λ (h : HandState). h.incarnation) moved ∙ got.1)
 
--- a client stays the same one by what it takes
-takes_same : (old new : ClientState) (frame : Frame) (said : List Message) → TakesFrame old frame said new → (new.no ≡ old.no) × (new.incarnation ≡ old.incarnation) × (new.copies.limits ≡ old.copies.limits)
+-- what gives up pages begins no transaction
+gives_up_still : (m : CacheChange) → PlainChange m → StillChange m
+gives_up_still (LetGo p) a = tt
+gives_up_still (MakeBare p) a = tt
+gives_up_still (YieldPermission p) a = tt
+gives_up_still (RefuseGrant p g) a = tt
+gives_up_still _ a = absurd a
+
+plain_still : (steps : List ClientStep) → Plain steps → Still steps
+plain_still [] a = tt
+plain_still (ChangeCache m ∷ steps) a = (gives_up_still m a.0, plain_still steps a.1)
+plain_still (Say b ∷ steps) a = plain_still steps a
+plain_still (SetAsk x ∷ steps) a = absurd a
+plain_still (MarkWanted p ∷ steps) a = absurd a
+plain_still (MarkDue p ∷ steps) a = absurd a
+plain_still (MarkDueDowngrade p y ∷ steps) a = absurd a
+plain_still (EndTransaction l ∷ steps) a = absurd a
+
+-- a call begins none where it would begin none if it were accepted
+call_still : (L : Limits) (k : Client) (call : Call) → Still (accept_call L k call).steps → Still (client_call L k call).steps
+call_still L k call a = go (call_fault L k call) refl
+  where
+    go : (f : Option table.ClientFault) → call_fault L k call ≡ f → Still (client_call L k call).steps
+    go None e = rw (call_accepted L k call e) a
+    go (Some f) e = rw (call_refused L k call f e) tt
+
+drop_still : (L : Limits) (k : Client) → Still (accept_call L k CallDrop).steps
+drop_still L k = (tt, plain_still (end_pages k true L.pages) (plain_pages k true L.pages))
+
+want_still : (L : Limits) (k : Client) (page : ℕ) → Still (accept_call L k (CallWant page)).steps
+want_still L k page = go (k.cache.may_write page) (k.cache.held page)
+  where
+    go : (b : Bool) (h : Option ℕ) → Still (if b then reply_with table.Permitted (MarkWanted page ∷ []) else reply_with table.Asked (MarkWanted page ∷ SetAsk (WriteAsk page) ∷ say_ask_write k page h)).steps
+    go true h = tt
+    go false None = tt
+    go false (Some g) = tt
+
+-- a client of the same incarnation, with the same limits, whose last transaction is the same
+pub record IsSameClient (old new : ClientState) : Type 0 where
+  pub no : new.no ≡ old.no
+  pub incarnation : new.incarnation ≡ old.incarnation
+  pub limits : new.copies.limits ≡ old.copies.limits
+  pub txn : last_txn new ≡ last_txn old
+
+same_client : (old new : ClientState) → new ≡ old → IsSameClient old new
+same_client old new e = record {
+  no = ap (λ (c : ClientState). c.no) e;
+  incarnation = ap (λ (c : ClientState). c.incarnation) e;
+  limits = ap (λ (c : ClientState). c.copies.limits) e;
+  txn = ap (λ (c : ClientState). last_txn c) e;
+}
+
+-- a client stays the same one by steps of which none begins a transaction
+made_same : (old new : ClientState) (steps : Client → List ClientStep) (said : List Message) (history : List Operation → List Operation) → Makes old steps said history new → Still (steps (client_of old [])) → IsSameClient old new
+made_same old new steps said history makes still = record {
+  no = makes.no;
+  incarnation = makes.incarnation;
+  limits = makes.limits;
+  txn = ap (λ (c : Client). c.cache.number) (sym (makes.after [])) ∙ still_number old.copies.limits.keep_write (client_of old []) (steps (client_of old [])) still;
+}
+
+-- so by what it takes
+takes_same : (old new : ClientState) (frame : Frame) (said : List Message) → TakesFrame old frame said new → IsSameClient old new
 takes_same old new frame said t = by (is_for old frame) refl
   where
-    by : (b : Bool) → is_for old frame ≡ b → (new.no ≡ old.no) × (new.incarnation ≡ old.incarnation) × (new.copies.limits ≡ old.copies.limits)
-    by true e = ((t.own e).makes.no, (t.own e).makes.incarnation, (t.own e).makes.limits)
-    by false e = (ap (λ (c : ClientState). c.no) (t.unchanged e), ap (λ (c : ClientState). c.incarnation) (t.unchanged e), ap (λ (c : ClientState). c.copies.limits) (t.unchanged e))
+    by : (b : Bool) → is_for old frame ≡ b → IsSameClient old new
+    by true e =
+        let takes = t.own e in
+        made_same old new (λ (k : Client). client_take (limits_at old) k (body_of frame.body) takes.let_go) said takes.history takes.makes (still_takes (limits_at old) (client_of old []) (body_of frame.body) takes.let_go)
+    by false e = same_client old new (t.unchanged e)
+
+-- and by a call that begins none
+called_same : (old new : ClientState) (call : Call) (word : table.AnswerWord) (said : List Message) (history : List Operation → List Operation) → Calls old call word said history new
+    → Still (accept_call (limits_at old) (client_of old []) call).steps → IsSameClient old new
+called_same old new call word said history calls still =
+    made_same old new (λ (k : Client). (client_call (limits_at old) k call).steps) said history calls.makes (call_still (limits_at old) (client_of old []) call still)
 
 pub same : (old new : WorkerState) → new ≡ old → IsStill old new
 same old new e = record {
   no = ap (λ (w : WorkerState). w.client.no) e;
   incarnation = ap (λ (w : WorkerState). w.client.incarnation) e;
   limits = ap (λ (w : WorkerState). w.client.copies.limits) e;
+  txn = ap (λ (w : WorkerState). last_txn w.client) e;
   hand = ap (λ (w : WorkerState). w.hand.client) e;
   hand_incarnation = ap (λ (w : WorkerState). w.hand.incarnation) e;
 }
 
+-- so a worker whose client and whose hand stay the same
+still : (old new : WorkerState) → IsSameClient old.client new.client → IsSameHand new.hand old.hand → IsStill old new
+still old new c h = record { no = c.no; incarnation = c.incarnation; limits = c.limits; txn = c.txn; hand = h.0; hand_incarnation = h.1 }
+
+-- and one whose hand is as it was
+same_hand_still : (old new : WorkerState) → IsSameClient old.client new.client → new.hand ≡ old.hand → IsStill old new
+same_hand_still old new c e = still old new c (same_hand new.hand old.hand e)
+
+-- so by a read without the office
+pub hit_still : (w : WorkerState) (page : ℕ) → IsStill w (after_hit w page)
+hit_still w page = go (may_hit w page)
+  where
+    go : (b : Bool) → IsStill w (if b then with_client w (page_read w.client page) else w)
+    go true = record { no = refl; incarnation = refl; limits = refl; txn = refl; hand = refl; hand_incarnation = refl }
+    go false = same w w refl
+
+pub touched_still : (old new : WorkerState) (page : ℕ) → new ≡ after_hit old page → IsStill old new
+touched_still old new page e = rw e (hit_still old page)
+
+-- by a want
+wants_same : (old new : ClientState) (page : ℕ) (r : Result WantAnswer ClientFault) → Wants old page r new → IsSameClient old new
+wants_same old new page (Ok want.Permitted) calls = called_same old new (CallWant page) _ _ _ calls (want_still (limits_at old) (client_of old []) page)
+wants_same old new page (Ok (want.Asked frame)) calls = called_same old new (CallWant page) _ _ _ calls (want_still (limits_at old) (client_of old []) page)
+wants_same old new page (Err f) refuses = same_client old new refuses.1
+
+pub wants_still : (old new : WorkerState) (page : ℕ) (r : Result WantAnswer ClientFault) → Wants old.client page r new.client → new.hand ≡ old.hand → IsStill old new
+wants_still old new page r wants hand = same_hand_still old new (wants_same old.client new.client page r wants) hand
+
+-- by a drop
+pub dropped_still : (old new : WorkerState) (said : List Message) → Calls old.client CallDrop table.AnsweredOk said over new.client → new.hand ≡ old.hand → IsStill old new
+dropped_still old new said calls hand =
+    same_hand_still old new (called_same old.client new.client CallDrop table.AnsweredOk said over calls (drop_still (limits_at old.client) (client_of old.client []))) hand
+
+finishes_same : (old new : ClientState) (frame : Frame) → FinishesOrAgain old frame new → IsSameClient old new
+finishes_same old new frame (inl calls) = called_same old new CallFinish _ _ _ calls (tt, tt)
+finishes_same old new frame (inr again) = same_client old new again.2
+
+-- a hand whose commit was handed in
+committed_hand : (writes : List Write) (hand : HandState) (number : ℕ) → IsSameHand (committed hand writes number) hand
+committed_hand [] hand number = (refl, refl)
+committed_hand (w ∷ writes) hand number = committed_hand writes (restamped hand w.page number) number
+
+committed_same : (before after : StationState) (frame : Frame) (reads : List Bool) (hand next : HandState) (r : Result ℕ OfficeFault) → Committed before frame reads hand r after next → IsSameHand next hand
+committed_same before after frame reads hand next (Err f) t = same_hand next hand t.err.1
+committed_same before after frame reads hand next (Ok number) t =
+    let moved = t.moved in let same = committed_hand (writes_of frame) hand number in
+    (ap (λ (h : HandState). h.client) moved ∙ same.0, ap (λ (h : HandState). h.incarnation) moved ∙ same.1)
+
+handed_commit_still : (old new : WorkerState) (before after : StationState) (r : Result ℕ OfficeFault) → HandsCommitIn old before r new after → IsStill old new
+handed_commit_still old new before after r h =
+    still old new (finishes_same old.client new.client h.frame h.finishes) (committed_same before after h.frame h.reads old.hand new.hand r h.committed)
+
+-- by a commit
+pub commits_still : (old new : WorkerState) (before after : StationState) (r : Result ℕ WorkerFault) → CommitsAt old before r new after → IsStill old new
+commits_still old new before after (Ok number) h = handed_commit_still old new before after (Ok number) h
+commits_still old new before after (Err (worker.Office f)) h = handed_commit_still old new before after (Err f) h
+commits_still old new before after (Err (worker.Client f)) h = same old new h.1
+commits_still old new before after (Err worker.Halted) h = absurd h
+
 taken_still : (old new : WorkerState) (frame : Frame) (r : Result Bool WorkerFault) → TakesCollected old frame r new → IsStill old new
 taken_still old new frame (Ok turned) h =
-    let c = takes_same old.client new.client frame (messages_of new.said) h.1.takes in
-    let e : new.hand ≡ old.hand = ap (λ (w : WorkerState). w.hand) h.1.rest in
-    record {
-      no = c.0;
-      incarnation = c.1;
-      limits = c.2;
-      hand = ap (λ (h : HandState). h.client) e;
-      hand_incarnation = ap (λ (h : HandState). h.incarnation) e;
-    }
+    same_hand_still old new (takes_same old.client new.client frame (messages_of new.said) h.1.takes) (ap (λ (w : WorkerState). w.hand) h.1.rest)
 taken_still old new frame (Err (worker.Client f)) h = same old new h.2
 taken_still old new frame (Err (worker.Office f)) h = same old new h.2
 taken_still old new frame (Err worker.Halted) h = absurd h
@@ -123,14 +262,7 @@ handed_still old new before after frame rest r h = by h.answer h.took h.left
     by : (a : Result ⊤ OfficeFault) → Took before frame old.hand a after new.hand → new ≡ without_first old new.hand rest a → IsStill old new
     by (Err f) t e = same old new e
     by (Ok done) t e =
-        let hand = took_same before after frame old.hand new.hand (Ok done) t in
-        record {
-          no = ap (λ (w : WorkerState). w.client.no) e;
-          incarnation = ap (λ (w : WorkerState). w.client.incarnation) e;
-          limits = ap (λ (w : WorkerState). w.client.copies.limits) e;
-          hand = hand.0;
-          hand_incarnation = hand.1;
-        }
+        still old new (same_client old.client new.client (ap (λ (w : WorkerState). w.client) e)) (took_same before after frame old.hand new.hand (Ok done) t)
 
 collects_still : (old new : WorkerState) (before after : StationState) (r : Result Bool WorkerFault) → Collects old before r new after → IsStill old new
 collects_still old new before after r h = by h.answer h.collected h.taken
@@ -141,7 +273,7 @@ collects_still old new before after r h = by h.answer h.collected h.taken
     by (Ok (Some frame)) c t =
         let hand = collected_same before after old.hand new.hand (Ok (Some frame)) c in
         let next = taken_still (record old { hand = new.hand; collected = Some frame }) new frame r t in
-        record { no = next.no; incarnation = next.incarnation; limits = next.limits; hand = hand.0; hand_incarnation = hand.1 }
+        record { no = next.no; incarnation = next.incarnation; limits = next.limits; txn = next.txn; hand = hand.0; hand_incarnation = hand.1 }
 
 -- a turn leaves it the same
 pub turned : (old new : WorkerState) (before after : StationState) (r : Result Bool WorkerFault) → Turns old before r new after → IsStill old new
@@ -158,6 +290,7 @@ after one two three p q = record {
   no = q.no ∙ p.no;
   incarnation = q.incarnation ∙ p.incarnation;
   limits = q.limits ∙ p.limits;
+  txn = q.txn ∙ p.txn;
   hand = q.hand ∙ p.hand;
   hand_incarnation = q.hand_incarnation ∙ p.hand_incarnation;
 }

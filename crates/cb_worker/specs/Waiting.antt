@@ -1,31 +1,44 @@
 -- What the calls that take the office are answered, where they return.
-use Rattle.std.specs.Prelude.{◌≡◌, ◌&&◌, ◌⊎◌, ℕ, true, List, [], None}
+use Rattle.std.specs.Prelude.{◌≡◌, ◌&&◌, ◌⊎◌, ℕ, true, false, List, [], None}
+use Rattle.cb_client.specs.declared.client_fault.ClientFault.TheVariants as client
 use Rattle.cb_client_engine.specs.ClientState.{client_of}
 use Rattle.cb_protocol.specs.Cache.{is_open}
 use Rattle.cb_protocol.specs.Client as protocol
 use Rattle.cb_protocol.specs.Serial.{Operation}
-use Rattle.cb_worker.specs.Workers.{Ended, Hit, WorkerState, after_hit, may_hit}
+use Rattle.cb_worker.specs.Workers.{Ended, Ends, Hit, IsIdle, WorkerState, after_hit, last_txn}
+use Rattle.cb_worker.specs.Workers.{may_hit}
 use Rattle.cb_worker.specs.declared.answers.Fetched.{Fetched}
 use Rattle.cb_worker.specs.declared.answers.Fetched.TheVariants as fetched
 use Rattle.cb_worker.specs.declared.answers.Finished.{Finished}
 use Rattle.cb_worker.specs.declared.answers.Finished.TheVariants as finished
 use Rattle.cb_worker.specs.declared.answers.Wanted.{Wanted}
 use Rattle.cb_worker.specs.declared.answers.Wanted.TheVariants as wanted
+use Rattle.cb_worker.specs.declared.worker_fault.WorkerFault.{WorkerFault}
+use Rattle.cb_worker.specs.declared.worker_fault.WorkerFault.TheVariants as worker
 
 -- nothing is kept: all was handed in and taken
 abbrev pub IsServed : WorkerState → Type 0
 IsServed worker = (worker.said ≡ []) × (worker.collected ≡ None)
+
+-- why a call that needs a transaction is refused: the client isn't welcomed; or none is open or
+-- committing
+abbrev pub LacksTransaction : WorkerState → WorkerFault → Type 0
+LacksTransaction lacking (worker.Client client.NotWelcome) = lacking.client.welcomed ≡ false
+LacksTransaction lacking (worker.Client client.NoTransaction) =
+    (lacking.client.welcomed ≡ true) × IsIdle lacking
+LacksTransaction lacking _ = ⊥
 
 -- the worker has just read the page, without the office
 abbrev pub HasRead : WorkerState → (page : ℕ) → Type 0
 HasRead worker page = (before : WorkerState) × (may_hit before page ≡ true)
     × (worker ≡ after_hit before page)
 
--- the page was read as `hit` reads it, with these bytes; or the transaction was aborted
-abbrev pub Fetches : WorkerState → (page : ℕ) → Fetched → Type 0
-Fetches worker page (fetched.Bytes bytes) = (before : WorkerState) × Hit before page bytes.now
-    × (worker ≡ after_hit before page)
-Fetches worker page fetched.Aborted = Ended worker protocol.Aborted
+-- the page was read as `hit` reads it, with these bytes, and no transaction began; or the one that
+-- there was was aborted
+abbrev pub Fetches : (old new : WorkerState) → (page : ℕ) → Fetched → Type 0
+Fetches old new page (fetched.Bytes bytes) = (before : WorkerState) × Hit before page bytes.now
+    × (new ≡ after_hit before page) × (last_txn new.client ≡ last_txn old.client)
+Fetches old new page fetched.Aborted = Ends old new protocol.Aborted
 
 -- the client may write the page in the transaction that is open
 abbrev pub MayWrite : WorkerState → (page : ℕ) → Type 0
@@ -33,10 +46,11 @@ MayWrite worker page = (operations : List Operation)
     → (is_open (client_of worker.client operations).cache.status
     && (client_of worker.client operations).cache.may_write page) ≡ true
 
--- so after a want; or the transaction was aborted
-abbrev pub Wants : WorkerState → (page : ℕ) → Wanted → Type 0
-Wants worker page wanted.Permitted = MayWrite worker page
-Wants worker page wanted.Aborted = Ended worker protocol.Aborted
+-- so after a want, and no transaction began; or the one that there was was aborted
+abbrev pub Wants : (old new : WorkerState) → (page : ℕ) → Wanted → Type 0
+Wants old new page wanted.Permitted =
+    MayWrite new page × (last_txn new.client ≡ last_txn old.client)
+Wants old new page wanted.Aborted = Ends old new protocol.Aborted
 
 -- how such a transaction ended
 abbrev pub ending_of : Finished → protocol.LastOutcome
@@ -44,9 +58,17 @@ ending_of (finished.Committed number) = protocol.Committed number
 ending_of finished.Aborted = protocol.Aborted
 
 -- the last transaction is over, and ended so
-abbrev pub Finishes : WorkerState → Finished → Type 0
-Finishes worker answer = Ended worker (ending_of answer)
+abbrev pub IsFinished : WorkerState → Finished → Type 0
+IsFinished worker answer = Ended worker (ending_of answer)
 
--- the transaction is over without a commit: it was dropped, or had been aborted
-abbrev pub Drops : WorkerState → Type 0
-Drops worker = Ended worker protocol.Dropped ⊎ Ended worker protocol.Aborted
+-- it is the one that there was
+abbrev pub Finishes : (old new : WorkerState) → Finished → Type 0
+Finishes old new answer = Ends old new (ending_of answer)
+
+-- the last transaction is over without a commit: it was dropped, or had been aborted
+abbrev pub IsDropped : WorkerState → Type 0
+IsDropped worker = Ended worker protocol.Dropped ⊎ Ended worker protocol.Aborted
+
+-- it is the one that there was
+abbrev pub Drops : (old new : WorkerState) → Type 0
+Drops old new = Ends old new protocol.Dropped ⊎ Ends old new protocol.Aborted

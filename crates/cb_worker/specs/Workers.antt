@@ -1,6 +1,6 @@
 -- A worker as its owner sees it, and what it reads without the office.
-use Rattle.std.specs.Prelude.{◌≡◌, ◌==◌, ◌&&◌, if◌then◌else◌, ℕ, Bool, true, false, List, []}
-use Rattle.std.specs.Prelude.{Option, Some, None}
+use Rattle.std.specs.Prelude.{◌≡◌, ◌≢◌, ◌==◌, ◌&&◌, if◌then◌else◌, ℕ, Bool, true, false, List, []}
+use Rattle.std.specs.Prelude.{Option, Some, None, unwrap_or}
 use Rattle.std.specs.Option.{is_some}
 use Rattle.cb_client.specs.ByTable.{limits_at}
 use Rattle.cb_client.specs.CallAnswers.{Answers, held_copy, page_read}
@@ -31,12 +31,17 @@ pub record IsOf (worker : WorkerState) (number current : ℕ) : Type 0 where
   pub hand : worker.hand.client ≡ number
   pub hand_incarnation : worker.hand.incarnation ≡ current
 
+-- the number of the client's last transaction, open or over; 0 before its first
+abbrev pub last_txn : ClientState → ℕ
+last_txn client = unwrap_or client.txn 0
+
 -- It is still the same one: of the same incarnation of the same client, with the same limits, and
--- so is its hand.
+-- so is its hand; and no transaction began.
 pub record IsStill (old new : WorkerState) : Type 0 where
   pub no : new.client.no ≡ old.client.no
   pub incarnation : new.client.incarnation ≡ old.client.incarnation
   pub limits : new.client.copies.limits ≡ old.client.copies.limits
+  pub txn : last_txn new.client ≡ last_txn old.client
   pub hand : new.hand.client ≡ old.hand.client
   pub hand_incarnation : new.hand.incarnation ≡ old.hand.incarnation
 
@@ -87,8 +92,20 @@ abbrev pub IsIdle : WorkerState → Type 0
 IsIdle worker = (operations : List Operation)
     → (client_of worker.client operations).cache.status ≡ Idle
 
+-- A transaction is open, or committing, and so the last one isn't over; the client is welcomed.
+pub record HasTransaction (worker : WorkerState) : Type 0 where
+  pub welcomed : worker.client.welcomed ≡ true
+  pub busy : (operations : List Operation)
+      → (client_of worker.client operations).cache.status ≢ Idle
+
 -- The worker's last transaction is over, and ended so, whatever operations it did.
 pub record Ended (worker : WorkerState) (outcome : LastOutcome) : Type 0 where
   pub idle : IsIdle worker
   pub so : (operations : List Operation)
       → (client_of worker.client operations).last_outcome ≡ outcome
+
+-- The transaction that was open or committing is over, and ended so: none began since.
+pub record Ends (old new : WorkerState) (outcome : LastOutcome) : Type 0 where
+  pub had : HasTransaction old
+  pub same : last_txn new.client ≡ last_txn old.client
+  pub ended : Ended new outcome

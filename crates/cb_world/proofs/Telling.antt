@@ -155,3 +155,19 @@ pub told_is_serial : (v : WorldState) (w : World) → Represents v w → Promise
 told_is_serial v w r p =
     subst (λ (ns : List serial.TransactionName). IsSerial (opened v).bytes (committed_operations ns (transcript_operations (transcript_of v.transcript)))) (sym r.commits)
     (subst (λ es. IsSerial (opened v).bytes (committed_operations (committed_names w.server.commits) (transcript_operations es))) r.transcript p.serial.legal)
+
+-- a transaction's name from the protocol's name of it
+abbrev name_back : serial.TransactionName → TransactionName
+name_back n = record { client = n.client; incarnation = n.incarnation; txn = n.txn }
+
+names_back : (ns : List TransactionName) → map name_back (map name_of ns) ≡ ns
+names_back [] = refl
+names_back (n ∷ ns) = ap (λ (ms : List TransactionName). n ∷ ms) (names_back ns)
+
+-- While a world runs, the server's commits are those that it tells.
+pub listed_are_told : (v : WorldState) (w : World) (cs : List Commit) → Represents v w → newest_first cs ≡ (server_of v.net.server).commits → map committed_name cs ≡ v.commits
+listed_are_told v w cs r listed =
+    let reversed : reverse (map name_of v.commits) ≡ reverse (names_in cs) =
+    r.commits ∙ ap (λ (s : Server). committed_names s.commits) r.net.server ∙ ap committed_names (sym listed) ∙ names_listed cs in
+    let same : map name_of v.commits ≡ names_in cs = sym (reverse-reverse (map name_of v.commits)) ∙ ap reverse reversed ∙ reverse-reverse (names_in cs) in
+    sym (names_back (map committed_name cs)) ∙ ap (map name_back) (sym same) ∙ names_back v.commits

@@ -50,14 +50,15 @@ pub record Steps (w : WorldState) (e : Event) (a : Answer) (v : WorldState) : Ty
   pub promise : (x : protocol.World) × Represents v x
       × ReachedWorld (limits_of w.limits) on_cycle (opened w) x × Promise (opened w) x
 
--- The world w plays these events, in order: there is a world of the protocol that it is, and a run
--- from there with just these events and the answers told, and of each world on the way the whole
--- promise holds. What is told is all that was told before, these events with their answers, and the
--- commits of the last world.
+-- The world w plays these events, in order: there is a world of the protocol that it is, reached
+-- from its opening store, and a run from there with just these events and the answers told, and of
+-- each world on the way the whole promise holds. What is told is all that was told before, these
+-- events with their answers, and the commits of the last world.
 pub record Played (w : WorldState) (es : List Event) (transcript : TranscriptState) : Type 0 where
   pub ran : w.stopped ≡ false
   pub first : protocol.World
   pub represents : Represents w first
+  pub reached : ReachedWorld (limits_of w.limits) on_cycle (opened w) first
   pub moments : List protocol.Moment
   pub plays : protocol.Plays (limits_of w.limits) on_cycle first moments
   pub first_promise : Promise (opened w) first

@@ -1,7 +1,8 @@
 //! The world: it plays events one by one, and keeps what became of each.
 ghost use Rattle.std.specs.Prelude.{◌≡◌, ◌↔◌, ℕ, ◌<◌, ◌≤◌, List, [], ◌∷◌, ◌++◌, length, take, drop};
 ghost use Rattle.std.specs.Prelude.{option_copied, slice_get, true, false, IfOk, IfErr, IfSome};
-ghost use Rattle.std.specs.Prelude.{OnErr, IsErr, IsTrue};
+ghost use Rattle.std.specs.Prelude.{OnErr, IsErr, IsTrue, map};
+ghost use Rattle.std.specs.Option.{is_some};
 ghost use Rattle.cb_commit.specs.Stores.{IsOf};
 ghost use Rattle.cb_protocol.specs.Headline.{Promise};
 ghost use Rattle.cb_protocol.specs.World.{new_world};
@@ -9,7 +10,7 @@ ghost use Rattle.cb_world.specs.Plays.{Played, IsReached, Steps};
 ghost use Rattle.cb_net.specs.NetMoves.{NetBecomes};
 ghost use Rattle.cb_server.specs.ServerState.{server_of};
 ghost use Rattle.cb_transcript.specs.ProtocolEvents.{event_of};
-ghost use Rattle.cb_transcript.specs.Transcripts.{IsSerialOnOpening};
+ghost use Rattle.cb_transcript.specs.Transcripts.{IsSerialOnOpening, committed_name};
 ghost use Rattle.cb_copies.specs.CopiesState.{limits_of};
 ghost use Rattle.cb_holdings.specs.Holdings.{newest_first, opening_of};
 ghost use Rattle.cb_packets.specs.Packets.{IsSpelled};
@@ -212,11 +213,19 @@ impl<Q: Chooser> World<Q> {
         &self.transcript
     }
 
-    /// The commits so far, the first one first, with the pages that they wrote.
-    pub fn committed(&self) -> &[Commit]
-        ensures { newest_first result.now ≡ (server_of self.now.net.server).commits }
+    /// The commits so far, the first one first, with the pages that they wrote: those that the
+    /// transcript names. `None` once want of memory stopped the world: its server may have made one
+    /// more, which the transcript then doesn't name.
+    pub fn committed(&self) -> Option<&[Commit]>
+        ensures value { IfSome result
+            (λ cs. newest_first cs.now ≡ (server_of self.now.net.server).commits) }
+        ensures told { IfSome result (λ cs. map committed_name cs.now ≡ self.now.commits) }
+        ensures running { is_some result ≡ true ↔ (self.now.stopped ≡ false) }
     {
-        self.net.server().committed()
+        if self.stopped {
+            return None;
+        }
+        Some(self.net.server().committed())
     }
 
     /// How many packets were ever sent.

@@ -1,5 +1,5 @@
 //! Changes at one page.
-ghost use Rattle.std.specs.Prelude.{◌≡◌, ◌∷◌, ◌<◌, [], ℕ, true, false, OnOk};
+ghost use Rattle.std.specs.Prelude.{◌≡◌, ◌≢◌, ◌∷◌, ◌<◌, [], ℕ, true, false, OnErr, OnOk};
 ghost use Rattle.cb_asks.specs.Asks.{room_at};
 ghost use Rattle.cb_callbacks.specs.Callbacks.{Changes};
 ghost use Rattle.cb_callbacks.specs.Following.{FollowsPage};
@@ -84,11 +84,14 @@ impl Callbacks {
     }
 
     /// Makes room for one more ask at the page. Whether it is refused or not, nothing else changes.
+    ///
+    /// `AllocError` only where memory was refused, so never where nobody waits for the page.
     pub fn reserve_ask(&mut self, page: PageNo) -> Result<(), AllocError>
         requires { HasPage self.old.tables page }
         ensures changes { Changes self.old.tables [] self.new.tables }
         ensures holdings { self.new.tables.holdings ≡ self.old.tables.holdings }
         ensures ok { OnOk result (0 < room_at self.new.tables.asks page) }
+        ensures err { OnErr result ((server_of self.old.tables).queue page ≢ []) }
     {
         self.tables.asks.reserve(page)
     }

@@ -1,6 +1,6 @@
 //! What may be lost is said again.
 ghost use Rattle.std.specs.Prelude.{◌≡◌, ◌+◌, ◌<◌, ◌≤◌, ◌++◌, List, option_to_list, IfErr, IfOk};
-ghost use Rattle.std.specs.Prelude.{IfSome, length, true, unwrap_or};
+ghost use Rattle.std.specs.Prelude.{IfSome, IsOk, [], ℕ, false, length, true, unwrap_or};
 ghost use Rattle.std.specs.List.{AllByRecursion};
 ghost use Rattle.std.specs.Option.{option_map};
 ghost use Rattle.std.specs.Vec.{vec_capacity, vec_len};
@@ -13,7 +13,8 @@ ghost use Rattle.cb_frame_types.specs.Grammar.{Fits};
 ghost use Rattle.cb_outbox.specs.Messages.{message_of, messages_of};
 ghost use Rattle.cb_protocol.specs.Answers.{AnsweredOk};
 ghost use Rattle.cb_protocol.specs.Client.{bodies_said};
-ghost use Rattle.cb_protocol.specs.ClientCalls.{CallAgain, commit_again, say_drop};
+ghost use Rattle.cb_protocol.specs.ClientCalls.{CallAgain, client_again, commit_again, say_drop};
+ghost use Rattle.cb_page.specs.Flags.{has};
 ghost use Rattle.cb_protocol.specs.Serial.{Operation};
 
 use crate::client::Client;
@@ -27,7 +28,8 @@ impl<Q: Chooser> Client<Q> {
     /// Says again what may be lost: Hello until the Welcome came; then the Drop of the last
     /// transaction, the ask and the Commit, as far as each is still open.
     ///
-    /// `Memory` only where memory for these was refused; it takes no more than they need.
+    /// `Memory` only where memory for these was refused; it takes no more than they need, so none
+    /// where it says nothing.
     pub fn again(&self, alloc: Global) -> Result<Vec<Frame>, ClientFault>
         ensures by_table { IfOk result (λ frames. Calls self.now CallAgain AnsweredOk
             (messages_of frames.items) as_before self.now) }
@@ -35,6 +37,8 @@ impl<Q: Chooser> Client<Q> {
         ensures fits { IfOk result (λ frames.
             AllByRecursion (Fits self.now.copies.limits) frames.items) }
         ensures room { IfOk result (λ frames. vec_capacity frames ≡ vec_len frames) }
+        ensures none { bodies_said (client_again (limits_at self.now) (client_of self.now [])) ≡ []
+            → IsOk result }
     {
         if !self.engine.welcomed {
             let mut frames = Vec::with_capacity(alloc, 1)?;
@@ -93,6 +97,9 @@ impl<Q: Chooser> Client<Q> {
             (bodies_said (commit_again (limits_at self.now) (client_of self.now operations)))
             ≡ option_to_list (option_map message_of commit)) }
         ensures fits { IfOk result (λ commit. IfSome commit (Fits self.now.copies.limits)) }
+        ensures none { bodies_said (commit_again (limits_at self.now) (client_of self.now [])) ≡ []
+            → IsOk result }
+        ensures nothing { ((page : ℕ) → has self.now.copies.wrote page ≡ false) → IsOk result }
     {
         match self.engine.stage {
             Stage::Idle | Stage::Open => Ok(None),

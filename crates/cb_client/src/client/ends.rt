@@ -1,8 +1,10 @@
 //! How a transaction ends.
-ghost use Rattle.std.specs.Prelude.{◌≡◌, IfErr, IfOk, IsOk, OnOk};
+ghost use Rattle.std.specs.Prelude.{◌≡◌, ◌+◌, true, IfErr, IfOk, IsOk, OnOk};
 ghost use Rattle.std.specs.List.{AllByRecursion};
+ghost use Rattle.std.specs.Vec.{vec_capacity};
 ghost use Rattle.cb_frame_types.specs.Grammar.{Fits};
 ghost use Rattle.cb_client.specs.ByTable.{Calls, IsDecided, RefusesOrLacks, over};
+ghost use Rattle.cb_ending.specs.Room.{room_below};
 ghost use Rattle.cb_client_engine.specs.declared.standing.Stage.TheVariants.{Idle, Open};
 ghost use Rattle.cb_protocol.specs.Answers.{AnsweredOk};
 ghost use Rattle.cb_protocol.specs.ClientCalls.{CallDrop};
@@ -28,12 +30,15 @@ impl<Q: Chooser> Client<Q> {
     /// Ends the transaction without a commit. Answers what its end says: that it is dropped, and
     /// what is given back, by rising page.
     ///
-    /// `Memory` only where it was refused for these frames.
+    /// `Memory` only where it was refused for these frames: for the one that says so, and one of
+    /// each page that is due, bare or written.
     pub fn drop_txn(&mut self, alloc: Global) -> Result<Vec<Frame>, ClientFault>
         ensures ok { IfOk result (λ frames. Calls self.old CallDrop AnsweredOk
             (messages_of frames.items) over self.new) }
         ensures over { OnOk result (self.new.stage ≡ Idle) }
         ensures err { IfErr result (λ refused. RefusesOrLacks self.old CallDrop refused self.new) }
+        ensures room { IfOk result (λ frames. vec_capacity frames
+            ≡ room_below self.old.copies self.old.locks true self.old.copies.limits.pages + 1) }
         ensures fits { IfOk result (λ frames.
             AllByRecursion (Fits self.old.copies.limits) frames.items) }
     {

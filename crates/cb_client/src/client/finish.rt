@@ -1,10 +1,11 @@
 //! How a transaction commits.
-ghost use Rattle.std.specs.Prelude.{◌≡◌, ◌≢◌, List, [], ◌∷◌, IfOk, IsOk};
+ghost use Rattle.std.specs.Prelude.{◌≡◌, ◌≢◌, ℕ, false, List, [], ◌∷◌, IfErr, IfOk, IsOk};
 ghost use Rattle.cb_page.specs.Flags.{has};
 ghost use Rattle.cb_client.specs.ByTable.{IsDecided, limits_at, messages_from};
 ghost use Rattle.cb_client_engine.specs.ClientState.{client_of};
 ghost use Rattle.cb_client.specs.CallAnswers.{Finishes};
 ghost use Rattle.cb_client_engine.specs.declared.standing.Stage.TheVariants.{Idle, Open};
+ghost use Rattle.cb_client.specs.declared.client_fault.ClientFault.TheVariants.{Memory};
 ghost use Rattle.cb_frame_types.specs.Grammar.{Fits};
 ghost use Rattle.cb_outbox.specs.Messages.{message_of};
 ghost use Rattle.cb_protocol.specs.Client.{bodies_said};
@@ -33,9 +34,12 @@ impl<Q: Chooser> Client<Q> {
 
     /// Commits the open transaction: the frame has the pages that it wrote.
     ///
-    /// It takes memory for these pages. `Memory` only where it was refused.
+    /// It takes memory for these pages. `Memory` only where it was refused, so never where the
+    /// transaction wrote nothing.
     pub fn finish(&mut self, alloc: Global) -> Result<Frame, ClientFault>
         ensures by_table { Finishes self.old result self.new }
+        ensures nothing { ((page : ℕ) → has self.old.copies.wrote page ≡ false)
+            → IfErr result (λ fault. fault ≢ Memory) }
         ensures fits { IfOk result (Fits self.old.copies.limits) }
     {
         self.check_finish()?;
@@ -48,9 +52,10 @@ impl<Q: Chooser> Client<Q> {
     /// memory for these was refused.
     pub(super) fn commit_frame(&self, alloc: Global) -> Result<Frame, AllocError>
         requires { self.now.stage ≢ Idle }
-        ensures { IfOk result (λ frame. (operations : List Operation) → messages_from self.now
+        ensures said { IfOk result (λ frame. (operations : List Operation) → messages_from self.now
             (bodies_said (say_commit (limits_at self.now) (client_of self.now operations)))
             ≡ message_of frame ∷ []) }
+        ensures nothing { ((page : ℕ) → has self.now.copies.wrote page ≡ false) → IsOk result }
     {
         let txn = self.present_txn();
         let writes = written_so_far(alloc, &self.engine.copies)?;

@@ -1,9 +1,10 @@
 //! Frames that come.
-ghost use Rattle.std.specs.Prelude.{◌≡◌, ◌==◌, ◌&&◌, IfErr, IfOk, OnErr};
+ghost use Rattle.std.specs.Prelude.{◌≡◌, ◌==◌, ◌&&◌, IfErr, IfOk, IsOk, OnErr};
 ghost use Rattle.std.specs.List.{AllByRecursion};
+ghost use Rattle.std.specs.Vec.{vec_capacity};
 ghost use Rattle.cb_frame_types.specs.Grammar.{Fits};
 ghost use Rattle.cb_client.specs.ByTable.{Takes};
-ghost use Rattle.cb_client.specs.FramesTaken.{IsBytesFault, TakesBytes, TakesFrame};
+ghost use Rattle.cb_client.specs.FramesTaken.{IsBytesFault, TakesBytes, TakesFrame, room_to_take};
 ghost use Rattle.cb_client.specs.declared.client_fault.ClientFault.TheVariants.{Memory};
 ghost use Rattle.cb_outbox.specs.Messages.{messages_of};
 
@@ -18,13 +19,16 @@ impl<Q: Chooser> Client<Q> {
     /// Takes a frame, and answers what the client says to it. A frame for another client or another
     /// incarnation is ignored, and so are one for the server and, before the Welcome, all others.
     ///
-    /// `Memory` only where a growth was refused.
+    /// `Memory` only where a growth was refused. It makes room for what the frame needs and no more,
+    /// and is not refused where that is none: so not at a frame that is ignored.
     pub fn take(&mut self, alloc: Global, frame: Frame) -> Result<Vec<Frame>, ClientFault>
         requires { Fits self.old.copies.limits frame }
         ensures ok { IfOk result (λ said. TakesFrame self.old frame (messages_of said.items)
             self.new) }
         ensures err { IfErr result (λ fault. fault ≡ Memory) }
         ensures unchanged { OnErr result (self.new ≡ self.old) }
+        ensures room { IfOk result (λ said. vec_capacity said ≡ room_to_take self.old frame) }
+        ensures none { room_to_take self.old frame ≡ 0 → IsOk result }
         ensures fits { IfOk result (λ said.
             AllByRecursion (Fits self.old.copies.limits) said.items) }
     {
@@ -48,7 +52,7 @@ impl<Q: Chooser> Client<Q> {
     ) -> Result<(Vec<Frame>, usize), BytesFault<ClientFault>>
         ensures ok { IfOk result (λ answered. TakesBytes self.old bytes.now answered.1
             (messages_of answered.0.items) self.new) }
-        ensures err { IfErr result (IsBytesFault self.old.copies.limits bytes.now) }
+        ensures err { IfErr result (IsBytesFault self.old bytes.now) }
         ensures unchanged { OnErr result (self.new ≡ self.old) }
         ensures fits { IfOk result (λ answered.
             AllByRecursion (Fits self.old.copies.limits) answered.0.items) }

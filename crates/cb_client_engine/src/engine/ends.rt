@@ -1,9 +1,11 @@
 //! How a transaction ends by the server's word.
-ghost use Rattle.std.specs.Prelude.{◌≡◌, [], true, IfOk, OnErr};
+ghost use Rattle.std.specs.Prelude.{◌≡◌, [], true, IfOk, IsOk, OnErr};
+ghost use Rattle.std.specs.Vec.{vec_capacity};
 ghost use Rattle.cb_page.specs.Numbers.{IsNumber};
 ghost use Rattle.cb_client_engine.specs.ByTable.{Takes, limits_at};
 ghost use Rattle.cb_client_engine.specs.ClientState.{IsClient, client_of};
 ghost use Rattle.cb_client_engine.specs.Parts.{client_in};
+ghost use Rattle.cb_client_engine.specs.Room.{room_at};
 ghost use Rattle.cb_outbox.specs.Messages.{messages_of};
 ghost use Rattle.cb_protocol.specs.ClientMessages.{of_committing_txn};
 ghost use Rattle.cb_protocol.specs.Messages.{AbortNow, Done};
@@ -43,6 +45,9 @@ impl<Q: Chooser> Engine<Q> {
         ensures ok { IfOk result (λ frames. Takes (client_in self.old) (Done txn number)
             (messages_of frames.items) (client_in self.new)) }
         ensures err { OnErr result (self.new ≡ self.old) }
+        ensures room { IfOk result (λ said. vec_capacity said
+            ≡ room_at (client_in self.old) (Done txn number)) }
+        ensures none { room_at (client_in self.old) (Done txn number) ≡ 0 → IsOk result }
         ensures sound { IsClient (client_in self.new) }
     {
         if !self.is_committing_txn(txn) {
@@ -63,6 +68,9 @@ impl<Q: Chooser> Engine<Q> {
         ensures ok { IfOk result (λ frames. Takes (client_in self.old) (AbortNow txn)
             (messages_of frames.items) (client_in self.new)) }
         ensures err { OnErr result (self.new ≡ self.old) }
+        ensures room { IfOk result (λ said. vec_capacity said
+            ≡ room_at (client_in self.old) (AbortNow txn)) }
+        ensures none { room_at (client_in self.old) (AbortNow txn) ≡ 0 → IsOk result }
         ensures sound { IsClient (client_in self.new) }
     {
         if !self.is_open_txn(txn) {

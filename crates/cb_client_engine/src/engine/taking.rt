@@ -1,8 +1,10 @@
 //! What a frame of its server's makes of a client, by the frame's kind.
-ghost use Rattle.std.specs.Prelude.{◌≡◌, true, IfOk, OnErr};
+ghost use Rattle.std.specs.Prelude.{◌≡◌, true, IfOk, IsOk, OnErr};
+ghost use Rattle.std.specs.Vec.{vec_capacity};
 ghost use Rattle.cb_client_engine.specs.ByTable.{Takes, limits_at};
 ghost use Rattle.cb_client_engine.specs.ClientState.{IsClient};
 ghost use Rattle.cb_client_engine.specs.Parts.{client_in};
+ghost use Rattle.cb_client_engine.specs.Room.{room_at};
 ghost use Rattle.cb_frame_types.specs.Grammar.{BodyFits, ShortFits};
 ghost use Rattle.cb_outbox.specs.Messages.{body_of, messages_of, short_of};
 ghost use Rattle.cb_protocol.specs.Messages.{Downgrade, Granted};
@@ -19,13 +21,17 @@ impl<Q: Chooser> Engine<Q> {
     /// Takes the body of a frame of its own number and incarnation, and answers what the client
     /// says to it. One for the server is ignored and, before the Welcome, all others.
     ///
-    /// `AllocError` only where a growth was refused; nothing changes then.
+    /// `AllocError` only where a growth was refused; nothing changes then. It makes room for what
+    /// the message needs and no more, and is not refused where that is none.
     pub fn take_body(&mut self, alloc: Global, body: Body) -> Result<Vec<Frame>, AllocError>
         requires sound { IsClient (client_in self.old) }
         requires body { BodyFits self.old.copies.limits body }
         ensures ok { IfOk result (λ said. Takes (client_in self.old) (body_of body)
             (messages_of said.items) (client_in self.new)) }
         ensures err { OnErr result (self.new ≡ self.old) }
+        ensures room { IfOk result (λ said. vec_capacity said
+            ≡ room_at (client_in self.old) (body_of body)) }
+        ensures none { room_at (client_in self.old) (body_of body) ≡ 0 → IsOk result }
         ensures sound { IsClient (client_in self.new) }
     {
         match body {
@@ -47,6 +53,9 @@ impl<Q: Chooser> Engine<Q> {
         ensures ok { IfOk result (λ said. Takes (client_in self.old) (short_of body)
             (messages_of said.items) (client_in self.new)) }
         ensures err { OnErr result (self.new ≡ self.old) }
+        ensures room { IfOk result (λ said. vec_capacity said
+            ≡ room_at (client_in self.old) (short_of body)) }
+        ensures none { room_at (client_in self.old) (short_of body) ≡ 0 → IsOk result }
         ensures sound { IsClient (client_in self.new) }
     {
         if let ShortBody::Welcome = body {
@@ -89,6 +98,9 @@ impl<Q: Chooser> Engine<Q> {
         ensures ok { IfOk result (λ said. Takes (client_in self.old) (Downgrade page grant tag)
             (messages_of said.items) (client_in self.new)) }
         ensures err { OnErr result (self.new ≡ self.old) }
+        ensures room { IfOk result (λ said. vec_capacity said
+            ≡ room_at (client_in self.old) (Downgrade page grant tag)) }
+        ensures none { room_at (client_in self.old) (Downgrade page grant tag) ≡ 0 → IsOk result }
         ensures sound { IsClient (client_in self.new) }
     {
         if !self.copies.limits().keep_write() {
@@ -115,6 +127,10 @@ impl<Q: Chooser> Engine<Q> {
             (Granted page grant version bytes)
             (messages_of said.items) (client_in self.new)) }
         ensures err { OnErr result (self.new ≡ self.old) }
+        ensures room { IfOk result (λ said. vec_capacity said
+            ≡ room_at (client_in self.old) (Granted page grant version bytes)) }
+        ensures none { room_at (client_in self.old) (Granted page grant version bytes) ≡ 0
+            → IsOk result }
         ensures sound { IsClient (client_in self.new) }
     {
         if !self.welcomed {

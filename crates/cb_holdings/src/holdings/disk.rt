@@ -133,13 +133,15 @@ impl Holdings {
     /// What is to be written to disk next: each page that a commit changed which isn't on disk yet,
     /// as it is now; `None` where every commit is on disk. It costs no more than those pages.
     ///
-    /// `AllocError` only where memory was refused.
+    /// `AllocError` only where memory was refused, so never where there is nothing to write.
     pub fn batch(&self, alloc: Global) -> Result<Option<Batch>, AllocError>
         ensures batch { IfOk result (λ batch.
             option_map batch_of batch ≡ next_batch (server_of self.now)) }
         ensures catches_up { IfOk result (λ batch. IfSome batch (CatchesUp self.now.commits)) }
         ensures can_flush { IfOk result (λ batch.
             IfSome batch (λ b. can_flush (server_of self.now) b.number ≡ true)) }
+        ensures err { OnErr result
+            ((server_of self.now).flushed < (server_of self.now).store.last_commit) }
     {
         self.commits.batch(alloc)
     }

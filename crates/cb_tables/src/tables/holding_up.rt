@@ -1,5 +1,5 @@
 //! Who holds up the first ask of a page.
-ghost use Rattle.std.specs.Prelude.{◌≡◌, ◌&&◌, ◌||◌, ◌∷◌, ℕ, List};
+ghost use Rattle.std.specs.Prelude.{◌≡◌, ◌&&◌, ◌||◌, ◌∷◌, [], ℕ, List, false};
 ghost use Rattle.cb_asks.specs.Asks.{queue_at};
 ghost use Rattle.cb_asks.specs.Marks.{is_in_use};
 ghost use Rattle.cb_tables.specs.Tables.{AreTables, HasPage, server_of};
@@ -17,7 +17,9 @@ impl Tables {
     pub fn held_up_by(&self, page: PageNo) -> ClientSet
         requires are { AreTables self.now }
         requires page { HasPage self.now page }
-        ensures { (first : WaitingAsk) (others : List WaitingAsk)
+        ensures none { queue_at self.now.asks page ≡ []
+            → (client : ℕ) → has result client ≡ false }
+        ensures first { (first : WaitingAsk) (others : List WaitingAsk)
             → queue_at self.now.asks page ≡ first ∷ others
             → (client : ℕ) → has result client ≡ holds_up (server_of self.now) page first client }
     {

@@ -1,14 +1,15 @@
 //! What the client says of its transaction.
-ghost use Rattle.std.specs.Prelude.{◌≡◌, ◌↔◌, true, IfSome, IsTrue, Some};
+ghost use Rattle.std.specs.Prelude.{◌≡◌, ◌↔◌, true, IfErr, IfSome, IsTrue, OkIff, Some};
 ghost use Rattle.cb_client_engine.specs.ClientState.{outcome_of};
 ghost use Rattle.cb_protocol.specs.Client as protocol;
 ghost use Rattle.cb_worker.specs.Committing.{IsCommitting};
-ghost use Rattle.cb_worker.specs.Waiting.{Finishes, ending_of};
-ghost use Rattle.cb_worker.specs.Workers.{Ended};
+ghost use Rattle.cb_worker.specs.Waiting.{IsFinished, LacksTransaction, ending_of};
+ghost use Rattle.cb_worker.specs.Workers.{Ended, HasTransaction};
 
 use crate::answers::Finished;
 use crate::worker::Worker;
-use cb_client::{ClientStatus, Outcome};
+use crate::worker_fault::WorkerFault;
+use cb_client::{ClientFault, ClientStatus, Outcome};
 use cb_twoq::Chooser;
 
 impl<Q: Chooser> Worker<Q> {
@@ -22,11 +23,15 @@ impl<Q: Chooser> Worker<Q> {
         }
     }
 
-    /// Whether a transaction isn't over yet: it is open, or its commit is out.
-    pub(super) fn has_transaction(&self) -> bool {
+    /// Refuses, as the client does, where no transaction is open and none is committing.
+    pub(super) fn needs_transaction(&self) -> Result<(), WorkerFault>
+        ensures has { OkIff result (HasTransaction self.now) tt }
+        ensures lacks { IfErr result (LacksTransaction self.now) }
+    {
         match self.client.status() {
-            ClientStatus::Open | ClientStatus::Waiting | ClientStatus::Committing => true,
-            ClientStatus::NotWelcome | ClientStatus::Idle => false,
+            ClientStatus::NotWelcome => Err(WorkerFault::Client(ClientFault::NotWelcome)),
+            ClientStatus::Idle => Err(WorkerFault::Client(ClientFault::NoTransaction)),
+            _ => Ok(()),
         }
     }
 
@@ -42,7 +47,7 @@ impl<Q: Chooser> Worker<Q> {
 
     /// How the last transaction ended, where that one is over and was not dropped.
     pub(super) fn ended(&self) -> Option<Finished>
-        ensures { IfSome result (Finishes self.now) }
+        ensures { IfSome result (IsFinished self.now) }
     {
         let ClientStatus::Idle = self.client.status() else {
             return None;

@@ -1,10 +1,12 @@
 //! The calls that take the office, and may wait.
-ghost use Rattle.std.specs.Prelude.{◌≡◌, IfOk, IsTrue, MatchBool, OnOk};
+ghost use Rattle.std.specs.Prelude.{◌≡◌, [], false, true, IfErr, IfOk, IsTrue, MatchBool, Ok};
+ghost use Rattle.std.specs.Prelude.{OnOk};
 ghost use Rattle.std.specs.Borrow.{sem};
 ghost use Rattle.cb_protocol.specs.Client as protocol;
 ghost use Rattle.cb_worker.specs.Lending.{worker_ends};
-ghost use Rattle.cb_worker.specs.Waiting.{Drops, Fetches, Finishes, HasRead, IsServed, Wants};
-ghost use Rattle.cb_worker.specs.Workers.{Ended, IsStill};
+ghost use Rattle.cb_worker.specs.Waiting.{Drops, Fetches, Finishes, HasRead, IsDropped, IsServed};
+ghost use Rattle.cb_worker.specs.Waiting.{Wants};
+ghost use Rattle.cb_worker.specs.Workers.{Ended, Ends, IsStill, after_hit, may_hit};
 
 use crate::answers::{Fetched, Finished, Wanted};
 use crate::worker::Worker;
@@ -60,7 +62,7 @@ impl<Q: Chooser> Worker<Q> {
         unreachable!()
     }
 
-    /// Serves first, as each call does: whether that aborted the transaction that there was.
+    /// Serves first, as each call does: whether that aborted the transaction, where there was one.
     fn serve_first<R: Wait>(
         &mut self,
         rt: &R,
@@ -68,15 +70,17 @@ impl<Q: Chooser> Worker<Q> {
         office: &Office,
         shared: &mut SharedStation,
     ) -> Result<bool, WorkerFault>
-        ensures { IfOk result (λ aborted. IsTrue aborted → Ended self.new protocol.Aborted) }
+        ensures aborted { IfOk result (λ aborted.
+            IsTrue aborted → Ended self.new protocol.Aborted) }
+        ensures served { OnOk result (IsServed self.new) }
+        ensures still { IsStill self.old self.new }
     {
-        let had_one = self.has_transaction();
         self.serve_at(rt, alloc, office, shared)?;
-        Ok(had_one && self.is_aborted())
+        Ok(self.is_aborted())
     }
 
     /// Reads a page in the open transaction, and lends its bytes: at once where it holds them, else
-    /// once they came.
+    /// once they came. Refused as the client does where nothing is open or committing.
     pub fn fetch<R: Wait>(
         &mut self,
         rt: &R,
@@ -85,7 +89,8 @@ impl<Q: Chooser> Worker<Q> {
         page: PageNo,
     ) -> Result<Fetched<'_>, WorkerFault>
         ensures* ends { sem 𝓛 (worker_ends Q.row Q.Chooser self.entry
-            (λ worker. IfOk result (Fetches worker page))) }
+            (λ worker. IfOk result (Fetches self.old worker page))) }
+        ensures at_hand { IfErr result (λ fault. may_hit self.old page ≡ false) }
     {
         if !self.fetch_copy(rt, alloc, office, page)? {
             return Ok(Fetched::Aborted);
@@ -104,12 +109,16 @@ impl<Q: Chooser> Worker<Q> {
         office: &Office,
         page: PageNo,
     ) -> Result<bool, WorkerFault>
-        ensures { IfOk result (λ fetched.
-            MatchBool fetched (HasRead self.new page) (Ended self.new protocol.Aborted)) }
+        ensures reads { IfOk result (λ fetched.
+            MatchBool fetched (HasRead self.new page) (Ends self.old self.new protocol.Aborted)) }
+        ensures at_once { may_hit self.old page ≡ true
+            → (result ≡ Ok true) × (self.new ≡ after_hit self.old page) }
+        ensures still { IsStill self.old self.new }
     {
         if self.touch(page) {
             return Ok(true);
         }
+        self.needs_transaction()?;
         let mut shared = office.lock(rt);
         if self.serve_first(rt, alloc, office, &mut shared)? {
             return Ok(false);
@@ -132,7 +141,9 @@ impl<Q: Chooser> Worker<Q> {
     }
 
     /// The client asks for the page, which isn't here.
-    fn ask_for(&mut self, page: PageNo) -> Result<(), WorkerFault> {
+    fn ask_for(&mut self, page: PageNo) -> Result<(), WorkerFault>
+        ensures { IsStill self.old self.new }
+    {
         self.said.reserve(1)?;
         match self.client.read(page)? {
             ReadAnswer::Bytes(_) => return Err(WorkerFault::Office(OfficeFault::NotHeld)),
@@ -144,7 +155,8 @@ impl<Q: Chooser> Worker<Q> {
         Ok(())
     }
 
-    /// Wants to write a page that the open transaction has read, and waits until it may.
+    /// Wants to write a page that the open transaction has read, and waits until it may. Refused as
+    /// the client does where nothing is open or committing.
     pub fn want<R: Wait>(
         &mut self,
         rt: &R,
@@ -152,8 +164,11 @@ impl<Q: Chooser> Worker<Q> {
         office: &Office,
         page: PageNo,
     ) -> Result<Wanted, WorkerFault>
-        ensures { IfOk result (Wants self.new page) }
+        ensures wants { IfOk result (Wants self.old self.new page) }
+        ensures served { OnOk result (IsServed self.new) }
+        ensures still { IsStill self.old self.new }
     {
+        self.needs_transaction()?;
         let mut shared = office.lock(rt);
         if self.serve_first(rt, alloc, office, &mut shared)? {
             return Ok(Wanted::Aborted);
@@ -173,7 +188,10 @@ impl<Q: Chooser> Worker<Q> {
     }
 
     /// The client wants to write the page, and asks for the permission if it hasn't got it.
-    fn ask_to_write(&mut self, page: PageNo) -> Result<(), WorkerFault> {
+    fn ask_to_write(&mut self, page: PageNo) -> Result<(), WorkerFault>
+        requires { self.old.said ≡ [] }
+        ensures { IsStill self.old self.new }
+    {
         self.said.reserve(1)?;
         match self.client.want(page)? {
             WantAnswer::Permitted => {}
@@ -182,15 +200,19 @@ impl<Q: Chooser> Worker<Q> {
         Ok(())
     }
 
-    /// Ends the open transaction without a commit; nothing is open or committing then.
+    /// Ends the open transaction without a commit; nothing is open or committing then. Refused as
+    /// the client does where nothing is before.
     pub fn drop_txn<R: Wait>(
         &mut self,
         rt: &R,
         alloc: Global,
         office: &Office,
     ) -> Result<(), WorkerFault>
-        ensures { OnOk result (Drops self.new) }
+        ensures drops { OnOk result (Drops self.old self.new) }
+        ensures said { OnOk result (self.new.said ≡ []) }
+        ensures still { IsStill self.old self.new }
     {
+        self.needs_transaction()?;
         let mut shared = office.lock(rt);
         self.drop_at(rt, alloc, office, &mut shared)
     }
@@ -203,7 +225,9 @@ impl<Q: Chooser> Worker<Q> {
         office: &Office,
         shared: &mut SharedStation,
     ) -> Result<(), WorkerFault>
-        ensures { OnOk result (Drops self.new) }
+        ensures dropped { OnOk result (IsDropped self.new) }
+        ensures said { OnOk result (self.new.said ≡ []) }
+        ensures still { IsStill self.old self.new }
     {
         if self.serve_first(rt, alloc, office, shared)? {
             return Ok(());
@@ -214,7 +238,9 @@ impl<Q: Chooser> Worker<Q> {
 
     /// The client drops its transaction; what it says of that is kept.
     fn drop_open(&mut self, alloc: Global) -> Result<(), WorkerFault>
-        ensures { OnOk result (Ended self.new protocol.Dropped) }
+        requires { self.old.said ≡ [] }
+        ensures dropped { OnOk result (Ended self.new protocol.Dropped) }
+        ensures still { IsStill self.old self.new }
     {
         let mut said = self.client.drop_txn(alloc)?;
         said.reverse();
@@ -229,7 +255,9 @@ impl<Q: Chooser> Worker<Q> {
         office: &Office,
         shared: &mut SharedStation,
     ) -> Result<(), WorkerFault>
-        ensures { self.new.client ≡ self.old.client }
+        ensures client { self.new.client ≡ self.old.client }
+        ensures all { OnOk result (self.new.said ≡ []) }
+        ensures still { IsStill self.old self.new }
     {
         while !self.said.is_empty() {
             let handed = self.hand_in(alloc, shared.station_mut());
@@ -239,7 +267,8 @@ impl<Q: Chooser> Worker<Q> {
         Ok(())
     }
 
-    /// The open transaction commits; waits until its commit is on disk.
+    /// The open transaction commits; waits until its commit is on disk. Refused as the client does
+    /// where nothing is open or committing.
     ///
     /// After a fault of the office the client is committing, and a later call goes on.
     pub fn finish<R: Wait>(
@@ -248,15 +277,15 @@ impl<Q: Chooser> Worker<Q> {
         alloc: Global,
         office: &Office,
     ) -> Result<Finished, WorkerFault>
-        ensures { IfOk result (Finishes self.new) }
+        ensures finishes { IfOk result (Finishes self.old self.new) }
+        ensures served { OnOk result (IsServed self.new) }
+        ensures still { IsStill self.old self.new }
     {
-        let had_one = self.has_transaction();
+        self.needs_transaction()?;
         let mut shared = office.lock(rt);
         self.serve_at(rt, alloc, office, &mut shared)?;
-        if had_one {
-            if let Some(ended) = self.ended() {
-                return Ok(ended);
-            }
+        if let Some(ended) = self.ended() {
+            return Ok(ended);
         }
         let committed = self.commit_at(alloc, shared.station_mut());
         office.tell();

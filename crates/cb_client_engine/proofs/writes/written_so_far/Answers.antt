@@ -1,11 +1,16 @@
-use Rattle.std.proofs.Common.{◌∙◌, ◌≡◌, ◌+◌, ◌<◌, ◌++◌, ◌∷◌, [], length, refl, arith}
+use Rattle.std.proofs.Common.{◌∙◌, ◌≡◌, ◌+◌, ◌<◌, ◌++◌, ◌∷◌, [], length, false, true, true≢false, refl, sym, arith}
 use Rattle.std.specs.Vec.{vec_capacity}
 use Rattle.cb_copies.specs.CopiesState.{client_with}
 use Rattle.cb_outbox.specs.Messages.{page_writes}
 use Rattle.cb_protocol.specs.Client.{new_client}
 use Rattle.cb_protocol.specs.ClientCalls.{written_pages}
-use Rattle.cb_client_engine.proofs.Writing.{flag_within, next_write, no_more, room_for_one}
+use Rattle.cb_client_engine.proofs.Writing.{flag_within, next_write, no_more, none_written, room_for_one}
 use Rattle.cb_client_engine.proofs.writes.written_so_far.Goals as goal
+
+pub returns-in_err-writes-clause-nothing : goal.returns-in_err-writes-clause-nothing
+returns-in_err-writes-clause-nothing g c = λ none.
+    let z : false ≡ true = c.in_err-writes.ensures.succeeds (c.count_written.ensures new_client ∙ none_written c.args.copies.now new_client c.args.copies.now.limits.pages none) in
+    absurd (true≢false (sym z))
 
 pub loop-page-init : goal.loop-page-init
 loop-page-init g c = record {
@@ -37,5 +42,5 @@ loop-page-preserved g c = record {
   room = λ k. rw c.push_reserved.ensures.capacity (c.loop-page.invariant.room k);
 }
 
-pub returns : goal.returns
-returns g c = λ client. rw c.from_vec.ensures (c.loop-page.invariant.said client ∙ no_more (client_with c.args.copies.now client) c.loop-page.from c.args.copies.now.limits.pages c.loop-page.invariant.within (λ q le. c.in_default.ensures q le))
+pub returns-clause-said : goal.returns-clause-said
+returns-clause-said g c = λ client. rw c.from_vec.ensures (c.loop-page.invariant.said client ∙ no_more (client_with c.args.copies.now client) c.loop-page.from c.args.copies.now.limits.pages c.loop-page.invariant.within (λ q le. c.in_default.ensures q le))

@@ -1,7 +1,10 @@
 use Rattle.std.proofs.Common.{◌≡◌, ◌≤◌, ◌<◌, ◌∙◌, sym, arith, rules}
 use Rattle.cb_ending.proofs.Room.{room_next, room_to}
-use Rattle.cb_ending.proofs.Walk.{count_ends, count_goes_on, locked_page}
+use Rattle.cb_ending.proofs.Walk.{count_ends, count_goes_on, locked_page, locked_within}
 use Rattle.cb_ending.proofs.ending.most_frames.Goals as goal
+
+pub most_of-count-requires : goal.most_of-count-requires
+most_of-count-requires g c = locked_within c.args.locks.now.locked c.in-Some.page (rw c.locked.ensures at c.in-Some.ensures).1
 
 pub loop-page-preserved : goal.loop-page-preserved
 loop-page-preserved g c =

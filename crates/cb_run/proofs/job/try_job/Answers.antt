@@ -1,17 +1,32 @@
-use Rattle.std.proofs.Common.{◌≡◌, true, rules}
+use Rattle.std.proofs.Common.{◌≡◌, ◌∙◌, false, true, rules}
 use Rattle.cb_protocol.specs.Client as protocol
-use Rattle.cb_run.specs.Jobs.{CountsBoth}
-use Rattle.cb_worker.specs.Workers.{Ended}
+use Rattle.cb_run.proofs.JobCounts.{begins_later}
+use Rattle.cb_run.specs.Jobs.{CountsBoth, HasEnded}
+use Rattle.cb_worker.specs.Workers.{Ends, last_txn}
 use Rattle.cb_run.proofs.job.try_job.Goals as goal
+
+pub returns-then-not-branch : goal.returns-then-not-branch
+returns-then-not-branch g c =
+    let no : c.in_ok-count_both.field-0 ≡ false = search rules in
+    let ended : HasEnded (last_txn c.begin.new.self.client) c.count_both.new.worker protocol.Aborted = rw no at c.in_ok-count_both.ensures in
+    (last_txn c.begin.new.self.client, begins_later _ _ _ c.in_ok-_txn.ensures.begins, ended)
 
 pub returns-in-Committed : goal.returns-in-Committed
 returns-in-Committed g c =
     let yes : c.in_ok-count_both.field-0 ≡ true = search rules in
-    let both : CountsBoth c.args.client c.count_both.new.worker = rw yes at c.in_ok-count_both.ensures in
-    let ended : Ended c.finish.new.self (protocol.Committed c.in-Committed.number) = rw c.in-Committed.is at c.in_ok-number.ensures in
-    (c.count_both.new.worker, both, ended)
+    let both : CountsBoth c.args.client (last_txn c.begin.new.self.client) c.count_both.new.worker = rw yes at c.in_ok-count_both.ensures in
+    let ends : Ends c.count_both.new.worker c.finish.new.self (protocol.Committed c.in-Committed.number) = rw c.in-Committed.is at c.in_ok-number.ensures.finishes in
+    record {
+      txn = last_txn c.begin.new.self.client;
+      begun = begins_later _ _ _ c.in_ok-_txn.ensures.begins;
+      counted = c.count_both.new.worker;
+      counts = both;
+      committed = record { last = ends.same ∙ both.2.last; ended = ends.ended };
+    }
 
 pub returns-in-Aborted : goal.returns-in-Aborted
 returns-in-Aborted g c =
-    let ended : Ended c.finish.new.self protocol.Aborted = rw c.in-Aborted.is at c.in_ok-number.ensures in
-    ended
+    let yes : c.in_ok-count_both.field-0 ≡ true = search rules in
+    let both : CountsBoth c.args.client (last_txn c.begin.new.self.client) c.count_both.new.worker = rw yes at c.in_ok-count_both.ensures in
+    let ends : Ends c.count_both.new.worker c.finish.new.self protocol.Aborted = rw c.in-Aborted.is at c.in_ok-number.ensures.finishes in
+    (last_txn c.begin.new.self.client, begins_later _ _ _ c.in_ok-_txn.ensures.begins, record { last = ends.same ∙ both.2.last; ended = ends.ended })

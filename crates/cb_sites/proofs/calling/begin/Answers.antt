@@ -3,7 +3,7 @@ use Rattle.cb_client.specs.ByTable.{as_before}
 use Rattle.cb_protocol.specs.Answers.{AnsweredOk}
 use Rattle.cb_protocol.specs.ClientCalls.{CallBegin}
 use Rattle.cb_transcript.specs.ProtocolEvents.{word_of}
-use Rattle.cb_sites.proofs.Replying.{refusal_reply, replies_by}
+use Rattle.cb_sites.proofs.Replying.{refusal_reply, refusal_told, replies_by}
 use Rattle.cb_sites.proofs.calling.begin.Goals as goal
 
 pub returns-in-Ok-clause-ok : goal.returns-in-Ok-clause-ok
@@ -12,4 +12,7 @@ returns-in-Ok-clause-ok g c =
 
 pub returns-in-Err-clause-ok : goal.returns-in-Err-clause-ok
 returns-in-Err-clause-ok g c =
-    refusal_reply c.args.client.now c.begin.new.self CallBegin c.in-Err.fault c.refused.result c.in-Err.ensures.0 c.in-Err.ensures.1 c.refused.ensures
+    refusal_reply c.args.client.now c.begin.new.self CallBegin c.in-Err.fault c.refused.result c.in-Err.ensures.0 c.in-Err.ensures.1 c.refused.ensures.ok
+
+pub returns-in-Err-clause-fails : goal.returns-in-Err-clause-fails
+returns-in-Err-clause-fails g c = refusal_told c.args.client.now CallBegin c.in-Err.fault c.refused.result c.in-Err.ensures.0 c.refused.ensures.fails

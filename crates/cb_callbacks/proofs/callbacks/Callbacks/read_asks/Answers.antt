@@ -1,5 +1,5 @@
 use Rattle.std.proofs.Common.{rules}
 use Rattle.cb_callbacks.proofs.callbacks.Callbacks.read_asks.Goals as goal
 
-pub returns : goal.returns
-returns c = search rules
+pub returns-clause-reads : goal.returns-clause-reads
+returns-clause-reads c = search rules

@@ -12,7 +12,7 @@ returns c = record {
   asks = λ front back ask is last other.
       c.follow.ensures.asks front back ask (queue ∙ is) last other
       ∙ ap (λ b. not (ask.client == other) && b) (held_up_front (server_of c.args.tables.now) c.args.page (has c.held_up_by-held_up_by.result) front back ask is
-      (c.held_up_by-held_up_by.ensures) other);
+      c.held_up_by-held_up_by.ensures.first other);
   left = λ none other. c.follow.ensures.rest c.args.client other (ap (has_ask c.args.client) queue ∙ none)
       ∙ (c.put_row.ensures.row other ∙ if_none _ _ (c.empty.ensures other));
   rest = λ waiting other ne none. c.follow.ensures.rest waiting other (ap (has_ask waiting) queue ∙ none) ∙ c.put_row.ensures.rest waiting other ne;

@@ -1,4 +1,4 @@
-use Rattle.std.proofs.Common.{◌≡◌}
+use Rattle.std.proofs.Common.{◌≡◌, false, true, true≢false, sym}
 use Rattle.cb_copies.specs.CopiesState.{client_with}
 use Rattle.cb_outbox.specs.Messages.{page_writes}
 use Rattle.cb_protocol.specs.Client.{Client}
@@ -6,8 +6,13 @@ use Rattle.cb_protocol.specs.ClientCalls.{written_pages}
 use Rattle.cb_client.proofs.Writing.{commit_said}
 use Rattle.cb_client.proofs.client.Client.commit_frame.Goals as goal
 
-pub returns : goal.returns
-returns g c =
-    let pages : (k : Client) → page_writes c.in_ok-writes.writes ≡ written_pages (client_with c.args.self.now.copies k) c.args.self.now.copies.limits.pages = rw (← c.self.view_is) c.in_ok-writes.ensures in
+pub returns-in_err-writes-clause-nothing : goal.returns-in_err-writes-clause-nothing
+returns-in_err-writes-clause-nothing g c = λ none.
+    let z : false ≡ true = c.in_err-writes.ensures.nothing (rw (← c.self.view_is) at none) in
+    absurd (true≢false (sym z))
+
+pub returns-clause-said : goal.returns-clause-said
+returns-clause-said g c =
+    let pages : (k : Client) → page_writes c.in_ok-writes.writes ≡ written_pages (client_with c.args.self.now.copies k) c.args.self.now.copies.limits.pages = rw (← c.self.view_is) c.in_ok-writes.ensures.said in
     let said = commit_said c.args.self.now c.present_txn-txn.result c.in_ok-writes.writes c.present_txn-txn.ensures pages in
     rw (← c.self.view_is) (rw (← c.self.view_is) at said)

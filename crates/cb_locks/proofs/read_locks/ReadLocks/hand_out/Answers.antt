@@ -45,6 +45,7 @@ loop-page-preserved c =
       room = let counted = ap (λ (v : LocksState). count_by is_due v.dues) c.hand_one.ensures.state in
           let one = one_counted c.loop-page.self.dues page is lt in
           let len = c.hand_one.ensures.len in let capacity = c.hand_one.ensures.capacity in let room = held.room in omega arith;
+      capacity = c.hand_one.ensures.capacity ∙ held.capacity;
     }
 
 pub returns-clause-handed : goal.returns-clause-handed

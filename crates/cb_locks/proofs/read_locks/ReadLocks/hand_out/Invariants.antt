@@ -17,6 +17,7 @@ invariant-loop-page l = record {
   size : length l.self.dues ≡ length l.initial.self.dues;
   within : l.from ≤ length l.self.dues;
   room : vec_len l.handed + count_by is_due l.self.dues ≤ vec_capacity l.handed;
+  capacity : vec_capacity l.handed ≡ vec_capacity l.initial.handed;
 }
 
 abbrev pub decreases-loop-page : goal.decreases-loop-page

@@ -11,8 +11,8 @@ frame_in-requires c =
     let at : slice_get c.self.inside.sent.items c.args.number ≡ Some c.in-Some.bytes.now = search rules in
     spelled_at (record { limits = c.self.inside.limits; sent = c.self.inside.sent.items }) c.args.number c.in-Some.bytes.now c.self.invariant at
 
-pub returns-in_ok-frame-in-Some : goal.returns-in_ok-frame-in-Some
-returns-in_ok-frame-in-Some c =
+pub returns-in_ok-frame-in-Some-clause-ok : goal.returns-in_ok-frame-in-Some-clause-ok
+returns-in_ok-frame-in-Some-clause-ok c =
     let at : slice_get c.self.inside.sent.items c.args.number ≡ Some c.in-Some.bytes.now = search rules in
     let is : IsSpelled c.self.inside.limits c.in-Some.bytes.now = spelled_at (record { limits = c.self.inside.limits; sent = c.self.inside.sent.items }) c.args.number c.in-Some.bytes.now c.self.invariant at in
     subst (λ (v : PacketsState). IsFrameAt v c.args.number c.in_ok-frame-in-Some.frame) c.self.view_is (record {

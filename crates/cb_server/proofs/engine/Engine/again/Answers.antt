@@ -1,7 +1,7 @@
 use Rattle.std.proofs.Common.{length, refl, sym, ap, ◌∙◌, arith}
 use Rattle.cb_protocol.specs.Resend.{server_again}
 use Rattle.cb_server.specs.declared.engine.Engine.{Engine}
-use Rattle.cb_server.proofs.Making.{serves, stays_same}
+use Rattle.cb_server.proofs.Making.{if_err, serves, stays_same}
 use Rattle.cb_server.proofs.engine.Engine.again.Goals as goal
 
 pub again-requires-clause-room : goal.again-requires-clause-room
@@ -13,8 +13,17 @@ again-requires-clause-room c =
 pub returns-clause-ok : goal.returns-clause-ok
 returns-clause-ok c =
     serves c.args.self.now middle (record { callbacks = c.args.self.now.callbacks; outbox = c.again.new.outbox }) server_again
-    (record { server = refl; holdings = refl; sent = c.reserve.ensures.sent; page_size = c.reserve.ensures.page_size })
+    (record { server = refl; holdings = refl; sent = c.reserve.ensures.sent; page_size = c.reserve.ensures.page_size; few = λ few. let most = c.reserve.ensures.most in omega (arith, few, most) })
     (record { says = c.again.ensures; stays = stays_same c.args.self.now.callbacks.tables.holdings })
   where
     middle : Engine
     middle = record { callbacks = c.args.self.now.callbacks; outbox = c.reserve.new.self }
+
+pub returns-in_err-reserve-clause-left : goal.returns-in_err-reserve-clause-left
+returns-in_err-reserve-clause-left c = if_err c.from_residual.result (record {
+  server = refl;
+  holdings = refl;
+  sent = c.reserve.ensures.sent;
+  page_size = c.reserve.ensures.page_size;
+  few = λ few. let most = c.reserve.ensures.most in omega (arith, few, most);
+})

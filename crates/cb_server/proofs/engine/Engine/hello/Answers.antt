@@ -1,4 +1,4 @@
-use Rattle.std.proofs.Common.{rules, ◌≡◌, [], ◌∷◌}
+use Rattle.std.proofs.Common.{rules, ◌≡◌, [], ◌∷◌, arith}
 use Rattle.cb_holdings.specs.Questions.{admission_in}
 use Rattle.cb_links.specs.declared.sessions.Admission.TheVariants as admission
 use Rattle.cb_protocol.specs.Messages.{Hello, Welcome}
@@ -6,8 +6,8 @@ use Rattle.cb_protocol.specs.Server.{Send}
 use Rattle.cb_protocol.specs.ServerMessages.{admit_incarnation, server_take}
 use Rattle.cb_protocol.specs.WaitsFor.{on_cycle}
 use Rattle.cb_server.specs.Answering.{server_in}
-use Rattle.cb_server.proofs.Greeting.{current_hello, stale_hello, unknown_hello}
-use Rattle.cb_server.proofs.Making.{on_ok, serves_as, serves_nothing}
+use Rattle.cb_server.proofs.Greeting.{current_hello, is_current, is_unknown, stale_hello, unknown_hello}
+use Rattle.cb_server.proofs.Making.{if_err, on_ok, serves_as, serves_nothing}
 use Rattle.cb_server.proofs.engine.Engine.hello.Goals as goal
 
 pub returns-in-Stale-clause-ok : goal.returns-in-Stale-clause-ok
@@ -29,3 +29,15 @@ returns-in-Unknown-clause-ok c =
     on_ok c.admit.result
     (serves_as c.args.self.now c.admit.new.self (λ s. server_take on_cycle s c.args.client c.args.incarnation Hello) (λ s. admit_incarnation on_cycle s c.args.client c.args.incarnation)
     (unknown_hello (server_in c.args.self.now) c.args.client c.args.incarnation is)) c.admit.ensures.ok
+
+pub returns-in-Current-clause-needed : goal.returns-in-Current-clause-needed
+returns-in-Current-clause-needed c =
+    let is : admission.Current ≡ admission_in (server_in c.args.self.now) c.args.client c.args.incarnation = search rules in
+    let same = is_current (server_in c.args.self.now) c.args.client c.args.incarnation is in
+    if_err c.welcome.result (omega (arith, same))
+
+pub returns-in-Unknown-clause-needed : goal.returns-in-Unknown-clause-needed
+returns-in-Unknown-clause-needed c =
+    let is : admission.Unknown ≡ admission_in (server_in c.args.self.now) c.args.client c.args.incarnation = search rules in
+    let newer = is_unknown (server_in c.args.self.now) c.args.client c.args.incarnation is in
+    if_err c.admit.result (omega (arith, newer))

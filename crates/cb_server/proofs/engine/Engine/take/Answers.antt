@@ -3,8 +3,8 @@ use Rattle.cb_outbox.specs.Messages.{body_of}
 use Rattle.cb_protocol.specs.ServerMessages.{server_take, take_current}
 use Rattle.cb_protocol.specs.WaitsFor.{on_cycle}
 use Rattle.cb_server.specs.Answering.{is_hello, server_in}
-use Rattle.cb_server.proofs.Greeting.{current_taken, other_ignored}
-use Rattle.cb_server.proofs.Making.{on_ok, serves_as, serves_nothing}
+use Rattle.cb_server.proofs.Greeting.{current_may_want, current_taken, hello_may_want, other_ignored}
+use Rattle.cb_server.proofs.Making.{if_err, on_err, on_ok, serves_as, serves_nothing}
 use Rattle.cb_server.proofs.engine.Engine.take.Goals as goal
 
 pub returns-then-ne-clause-ok : goal.returns-then-ne-clause-ok
@@ -21,3 +21,14 @@ returns-clause-ok c =
     on_ok c.take_current.result
     (serves_as c.args.self.now c.take_current.new.self (λ s. server_take on_cycle s c.args.client c.args.incarnation (body_of c.args.body)) (λ s. take_current on_cycle s c.args.client (body_of c.args.body))
     (current_taken (server_in c.args.self.now) c.args.client c.args.incarnation (body_of c.args.body) not_hello is)) c.take_current.ensures.ok
+
+pub returns-in_err-hello-clause-needed : goal.returns-in_err-hello-clause-needed
+returns-in_err-hello-clause-needed c =
+    if_err c.from_residual.result
+    (hello_may_want (server_in c.args.self.now) c.args.client c.args.incarnation (body_of c.args.body) (search rules) c.in_err-hello.ensures.needed)
+
+pub returns-clause-needed : goal.returns-clause-needed
+returns-clause-needed c =
+    let is : c.args.incarnation ≡ ((server_in c.args.self.now).session c.args.client).current = search rules in
+    let not_hello : is_hello (body_of c.args.body) ≡ false = search rules in
+    on_err c.take_current.result (current_may_want (server_in c.args.self.now) c.args.client c.args.incarnation (body_of c.args.body) not_hello is) c.take_current.ensures.needed

@@ -4,8 +4,8 @@ use Rattle.cb_protocol.specs.Server.{Server, server_after}
 use Rattle.cb_protocol.specs.ServerMessages.{begin_transaction, lacks_number, named_txn, take_current}
 use Rattle.cb_protocol.specs.WaitsFor.{on_cycle}
 use Rattle.cb_server.specs.Answering.{server_in}
-use Rattle.cb_server.proofs.Greeting.{ignored}
-use Rattle.cb_server.proofs.Making.{serves, serves_as, serves_nothing, takes}
+use Rattle.cb_server.proofs.Greeting.{ignored, lacks_at_server}
+use Rattle.cb_server.proofs.Making.{if_err, left_then, serves, serves_as, serves_nothing, takes}
 use Rattle.cb_server.proofs.Rooms.{can_say_to, settles_after_answer}
 use Rattle.cb_server.proofs.engine.Engine.take_current.Goals as goal
 
@@ -28,3 +28,12 @@ pub returns-clause-ok : goal.returns-clause-ok
 returns-clause-ok c =
     serves c.args.self.now c.reserve.new.self c.settle.new.self (λ s. take_current on_cycle s c.args.client (body_of c.args.body)) c.in_ok-reserve.ensures.left
     (takes c.reserve.new.self c.answer.new.self c.settle.new.self c.args.client (body_of c.args.body) c.in_ok-answer.ensures.ok c.settle.ensures)
+
+pub returns-then-lacks_number-clause-needed : goal.returns-then-lacks_number-clause-needed
+returns-then-lacks_number-clause-needed c =
+    lacks_at_server (server_after (server_in c.args.self.now) (begin_transaction (server_in c.args.self.now) c.args.client (named_txn (body_of c.args.body)))) c.args.client (body_of c.args.body)
+    (c.lacks_number.ensures ∙ c.if-lacks_number.true)
+
+pub returns-in_err-answer-clause-left : goal.returns-in_err-answer-clause-left
+returns-in_err-answer-clause-left c =
+    if_err c.from_residual-in_err-answer.result (left_then c.args.self.now c.reserve.new.self c.answer.new.self c.in_ok-reserve.ensures.left c.in_err-answer.ensures.left)

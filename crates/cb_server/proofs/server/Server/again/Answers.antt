@@ -13,7 +13,7 @@ again-requires-clause-greeted c = doomed_greeted (state c.self.inside.limits c.s
 pub invariant_of-self-2 : goal.invariant_of-self-2
 invariant_of-self-2 c =
     rests c.self.inside.limits c.self.inside.engine c.again.new.self c.take.new.self SendsAgain c.self.invariant tt
-    c.in_ok-again.ensures.ok c.take.ensures.left c.take.ensures.page_size
+    c.in_ok-again.ensures.ok c.take.ensures.left c.take.ensures.page_size c.take.ensures.spare
 
 pub returns-clause-fits : goal.returns-clause-fits
 returns-clause-fits c =

@@ -12,6 +12,7 @@ invariant_of-self-2 c = record {
       c.in_ok-dones.ensures.ok.stays c.in_ok-dones.ensures.ok.becomes;
   sent = c.self.invariant.sent;
   page_size = c.self.invariant.page_size;
+  spare = c.self.invariant.spare;
 }
 
 pub returns-clause-fits : goal.returns-clause-fits

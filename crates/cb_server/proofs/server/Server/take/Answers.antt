@@ -13,7 +13,7 @@ pub invariant_of-self-2 : goal.invariant_of-self-2
 invariant_of-self-2 c =
     rests c.self.inside.limits c.self.inside.engine c.take.new.self c.take-2.new.self (input_of c.args.frame) c.self.invariant
     (input_taken c.self.inside.limits c.self.inside.engine c.args.frame (subst (λ (v : ServerState). Fits v.limits c.args.frame) (sym c.self.view_is) c.requires) c.in_ok-take.ensures.taken)
-    c.in_ok-take.ensures.ok c.take-2.ensures.left c.take-2.ensures.page_size
+    c.in_ok-take.ensures.ok c.take-2.ensures.left c.take-2.ensures.page_size c.take-2.ensures.spare
 
 pub returns-clause-fits : goal.returns-clause-fits
 returns-clause-fits c =

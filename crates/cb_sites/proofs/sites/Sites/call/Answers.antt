@@ -1,4 +1,5 @@
 use Rattle.std.proofs.Common.{◌<◌, ◌≤◌, refl, subst}
+use Rattle.std.proofs.lemmas.Result.{on_err_weaker}
 use Rattle.cb_sites.specs.SitesState.{AreSites, SitesState}
 use Rattle.cb_sites.proofs.Worlds.{called_answers, called_fits, has_it, lacks_it, no_client_answers}
 use Rattle.cb_transcript.specs.ProtocolEvents.{call_of}
@@ -25,3 +26,10 @@ returns-clause-fits g c =
     let has : c.args.client < c.args.self.now.limits.clients
     = has_it sites c.args.self.now c.args.client c.get.result c.self.view_is c.get.ensures.value (c.if-not-has_client.ensures.value.0 refl) in
     called_fits c.args.self.now c.call_at.new.self c.args.client (call_of c.args.call.now) c.call_at.result (subst AreSites c.self.view_is c.self.invariant) has c.call_at.ensures.called
+
+pub returns-clause-fails : goal.returns-clause-fails
+returns-clause-fails g c =
+    let sites : SitesState = record { limits = c.self.inside.limits; clients = c.self.inside.clients.items } in
+    let has : c.args.client < c.args.self.now.limits.clients
+    = has_it sites c.args.self.now c.args.client c.get.result c.self.view_is c.get.ensures.value (c.if-not-has_client.ensures.value.0 refl) in
+    on_err_weaker c.call_at.result (λ accepts. (has, accepts)) c.call_at.ensures.fails

@@ -1,12 +1,1 @@
-use Rattle.std.proofs.Common.{IsTrue, rules}
-use Rattle.cb_worker.proofs.worker.Worker.fetch_copy.Goals as goal
-
-pub returns-then-branch : goal.returns-then-branch
-returns-then-branch g c =
-    let aborted : IsTrue c.in_ok-serve_first.field-0 = search rules in
-    c.in_ok-serve_first.ensures aborted
-
-pub returns-then-is_aborted : goal.returns-then-is_aborted
-returns-then-is_aborted g c =
-    let aborted : IsTrue c.is_aborted.result = search rules in
-    c.is_aborted.ensures aborted
+-- Nothing is answered here: each goal is searched. With this file a refused edit is not proved twice.

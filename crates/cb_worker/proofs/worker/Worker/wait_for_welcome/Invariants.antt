@@ -1,4 +1,3 @@
-use Rattle.std.proofs.Common.{◌≡◌}
 use Rattle.cb_worker.specs.Workers.{IsStill}
 use Rattle.cb_worker.proofs.worker.Worker.wait_for_welcome.Given as goal
 

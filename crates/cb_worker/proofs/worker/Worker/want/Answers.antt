@@ -1,15 +1,9 @@
-use Rattle.std.proofs.Common.{IsTrue, sym, rules}
+use Rattle.std.proofs.Common.{sym}
+use Rattle.cb_worker.proofs.Staying.{after}
+use Rattle.cb_worker.specs.Workers.{IsStill}
 use Rattle.cb_worker.proofs.worker.Worker.want.Goals as goal
 
-pub returns-then-branch : goal.returns-then-branch
-returns-then-branch g c =
-    let aborted : IsTrue c.in_ok-serve_first.field-0 = search rules in
-    c.in_ok-serve_first.ensures aborted
-
-pub returns-then-is_aborted : goal.returns-then-is_aborted
-returns-then-is_aborted g c =
-    let aborted : IsTrue c.is_aborted.result = search rules in
-    c.is_aborted.ensures aborted
-
-pub returns-then-may_write : goal.returns-then-may_write
-returns-then-may_write g c = λ ops. rw (← c.self.view_is) (sym (c.if-may_write.ensures.value ops))
+pub returns-then-may_write-clause-wants : goal.returns-then-may_write-clause-wants
+returns-then-may_write-clause-wants g c =
+    let still : IsStill c.args.self.now c.serve_at.new.self = after c.args.self.now c.loop.self c.serve_at.new.self c.loop.invariant.2 c.serve_at.ensures.still in
+    (λ ops. rw (← c.self.view_is) (sym (c.if-may_write.ensures.value ops)), still.txn)

@@ -1,0 +1,37 @@
+-- How many frames a client makes room for at a message; a grant that comes in may need memory of the
+-- pool beside.
+use Rattle.std.specs.Prelude.{if◌then◌else◌, ◌+◌, ℕ, true, false, []}
+use Rattle.cb_ending.specs.Room.{room_below}
+use Rattle.cb_locks.specs.Dues.{bit}
+use Rattle.cb_protocol.specs.ClientMessages.{of_committing_txn, of_open_txn}
+use Rattle.cb_protocol.specs.Messages.{AbortNow, Body, Callback, Done, Downgrade, Granted}
+use Rattle.cb_client_engine.specs.ClientState.{ClientState, client_of}
+use Rattle.cb_client_engine.specs.GrantCases.{case_at}
+use Rattle.cb_client_engine.specs.declared.engine.granted.GrantCase.{GrantCase}
+use Rattle.cb_client_engine.specs.declared.engine.granted.GrantCase.TheVariants as cases
+
+-- a grant that is ignored needs none
+abbrev pub room_of_grant : GrantCase → ℕ
+room_of_grant cases.Ignored = 0
+room_of_grant cases.Refused = 1
+room_of_grant cases.Filled = 1
+room_of_grant cases.Installed = 1
+
+-- of a welcomed client: the end of its transaction needs room for the pages that it may say
+-- something of, and a drop for itself
+abbrev pub room_welcomed : ClientState → Body → ℕ
+room_welcomed client (Granted page grant version bytes) =
+    room_of_grant (case_at client page grant version)
+room_welcomed client (Callback page grant) = 1
+room_welcomed client (Downgrade page grant tag) = bit client.copies.limits.keep_write
+room_welcomed client (Done txn number) =
+    if of_committing_txn (client_of client []) txn
+    then room_below client.copies client.locks false client.copies.limits.pages else 0
+room_welcomed client (AbortNow txn) =
+    if of_open_txn (client_of client []) txn
+    then room_below client.copies client.locks true client.copies.limits.pages + 1 else 0
+room_welcomed client _ = 0
+
+-- before the Welcome none is made
+abbrev pub room_at : ClientState → Body → ℕ
+room_at client body = if client.welcomed then room_welcomed client body else 0

@@ -1,0 +1,114 @@
+//! A disk of which some writes are refused, and which goes on.
+ghost use Rattle.std.specs.Prelude.{◌≡◌, ◌+◌, false};
+ghost use Rattle.sqlite_disk.specs.Disk.{CountsFault};
+ghost use Rattle.sqlite_disk.specs.Refusal.{finds_no_room};
+
+use sqlite_disk::{Crash, Disk, Tally};
+use std::io;
+use std::sync::atomic::{AtomicU64, Ordering};
+
+/// Passes every call on but the writes that are to be refused, of which others say how many.
+#[derive(Drop)]
+pub(crate) struct Balky<'a, D: Disk> {
+    inner: D,
+    left: &'a AtomicU64,
+    refused: u64,
+}
+
+impl<'a, D: Disk> Balky<'a, D> {
+    /// Refuses as many writes as are left to be.
+    pub(crate) fn new(inner: D, left: &'a AtomicU64) -> Balky<'a, D> {
+        Balky {
+            inner,
+            left,
+            refused: 0,
+        }
+    }
+}
+
+/// Refuses a write, if one is left to be refused.
+fn refuse(left: &AtomicU64, refused: &mut u64) -> io::Result<()>
+    ensures faults { CountsFault result refused.old refused.new }
+    ensures kind { finds_no_room result ≡ false }
+{
+    let count = left.load(Ordering::SeqCst);
+    if count == 0 {
+        return Ok(());
+    }
+    left.store(count - 1, Ordering::SeqCst);
+    *refused = refused.saturating_add(1);
+    Err(io::Error::other("refused"))
+}
+
+impl<D: Disk> Disk for Balky<'_, D> {
+    ghost seen = { λ b. D.Disk.seen b.inner };
+
+    ghost may_leave = { λ b. D.Disk.may_leave b.inner };
+
+    ghost is_usable = { λ b. D.Disk.is_usable b.inner };
+
+    ghost faults = { λ b. D.Disk.faults b.inner + b.refused };
+
+    ghost tally_of = { λ b. D.Disk.tally_of b.inner };
+
+    ghost is_rotten = { λ b. D.Disk.is_rotten b.inner };
+
+    ghost key_of = { λ b. D.Disk.key_of b.inner };
+
+    ghost is_clean = { λ b. D.Disk.is_clean b.inner };
+
+    ghost is_fair = { λ b. D.Disk.is_fair b.inner };
+
+    ghost fair_if_clean = { λ b. D.Disk.fair_if_clean b.inner };
+
+    ghost seen_may_stay = { λ b. D.Disk.seen_may_stay b.inner };
+
+    ghost is_mixing = { λ b. D.Disk.is_mixing b.inner };
+
+    fn mixes(&self) -> bool {
+        self.inner.mixes()
+    }
+
+    fn key(&self) -> u64 {
+        self.inner.key()
+    }
+
+    fn tally(&self) -> Tally {
+        self.inner.tally()
+    }
+
+    fn may_be_used(&self) -> bool {
+        self.inner.may_be_used()
+    }
+
+    fn len(&mut self) -> io::Result<usize> {
+        self.inner.len()
+    }
+
+    fn read_at(&mut self, at: usize, buf: &mut [u8]) -> io::Result<()> {
+        self.inner.read_at(at, buf)
+    }
+
+    fn read_checked(&mut self, key: u64, want: u64, at: usize, buf: &mut [u8]) -> io::Result<()> {
+        self.inner.read_checked(key, want, at, buf)
+    }
+
+    fn write_at(&mut self, at: usize, bytes: &[u8]) -> io::Result<()> {
+        refuse(self.left, &mut self.refused)?;
+        self.inner.write_at(at, bytes)
+    }
+
+    fn set_len(&mut self, len: usize) -> io::Result<()> {
+        self.inner.set_len(len)
+    }
+
+    fn sync(&mut self) -> io::Result<()> {
+        self.inner.sync()
+    }
+}
+
+impl<D: Crash> Crash for Balky<'_, D> {
+    fn crash(&mut self) {
+        self.inner.crash();
+    }
+}

@@ -1,0 +1,11 @@
+use Rattle.std.proofs.Common.{refl, arith}
+use Rattle.cb_server.proofs.engine.Engine.reserve.Goals as goal
+
+pub returns-clause-left : goal.returns-clause-left
+returns-clause-left c = record {
+  server = refl;
+  holdings = refl;
+  sent = c.reserve.ensures.sent;
+  page_size = c.reserve.ensures.page_size;
+  few = λ few. let most = c.reserve.ensures.most in let reads = c.read_asks.ensures.few in let more = c.copies_for_body.ensures.few in omega (arith, few, most, reads, more);
+}

@@ -1,0 +1,8 @@
+use Rattle.cb_worker.specs.Workers.{IsStill}
+use Rattle.cb_worker.proofs.worker.Worker.fetch_copy.Given as goal
+
+-- it stays the same worker, and no transaction begins
+abbrev pub invariant-loop : goal.invariant-loop
+invariant-loop g l =
+    (goal.iterator-loop g).can_next l.iterator' × (goal.iterator-loop g).is_finite l.iterator'
+    × IsStill l.fn.self l.self
