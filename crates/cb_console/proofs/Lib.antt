@@ -2,3 +2,4 @@ pub mod Lines
 pub mod Checked
 pub mod PrintedDraws
 pub mod EventLines
+pub mod Playing

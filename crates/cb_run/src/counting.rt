@@ -61,6 +61,7 @@ pub(crate) fn sum_up<S: Alter>(
     committed: u64,
 ) -> Result<Counted, Ending>
     ensures counted { IfOk result (IsCounted S.Store committed shelf.new.conn) }
+    ensures exact { IfOk result (λ counts. counts.committed ≡ committed) }
     ensures limits { shelf.new.limits ≡ shelf.old.limits }
 {
     match shelf.load(alloc) {

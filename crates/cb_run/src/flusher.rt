@@ -1,5 +1,5 @@
 //! The loop, and its stops.
-ghost use Rattle.std.specs.Prelude.{◌≡◌, ◌↔◌, Err, IfErr, OnOk};
+ghost use Rattle.std.specs.Prelude.{◌≡◌, ◌↔◌, Err, IfErr, IfSome, OnOk};
 ghost use Rattle.cb_run.specs.Stopping.{Stops};
 ghost use Rattle.cb_statements.specs.Writing.{Fits};
 
@@ -93,7 +93,8 @@ pub fn flush_loop<R: Wait, S: Alter, W: Watch>(
     unreachable!()
 }
 
-/// Writes the batch of a stop first, if there is one, and goes on.
+/// Writes the batch of a stop first, if there is one, and goes on. Where it ends well that batch
+/// fits, so it was not passed over.
 pub fn flush_again<R: Wait, S: Alter, W: Watch>(
     rt: &R,
     alloc: Global,
@@ -104,6 +105,7 @@ pub fn flush_again<R: Wait, S: Alter, W: Watch>(
 ) -> Result<(), FlushStop>
     ensures limits { shelf.new.limits ≡ shelf.old.limits }
     ensures stops { IfErr result (Stops shelf.old.limits) }
+    ensures held { OnOk result (IfSome stop.batch (Fits shelf.old.limits)) }
 {
     if let Some(held) = stop.batch {
         if let Err(fault) = write_and_report(rt, alloc, office, shelf, watch, &held) {

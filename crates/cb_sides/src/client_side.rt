@@ -116,21 +116,30 @@ fn take<O: Write>(
 ) -> io::Result<Option<PageNo>> {
     writeln!(out, "> {digits}")?;
     let bytes = bytes(alloc, digits)?;
-    let page = page_at(bytes.as_slice());
-    let was = is_here(client, page);
-    take_bytes(alloc, client, bytes.as_slice(), out)?;
-    if !was && is_here(client, page) {
-        Ok(page)
-    } else {
-        Ok(None)
+    match page_at(bytes.as_slice()) {
+        Some(page) => take_at(alloc, client, page, bytes.as_slice(), out),
+        None => {
+            take_bytes(alloc, client, bytes.as_slice(), out)?;
+            Ok(None)
+        }
     }
 }
 
-/// Whether the page's bytes are in the pool.
-fn is_here(client: &Alone, page: Option<PageNo>) -> bool {
-    match page {
-        Some(page) => client.peek(page).is_some(),
-        None => false,
+/// A frame of these bytes comes, which are of that page. Answers it where its bytes came into the
+/// pool.
+fn take_at<O: Write>(
+    alloc: Global,
+    client: &mut Alone,
+    page: PageNo,
+    bytes: &[u8],
+    out: &mut O,
+) -> io::Result<Option<PageNo>> {
+    let was_here = client.peek(page).is_some();
+    take_bytes(alloc, client, bytes, out)?;
+    if !was_here && client.peek(page).is_some() {
+        Ok(Some(page))
+    } else {
+        Ok(None)
     }
 }
 
