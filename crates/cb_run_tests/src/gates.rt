@@ -29,7 +29,7 @@ impl Mutual {
     fn may_go(&self, client: usize, job: u64) -> bool {
         let number = job.saturating_add(1);
         let is_new = self.asked[client % 2].fetch_max(number, Ordering::SeqCst) < number;
-        let is_second = job > 0 && self.first[(client + 1) % 2].load(Ordering::SeqCst) == 0;
+        let is_second = job > 0 && self.first[1 - client % 2].load(Ordering::SeqCst) == 0;
         !is_new && !is_second
     }
 }
