@@ -1,5 +1,6 @@
 -- The directory's lines: what stands for one client, and for one page.
-use Rattle.std.specs.Prelude.{ℕ, Bool, false, List, Option, None, replicate, slice_index_or}
+use Rattle.std.specs.Prelude.{ℕ, zero, suc, Bool, false, List, Option, None, Some, replicate}
+use Rattle.std.specs.Prelude.{slice_index_or, ◌≡◌, refl}
 
 -- what stands for one client: the grant of its copy of each page, the pages of which it has a
 -- copy, and those that it may write
@@ -19,3 +20,18 @@ no_rows pages = record {
   copied = replicate pages false;
   writable = replicate pages false;
 }
+
+-- what a number stands for where no grant has the number 0 (this project's rule)
+abbrev pub grant_at : ℕ → Option ℕ
+grant_at zero = None
+grant_at (suc less) = Some (suc less)
+
+-- the number that stands for a grant or none
+abbrev pub number_of : Option ℕ → ℕ
+number_of None = 0
+number_of (Some grant) = grant
+
+-- a number is had back from what it stands for
+pub number_of_grant_at : (number : ℕ) → number_of (grant_at number) ≡ number
+number_of_grant_at zero = refl
+number_of_grant_at (suc less) = refl

@@ -1,5 +1,5 @@
 //! What stands for one client, and for one page.
-ghost use Rattle.std.specs.Prelude.{◌≡◌, ℕ, ◌<◌, ◌≤◌, true, false, None, replicate, length};
+ghost use Rattle.std.specs.Prelude.{◌≡◌, ℕ, ◌<◌, ◌≤◌, true, false, length};
 ghost use Rattle.std.specs.Prelude.{slice_set, IfOk, MatchOption};
 ghost use Rattle.std.specs.Option.{is_some};
 ghost use Rattle.cb_page.specs.Flags.{has};
@@ -19,11 +19,54 @@ pub struct PageLine {
     pub tag: Option<TxnNo>,
 }
 
+/// A grant or none, in eight bytes: no grant has the number 0.
+#[derive(Clone, Copy, Debug)]
+struct GrantPlace {
+    number: u64,
+}
+
+impl Model for GrantPlace {
+    ghost use Rattle.std.specs.Prelude.{ℕ, Option, ◌≤◌};
+    ghost use Rattle.cb_page.specs.Numbers.{max_number};
+    ghost use Rattle.cb_directory.specs.Rows.{grant_at, number_of, number_of_grant_at};
+
+    ghost Value = { Option ℕ };
+
+    ghost view = { λ place. grant_at place.number };
+
+    ghost invariant = { λ place. place.number ≤ max_number };
+
+    ghost inverse = { λ grant. record { number = number_of grant } };
+
+    ghost inverse_ok = { λ place _ i. record { number = number_of_grant_at place.number i } };
+}
+
+impl GrantPlace {
+    /// No grant.
+    const NONE: GrantPlace = GrantPlace { number: 0 };
+
+    /// This grant, or none.
+    fn new(grant: Option<GrantNo>) -> GrantPlace
+        ensures { result ≡ grant }
+    {
+        GrantPlace {
+            number: grant.map_or(0, |grant| grant.get()),
+        }
+    }
+
+    /// The grant, if there is one.
+    fn grant(self) -> Option<GrantNo>
+        ensures { result ≡ self }
+    {
+        GrantNo::checked(self.number)
+    }
+}
+
 /// One client: the grants of its copies, the pages of which it has a copy, and those that it may
 /// write. So a walk over the one or the other costs what it finds.
 #[derive(Debug, Drop)]
 pub struct ClientLine {
-    grants: Vec<Option<GrantNo>>,
+    grants: Vec<GrantPlace>,
     copied: PageSet,
     writable: PageSet,
 }
@@ -43,7 +86,7 @@ impl ClientLine {
         requires { pages ≤ 4096 }
         ensures { IfOk result (λ line. line ≡ no_rows pages) }
     {
-        let grants = vec![in alloc; None; pages]?;
+        let grants = vec![in alloc; GrantPlace::NONE; pages]?;
         Ok(ClientLine {
             grants,
             copied: PageSet::new(alloc, pages)?,
@@ -56,7 +99,7 @@ impl ClientLine {
         requires { page < length self.now.grants }
         ensures { result ≡ grant_of self.now page }
     {
-        self.grants[page.index()]
+        self.grants[page.index()].grant()
     }
 
     /// Another grant of the page, or none: a copy, or none.
@@ -68,7 +111,7 @@ impl ClientLine {
           copied = slice_set self.old.copied page (is_some grant);
         } }
     {
-        self.grants[page.index()] = grant;
+        self.grants[page.index()] = GrantPlace::new(grant);
         if grant.is_some() {
             self.copied.insert(page);
         } else {
