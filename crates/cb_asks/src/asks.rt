@@ -159,12 +159,14 @@ impl Asks {
     /// Makes room for one more ask at the page. Whether it is refused or not, nobody asks more or
     /// less.
     ///
-    /// `AllocError` only where memory was refused, so never where nobody waits for the page.
+    /// `AllocError` only where memory was refused, so never where there is room, as where nobody
+    /// waits for the page.
     pub fn reserve(&mut self, page: PageNo) -> Result<(), AllocError>
         requires { HasPage self.old page }
         ensures reserves { Reserves self.old self.new }
         ensures ok { OnOk result (0 < room_at self.new page) }
         ensures err { OnErr result (queue_at self.old page ≢ []) }
+        ensures full { OnErr result (room_at self.old page ≡ 0) }
     {
         self.queues[page.index()].reserve()
     }

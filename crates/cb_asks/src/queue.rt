@@ -146,12 +146,13 @@ impl Queue {
 
     /// Makes room for one more ask. Where nobody waits there is room.
     ///
-    /// `AllocError` only where memory was refused, so never where nobody waits.
+    /// `AllocError` only where memory was refused, so never where there is room.
     pub(crate) fn reserve(&mut self) -> Result<(), AllocError>
         ensures asks { self.new.asks ≡ self.old.asks }
         ensures kept { self.old.room ≤ self.new.room }
         ensures ok { OnOk result (0 < self.new.room) }
         ensures err { OnErr result (self.old.asks ≢ []) }
+        ensures full { OnErr result (self.old.room ≡ 0) }
     {
         match &mut self.entries {
             Some(entries) => entries.reserve(1),
