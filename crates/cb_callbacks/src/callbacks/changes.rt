@@ -85,13 +85,15 @@ impl Callbacks {
 
     /// Makes room for one more ask at the page. Whether it is refused or not, nothing else changes.
     ///
-    /// `AllocError` only where memory was refused, so never where nobody waits for the page.
+    /// `AllocError` only where memory was refused, so never where there is room, as where nobody
+    /// waits for the page.
     pub fn reserve_ask(&mut self, page: PageNo) -> Result<(), AllocError>
         requires { HasPage self.old.tables page }
         ensures changes { Changes self.old.tables [] self.new.tables }
         ensures holdings { self.new.tables.holdings ≡ self.old.tables.holdings }
         ensures ok { OnOk result (0 < room_at self.new.tables.asks page) }
         ensures err { OnErr result ((server_of self.old.tables).queue page ≢ []) }
+        ensures full { OnErr result (room_at self.old.tables.asks page ≡ 0) }
     {
         self.tables.asks.reserve(page)
     }
