@@ -57,7 +57,7 @@ def unread(line):
 
 
 def owners(lines, pool):
-    """For each growth, from the first of the opening line on, what it belongs to; and how many there are before it."""
+    """For each growth, from the first in which the side is made on, what it belongs to; and how many there are before it."""
     side = lines[0].split()[0]
     does = [kind_of(side, line) for line in lines[1:]]
     without = [unread(line) for line in lines[1:]]
@@ -67,10 +67,11 @@ def owners(lines, pool):
         return played([*lines[: at + 1], *without[at:]])[3]
 
     counts = list(pool.map(growths, [*places, len(does)]))
-    belongs = {}
+    unmade = played([unread(lines[0]), *without])[3]
+    belongs = dict.fromkeys(range(unmade + 1, counts[0] + 1), f"{side}: new")
     for place, first, end in zip(places, counts, counts[1:]):
         belongs.update(dict.fromkeys(range(first + 1, end + 1), does[place]))
-    return counts[0], belongs
+    return unmade, belongs
 
 
 def ends(lines, usual, refused):
@@ -95,7 +96,7 @@ def main():
                 came[belongs[growth], end] += 1
                 if end == OTHER:
                     bad.append(f"list {number}, growth {growth}: {belongs[growth]}")
-            print(f"list {number}: {len(lines)} lines, {len(belongs)} growths after the side was made", flush=True)
+            print(f"list {number}: {len(lines)} lines, {len(belongs)} growths from the one on in which the side is made", flush=True)
     print("what was played: growths refused; of these within the side, the program's own, another end")
     for kind in sorted({kind for kind, _ in came}):
         parts = [came[kind, end] for end in (WITHIN, PROGRAM_S, OTHER)]

@@ -1,7 +1,7 @@
 //! A client alone, as a list plays it: number 0 at incarnation 1, over 2Q of the limits.
 //!
-//! A call that memory was refused for is made once more: it changed nothing, so that where one
-//! growth of the client's is refused the same is printed as where none is.
+//! A call that memory was refused for is made once more, as is the client itself: it changed
+//! nothing, so that where one growth of the client's is refused the same is printed as where none is.
 //!
 //! At its end the references that the pool's chooser was called for are compared with those that
 //! the answers tell of: each read that was answered with bytes, and each copy that came of a page
@@ -14,7 +14,7 @@ use cb_client::{Client, ClientFault, Outcome, ReadAnswer, WantAnswer};
 use cb_frame::{BytesFault, Frame, FrameFault};
 use cb_page::{ClientNo, Incarnation, Limits, PageNo};
 use cb_twoq::{Chooser, TwoQ};
-use std::alloc::Global;
+use std::alloc::{AllocError, Global};
 use std::io;
 use std::io::Write;
 use std::str::SplitWhitespace;
@@ -30,13 +30,26 @@ pub(crate) fn play_list<O: Write>(
     out: &mut O,
 ) -> io::Result<()> {
     let limits = limits(line)?;
-    let number = ClientNo::new(0);
     let lines = following.len();
-    let chooser = Noting::new(alloc, TwoQ::make(alloc, &limits)?, lines)?;
-    let mut client = Client::new(alloc, number, Incarnation::new(1), &limits, chooser)?;
+    let mut client = match new_client(alloc, &limits, lines) {
+        Err(AllocError) => new_client(alloc, &limits, lines)?,
+        Ok(client) => client,
+    };
     let mut told = Vec::with_capacity(alloc, lines)?;
     play_lines(alloc, &mut client, &mut told, following, out)?;
     put_references(&client, told.as_slice(), out)
+}
+
+/// A new client, over a chooser that notes so many references at most.
+fn new_client(alloc: Global, limits: &Limits, references: usize) -> Result<Alone, AllocError> {
+    let chooser = Noting::new(alloc, TwoQ::make(alloc, limits)?, references)?;
+    Client::new(
+        alloc,
+        ClientNo::new(0),
+        Incarnation::new(1),
+        limits,
+        chooser,
+    )
 }
 
 /// Prints how many references there were, if those that were made are those told of.

@@ -1,7 +1,7 @@
 //! A server alone, as a list plays it, over a store of zeros.
 //!
-//! A call that memory was refused for is made once more: it changed nothing, so that where one
-//! growth of the server's is refused the same is printed as where none is.
+//! A call that memory was refused for is made once more, as is the server itself: it changed
+//! nothing, so that where one growth of the server's is refused the same is printed as where none is.
 
 use crate::frames::{put_digits, put_frames};
 use crate::words::{bytes, is_opening, limits, not_a_line, number};
@@ -31,9 +31,17 @@ fn serve<O: Write>(
     lines: &[String],
     out: &mut O,
 ) -> io::Result<()> {
-    let store = Store::zeros(alloc, limits)?;
-    let mut server = Server::new(alloc, limits, store)?;
+    let mut server = match new_server(alloc, limits) {
+        Err(AllocError) => new_server(alloc, limits)?,
+        Ok(server) => server,
+    };
     play_lines(alloc, &mut server, lines, out)
+}
+
+/// A new server over a store of zeros.
+fn new_server(alloc: Global, limits: &Limits) -> Result<Server, AllocError> {
+    let store = Store::zeros(alloc, limits)?;
+    Server::new(alloc, limits, store)
 }
 
 /// Plays the lines of a list; at its end the commits are printed.
