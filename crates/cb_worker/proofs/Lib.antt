@@ -4,3 +4,5 @@ pub mod Saying
 pub mod Turning
 pub mod Standing
 pub mod Staying
+pub mod Refusing
+pub mod Asking

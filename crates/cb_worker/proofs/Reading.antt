@@ -4,7 +4,7 @@ use Rattle.std.specs.Option.{is_some, option_copied}
 use Rattle.std.specs.Result.{is_ok}
 use Rattle.std.proofs.lemmas.Bool.Decides.{nat_tests}
 use Rattle.cb_client.specs.ByTable.{Calls, IsRefused, as_before, limits_at, messages_from}
-use Rattle.cb_client.specs.CallAnswers.{Answers, AnswersRead, after_read, page_read}
+use Rattle.cb_client.specs.CallAnswers.{Answers, AnswersRead, after_read, page_asked, page_read}
 use Rattle.cb_client.specs.declared.answers.ReadAnswer.{ReadAnswer}
 use Rattle.cb_client.specs.declared.answers.ReadAnswer.TheVariants as read
 use Rattle.cb_client.specs.declared.client_fault.ClientFault.{ClientFault}
@@ -154,3 +154,41 @@ not_bare w page r e =
 pub fetches : (w : WorkerState) (page : ℕ) (bytes : Bytes) → HasRead w page → Some bytes ≡ content_at w.client.copies page
     → (before : WorkerState) × Hit before page bytes × (w ≡ after_hit before page)
 fetches w page bytes r e = (r.0, hits r.0 page (Some bytes) r.1 (e ∙ ap (λ (v : WorkerState). content_at v.client.copies page) r.2 ∙ same_bytes r.0 page r.1), r.2)
+
+-- the reply to a read that isn't refused
+read_reply : (v : ClientState) (page : ℕ) → may_read v page ≡ true → client_call (limits_at v) (client_of v []) (CallRead page) ≡ read_page (client_of v []) page (content_at v.copies page)
+read_reply v page m = call_accepted (limits_at v) (client_of v []) (CallRead page) (none_of _ m)
+
+-- one that is answered with bytes finds them in the pool
+pub bytes_here : (v : ClientState) (page : ℕ) (b : Bor Bytes) → AnswersRead v page (Ok (read.Bytes b)) → is_some (content_at v.copies page) ≡ true
+bytes_here v page b a = go (content_at v.copies page) refl
+  where
+    m : may_read v page ≡ true
+    m = sym (read_so v page (Ok (read.Bytes b)) a)
+
+    go : (o : Option Bytes) → content_at v.copies page ≡ o → is_some (content_at v.copies page) ≡ true
+    go (Some x) e = rw e refl
+    go None e = absurd (let w : table.Asked ≡ table.AnsweredBytes b.now = sym (ap (λ (r : Reply). r.word) (read_reply v page m ∙ ap (λ (o : Option Bytes). read_page (client_of v []) page o) e)) ∙ a.word [] in cc)
+
+-- one that asks doesn't, and the client has asked
+pub asks_out : (v : ClientState) (page : ℕ) → AnswersRead v page (Ok read.Asked) → after_read v page ≡ page_asked v page
+asks_out v page a = go (content_at v.copies page) refl
+  where
+    m : may_read v page ≡ true
+    m = sym (read_so v page (Ok read.Asked) a)
+
+    go : (o : Option Bytes) → content_at v.copies page ≡ o → after_read v page ≡ page_asked v page
+    go None e = rw (m, e) refl
+    go (Some x) e = absurd (let w : table.AnsweredBytes x ≡ table.Asked = sym (ap (λ (r : Reply). r.word) (read_reply v page m ∙ ap (λ (o : Option Bytes). read_page (client_of v []) page o) e)) ∙ a.word [] in cc)
+
+-- one that is refused leaves the client as it was
+pub refused_read : (v : ClientState) (page : ℕ) (f : ClientFault) → IsRefused v (CallRead page) f → after_read v page ≡ v
+refused_read v page f r = rw (is_refused v page f r) refl
+
+-- where the bytes are here and the read isn't refused, only the hand can lack the copy
+pub hand_lacks : (w : WorkerState) (page : ℕ) (b : Bor Bytes) → AnswersRead w.client page (Ok (read.Bytes b)) → may_hit w page ≡ false → shows_copy w page ≡ false
+hand_lacks w page b a n = go (shows_copy w page) refl
+  where
+    go : (s : Bool) → shows_copy w page ≡ s → shows_copy w page ≡ false
+    go false e = e
+    go true e = absurd (let y : true ≡ false = sym (may w page e (bytes_here w.client page b a) (sym (read_so w.client page (Ok (read.Bytes b)) a))) ∙ n in cc)

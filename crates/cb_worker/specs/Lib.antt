@@ -4,3 +4,5 @@ pub mod Turns
 pub mod Committing
 pub mod Waiting
 pub mod Lending
+pub mod Refusals
+pub mod Asking

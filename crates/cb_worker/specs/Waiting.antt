@@ -5,8 +5,8 @@ use Rattle.cb_client_engine.specs.ClientState.{client_of}
 use Rattle.cb_protocol.specs.Cache.{is_open}
 use Rattle.cb_protocol.specs.Client as protocol
 use Rattle.cb_protocol.specs.Serial.{Operation}
-use Rattle.cb_worker.specs.Workers.{Ended, Ends, Hit, IsIdle, WorkerState, after_hit, last_txn}
-use Rattle.cb_worker.specs.Workers.{may_hit}
+use Rattle.cb_worker.specs.Workers.{Ended, Ends, Hit, IsIdle, IsStill, WorkerState, after_hit}
+use Rattle.cb_worker.specs.Workers.{last_txn, may_hit}
 use Rattle.cb_worker.specs.declared.answers.Fetched.{Fetched}
 use Rattle.cb_worker.specs.declared.answers.Fetched.TheVariants as fetched
 use Rattle.cb_worker.specs.declared.answers.Finished.{Finished}
@@ -34,11 +34,11 @@ HasRead worker page = (before : WorkerState) × (may_hit before page ≡ true)
     × (worker ≡ after_hit before page)
 
 -- the page was read as `hit` reads it, with these bytes, and no transaction began; or the one that
--- there was was aborted
+-- there was was aborted; it is still the same worker
 abbrev pub Fetches : (old new : WorkerState) → (page : ℕ) → Fetched → Type 0
 Fetches old new page (fetched.Bytes bytes) = (before : WorkerState) × Hit before page bytes.now
-    × (new ≡ after_hit before page) × (last_txn new.client ≡ last_txn old.client)
-Fetches old new page fetched.Aborted = Ends old new protocol.Aborted
+    × (new ≡ after_hit before page) × (last_txn new.client ≡ last_txn old.client) × IsStill old new
+Fetches old new page fetched.Aborted = Ends old new protocol.Aborted × IsStill old new
 
 -- the client may write the page in the transaction that is open
 abbrev pub MayWrite : WorkerState → (page : ℕ) → Type 0

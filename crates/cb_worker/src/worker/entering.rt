@@ -1,6 +1,8 @@
 //! Workers join, begin another incarnation, and end.
 ghost use Rattle.std.specs.Prelude.{◌≡◌, ◌≤◌, ◌⊎◌, [], true, Err, IfErr, IfOk, None, OnOk};
 ghost use Rattle.cb_client_engine.specs.ClientState.{new_state};
+ghost use Rattle.cb_worker.specs.Refusals.{RefusesLeave, RefusesRestart, RefusesStart};
+ghost use Rattle.cb_worker.specs.Refusals.{StopsServing};
 ghost use Rattle.cb_worker.specs.Workers.{IsOf, IsStill};
 
 use crate::worker::Worker;
@@ -69,6 +71,8 @@ impl<Q: Chooser> Worker<Q> {
             worker.client.copies.limits ≡ self.client.copies.limits) }
         ensures refused { IfErr result (λ refused.
             (refused.1 ≡ self) ⊎ IsOf refused.1 self.hand.client incarnation) }
+        ensures why { IfErr result (λ refused.
+            RefusesRestart self refused.1 incarnation refused.0) }
     {
         let renewed = match self.renewed(alloc, incarnation) {
             Ok(renewed) => renewed,
@@ -109,6 +113,7 @@ impl<Q: Chooser> Worker<Q> {
         office: &Office,
     ) -> Result<(), (WorkerFault, Worker<Q>)>
         ensures refused { IfErr result (λ refused. refused.1 ≡ self) }
+        ensures why { IfErr result (λ refused. RefusesLeave self refused.0) }
     {
         let Worker {
             client,
@@ -156,8 +161,9 @@ impl<Q: Chooser> Worker<Q> {
 
     /// A client like the worker's, at the start of an incarnation.
     fn renewed(&self, alloc: Global, incarnation: Incarnation) -> Result<Client<Q>, WorkerFault>
-        ensures { IfOk result (λ client. client
+        ensures made { IfOk result (λ client. client
             ≡ new_state self.now.hand.client incarnation self.now.client.copies.limits) }
+        ensures refused { IfErr result (RefusesStart self.now incarnation) }
     {
         let limits = self.client.limits();
         let client = self.hand.client();
@@ -178,6 +184,7 @@ impl<Q: Chooser> Worker<Q> {
         ensures welcomed { IfOk result (λ worker. worker.client.welcomed ≡ true) }
         ensures still { IfOk result (λ worker. IsStill self worker) }
         ensures refused { IfErr result (λ refused. IsStill self refused.1) }
+        ensures why { IfErr result (λ refused. StopsServing refused.1 refused.0) }
     {
         match self.wait_for_welcome(rt, alloc, office) {
             Ok(()) => Ok(self),
@@ -194,6 +201,7 @@ impl<Q: Chooser> Worker<Q> {
     ) -> Result<(), WorkerFault>
         ensures welcomed { OnOk result (self.new.client.welcomed ≡ true) }
         ensures still { IsStill self.old self.new }
+        ensures refused { IfErr result (StopsServing self.new) }
     {
         let mut shared = office.lock(rt);
         for _ in rt.forever() {

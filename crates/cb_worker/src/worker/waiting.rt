@@ -1,9 +1,14 @@
 //! The calls that take the office, and may wait.
-ghost use Rattle.std.specs.Prelude.{◌≡◌, [], false, true, IfErr, IfOk, IsTrue, MatchBool, Ok};
-ghost use Rattle.std.specs.Prelude.{OnOk};
+ghost use Rattle.std.specs.Prelude.{◌≡◌, ◌↔◌, [], false, true, IfErr, IfOk, IsTrue, MatchBool, Ok};
+ghost use Rattle.std.specs.Prelude.{Err, OnOk};
 ghost use Rattle.std.specs.Borrow.{sem};
 ghost use Rattle.cb_protocol.specs.Client as protocol;
+ghost use Rattle.cb_protocol.specs.ClientCalls.{CallDrop, CallWant};
+ghost use Rattle.cb_worker.specs.Asking.{AsksFor, AsksToWrite};
 ghost use Rattle.cb_worker.specs.Lending.{worker_ends};
+ghost use Rattle.cb_worker.specs.Refusals.{RefusesAsk, RefusesCall, RefusesDrop, RefusesFetch};
+ghost use Rattle.cb_worker.specs.Refusals.{RefusesFinish, RefusesServing, RefusesWant};
+ghost use Rattle.cb_worker.specs.Refusals.{StopsFetch, StopsServing};
 ghost use Rattle.cb_worker.specs.Waiting.{Drops, Fetches, Finishes, HasRead, IsDropped, IsServed};
 ghost use Rattle.cb_worker.specs.Waiting.{Wants};
 ghost use Rattle.cb_worker.specs.Workers.{Ended, Ends, IsStill, after_hit, may_hit};
@@ -30,6 +35,7 @@ impl<Q: Chooser> Worker<Q> {
     ) -> Result<(), WorkerFault>
         ensures served { OnOk result (IsServed self.new) }
         ensures still { IsStill self.old self.new }
+        ensures refused { IfErr result (StopsServing self.new) }
     {
         let mut shared = office.lock(rt);
         self.serve_at(rt, alloc, office, &mut shared)
@@ -45,6 +51,8 @@ impl<Q: Chooser> Worker<Q> {
     ) -> Result<(), WorkerFault>
         ensures served { OnOk result (IsServed self.new) }
         ensures still { IsStill self.old self.new }
+        ensures halted { (result ≡ Err WorkerFault.Halted) ↔ (shared.old.halted ≡ true) }
+        ensures refused { IfErr result (RefusesServing self.new shared.new) }
     {
         for _ in rt.forever() {
             if shared.is_halted() {
@@ -74,6 +82,7 @@ impl<Q: Chooser> Worker<Q> {
             IsTrue aborted → Ended self.new protocol.Aborted) }
         ensures served { OnOk result (IsServed self.new) }
         ensures still { IsStill self.old self.new }
+        ensures refused { IfErr result (RefusesServing self.new shared.new) }
     {
         self.serve_at(rt, alloc, office, shared)?;
         Ok(self.is_aborted())
@@ -91,6 +100,7 @@ impl<Q: Chooser> Worker<Q> {
         ensures* ends { sem 𝓛 (worker_ends Q.row Q.Chooser self.entry
             (λ worker. IfOk result (Fetches self.old worker page))) }
         ensures at_hand { IfErr result (λ fault. may_hit self.old page ≡ false) }
+        ensures refused { IfErr result (StopsFetch self.old page) }
     {
         if !self.fetch_copy(rt, alloc, office, page)? {
             return Ok(Fetched::Aborted);
@@ -114,6 +124,7 @@ impl<Q: Chooser> Worker<Q> {
         ensures at_once { may_hit self.old page ≡ true
             → (result ≡ Ok true) × (self.new ≡ after_hit self.old page) }
         ensures still { IsStill self.old self.new }
+        ensures refused { IfErr result (RefusesFetch self.old self.new page) }
     {
         if self.touch(page) {
             return Ok(true);
@@ -142,7 +153,9 @@ impl<Q: Chooser> Worker<Q> {
 
     /// The client asks for the page, which isn't here.
     fn ask_for(&mut self, page: PageNo) -> Result<(), WorkerFault>
-        ensures { IsStill self.old self.new }
+        ensures still { IsStill self.old self.new }
+        ensures asks { OnOk result (AsksFor self.old page self.new) }
+        ensures refused { may_hit self.old page ≡ false → IfErr result (RefusesAsk self.new page) }
     {
         self.said.reserve(1)?;
         match self.client.read(page)? {
@@ -167,6 +180,7 @@ impl<Q: Chooser> Worker<Q> {
         ensures wants { IfOk result (Wants self.old self.new page) }
         ensures served { OnOk result (IsServed self.new) }
         ensures still { IsStill self.old self.new }
+        ensures refused { IfErr result (RefusesWant self.old self.new page) }
     {
         self.needs_transaction()?;
         let mut shared = office.lock(rt);
@@ -190,7 +204,9 @@ impl<Q: Chooser> Worker<Q> {
     /// The client wants to write the page, and asks for the permission if it hasn't got it.
     fn ask_to_write(&mut self, page: PageNo) -> Result<(), WorkerFault>
         requires { self.old.said ≡ [] }
-        ensures { IsStill self.old self.new }
+        ensures still { IsStill self.old self.new }
+        ensures asks { OnOk result (AsksToWrite self.old page self.new) }
+        ensures refused { IfErr result (RefusesCall self.new (CallWant page)) }
     {
         self.said.reserve(1)?;
         match self.client.want(page)? {
@@ -211,6 +227,7 @@ impl<Q: Chooser> Worker<Q> {
         ensures drops { OnOk result (Drops self.old self.new) }
         ensures said { OnOk result (self.new.said ≡ []) }
         ensures still { IsStill self.old self.new }
+        ensures refused { IfErr result (RefusesDrop self.old self.new) }
     {
         self.needs_transaction()?;
         let mut shared = office.lock(rt);
@@ -228,6 +245,7 @@ impl<Q: Chooser> Worker<Q> {
         ensures dropped { OnOk result (IsDropped self.new) }
         ensures said { OnOk result (self.new.said ≡ []) }
         ensures still { IsStill self.old self.new }
+        ensures refused { IfErr result (RefusesDrop self.old self.new) }
     {
         if self.serve_first(rt, alloc, office, shared)? {
             return Ok(());
@@ -241,6 +259,7 @@ impl<Q: Chooser> Worker<Q> {
         requires { self.old.said ≡ [] }
         ensures dropped { OnOk result (Ended self.new protocol.Dropped) }
         ensures still { IsStill self.old self.new }
+        ensures refused { IfErr result (RefusesCall self.new CallDrop) }
     {
         let mut said = self.client.drop_txn(alloc)?;
         said.reverse();
@@ -258,6 +277,7 @@ impl<Q: Chooser> Worker<Q> {
         ensures client { self.new.client ≡ self.old.client }
         ensures all { OnOk result (self.new.said ≡ []) }
         ensures still { IsStill self.old self.new }
+        ensures refused { IfErr result (RefusesServing self.new shared.new) }
     {
         while !self.said.is_empty() {
             let handed = self.hand_in(alloc, shared.station_mut());
@@ -280,6 +300,7 @@ impl<Q: Chooser> Worker<Q> {
         ensures finishes { IfOk result (Finishes self.old self.new) }
         ensures served { OnOk result (IsServed self.new) }
         ensures still { IsStill self.old self.new }
+        ensures refused { IfErr result (RefusesFinish self.old self.new) }
     {
         self.needs_transaction()?;
         let mut shared = office.lock(rt);

@@ -1,21 +1,36 @@
-use Rattle.std.proofs.Common.{refl}
+use Rattle.std.proofs.Common.{◌≡◌, Err, true, false, refl, sym, ◌∙◌, rules}
+use Rattle.cb_worker.proofs.Refusing.{no_halt}
 use Rattle.cb_worker.proofs.Staying.{after, same, turned}
+use Rattle.cb_worker.specs.declared.worker_fault.WorkerFault.TheVariants as worker
 use Rattle.cb_worker.proofs.worker.Worker.serve_at.Goals as goal
 
 pub loop-init : goal.loop-init
-loop-init g c = (tt, tt, same c.args.self.now c.args.self.now refl)
+loop-init g c = (tt, tt, same c.args.self.now c.args.self.now refl, refl)
 
 pub returns-then-is_halted-clause-still : goal.returns-then-is_halted-clause-still
 returns-then-is_halted-clause-still g c = c.loop.invariant.2
+
+pub returns-then-is_halted-clause-halted : goal.returns-then-is_halted-clause-halted
+returns-then-is_halted-clause-halted g c = (λ e. sym c.loop.invariant.3 ∙ sym c.if-is_halted.ensures, λ h. refl)
 
 pub returns-in_err-turned-clause-still : goal.returns-in_err-turned-clause-still
 returns-in_err-turned-clause-still g c =
     after c.args.self.now c.loop.self c.turn_at-turned.new.self c.loop.invariant.2 (turned c.loop.self c.turn_at-turned.new.self _ _ _ c.turn_at-turned.ensures)
 
+pub returns-in_err-turned-clause-halted : goal.returns-in_err-turned-clause-halted
+returns-in_err-turned-clause-halted g c =
+    let is : c.from_residual.result ≡ Err c.in_err-turned.field-0.0 = search rules in (
+      λ e. absurd (no_halt c.loop.self c.turn_at-turned.new.self _ _ c.in_err-turned.field-0.0 c.in_err-turned.ensures (let z : Err c.in_err-turned.field-0.0 ≡ Err worker.Halted = sym is ∙ e in cc)),
+      λ h. absurd (let z : false ≡ true = c.if-is_halted.ensures ∙ c.loop.invariant.3 ∙ h in cc),
+    )
+
 pub returns-then-not-branch-clause-still : goal.returns-then-not-branch-clause-still
 returns-then-not-branch-clause-still g c =
     after c.args.self.now c.loop.self c.turn_at-turned.new.self c.loop.invariant.2 (turned c.loop.self c.turn_at-turned.new.self _ _ _ c.turn_at-turned.ensures)
 
+pub returns-then-not-branch-clause-halted : goal.returns-then-not-branch-clause-halted
+returns-then-not-branch-clause-halted g c = (λ e. absurd cc, λ h. absurd (let z : false ≡ true = c.if-is_halted.ensures ∙ c.loop.invariant.3 ∙ h in cc))
+
 pub loop-preserved : goal.loop-preserved
 loop-preserved g c =
-    (tt, tt, after c.args.self.now c.loop.self c.turn_at-turned.new.self c.loop.invariant.2 (turned c.loop.self c.turn_at-turned.new.self _ _ _ c.turn_at-turned.ensures))
+    (tt, tt, after c.args.self.now c.loop.self c.turn_at-turned.new.self c.loop.invariant.2 (turned c.loop.self c.turn_at-turned.new.self _ _ _ c.turn_at-turned.ensures), c.loop.invariant.3)

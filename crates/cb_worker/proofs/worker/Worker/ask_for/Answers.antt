@@ -1,0 +1,26 @@
+use Rattle.std.proofs.Common.{◌∙◌, Ok, None, [], inr, ap, refl}
+use Rattle.cb_client.specs.CallAnswers.{AnswersRead, after_read}
+use Rattle.cb_client.specs.declared.answers.ReadAnswer.TheVariants as read
+use Rattle.cb_outbox.specs.Messages.{message_of}
+use Rattle.cb_worker.proofs.Asking.{asks_for, says_it}
+use Rattle.cb_worker.proofs.Refusing.{lacks_grant}
+use Rattle.cb_worker.specs.Workers.{WorkerState}
+use Rattle.cb_worker.proofs.worker.Worker.ask_for.Goals as goal
+
+pub returns-in-Bytes-clause-refused : goal.returns-in-Bytes-clause-refused
+returns-in-Bytes-clause-refused g c =
+    let a : AnswersRead c.self.inside.client c.args.page (Ok (read.Bytes c.in-Bytes.field-0)) = rw c.in-Bytes.is at c.in_ok-read.ensures.answer in
+    λ n. inr (lacks_grant c.args.self.now (record { client = c.read.follows.lender-at-none; hand = c.self.inside.hand; collected = None; said = [] }) c.args.page c.in-Bytes.field-0 (rw (← c.self.view_is) a)
+    (c.read.follows.holds-at-none ∙ ap (λ (w : WorkerState). after_read w.client c.args.page) c.self.view_is)
+    (ap (λ (w : WorkerState). w.hand) c.self.view_is) n)
+
+pub returns-in-Some-clause-asks : goal.returns-in-Some-clause-asks
+returns-in-Some-clause-asks g c =
+    let a : AnswersRead c.self.inside.client c.args.page (Ok read.Asked) = rw c.in-Asked.is at c.in_ok-read.ensures.answer in
+    asks_for c.args.self.now _ c.args.page c.reserve.new.self.items c.from.result c.in-Some.ask (rw (← c.self.view_is) a) (rw (← c.self.view_is) c.read.follows.holds-at-none)
+    c.in-Some.ensures.by_table (ap message_of c.from.ensures) (rw (← c.self.view_is, c.reserve.ensures.items) refl) (rw c.push_reserved.ensures.items refl)
+
+pub returns-in_default-clause-asks : goal.returns-in_default-clause-asks
+returns-in_default-clause-asks g c =
+    let a : AnswersRead c.self.inside.client c.args.page (Ok read.Asked) = rw c.in-Asked.is at c.in_ok-read.ensures.answer in
+    absurd (says_it c.self.inside.client c.read.follows.lender-at-none c.args.page a c.read.follows.holds-at-none c.in_default.ensures.by_table)
