@@ -31,8 +31,8 @@ pub(crate) fn play_list<O: Write>(
 ) -> io::Result<()> {
     let limits = limits(line)?;
     let lines = following.len();
-    let mut client = match new_client(alloc, &limits, lines) {
-        Err(AllocError) => new_client(alloc, &limits, lines)?,
+    let mut client = match new_client(alloc, limits, lines) {
+        Err(AllocError) => new_client(alloc, limits, lines)?,
         Ok(client) => client,
     };
     let mut told = Vec::with_capacity(alloc, lines)?;
@@ -41,13 +41,13 @@ pub(crate) fn play_list<O: Write>(
 }
 
 /// A new client, over a chooser that notes so many references at most.
-fn new_client(alloc: Global, limits: &Limits, references: usize) -> Result<Alone, AllocError> {
-    let chooser = Noting::new(alloc, TwoQ::make(alloc, limits)?, references)?;
+fn new_client(alloc: Global, limits: Limits, references: usize) -> Result<Alone, AllocError> {
+    let chooser = Noting::new(alloc, TwoQ::make(alloc, &limits)?, references)?;
     Client::new(
         alloc,
         ClientNo::new(0),
         Incarnation::new(1),
-        limits,
+        &limits,
         chooser,
     )
 }
