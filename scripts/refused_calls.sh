@@ -6,11 +6,11 @@
 #   scripts/refused_calls.sh FILE..    lists as docs/FORMATS.md says, packed by gzip where a name ends in .gz
 #
 # The growths of one line of a list (a call, or a frame that comes) are those that the list has with this line and hasn't
-# without it; those of the opening line are of the side's `new`. For each kind of call it prints how many there were, how many of these were refused within the client or the
-# server (the program ended as always, with the same output, and asked for more memory than else), how many to the program
-# itself (in reading the line or printing the answer: it ended with its own status for want of memory), and how many ended in
-# another way. The status is 1 where there is one of these, and 2 where the program isn't proved or built. RT is the command,
-# `rt` if it isn't set. Nothing of this is in the gate.
+# without it; those of the opening line are of the side's `new`. For each kind of call it prints how many there were, how many
+# of these were refused within the client or the server (the program ended as always, with the same output, and asked for more
+# memory than else), how many to the program itself (in reading the line or printing the answer: it ended with its own status
+# for want of memory), and how many ended in another way. The status is 1 where there is one of these, and 2 where the program
+# isn't proved or built. RT is the command, `rt` if it isn't set. Nothing of this is in the gate.
 set -u
 cd "$(dirname "$0")/.."
 (cd crates/cb_sides && ${RT:-rt} run </dev/null >/dev/null 2>&1)
