@@ -1,5 +1,5 @@
 -- Where a client makes no room.
-use Rattle.std.proofs.Common.{ℕ, zero, suc, ◌≡◌, ◌≢◌, ◌<◌, Bool, true, false, List, [], ◌∷◌, ◌++◌, Option, Some, None, length, option_to_list, refl, sym, ◌∙◌, ap, arith}
+use Rattle.std.proofs.Common.{ℕ, zero, suc, ◌≡◌, ◌≢◌, ◌<◌, ◌⊎◌, inl, inr, Bool, true, false, List, [], ◌∷◌, ◌++◌, Option, Some, None, length, option_to_list, refl, sym, ◌∙◌, ap, arith}
 use Rattle.std.specs.Option.{option_map}
 use Rattle.cb_frame_types.specs.declared.frame.Frame.{Frame}
 use Rattle.cb_outbox.specs.Messages.{body_of}
@@ -8,28 +8,30 @@ use Rattle.cb_protocol.specs.Client.{bodies_said}
 use Rattle.cb_protocol.specs.ClientCalls.{Call, client_again, commit_again, say_ask, say_drop}
 use Rattle.cb_protocol.specs.Messages.{Body, Message}
 use Rattle.cb_client_engine.specs.ClientState.{ClientState, client_of}
-use Rattle.cb_client_engine.specs.Room.{room_at}
+use Rattle.cb_client_engine.specs.Room.{brings_in, room_at}
 use Rattle.cb_client_engine.specs.declared.standing.Stage.TheVariants as stages
 use Rattle.cb_client.specs.ByTable.{IsRefused, limits_at, messages_from, refusal}
 use Rattle.cb_client.specs.declared.client_fault.ClientFault.{ClientFault}
 use Rattle.cb_client.specs.declared.client_fault.ClientFault.TheVariants as faults
-use Rattle.cb_client.specs.FramesTaken.{is_for, room_to_take}
+use Rattle.cb_client.specs.FramesTaken.{brings_page, is_for, room_to_take}
 
 -- a call that the table refuses doesn't lack memory
 pub not_memory : (v : ClientState) (call : Call) (f : ClientFault) → IsRefused v call f → f ≢ faults.Memory
 not_memory v call f r e = let z : None ≡ Some r.reason = sym (ap refusal e) ∙ r.named in absurd cc
 
--- a frame at which room may be refused is for the client
-pub needs_room : (v : ClientState) (frame : Frame) → (room_to_take v frame ≡ 0 → ⊥) → (is_for v frame ≡ true) × (0 < room_at v (body_of frame.body))
+-- a frame at which memory may be refused is for the client
+pub needs_room : (v : ClientState) (frame : Frame) → (room_to_take v frame ≡ 0 → brings_page v frame ≡ false → ⊥)
+    → (is_for v frame ≡ true) × ((0 < room_at v (body_of frame.body)) ⊎ (brings_in v (body_of frame.body) ≡ true))
 needs_room v frame n = by (is_for v frame) refl
   where
-    positive : (m : ℕ) → (m ≡ 0 → ⊥) → 0 < m
-    positive zero f = absurd (f refl)
-    positive (suc m) f = omega arith
+    either : (m : ℕ) (b : Bool) → (m ≡ 0 → b ≡ false → ⊥) → (0 < m) ⊎ (b ≡ true)
+    either zero true f = inr refl
+    either zero false f = absurd (f refl refl)
+    either (suc m) b f = inl (omega arith)
 
-    by : (b : Bool) → is_for v frame ≡ b → (is_for v frame ≡ true) × (0 < room_at v (body_of frame.body))
-    by true e = (e, positive (room_at v (body_of frame.body)) (λ z. n (rw e z)))
-    by false e = absurd (n (rw e refl))
+    by : (b : Bool) → is_for v frame ≡ b → (is_for v frame ≡ true) × ((0 < room_at v (body_of frame.body)) ⊎ (brings_in v (body_of frame.body) ≡ true))
+    by true e = (e, either (room_at v (body_of frame.body)) (brings_in v (body_of frame.body)) (λ z w. n (rw e z) (rw e w)))
+    by false e = absurd (n (rw e refl) (rw e refl))
 
 empty_parts : {A : Type 0} (xs ys : List A) → xs ++ ys ≡ [] → (xs ≡ []) × (ys ≡ [])
 empty_parts [] ys e = (refl, e)

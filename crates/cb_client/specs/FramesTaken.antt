@@ -1,5 +1,5 @@
 -- What a client does at a frame.
-use Rattle.std.specs.Prelude.{if◌then◌else◌, ◌≡◌, ◌==◌, ◌<◌, ◌≤◌, ℕ, Bool, true, false, ◌&&◌, List}
+use Rattle.std.specs.Prelude.{if◌then◌else◌, ◌≡◌, ◌==◌, ◌<◌, ◌≤◌, ◌⊎◌, ℕ, Bool, true, false, ◌&&◌, List}
 use Rattle.std.specs.Prelude.{[], length, take}
 use Rattle.cb_page.specs.Bounds.{Bounds}
 use Rattle.cb_page.specs.Faults.{first_fault}
@@ -12,7 +12,7 @@ use Rattle.cb_outbox.specs.Messages.{body_of}
 use Rattle.cb_protocol.specs.Messages.{Message}
 use Rattle.cb_client.specs.ByTable.{Takes}
 use Rattle.cb_client_engine.specs.ClientState.{ClientState}
-use Rattle.cb_client_engine.specs.Room.{room_at}
+use Rattle.cb_client_engine.specs.Room.{brings_in, room_at}
 use Rattle.cb_client.specs.declared.client_fault.ClientFault.{ClientFault}
 use Rattle.cb_client.specs.declared.client_fault.ClientFault.TheVariants as faults
 
@@ -32,6 +32,10 @@ abbrev pub room_to_take : ClientState → Frame → ℕ
 room_to_take client frame =
     if is_for client frame then room_at client (body_of frame.body) else 0
 
+-- it brings a page into the client's pool
+abbrev pub brings_page : ClientState → Frame → Bool
+brings_page client frame = is_for client frame && brings_in client (body_of frame.body)
+
 -- the first of the bytes, as many as that, are the frame as it is decoded
 pub record BeginWith (limits : Bounds) (bytes : List ℕ) (frame : Frame) (used : ℕ) : Type 0 where
   pub within : used ≤ length bytes
@@ -45,14 +49,15 @@ pub record TakesBytes (old : ClientState) (bytes : List ℕ) (used : ℕ) (messa
   pub takes : TakesFrame old frame messages new
 
 -- A growth was refused for the frame that the bytes begin with, which is for this client and needs
--- room.
+-- room for a frame, or brings a page into the pool.
 pub record LacksMemoryFor (old : ClientState) (bytes : List ℕ) (found : ClientFault) : Type 0 where
   pub memory : found ≡ faults.Memory
   pub frame : Frame
   pub used : ℕ
   pub begin : BeginWith old.copies.limits bytes frame used
   pub own : is_for old frame ≡ true
-  pub needed : 0 < room_at old (body_of frame.body)
+  pub needed : (0 < room_at old (body_of frame.body))
+      ⊎ (brings_in old (body_of frame.body) ≡ true)
 
 -- the bytes begin with no frame, for that cause; or a growth was refused for the frame
 abbrev pub IsBytesFault : (old : ClientState) → List ℕ → BytesFault ClientFault → Type 0

@@ -1,8 +1,9 @@
--- How many frames a client makes room for at a message; a grant that comes in may need memory of the
+-- How many frames a client makes room for at a message, and which messages may need memory of its
 -- pool beside.
-use Rattle.std.specs.Prelude.{if◌then◌else◌, ◌+◌, ℕ, true, false, []}
+use Rattle.std.specs.Prelude.{if◌then◌else◌, ◌+◌, ℕ, Bool, true, false, not, ◌&&◌, []}
 use Rattle.cb_ending.specs.Room.{room_below}
 use Rattle.cb_locks.specs.Dues.{bit}
+use Rattle.cb_pool.specs.PoolState.{has_free_slot}
 use Rattle.cb_protocol.specs.ClientMessages.{of_committing_txn, of_open_txn}
 use Rattle.cb_protocol.specs.Messages.{AbortNow, Body, Callback, Done, Downgrade, Granted}
 use Rattle.cb_client_engine.specs.ClientState.{ClientState, client_of}
@@ -10,18 +11,26 @@ use Rattle.cb_client_engine.specs.GrantCases.{case_at}
 use Rattle.cb_client_engine.specs.declared.engine.granted.GrantCase.{GrantCase}
 use Rattle.cb_client_engine.specs.declared.engine.granted.GrantCase.TheVariants as cases
 
--- a grant that is ignored needs none
-abbrev pub room_of_grant : GrantCase → ℕ
-room_of_grant cases.Ignored = 0
-room_of_grant cases.Refused = 1
-room_of_grant cases.Filled = 1
-room_of_grant cases.Installed = 1
+-- One for a grant that is given back. One for a page that may go for the one that comes in: none
+-- goes where a slot is free.
+abbrev pub room_of_grant : (free : Bool) → GrantCase → ℕ
+room_of_grant free cases.Ignored = 0
+room_of_grant free cases.Refused = 1
+room_of_grant free cases.Filled = bit (not free)
+room_of_grant free cases.Installed = bit (not free)
+
+-- the page comes into the pool, which may need memory of its own for it
+abbrev pub comes_in : GrantCase → Bool
+comes_in cases.Ignored = false
+comes_in cases.Refused = false
+comes_in cases.Filled = true
+comes_in cases.Installed = true
 
 -- of a welcomed client: the end of its transaction needs room for the pages that it may say
 -- something of, and a drop for itself
 abbrev pub room_welcomed : ClientState → Body → ℕ
 room_welcomed client (Granted page grant version bytes) =
-    room_of_grant (case_at client page grant version)
+    room_of_grant (has_free_slot client.copies.pool) (case_at client page grant version)
 room_welcomed client (Callback page grant) = 1
 room_welcomed client (Downgrade page grant tag) = bit client.copies.limits.keep_write
 room_welcomed client (Done txn number) =
@@ -35,3 +44,9 @@ room_welcomed client _ = 0
 -- before the Welcome none is made
 abbrev pub room_at : ClientState → Body → ℕ
 room_at client body = if client.welcomed then room_welcomed client body else 0
+
+-- the message brings a page into the pool
+abbrev pub brings_in : ClientState → Body → Bool
+brings_in client (Granted page grant version bytes) =
+    client.welcomed && comes_in (case_at client page grant version)
+brings_in client _ = false

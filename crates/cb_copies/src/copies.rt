@@ -11,6 +11,7 @@ ghost use Rattle.cb_protocol.specs.Client.{ChangeCache, Client, EndTransaction, 
 ghost use Rattle.cb_protocol.specs.Client.{MarkWanted, has_room, pages_in_pool};
 ghost use Rattle.cb_copies.specs.CopiesState.{AreCopies, IsFull, client_with, content_at, copy_at};
 ghost use Rattle.cb_copies.specs.CopiesState.{limits_of, no_copies};
+ghost use Rattle.cb_pool.specs.PoolState.{has_free_slot};
 ghost use Rattle.cb_copies.specs.ByTable.{BringsIn, Does, DoesInTxn};
 ghost use Rattle.cb_copies.specs.Lending.{copies_end_as};
 
@@ -187,6 +188,13 @@ impl<Q: Chooser> Copies<Q> {
         self.pool.room()
     }
 
+    /// Whether a slot of the pool is free: a page that comes in lets none go then.
+    pub fn has_free_slot(&self) -> bool
+        ensures { result ≡ has_free_slot self.now.pool }
+    {
+        self.pool.has_free_slot()
+    }
+
     /// A new copy comes. The bytes of the page answered, if any, went from the pool, and its grant
     /// is bare now: a caller that doesn't read it lets it go by `let_go`.
     ///
@@ -206,6 +214,7 @@ impl<Q: Chooser> Copies<Q> {
         ensures full { (result ≡ Err PoolFault.Full)
             ↔ ((content_at self.old page ≡ None) × IsFull self.old) }
         ensures here { is_some (content_at self.old page) ≡ true → result ≡ Ok None }
+        ensures slot { has_free_slot self.old.pool ≡ true → IfOk result (λ gone. gone ≡ None) }
         ensures err { OnErr result (self.new ≡ self.old) }
         ensures limits { self.new.limits ≡ self.old.limits }
     {
@@ -233,6 +242,7 @@ impl<Q: Chooser> Copies<Q> {
         ensures full { (result ≡ Err PoolFault.Full)
             ↔ ((content_at self.old page ≡ None) × IsFull self.old) }
         ensures here { is_some (content_at self.old page) ≡ true → result ≡ Ok None }
+        ensures slot { has_free_slot self.old.pool ≡ true → IfOk result (λ gone. gone ≡ None) }
         ensures err { OnErr result (self.new ≡ self.old) }
         ensures limits { self.new.limits ≡ self.old.limits }
     {

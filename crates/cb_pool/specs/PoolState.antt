@@ -1,5 +1,5 @@
 -- A pool of pages, as its callers see it.
-use Rattle.std.specs.Prelude.{◌≡◌, ◌≢◌, ℕ, ◌<◌, ◌≤◌, ◌⊎◌, Bool, true, false, List, length}
+use Rattle.std.specs.Prelude.{◌≡◌, ◌≢◌, ℕ, ◌<◌, ◌≤◌, nat_lt, ◌⊎◌, Bool, true, false, List, length}
 use Rattle.std.specs.Prelude.{slice_set, slice_index_or, replicate, count_by, Option, Some, None}
 use Rattle.std.specs.Option.{is_some}
 use Rattle.cb_page.specs.Flags as flags
@@ -27,6 +27,10 @@ copy_of pool page = slice_index_or pool.pages page None
 -- how many pages are here
 abbrev pub held : List (Option (List ℕ)) → ℕ
 held pages = count_by is_some pages
+
+-- fewer pages are here than there are slots
+abbrev pub has_free_slot : PoolState → Bool
+has_free_slot pool = nat_lt (held pool.pages) pool.slots
 
 -- a page here isn't fixed
 abbrev pub HasLoose : List (Option (List ℕ)) → List Bool → Type 0

@@ -5,7 +5,7 @@ ghost use Rattle.std.specs.Option.{is_none, is_some, option_copied};
 ghost use Rattle.cb_twoq.specs.Pages.{has};
 ghost use Rattle.cb_pool.specs.Lending.{pool_ends_as};
 ghost use Rattle.cb_pool.specs.PoolState.{PoolState, empty_pool, copy_of, HasRoom, let_go, MayGo};
-ghost use Rattle.cb_pool.specs.PoolState.{IsPool};
+ghost use Rattle.cb_pool.specs.PoolState.{IsPool, has_free_slot};
 ghost use Rattle.cb_pool.specs.Refusals.{fault_of};
 
 use crate::copies::Copies;
@@ -160,13 +160,20 @@ impl<Q: Chooser> Pool<Q> {
         Ok(gone)
     }
 
-    /// Whether `install` finds a slot for every page: fewer pages are here than there are slots, or
-    /// one that is here isn't fixed.
+    /// Whether a slot is free, so that `install` lets no page go.
+    pub fn has_free_slot(&self) -> bool
+        ensures { result ≡ has_free_slot self.now }
+    {
+        self.copies.count() < self.slots
+    }
+
+    /// Whether `install` finds a slot for every page: one is free, or a page that is here isn't
+    /// fixed.
     pub fn room(&self) -> bool
         ensures room { IsTrue result ↔ HasRoom self.now }
         ensures is_pool { IsPool self.now }
     {
-        self.copies.count() < self.slots || self.copies.has_loose()
+        self.has_free_slot() || self.copies.has_loose()
     }
 
     /// Keeps a page from being let go. It needn't be here: it is fixed once it is installed.

@@ -1,10 +1,11 @@
 //! Frames that come.
-ghost use Rattle.std.specs.Prelude.{◌≡◌, ◌==◌, ◌&&◌, IfErr, IfOk, IsOk, OnErr};
+ghost use Rattle.std.specs.Prelude.{◌≡◌, ◌==◌, ◌&&◌, false, IfErr, IfOk, IsOk, OnErr};
 ghost use Rattle.std.specs.List.{AllByRecursion};
 ghost use Rattle.std.specs.Vec.{vec_capacity};
 ghost use Rattle.cb_frame_types.specs.Grammar.{Fits};
 ghost use Rattle.cb_client.specs.ByTable.{Takes};
-ghost use Rattle.cb_client.specs.FramesTaken.{IsBytesFault, TakesBytes, TakesFrame, room_to_take};
+ghost use Rattle.cb_client.specs.FramesTaken.{IsBytesFault, TakesBytes, TakesFrame, brings_page};
+ghost use Rattle.cb_client.specs.FramesTaken.{room_to_take};
 ghost use Rattle.cb_client.specs.declared.client_fault.ClientFault.TheVariants.{Memory};
 ghost use Rattle.cb_outbox.specs.Messages.{messages_of};
 
@@ -19,8 +20,9 @@ impl<Q: Chooser> Client<Q> {
     /// Takes a frame, and answers what the client says to it. A frame for another client or another
     /// incarnation is ignored, and so are one for the server and, before the Welcome, all others.
     ///
-    /// `Memory` only where a growth was refused. It makes room for what the frame needs and no more,
-    /// and is not refused where that is none: so not at a frame that is ignored.
+    /// `Memory` only where a growth was refused. It makes room for the frames that it may say and no
+    /// more: for none where a page comes in and a slot is free. It is not refused where these are none
+    /// and no page comes in, whose pool may need memory of its own: so not at a frame that is ignored.
     pub fn take(&mut self, alloc: Global, frame: Frame) -> Result<Vec<Frame>, ClientFault>
         requires { Fits self.old.copies.limits frame }
         ensures ok { IfOk result (λ said. TakesFrame self.old frame (messages_of said.items)
@@ -28,7 +30,8 @@ impl<Q: Chooser> Client<Q> {
         ensures err { IfErr result (λ fault. fault ≡ Memory) }
         ensures unchanged { OnErr result (self.new ≡ self.old) }
         ensures room { IfOk result (λ said. vec_capacity said ≡ room_to_take self.old frame) }
-        ensures none { room_to_take self.old frame ≡ 0 → IsOk result }
+        ensures none { room_to_take self.old frame ≡ 0 → brings_page self.old frame ≡ false
+            → IsOk result }
         ensures fits { IfOk result (λ said.
             AllByRecursion (Fits self.old.copies.limits) said.items) }
     {

@@ -1,6 +1,7 @@
 //! A copy that comes, and the page that goes for it.
-ghost use Rattle.std.specs.Prelude.{◌≡◌, ◌<◌, ◌≢◌, ◌==◌, ◌&&◌, not, nat_lt, true, false, unwrap_or};
-ghost use Rattle.std.specs.Prelude.{option_to_list, Ok, Err, IfOk, IfSome, IsErr, OnErr};
+ghost use Rattle.std.specs.Prelude.{◌≡◌, ◌<◌, ◌≤◌, ◌≢◌, ◌==◌, ◌&&◌, not, nat_lt, true, false, unwrap_or};
+ghost use Rattle.std.specs.Prelude.{length, option_to_list, None, Ok, Err, IfOk, IfSome, IsErr, IsOk};
+ghost use Rattle.std.specs.Prelude.{OnErr};
 ghost use Rattle.std.specs.Option.{is_some};
 ghost use Rattle.cb_page.specs.Flags.{has};
 ghost use Rattle.cb_page.specs.Numbers.{IsNumber};
@@ -8,10 +9,12 @@ ghost use Rattle.cb_client_engine.specs.ByTable.{Takes, limits_at};
 ghost use Rattle.cb_client_engine.specs.ClientState.{IsClient, ask_of};
 ghost use Rattle.cb_client_engine.specs.Parts.{client_in};
 ghost use Rattle.cb_client_engine.specs.GrantCases.{after_gone, case_at, said_of_gone};
+ghost use Rattle.cb_client_engine.specs.Room.{comes_in, room_of_grant};
 ghost use Rattle.cb_copies.specs.ByTable.{Does};
 ghost use Rattle.cb_copies.specs.CopiesState.{content_at, copy_at};
 ghost use Rattle.cb_ending.specs.Ending.{all_sent_by};
 ghost use Rattle.cb_outbox.specs.Messages.{messages_of};
+ghost use Rattle.cb_pool.specs.PoolState.{has_free_slot};
 ghost use Rattle.cb_pool.specs.declared.pool.PoolFault.TheVariants.{Full};
 ghost use Rattle.cb_protocol.specs.Client.{asks_to_read};
 ghost use Rattle.cb_protocol.specs.Messages.{Granted};
@@ -90,6 +93,17 @@ impl<Q: Chooser> Engine<Q> {
         }
     }
 
+    /// How many frames a grant may need room for.
+    pub(super) fn room_of_grant(&self, case: GrantCase) -> usize
+        ensures { result ≡ room_of_grant (has_free_slot self.now.copies.pool) case }
+    {
+        match case {
+            GrantCase::Ignored => 0,
+            GrantCase::Refused => 1,
+            GrantCase::Filled | GrantCase::Installed => usize::from(!self.copies.has_free_slot()),
+        }
+    }
+
     /// A grant comes with the page's bytes. Answers the frame that gives it, or the copy of the
     /// page that went for it, back.
     pub(super) fn take_granted(
@@ -108,6 +122,9 @@ impl<Q: Chooser> Engine<Q> {
         ensures ok { IfOk result (λ frame. Takes (client_in self.old)
             (Granted page grant version bytes)
             (messages_of (option_to_list frame)) (client_in self.new)) }
+        ensures room { IfOk result (λ frame. length (option_to_list frame)
+            ≤ room_of_grant (has_free_slot self.old.copies.pool) case) }
+        ensures none { comes_in case ≡ false → IsOk result }
         ensures err { OnErr result (self.new ≡ self.old) }
         ensures sound { IsClient (client_in self.new) }
     {
@@ -159,6 +176,7 @@ fn give_gone<Q: Chooser>(
     ensures does { Does copies.old (after_gone copies.old locks.now gone) copies.new }
     ensures says { messages_of (option_to_list result)
         ≡ all_sent_by locks.now (said_of_gone copies.old locks.now gone) }
+    ensures none { gone ≡ None → result ≡ None }
 {
     let gone = gone?;
     if locks.is_locked(gone) {

@@ -1,17 +1,16 @@
 //! What a frame of its server's makes of a client, by the frame's kind.
-ghost use Rattle.std.specs.Prelude.{◌≡◌, true, IfOk, IsOk, OnErr};
+ghost use Rattle.std.specs.Prelude.{◌≡◌, true, false, IfOk, IsOk, OnErr};
 ghost use Rattle.std.specs.Vec.{vec_capacity};
 ghost use Rattle.cb_client_engine.specs.ByTable.{Takes, limits_at};
 ghost use Rattle.cb_client_engine.specs.ClientState.{IsClient};
 ghost use Rattle.cb_client_engine.specs.Parts.{client_in};
-ghost use Rattle.cb_client_engine.specs.Room.{room_at};
+ghost use Rattle.cb_client_engine.specs.Room.{brings_in, room_at};
 ghost use Rattle.cb_frame_types.specs.Grammar.{BodyFits, ShortFits};
 ghost use Rattle.cb_outbox.specs.Messages.{body_of, messages_of, short_of};
 ghost use Rattle.cb_protocol.specs.Messages.{Downgrade, Granted};
 ghost use Rattle.cb_protocol.specs.Ranges.{BodyFits as MessageFits};
 
 use crate::engine::Engine;
-use crate::engine::granted::GrantCase;
 use cb_frame::{Body, Frame, ShortBody};
 use cb_page::{GrantNo, Page, PageNo, TxnNo, Version};
 use cb_twoq::Chooser;
@@ -21,8 +20,9 @@ impl<Q: Chooser> Engine<Q> {
     /// Takes the body of a frame of its own number and incarnation, and answers what the client
     /// says to it. One for the server is ignored and, before the Welcome, all others.
     ///
-    /// `AllocError` only where a growth was refused; nothing changes then. It makes room for what
-    /// the message needs and no more, and is not refused where that is none.
+    /// `AllocError` only where a growth was refused; nothing changes then. It makes room for the
+    /// frames that the message may need and no more, and is not refused where these are none and
+    /// no page comes into the pool, whose chooser may need memory of its own for it.
     pub fn take_body(&mut self, alloc: Global, body: Body) -> Result<Vec<Frame>, AllocError>
         requires sound { IsClient (client_in self.old) }
         requires body { BodyFits self.old.copies.limits body }
@@ -31,7 +31,8 @@ impl<Q: Chooser> Engine<Q> {
         ensures err { OnErr result (self.new ≡ self.old) }
         ensures room { IfOk result (λ said. vec_capacity said
             ≡ room_at (client_in self.old) (body_of body)) }
-        ensures none { room_at (client_in self.old) (body_of body) ≡ 0 → IsOk result }
+        ensures none { room_at (client_in self.old) (body_of body) ≡ 0
+            → brings_in (client_in self.old) (body_of body) ≡ false → IsOk result }
         ensures sound { IsClient (client_in self.new) }
     {
         match body {
@@ -111,7 +112,7 @@ impl<Q: Chooser> Engine<Q> {
         Ok(frames)
     }
 
-    /// Takes a Granted, where the client is welcomed. One that is ignored takes no room.
+    /// Takes a Granted, where the client is welcomed.
     fn say_granted(
         &mut self,
         alloc: Global,
@@ -130,6 +131,7 @@ impl<Q: Chooser> Engine<Q> {
         ensures room { IfOk result (λ said. vec_capacity said
             ≡ room_at (client_in self.old) (Granted page grant version bytes)) }
         ensures none { room_at (client_in self.old) (Granted page grant version bytes) ≡ 0
+            → brings_in (client_in self.old) (Granted page grant version bytes) ≡ false
             → IsOk result }
         ensures sound { IsClient (client_in self.new) }
     {
@@ -137,10 +139,7 @@ impl<Q: Chooser> Engine<Q> {
             return Ok(Vec::new(alloc));
         }
         let case = self.case_of(page, grant, version);
-        if let GrantCase::Ignored = case {
-            return Ok(Vec::new(alloc));
-        }
-        let mut frames = Vec::with_capacity(alloc, 1)?;
+        let mut frames = Vec::with_capacity(alloc, self.room_of_grant(case))?;
         if let Some(frame) = self.take_granted(case, page, grant, version, bytes)? {
             frames.push_reserved(frame);
         }
