@@ -1,7 +1,7 @@
 #!/usr/bin/env bash
 # Times runs of workers beside a short C program over SQLite's library that does as many such jobs, each in a transaction of its
-# own (WAL, synchronous FULL), on one disk, in turn: `run`, whose clients all fight for pages 0 and 1, and the program
-# run_speed/own_pages.txt, whose clients have two pages each that no other uses.
+# own (WAL, synchronous FULL), and 32 in one, on one disk, in turn: `run`, whose clients all fight for pages 0 and 1, and the
+# program run_speed/own_pages.txt, whose clients have two pages each that no other uses.
 #
 #   scripts/run_speed.sh [JOBS [TURNS]]      40,000 jobs in all, three turns
 #
@@ -55,6 +55,7 @@ timed() {
 
 for turn in $(seq "$turns"); do
   timed "sqlite alone, turn $turn" "$((jobs / 4))" "$room/jobs" "$room/alone_$turn.db" "$((jobs / 4))"
+  timed "sqlite alone, 32 jobs a transaction, turn $turn" "$((jobs / 32 * 32))" "$room/jobs" "$room/together_$turn.db" "$jobs" 32
   for clients in 1 4 32; do
     each=$((jobs / clients))
     printf 'clients = %d\npages = 2\npage_size = 16\nslots = 2\njobs = %d\n' "$clients" "$each" >"$room/run.toml"

@@ -1,5 +1,5 @@
-// The same jobs by SQLite's library alone: each adds one to the counters of pages 0 and 1 in a transaction of its own, in WAL mode
-// with synchronous FULL.  jobs STORE COUNT
+// The same jobs by SQLite's library alone, in WAL mode with synchronous FULL: each adds one to the counters of two pages. A
+// transaction has a job of each of so many clients, with two pages each: of one if CLIENTS isn't said.  jobs STORE COUNT [CLIENTS]
 #include <sqlite3.h>
 #include <stdio.h>
 #include <stdlib.h>
@@ -22,23 +22,32 @@ static sqlite3_stmt *prepared(const char *text) {
 static void run(const char *text) { must(sqlite3_exec(db, text, NULL, NULL, NULL)); }
 
 int main(int count, char **words) {
-  if (count != 3) return 2;
-  long jobs = atol(words[2]);
+  if (count != 3 && count != 4) return 2;
+  long jobs = atol(words[2]), clients = count == 4 ? atol(words[3]) : 1;
   must(sqlite3_open(words[1], &db));
   run("PRAGMA journal_mode = WAL; PRAGMA synchronous = FULL;"
       "CREATE TABLE mark2(id INTEGER PRIMARY KEY, commits INTEGER NOT NULL, page_size INTEGER NOT NULL, pages INTEGER NOT NULL) STRICT;"
       "CREATE TABLE page2(no INTEGER PRIMARY KEY, version INTEGER NOT NULL) STRICT;"
       "CREATE TABLE part(no INTEGER NOT NULL, place INTEGER NOT NULL, body BLOB NOT NULL, PRIMARY KEY(no, place)) STRICT;"
-      "INSERT INTO mark2 VALUES (1, 0, 16, 2); INSERT INTO page2 VALUES (0, 0), (1, 0);"
-      "INSERT INTO part VALUES (0, 0, zeroblob(16)), (1, 0, zeroblob(16))");
+      "INSERT INTO mark2 VALUES (1, 0, 16, 2)");
+  sqlite3_stmt *new_page = prepared("INSERT INTO page2 VALUES (?1, 0)");
+  sqlite3_stmt *new_part = prepared("INSERT INTO part VALUES (?1, 0, zeroblob(16))");
+  run("BEGIN");
+  for (int page = 0; page < 2 * clients; page++) {
+    sqlite3_bind_int(new_page, 1, page);
+    must(sqlite3_step(new_page)); sqlite3_reset(new_page);
+    sqlite3_bind_int(new_part, 1, page);
+    must(sqlite3_step(new_part)); sqlite3_reset(new_part);
+  }
+  run("COMMIT");
   sqlite3_stmt *begin = prepared("BEGIN IMMEDIATE"), *commit = prepared("COMMIT");
   sqlite3_stmt *body = prepared("SELECT body FROM part WHERE no = ?1 AND place = 0");
   sqlite3_stmt *put = prepared("UPDATE part SET body = ?2 WHERE no = ?1 AND place = 0");
   sqlite3_stmt *version = prepared("UPDATE page2 SET version = ?2 WHERE no = ?1");
   sqlite3_stmt *mark = prepared("UPDATE mark2 SET commits = ?1 WHERE id = 1");
-  for (long job = 1; job <= jobs; job++) {
+  for (long job = clients; job <= jobs; job += clients) {
     must(sqlite3_step(begin)); sqlite3_reset(begin);
-    for (int page = 0; page < 2; page++) {
+    for (int page = 0; page < 2 * clients; page++) {
       unsigned char bytes[16];
       sqlite3_bind_int(body, 1, page);
       must(sqlite3_step(body));
@@ -48,7 +57,7 @@ int main(int count, char **words) {
       for (int at = 7; at >= 0 && ++bytes[at] == 0; at--) {}
       sqlite3_bind_int(put, 1, page); sqlite3_bind_blob(put, 2, bytes, 16, SQLITE_TRANSIENT);
       must(sqlite3_step(put)); sqlite3_reset(put);
-      sqlite3_bind_int(version, 1, page); sqlite3_bind_int64(version, 2, job);
+      sqlite3_bind_int(version, 1, page); sqlite3_bind_int64(version, 2, job - clients + 1 + page / 2);
       must(sqlite3_step(version)); sqlite3_reset(version);
     }
     sqlite3_bind_int64(mark, 1, job);
