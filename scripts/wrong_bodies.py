@@ -133,8 +133,8 @@ def tried(crate, kept, edits):
 
 
 def is_refused(places, names, passed):
-    """Whether an edit's own function is one of those that are not proved."""
-    return not passed and (None in places or bool(places & names))
+    """Whether an edit's own function is one of those that are not proved; not if another's text kept it from being applied."""
+    return not passed and places is not None and (None in places or bool(places & names))
 
 
 def known_edits(crate, kept, folder):
