@@ -7,6 +7,7 @@
 #include <errno.h>
 #include <stdio.h>
 #include <stdlib.h>
+#include <sys/syscall.h>
 #include <unistd.h>
 
 static unsigned long growths, refused;
@@ -20,7 +21,13 @@ __attribute__((constructor)) static void begin(void) {
 __attribute__((destructor)) static void end(void) {
   char line[32];
   int length = snprintf(line, sizeof line, "%lu\n", growths);
-  if (write(2, line, length) != length) _exit(9);
+  if (write(2, line, length) != length) abort();
+}
+
+// A program that may start threads ends so, and no destructor runs.
+void _exit(int status) {
+  end();
+  for (;;) syscall(SYS_exit_group, status);
 }
 
 static int is_refused(void) {
