@@ -1,4 +1,4 @@
-use Rattle.std.proofs.Common.{◌≡◌, ◌++◌, [], List, false, true, true≢false, option_to_list, refl, sym, ◌∙◌, ap, arith}
+use Rattle.std.proofs.Common.{◌≡◌, ◌++◌, [], List, false, true, true≢false, option_to_list, refl, sym, ◌∙◌, ap, arith, rules}
 use Rattle.std.specs.Option.{option_map}
 use Rattle.cb_outbox.specs.Messages.{message_of, messages_of}
 use Rattle.cb_protocol.specs.Messages.{Message}
@@ -9,6 +9,12 @@ use Rattle.cb_client.proofs.FramesFit.{call_frames_fit}
 use Rattle.cb_client.proofs.Room.{greets, no_part, none_said}
 use Rattle.cb_client.proofs.SayingAgain.{all_again, greets_again}
 use Rattle.cb_client.proofs.client.Client.again.Goals as goal
+
+pub push-requires : goal.push-requires
+push-requires g c = search rules
+
+pub returns-clause-room : goal.returns-clause-room
+returns-clause-room g c = search rules
 
 pub returns-then-not-self-clause-by_table : goal.returns-then-not-self-clause-by_table
 returns-then-not-self-clause-by_table g c =

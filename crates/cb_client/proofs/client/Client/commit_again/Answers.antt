@@ -13,3 +13,6 @@ returns-in_ok-commit_frame-in-Committing-clause-fits g c =
     let sound : IsClient c.args.self.now = rw (← c.self.view_is) c.self.invariant in
     let table : (operations : List Operation) → messages_from c.args.self.now (bodies_said (commit_again (limits_at c.args.self.now) (client_of c.args.self.now operations))) ≡ message_of c.in_ok-commit_frame-in-Committing.field-0 ∷ [] = search rules in
     commit_again_fits c.args.self.now (Some c.in_ok-commit_frame-in-Committing.field-0) sound table
+
+pub returns-in_ok-commit_frame-in-Committing-clause-by_table : goal.returns-in_ok-commit_frame-in-Committing-clause-by_table
+returns-in_ok-commit_frame-in-Committing-clause-by_table g c = search rules
