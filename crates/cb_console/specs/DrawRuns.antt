@@ -3,7 +3,7 @@
 use Rattle.std.specs.Prelude.{◌≡◌, ◌≢◌, ℕ, Option, Result, Ok, Err, List}
 use Rattle.std.specs.List.{flat_map}
 use Rattle.std.specs.Io.KnownBytes.{Appends}
-use Rattle.cb_drawn.specs.Draws.{AreDrawn}
+use Rattle.cb_world.specs.Draws.{AreDrawn}
 use Rattle.cb_event.specs.declared.event.Event.{Event}
 use Rattle.cb_settings.specs.Settings.{IsConfig, IsWrong, config_text}
 use Rattle.cb_settings.specs.declared.config.Config.{Config}

@@ -5,7 +5,7 @@ use Rattle.std.specs.Prelude.{option_map}
 use Rattle.std.specs.Prelude.{Result, Ok, Err, IfSome, List, [], ◌∷◌, ◌++◌, length, take, codes}
 use Rattle.std.specs.Io.KnownBytes.{Appends}
 use Rattle.cb_page.specs.Bounds.{Bounds}
-use Rattle.cb_drawn.specs.Draws.{IsOpening}
+use Rattle.cb_world.specs.Draws.{IsOpening}
 use Rattle.cb_world.specs.Plays.{Played}
 use Rattle.cb_world.specs.WorldState.{WorldState}
 use Rattle.cb_event.specs.ScheduleText as text

@@ -10,9 +10,9 @@ ghost use Rattle.cb_event.specs.declared.event.Event.TheVariants as event;
 
 use crate::play::{ReadFault, print_fault};
 use crate::statuses::DONE;
-use cb_drawn::draw;
 use cb_event::{Call, Event};
 use cb_settings::read_config;
+use cb_world::draw;
 use std::alloc::Global;
 use std::io;
 use std::io::Write;

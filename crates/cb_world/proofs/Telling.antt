@@ -8,8 +8,8 @@ use Rattle.cb_commit.specs.declared.commit.Commit.{Commit}
 use Rattle.cb_holdings.specs.Commits.{applied_commit}
 use Rattle.cb_holdings.specs.Holdings.{newest_first}
 use Rattle.cb_copies.specs.CopiesState.{limits_of}
-use Rattle.cb_net.specs.NetMoves.{NetBecomes}
-use Rattle.cb_net.specs.NetState.{NetState, limits_in}
+use Rattle.cb_world.specs.NetMoves.{NetBecomes}
+use Rattle.cb_world.specs.NetState.{NetState, limits_in}
 use Rattle.cb_transcript.specs.ProtocolEvents.{transcript_of, word_of}
 use Rattle.cb_transcript.specs.Transcripts.{IsSerialOnOpening, committed_name, name_of}
 use Rattle.cb_transcript.specs.declared.answer.Answer.{Answer}

@@ -9,13 +9,13 @@ use Rattle.std.proofs.lemmas.List.Elements.{All-get_or}
 use Rattle.std.proofs.lemmas.Bool.Decides.{nat_tests}
 use Rattle.cb_page.specs.Bounds.{Bounds}
 use Rattle.cb_commit.specs.Stores.{IsSound, IsStored, StoreState, no_page, version_at}
-use Rattle.cb_net.specs.NetMoves as net
+use Rattle.cb_world.specs.NetMoves as net
 use Rattle.cb_world.specs.Plays.{IsWorld, IsReached, Steps}
 use Rattle.cb_transcript.specs.ProtocolEvents.{event_of, answer_of, word_of, sent_of, entry_of, transcript_of}
 use Rattle.cb_copies.specs.CopiesState.{limits_of}
 use Rattle.cb_holdings.specs.Holdings.{opening_of}
 use Rattle.cb_packets.specs.Packets.{IsSpelled}
-use Rattle.cb_net.specs.NetState.{NetState, RepresentsNet, limits_in}
+use Rattle.cb_world.specs.NetState.{NetState, RepresentsNet, limits_in}
 use Rattle.cb_transcript.specs.Transcripts.{name_of}
 use Rattle.cb_transcript.specs.declared.transcript.TransactionName.{TransactionName}
 use Rattle.cb_world.specs.WorldState.{WorldState, Represents, Tells, opened}
@@ -23,7 +23,7 @@ use Rattle.cb_world.proofs.Telling.{told_is_serial}
 use Rattle.cb_event.specs.declared.event.Event.{Event}
 use Rattle.cb_transcript.specs.declared.answer.Answer.{Answer}
 use Rattle.cb_transcript.specs.declared.answer.TranscriptEntry.{TranscriptEntry}
-use Rattle.cb_net.proofs.Packing.{spell_length}
+use Rattle.cb_world.proofs.Packing.{spell_length}
 use Rattle.cb_protocol.specs.AnyMessages.{committed_names}
 use Rattle.cb_protocol.specs.Basics.{Limits}
 use Rattle.cb_protocol.specs.Server.{Server}

@@ -1,2 +1,5 @@
+pub mod NetState
+pub mod NetMoves
 pub mod WorldState
 pub mod Plays
+pub mod Draws

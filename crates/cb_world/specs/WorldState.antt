@@ -3,7 +3,7 @@ use Rattle.std.specs.Prelude.{◌≡◌, ◌++◌, Bool, List, map, reverse}
 use Rattle.cb_page.specs.Bounds.{Bounds}
 use Rattle.cb_commit.specs.Stores.{StoreState}
 use Rattle.cb_holdings.specs.Holdings.{opening_of}
-use Rattle.cb_net.specs.NetState.{NetState, RepresentsNet}
+use Rattle.cb_world.specs.NetState.{NetState, RepresentsNet}
 use Rattle.cb_transcript.specs.ProtocolEvents.{transcript_of}
 use Rattle.cb_transcript.specs.Transcripts.{TranscriptState, name_of}
 use Rattle.cb_transcript.specs.declared.answer.TranscriptEntry.{TranscriptEntry}

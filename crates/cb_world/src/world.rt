@@ -7,7 +7,7 @@ ghost use Rattle.cb_commit.specs.Stores.{IsOf};
 ghost use Rattle.cb_protocol.specs.Headline.{Promise};
 ghost use Rattle.cb_protocol.specs.World.{new_world};
 ghost use Rattle.cb_world.specs.Plays.{Played, IsReached, Steps};
-ghost use Rattle.cb_net.specs.NetMoves.{NetBecomes};
+ghost use Rattle.cb_world.specs.NetMoves.{NetBecomes};
 ghost use Rattle.cb_server.specs.ServerState.{server_of};
 ghost use Rattle.cb_transcript.specs.ProtocolEvents.{event_of};
 ghost use Rattle.cb_transcript.specs.Transcripts.{IsSerialOnOpening, committed_name};
@@ -18,9 +18,9 @@ ghost use Rattle.cb_world.specs.WorldState.{IsTold, Represents, Tells, opened, t
 ghost use Rattle.cb_transcript.specs.declared.answer.Answer.{Answer as AnswerState};
 ghost use Rattle.cb_transcript.specs.declared.answer.TranscriptEntry.{TranscriptEntry as EntryData};
 
+use crate::net::Net;
 use cb_commit::{Commit, Store};
 use cb_event::Event;
-use cb_net::Net;
 use cb_page::Limits;
 use cb_protocol::callback_read;
 use cb_transcript::{Answer, Transcript, TranscriptEntry};

@@ -1,4 +1,4 @@
-use Rattle.std.proofs.Common.{refl, false, subst}
+use Rattle.std.proofs.Common.{refl, false, subst, rules}
 use Rattle.cb_world.specs.Plays.{Steps}
 use Rattle.cb_world.specs.WorldState.{WorldState}
 use Rattle.cb_world.proofs.Worlds.{stepped}
@@ -6,6 +6,12 @@ use Rattle.cb_world.proofs.world.World.advance.Goals as goal
 
 pub invariant_of-self-2 : goal.invariant_of-self-2
 invariant_of-self-2 g c = (stepped _ _ c.args.event c.callback_read.ensures.promise c.self.invariant c.if-self.false refl refl c.tell.ensures.opening c.in_ok-tell.ensures.ok).0
+
+pub returns-then-self-clause-ok : goal.returns-then-self-clause-ok
+returns-then-self-clause-ok g c = tt
+
+pub returns-then-self-clause-stays : goal.returns-then-self-clause-stays
+returns-then-self-clause-stays g c = search rules
 
 pub returns-clause-ok : goal.returns-clause-ok
 returns-clause-ok g c =

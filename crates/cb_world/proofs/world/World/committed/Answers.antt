@@ -5,6 +5,9 @@ use Rattle.cb_world.specs.WorldState.{WorldState}
 use Rattle.cb_world.proofs.Telling.{listed_are_told}
 use Rattle.cb_world.proofs.world.World.committed.Goals as goal
 
+pub returns-then-self-clause-told : goal.returns-then-self-clause-told
+returns-then-self-clause-told g c = tt
+
 pub returns-clause-told : goal.returns-clause-told
 returns-clause-told g c =
     let v : WorldState = record {

@@ -16,6 +16,9 @@ invariant_of-result g c =
     let promised = subst (λ (o : Opening). Promise o (new_world (limits_of c.args.limits.now) (opening_of c.args.store))) (sym first.0) (first_promise (limits_of c.args.limits.now) (opening_of c.args.store) c.callback_read.ensures.promise (sound_opening c.args.store c.number-number.ensures.sound)) in
     record { packets = rw c.in_ok-new.ensures.packets tt; serial = told_is_serial v _ first.1 promised; running = λ _. first.2 }
 
+pub returns-clause-runs : goal.returns-clause-runs
+returns-clause-runs g c = refl
+
 pub returns-clause-promise : goal.returns-clause-promise
 returns-clause-promise g c =
     let v : WorldState = record { limits = c.args.limits.now; net = c.in_ok-new.field-0; opening = c.new-2.result.opening; transcript = c.new-2.result.entries; commits = c.new-2.result.commits; stopped = false } in

@@ -1,1 +1,5 @@
--- Nothing is answered here: each goal is searched. With this file a refused edit is not proved twice.
+use Rattle.std.proofs.Common.{rules}
+use Rattle.cb_world.proofs.world.World.packet.Goals as goal
+
+pub returns-clause-bytes : goal.returns-clause-bytes
+returns-clause-bytes g c = search rules

@@ -1,6 +1,0 @@
-use Rattle.std.proofs.Common.{◌≡◌, take}
-use Rattle.cb_net.specs.NetMoves.{sent_as}
-use Rattle.cb_net.proofs.net.numbered.Given as goal
-
-abbrev pub invariant-loop-index : goal.invariant-loop-index
-invariant-loop-index l = l.list.items ≡ sent_as l.first (take l.index l.frames)

@@ -1,2 +1,0 @@
-pub mod NetState
-pub mod NetMoves
