@@ -1,18 +1,20 @@
 """Refuses each growth of lists that are played to one side; `refused_calls.sh` says how it is called."""
 import gzip
 import os
+import re
 import subprocess
 import sys
 from collections import Counter
 from concurrent.futures import ThreadPoolExecutor
 from pathlib import Path
+from tempfile import NamedTemporaryFile
 
 PROGRAM, REFUSE = (str(Path(it).resolve()) for it in sys.argv[1:3])
 KINDS = {
     1: "Hello", 2: "AskRead", 3: "AskWrite", 4: "GiveBack", 5: "InUse", 6: "Commit", 7: "Drop", 8: "Downgraded",
     65: "Welcome", 66: "Granted", 67: "MayWrite", 68: "Callback", 69: "Done", 70: "AbortNow", 71: "Downgrade",
 }
-# How the program ends that was refused memory for itself.
+# How a list ends where the program was refused memory for itself.
 OWN_END = (1, "Error: Kind(OutOfMemory)")
 # What came of a refused growth.
 WITHIN, PROGRAM_S, OTHER = "within the side", "the program's own", "ANOTHER END"
@@ -21,8 +23,14 @@ WITHIN, PROGRAM_S, OTHER = "within the side", "the program's own", "ANOTHER END"
 def played(lines, refused=0):
     """Status, output and error where that growth is refused, and how many growths there were."""
     with_it = {**os.environ, "LD_PRELOAD": REFUSE, "REFUSED": str(refused)}
-    done = subprocess.run([PROGRAM], input="\n".join(lines) + "\n", env=with_it, capture_output=True, text=True, timeout=60)
+    with NamedTemporaryFile("w", suffix=".list") as it:
+        it.write("\n".join(lines) + "\n")
+        it.flush()
+        done = subprocess.run([PROGRAM, f"sides {it.name}"], env=with_it, capture_output=True, text=True, timeout=60)
     *said, growths, _ = done.stderr.split("\n")
+    ended = re.fullmatch(r"sides [^\n]*\n(.*?)(?:(Error: [^\n]*)\n)?status (\d+)\n", done.stdout, re.DOTALL)
+    if ended and not done.returncode and not said:
+        return int(ended[3]), ended[1], ended[2] or "", int(growths)
     return done.returncode, done.stdout, "\n".join(said), int(growths)
 
 
@@ -35,8 +43,9 @@ def lists_of(paths):
             if line.startswith(("client ", "server ")):
                 if one:
                     yield one
-                one = []
-            one.append(line)
+                one = [line]
+            elif one:
+                one.append(line)
         yield one
 
 

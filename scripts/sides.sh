@@ -8,9 +8,9 @@
 # those that its answers tell of, and 2 where the program isn't proved or built. RT is the command, `rt` if it isn't set.
 set -u
 top=$(cd "$(dirname "$0")/.." && pwd)
-program="$top/crates/cb_sides/out/cb_sides"
-(cd "$top/crates/cb_sides" && "${RT:-rt}" run </dev/null >/dev/null 2>&1)
-[ -x "$program" ] || { echo "cb_sides: not built" >&2; exit 2; }
+program="$top/crates/cb_examples/out/cb_examples"
+(cd "$top/crates/cb_examples" && "${RT:-rt}" run -- --version </dev/null >/dev/null 2>&1)
+[ -x "$program" ] || { echo "cb_examples: not built" >&2; exit 2; }
 list=$(mktemp) answers=$(mktemp)
 trap 'rm -f "$list" "$answers"' EXIT
 bad=0
@@ -19,7 +19,8 @@ for file in "$@"; do
     *.gz) gzip -dc "$file" >"$list" ;;
     *) cat "$file" >"$list" ;;
   esac || { bad=1; continue; }
-  "$program" <"$list" >"$answers"
+  # The first line is the word itself, the last one the status.
+  "$program" "sides $list" | sed '1d;$d' >"$answers"
   ! grep '^references differ' "$answers" || bad=1
   # What is said of references stands in no list that is handed in.
   sed -i '/^references /d' "$answers"

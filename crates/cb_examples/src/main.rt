@@ -1,5 +1,13 @@
-//! Does what each of its words says, a command line of the program; an empty one has no words.
+//! Does what each of its words says: what a command line of the program asks for (an empty one has
+//! no words), or, behind `sides`, the lists of a file, each played at one side alone.
 #![tactic(auto)]
+
+mod client_side;
+mod frames;
+mod references;
+mod server_side;
+mod sides;
+mod words;
 
 use cb_program::{command_line, end_by, run};
 use std::alloc::{AllocError, Global};
@@ -8,6 +16,9 @@ use std::io::{BufWriter, Write};
 use std::process::ExitCode;
 use std::sync::Wait;
 use std::thread::Threads;
+
+/// What a word begins with that names a file of lists.
+const SIDES: &str = "sides ";
 
 /// The words of a command line, behind the program's name.
 fn words_of(alloc: Global, line: &str) -> Result<Vec<String>, AllocError> {
@@ -22,30 +33,44 @@ fn words_of(alloc: Global, line: &str) -> Result<Vec<String>, AllocError> {
     Ok(words)
 }
 
-/// Prints a command line, what the program prints for it on either stream, and the status with
-/// which it ends.
+/// Does what a command line asks for, and prints what the program prints for it on either stream.
+/// The answer is the program's status.
 fn run_line<R: Threads + Wait + Sync, O: Write>(
+    rt: &HostRuntime,
+    threads: &R,
+    line: &str,
+    out: &mut O,
+) -> io::Result<u8> {
+    let words = words_of(rt.alloc(), line)?;
+    let mut said = Vec::new(rt.alloc());
+    let status = run(rt, threads, Ok(words), out, &mut said);
+    out.write_all(said.as_slice())?;
+    Ok(status)
+}
+
+/// Prints a line, all that is said to it, and the status with which that ends.
+fn do_line<R: Threads + Wait + Sync, O: Write>(
     rt: &HostRuntime,
     threads: &R,
     line: &str,
     out: &mut O,
 ) -> io::Result<()> {
     writeln!(out, "{line}")?;
-    let words = words_of(rt.alloc(), line)?;
-    let mut said = Vec::new(rt.alloc());
-    let status = run(rt, threads, Ok(words), out, &mut said);
-    out.write_all(said.as_slice())?;
+    let status = match line.strip_prefix(SIDES) {
+        Some(file) => sides::play_file(rt, file, out)?,
+        None => run_line(rt, threads, line, out)?,
+    };
     writeln!(out, "status {status}")
 }
 
 /// Does what each line says, one after another.
-fn run_lines<R: Threads + Wait + Sync, O: Write>(
+fn do_lines<R: Threads + Wait + Sync, O: Write>(
     rt: &HostRuntime,
     threads: &R,
     out: &mut O,
 ) -> io::Result<()> {
     for line in command_line(rt)?.iter().skip(1) {
-        run_line(rt, threads, line.as_str(), out)?;
+        do_line(rt, threads, line.as_str(), out)?;
     }
     out.flush()
 }
@@ -53,7 +78,7 @@ fn run_lines<R: Threads + Wait + Sync, O: Write>(
 fn main(rt: HostRuntime) -> ExitCode {
     let mut err = rt.stderr();
     let ran = match BufWriter::new(rt.alloc(), io::writer(&rt)) {
-        Ok(mut out) => run_lines(&rt, &rt, &mut out),
+        Ok(mut out) => do_lines(&rt, &rt, &mut out),
         Err(error) => Err(error),
     };
     match ran {

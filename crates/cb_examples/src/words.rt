@@ -2,7 +2,7 @@
 
 use cb_page::{Limits, PageNo};
 use hex::FromHexError;
-use std::alloc::Global;
+use std::alloc::{AllocError, Global};
 use std::io;
 use std::str::SplitWhitespace;
 
@@ -22,19 +22,25 @@ pub(crate) fn not_a_line() -> io::Error {
     io::Error::from(io::ErrorKind::InvalidData)
 }
 
+/// The number that the next word spells, if it spells one.
+fn spelled(words: &mut SplitWhitespace<'_>) -> Option<u64> {
+    words.next()?.parse::<u64>().ok()
+}
+
 /// The number that the next word spells.
 pub(crate) fn number(words: &mut SplitWhitespace<'_>) -> io::Result<u64> {
-    let word = words.next().ok_or(not_a_line())?;
-    word.parse::<u64>().map_err(|_| not_a_line())
+    match spelled(words) {
+        Some(number) => Ok(number),
+        None => Err(not_a_line()),
+    }
 }
 
 /// The page that the next word names.
 pub(crate) fn page(words: &mut SplitWhitespace<'_>) -> io::Result<PageNo> {
-    let page = u32::try_from(number(words)?).map_err(|_| not_a_line())?;
-    if page >= 4096 {
-        return Err(not_a_line());
+    match number(words)? {
+        page @ 0..4096 => Ok(PageNo::new(page as u32)),
+        _ => Err(not_a_line()),
     }
-    Ok(PageNo::new(page))
 }
 
 /// The page that a frame of these bytes names, if it is a Granted and there may be such a page.
@@ -57,32 +63,38 @@ pub(crate) fn page_at(bytes: &[u8]) -> Option<PageNo> {
 pub(crate) fn bytes(alloc: Global, digits: &str) -> io::Result<Vec<u8>> {
     match hex::decode(alloc, digits) {
         Ok(bytes) => Ok(bytes),
-        Err(FromHexError::OutOfMemory) => Err(io::Error::from(io::ErrorKind::OutOfMemory)),
+        Err(FromHexError::OutOfMemory) => Err(io::Error::from(AllocError)),
         Err(_) => Err(not_a_line()),
     }
 }
 
 /// The number behind the next word, which is its name.
-fn named(words: &mut SplitWhitespace<'_>) -> io::Result<u64> {
-    words.next().ok_or(not_a_line())?;
-    number(words)
+fn named(words: &mut SplitWhitespace<'_>) -> Option<u64> {
+    words.next()?;
+    spelled(words)
 }
 
-/// The limits that the first line of a list names, behind its side.
-pub(crate) fn limits(line: &str) -> io::Result<Limits> {
+/// The limits that the first line of a list names behind its side, if it names any.
+fn limits_named(line: &str) -> Option<Limits> {
     let mut words = line.split_whitespace();
-    words.next().ok_or(not_a_line())?;
+    words.next()?;
     let clients = named(&mut words)?;
     let pages = named(&mut words)?;
     let page_size = named(&mut words)?;
     let slots = named(&mut words)?;
     let kin = named(&mut words)?;
     let kout = named(&mut words)?;
-    let limits = Limits::new(clients, pages, page_size, slots, kin, kout).map_err(
-        |_| not_a_line(),
-    )?;
+    let limits = Limits::new(clients, pages, page_size, slots, kin, kout).ok()?;
     match named(&mut words)? {
-        0 => Ok(limits),
-        _ => Ok(limits.keeping()),
+        0 => Some(limits),
+        _ => Some(limits.keeping()),
+    }
+}
+
+/// The limits that the first line of a list names.
+pub(crate) fn limits(line: &str) -> io::Result<Limits> {
+    match limits_named(line) {
+        Some(limits) => Ok(limits),
+        None => Err(not_a_line()),
     }
 }

@@ -26,7 +26,7 @@ type Alone = Client<Noting<TwoQ>>;
 pub(crate) fn play_list<O: Write>(
     alloc: Global,
     line: &str,
-    following: &[String],
+    following: &[&str],
     out: &mut O,
 ) -> io::Result<()> {
     let limits = limits(line)?;
@@ -67,14 +67,14 @@ fn play_lines<O: Write>(
     alloc: Global,
     client: &mut Alone,
     told: &mut Vec<PageNo>,
-    lines: &[String],
+    lines: &[&str],
     out: &mut O,
 ) -> io::Result<()> {
     for line in lines {
-        if is_opening(line.as_str()) {
+        if is_opening(line) {
             break;
         }
-        if let Some(page) = play(alloc, client, line.as_str(), out)? {
+        if let Some(page) = play(alloc, client, line, out)? {
             told.push(page)?;
         }
     }

@@ -17,7 +17,7 @@ use std::io::Write;
 pub(crate) fn play_list<O: Write>(
     alloc: Global,
     line: &str,
-    following: &[String],
+    following: &[&str],
     out: &mut O,
 ) -> io::Result<()> {
     let limits = limits(line)?;
@@ -25,12 +25,7 @@ pub(crate) fn play_list<O: Write>(
 }
 
 /// Plays a list to a server of these limits.
-fn serve<O: Write>(
-    alloc: Global,
-    limits: &Limits,
-    lines: &[String],
-    out: &mut O,
-) -> io::Result<()> {
+fn serve<O: Write>(alloc: Global, limits: &Limits, lines: &[&str], out: &mut O) -> io::Result<()> {
     let mut server = match new_server(alloc, limits) {
         Err(AllocError) => new_server(alloc, limits)?,
         Ok(server) => server,
@@ -48,14 +43,14 @@ fn new_server(alloc: Global, limits: &Limits) -> Result<Server, AllocError> {
 fn play_lines<O: Write>(
     alloc: Global,
     server: &mut Server,
-    lines: &[String],
+    lines: &[&str],
     out: &mut O,
 ) -> io::Result<()> {
     for line in lines {
-        if is_opening(line.as_str()) {
+        if is_opening(line) {
             break;
         }
-        play(alloc, server, line.as_str(), out)?;
+        play(alloc, server, line, out)?;
     }
     put_commits(server, out)
 }

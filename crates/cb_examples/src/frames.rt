@@ -9,7 +9,7 @@ use std::io::Write;
 /// Prints the digits of bytes.
 pub(crate) fn put_digits<O: Write>(alloc: Global, bytes: &[u8], out: &mut O) -> io::Result<()> {
     let digits = hex::encode(alloc, bytes)?;
-    write!(out, "{digits}")
+    out.write_all(digits.as_bytes())
 }
 
 /// Prints a frame that was answered.
@@ -22,8 +22,10 @@ pub(crate) fn put_frame<O: Write>(
     if !frame.fits(limits) {
         return writeln!(out, "< a frame that doesn't fit");
     }
-    let digits = hex::encode(alloc, encode(alloc, frame)?)?;
-    writeln!(out, "< {digits}")
+    let bytes = encode(alloc, frame)?;
+    out.write_all(b"< ")?;
+    put_digits(alloc, bytes.as_slice(), out)?;
+    writeln!(out)
 }
 
 /// Prints the frames that were answered.
