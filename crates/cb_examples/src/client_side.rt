@@ -7,7 +7,7 @@
 //! the answers tell of: each read that was answered with bytes, and each copy that came of a page
 //! that wasn't here and is then.
 
-use crate::frames::{put_digits, put_frame, put_frames};
+use crate::frames::{put_digits, put_frames};
 use crate::references::Noting;
 use crate::words::{bytes, is_opening, limits, not_a_line, page, page_at};
 use cb_client::{Client, ClientFault, Outcome, ReadAnswer, WantAnswer};
@@ -15,9 +15,9 @@ use cb_frame::{BytesFault, Frame, FrameFault};
 use cb_page::{ClientNo, Incarnation, Limits, PageNo};
 use cb_twoq::{Chooser, TwoQ};
 use std::alloc::{AllocError, Global};
-use std::io;
 use std::io::Write;
 use std::str::SplitWhitespace;
+use std::{io, slice};
 
 /// The client that a list is played to.
 type Alone = Client<Noting<TwoQ>>;
@@ -216,20 +216,15 @@ fn finish<O: Write>(alloc: Global, client: &mut Alone, out: &mut O) -> io::Resul
         finished => finished,
     };
     match finished {
-        Ok(frame) => put_finished(alloc, client.limits(), &frame, out),
+        Ok(frame) => put_end(
+            alloc,
+            client.limits(),
+            "finish",
+            slice::from_ref(&frame),
+            out,
+        ),
         Err(fault) => refused("finish", fault, out),
     }
-}
-
-/// Prints the commit of a transaction.
-fn put_finished<O: Write>(
-    alloc: Global,
-    limits: &Limits,
-    frame: &Frame,
-    out: &mut O,
-) -> io::Result<()> {
-    writeln!(out, "finish = ok")?;
-    put_frame(alloc, limits, frame, out)
 }
 
 /// The transaction is dropped.
@@ -239,19 +234,20 @@ fn drop_txn<O: Write>(alloc: Global, client: &mut Alone, out: &mut O) -> io::Res
         dropped => dropped,
     };
     match dropped {
-        Ok(frames) => put_dropped(alloc, client.limits(), frames.as_slice(), out),
+        Ok(frames) => put_end(alloc, client.limits(), "drop", frames.as_slice(), out),
         Err(fault) => refused("drop", fault, out),
     }
 }
 
-/// Prints what is sent as a transaction is dropped.
-fn put_dropped<O: Write>(
+/// Prints that a transaction is ended by a call of one word, and what is sent.
+fn put_end<O: Write>(
     alloc: Global,
     limits: &Limits,
+    word: &str,
     frames: &[Frame],
     out: &mut O,
 ) -> io::Result<()> {
-    writeln!(out, "drop = ok")?;
+    writeln!(out, "{word} = ok")?;
     put_frames(alloc, limits, frames, out)
 }
 
@@ -341,7 +337,10 @@ fn want<O: Write>(alloc: Global, client: &mut Alone, page: PageNo, out: &mut O) 
 fn asked<O: Write>(alloc: Global, client: &Alone, out: &mut O) -> io::Result<()> {
     writeln!(out, " asked")?;
     match client.ask() {
-        Some(ask) => put_frame(alloc, client.limits(), &Frame::from(ask), out),
+        Some(ask) => {
+            let frame = Frame::from(ask);
+            put_frames(alloc, client.limits(), slice::from_ref(&frame), out)
+        }
         None => Ok(()),
     }
 }

@@ -13,7 +13,7 @@ pub(crate) fn put_digits<O: Write>(alloc: Global, bytes: &[u8], out: &mut O) -> 
 }
 
 /// Prints a frame that was answered.
-pub(crate) fn put_frame<O: Write>(
+fn put_frame<O: Write>(
     alloc: Global,
     limits: &Limits,
     frame: &Frame,
