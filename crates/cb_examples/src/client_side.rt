@@ -1,7 +1,9 @@
-//! A client alone, as a list plays it: number 0 at incarnation 1, over 2Q of the limits.
+//! A client alone, as a list plays it: number 0 at incarnation 1, over 2Q of the limits. What plays
+//! a line is over any chooser, which is cheaper to prove.
 //!
 //! A call that memory was refused for is made once more, as is the client itself: it changed
-//! nothing, so that where one growth of the client's is refused the same is printed as where none is.
+//! nothing, so that where one growth of the client's is refused the same is printed as where none
+//! is.
 //!
 //! At its end the references that the pool's chooser was called for are compared with those that
 //! the answers tell of: each read that was answered with bytes, and each copy that came of a page
@@ -18,9 +20,6 @@ use std::alloc::{AllocError, Global};
 use std::io::Write;
 use std::str::SplitWhitespace;
 use std::{io, slice};
-
-/// The client that a list is played to.
-type Alone = Client<Noting<TwoQ>>;
 
 /// Plays the list that the line opens: what follows it, up to where another list begins.
 pub(crate) fn play_list<O: Write>(
@@ -41,7 +40,11 @@ pub(crate) fn play_list<O: Write>(
 }
 
 /// A new client, over a chooser that notes so many references at most.
-fn new_client(alloc: Global, limits: Limits, references: usize) -> Result<Alone, AllocError> {
+fn new_client(
+    alloc: Global,
+    limits: Limits,
+    references: usize,
+) -> Result<Client<Noting<TwoQ>>, AllocError> {
     let chooser = Noting::new(alloc, TwoQ::make(alloc, &limits)?, references)?;
     Client::new(
         alloc,
@@ -53,7 +56,11 @@ fn new_client(alloc: Global, limits: Limits, references: usize) -> Result<Alone,
 }
 
 /// Prints how many references there were, if those that were made are those told of.
-fn put_references<O: Write>(client: &Alone, told: &[PageNo], out: &mut O) -> io::Result<()> {
+fn put_references<Q: Chooser, O: Write>(
+    client: &Client<Noting<Q>>,
+    told: &[PageNo],
+    out: &mut O,
+) -> io::Result<()> {
     let made = client.chooser().made();
     if made == told {
         writeln!(out, "references {count}", count = made.len())
@@ -63,9 +70,9 @@ fn put_references<O: Write>(client: &Alone, told: &[PageNo], out: &mut O) -> io:
 }
 
 /// Plays the lines of a list, and adds the references that the answers tell of.
-fn play_lines<O: Write>(
+fn play_lines<Q: Chooser, O: Write>(
     alloc: Global,
-    client: &mut Alone,
+    client: &mut Client<Q>,
     told: &mut Vec<PageNo>,
     lines: &[&str],
     out: &mut O,
@@ -82,9 +89,9 @@ fn play_lines<O: Write>(
 }
 
 /// Plays one line. Answers the page that its answer tells to be referred to.
-fn play<O: Write>(
+fn play<Q: Chooser, O: Write>(
     alloc: Global,
-    client: &mut Alone,
+    client: &mut Client<Q>,
     line: &str,
     out: &mut O,
 ) -> io::Result<Option<PageNo>> {
@@ -101,9 +108,9 @@ fn play<O: Write>(
 }
 
 /// Plays a line that refers to no page.
-fn play_other<O: Write>(
+fn play_other<Q: Chooser, O: Write>(
     alloc: Global,
-    client: &mut Alone,
+    client: &mut Client<Q>,
     word: &str,
     words: &mut SplitWhitespace<'_>,
     out: &mut O,
@@ -121,9 +128,9 @@ fn play_other<O: Write>(
 }
 
 /// A frame comes, whose bytes the word spells. Answers the page whose bytes came into the pool.
-fn take<O: Write>(
+fn take<Q: Chooser, O: Write>(
     alloc: Global,
-    client: &mut Alone,
+    client: &mut Client<Q>,
     digits: &str,
     out: &mut O,
 ) -> io::Result<Option<PageNo>> {
@@ -140,9 +147,9 @@ fn take<O: Write>(
 
 /// A frame of these bytes comes, which are of that page. Answers it where its bytes came into the
 /// pool.
-fn take_at<O: Write>(
+fn take_at<Q: Chooser, O: Write>(
     alloc: Global,
-    client: &mut Alone,
+    client: &mut Client<Q>,
     page: PageNo,
     bytes: &[u8],
     out: &mut O,
@@ -157,9 +164,9 @@ fn take_at<O: Write>(
 }
 
 /// What the client answers to the frame that the bytes begin with.
-fn taken(
+fn taken<Q: Chooser>(
     alloc: Global,
-    client: &mut Alone,
+    client: &mut Client<Q>,
     bytes: &[u8],
 ) -> Result<(Vec<Frame>, usize), BytesFault<ClientFault>> {
     match client.take_bytes(alloc, bytes) {
@@ -171,9 +178,9 @@ fn taken(
 }
 
 /// A frame of these bytes comes.
-fn take_bytes<O: Write>(
+fn take_bytes<Q: Chooser, O: Write>(
     alloc: Global,
-    client: &mut Alone,
+    client: &mut Client<Q>,
     bytes: &[u8],
     out: &mut O,
 ) -> io::Result<()> {
@@ -184,7 +191,11 @@ fn take_bytes<O: Write>(
 }
 
 /// What is unanswered is sent again.
-fn say_again<O: Write>(alloc: Global, client: &Alone, out: &mut O) -> io::Result<()> {
+fn say_again<Q: Chooser, O: Write>(
+    alloc: Global,
+    client: &Client<Q>,
+    out: &mut O,
+) -> io::Result<()> {
     writeln!(out, "again")?;
     let said = match client.again(alloc) {
         Err(ClientFault::Memory) => client.again(alloc),
@@ -202,7 +213,7 @@ fn refused<O: Write>(word: &str, fault: ClientFault, out: &mut O) -> io::Result<
 }
 
 /// A transaction is opened.
-fn begin<O: Write>(client: &mut Alone, out: &mut O) -> io::Result<()> {
+fn begin<Q: Chooser, O: Write>(client: &mut Client<Q>, out: &mut O) -> io::Result<()> {
     match client.begin() {
         Ok(txn) => writeln!(out, "begin = {txn}", txn = txn.get()),
         Err(fault) => refused("begin", fault, out),
@@ -210,7 +221,11 @@ fn begin<O: Write>(client: &mut Alone, out: &mut O) -> io::Result<()> {
 }
 
 /// The transaction is committed.
-fn finish<O: Write>(alloc: Global, client: &mut Alone, out: &mut O) -> io::Result<()> {
+fn finish<Q: Chooser, O: Write>(
+    alloc: Global,
+    client: &mut Client<Q>,
+    out: &mut O,
+) -> io::Result<()> {
     let finished = match client.finish(alloc) {
         Err(ClientFault::Memory) => client.finish(alloc),
         finished => finished,
@@ -228,7 +243,11 @@ fn finish<O: Write>(alloc: Global, client: &mut Alone, out: &mut O) -> io::Resul
 }
 
 /// The transaction is dropped.
-fn drop_txn<O: Write>(alloc: Global, client: &mut Alone, out: &mut O) -> io::Result<()> {
+fn drop_txn<Q: Chooser, O: Write>(
+    alloc: Global,
+    client: &mut Client<Q>,
+    out: &mut O,
+) -> io::Result<()> {
     let dropped = match client.drop_txn(alloc) {
         Err(ClientFault::Memory) => client.drop_txn(alloc),
         dropped => dropped,
@@ -271,9 +290,9 @@ fn put_outcome<O: Write>(outcome: Outcome, out: &mut O) -> io::Result<()> {
 }
 
 /// A call that names a page.
-fn play_page<O: Write>(
+fn play_page<Q: Chooser, O: Write>(
     alloc: Global,
-    client: &mut Alone,
+    client: &mut Client<Q>,
     word: &str,
     words: &mut SplitWhitespace<'_>,
     out: &mut O,
@@ -301,9 +320,9 @@ fn put_bytes<O: Write>(alloc: Global, bytes: Option<&[u8]>, out: &mut O) -> io::
 }
 
 /// The transaction reads a page. Answers it, if its bytes were answered.
-fn read<O: Write>(
+fn read<Q: Chooser, O: Write>(
     alloc: Global,
-    client: &mut Alone,
+    client: &mut Client<Q>,
     page: PageNo,
     out: &mut O,
 ) -> io::Result<Option<PageNo>> {
@@ -325,7 +344,12 @@ fn read<O: Write>(
 }
 
 /// The transaction wants to write a page.
-fn want<O: Write>(alloc: Global, client: &mut Alone, page: PageNo, out: &mut O) -> io::Result<()> {
+fn want<Q: Chooser, O: Write>(
+    alloc: Global,
+    client: &mut Client<Q>,
+    page: PageNo,
+    out: &mut O,
+) -> io::Result<()> {
     match client.want(page) {
         Ok(WantAnswer::Permitted) => writeln!(out, " permitted"),
         Ok(WantAnswer::Asked(_)) => asked(alloc, client, out),
@@ -334,7 +358,7 @@ fn want<O: Write>(alloc: Global, client: &mut Alone, page: PageNo, out: &mut O) 
 }
 
 /// An ask is out.
-fn asked<O: Write>(alloc: Global, client: &Alone, out: &mut O) -> io::Result<()> {
+fn asked<Q: Chooser, O: Write>(alloc: Global, client: &Client<Q>, out: &mut O) -> io::Result<()> {
     writeln!(out, " asked")?;
     match client.ask() {
         Some(ask) => {
@@ -346,9 +370,9 @@ fn asked<O: Write>(alloc: Global, client: &Alone, out: &mut O) -> io::Result<()>
 }
 
 /// The transaction writes a page, whose bytes the word spells; a mark of refusal stands for none.
-fn write<O: Write>(
+fn write<Q: Chooser, O: Write>(
     alloc: Global,
-    client: &mut Alone,
+    client: &mut Client<Q>,
     page: PageNo,
     word: &str,
     out: &mut O,

@@ -1,7 +1,8 @@
 //! A server alone, as a list plays it, over a store of zeros.
 //!
 //! A call that memory was refused for is made once more, as is the server itself: it changed
-//! nothing, so that where one growth of the server's is refused the same is printed as where none is.
+//! nothing, so that where one growth of the server's is refused the same is printed as where none
+//! is.
 
 use crate::frames::{put_digits, put_frames};
 use crate::words::{bytes, is_opening, limits, not_a_line, number};
