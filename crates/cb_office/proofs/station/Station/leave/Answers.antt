@@ -1,10 +1,11 @@
-use Rattle.std.proofs.Common.{rules, ◌≡◌, ◌<◌, ◌+◌, ℕ, true, false, is_err, length, refl, sym, ap, ◌∙◌, subst}
+use Rattle.std.proofs.Common.{rules, ◌≡◌, ◌<◌, ◌+◌, ℕ, Option, None, true, false, is_err, length, refl, sym, ap, ◌∙◌, subst, slice_set}
 use Rattle.cb_office.proofs.Calls.{err_fact, leaves_station, ok_fact}
 use Rattle.cb_office.proofs.Stations.{unchanged_station}
 use Rattle.cb_office.proofs.Following.{has_place}
 use Rattle.cb_office.specs.Stations.{StationState, outbox_of}
 use Rattle.cb_dispatch.specs.Dispatching as dispatching
 use Rattle.cb_dispatch.specs.Dispatching.{Everybody, Others, Posts, emptied, without_oldest}
+use Rattle.cb_hands.specs.Hands.{HandState}
 use Rattle.cb_joined.specs.Joined.{IsHeld}
 use Rattle.cb_outbox.specs.Messages.{messages_of}
 use Rattle.cb_protocol.specs.AnyMessages.{MessageComes}
@@ -33,3 +34,8 @@ returns-clause-posts c =
     subst (λ (v : StationState). Posts v.dispatcher (MessageComes c.args.hand.client (c.args.hand.incarnation + 1) Hello) (outbox_of v) (Others c.args.hand.client) c.dismiss.new.self) c.self.view_is
     (subst (λ (n : ℕ). Posts c.self.inside.dispatcher (MessageComes c.args.hand.client n Hello) (dispatching.outbox_of c.self.inside.dispatcher) (Others c.args.hand.client) c.dismiss.new.self) number
     (subst (λ (k : ℕ). Posts c.self.inside.dispatcher (MessageComes k c.in-Some.incarnation Hello) (dispatching.outbox_of c.self.inside.dispatcher) (Others k) c.dismiss.new.self) c.client-client.ensures posts))
+
+pub returns-clause-hands : goal.returns-clause-hands
+returns-clause-hands c =
+    let none : Option HandState = None in
+    c.remove.ensures ∙ ap (λ (k : ℕ). slice_set c.self.inside.hands k none) c.client-client.ensures ∙ ap (λ (v : StationState). slice_set v.hands c.args.hand.client none) c.self.view_is

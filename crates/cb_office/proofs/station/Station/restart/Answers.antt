@@ -2,7 +2,9 @@ use Rattle.std.proofs.Common.{rules, ◌≡◌, ◌<◌, ℕ, true, false, is_er
 use Rattle.cb_office.proofs.Calls.{enters_station, err_fact, ok_fact}
 use Rattle.cb_office.proofs.Stations.{unchanged_station}
 use Rattle.cb_office.proofs.Following.{has_place}
-use Rattle.cb_office.specs.Stations.{StationState, server_of}
+use Rattle.cb_office.specs.Stations.{StationState, outbox_of, server_of}
+use Rattle.cb_dispatch.specs.Dispatching as dispatching
+use Rattle.cb_dispatch.specs.Dispatching.{Everybody, Posts, emptied}
 use Rattle.cb_hands.specs.Hands.{empty_hand}
 use Rattle.cb_joined.specs.Joined.{IsHeld}
 use Rattle.cb_outbox.specs.Messages.{messages_of}
@@ -35,3 +37,10 @@ returns-clause-hand c =
     let held : IsHeld c.self.inside.hands c.args.hand = search rules in
     let stored = c.self.invariant.hand c.args.hand.client c.args.hand held in
     c.renew.ensures.hand ∙ ap (λ (n : ℕ). empty_hand c.args.hand.client c.args.incarnation n) (stored.size ∙ ap (λ (v : StationState). v.dispatcher.server.limits.pages) c.self.view_is)
+
+pub returns-clause-posts : goal.returns-clause-posts
+returns-clause-posts c =
+    let done : is_err c.greet.result ≡ false = sym c.is_err.ensures.value ∙ c.if-is_err.false in
+    let posts = ok_fact c.greet.result _ done c.greet.ensures.ok in
+    subst (λ (v : StationState). Posts v.dispatcher (MessageComes c.args.hand.client c.args.incarnation Hello) (emptied (outbox_of v) c.args.hand.client) Everybody c.greet.new.self) c.self.view_is
+    (subst (λ (k : ℕ). Posts c.self.inside.dispatcher (MessageComes k c.args.incarnation Hello) (emptied (dispatching.outbox_of c.self.inside.dispatcher) k) Everybody c.greet.new.self) c.client.ensures posts)

@@ -1,5 +1,11 @@
-use Rattle.std.proofs.Common.{rules}
+use Rattle.std.proofs.Common.{refl}
 use Rattle.cb_office.proofs.station.committing.entry_of.Goals as goal
 
 pub returns : goal.returns
-returns c = search rules
+returns c = record {
+  client = c.client.ensures;
+  incarnation = c.incarnation.ensures;
+  txn = refl;
+  reads = c.in_ok-reads_of.ensures;
+  writes = c.in_ok-pages_of.ensures;
+}

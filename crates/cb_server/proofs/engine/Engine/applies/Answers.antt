@@ -10,7 +10,7 @@ use Rattle.cb_outbox.specs.Messages.{page_writes}
 use Rattle.cb_protocol.specs.Server.{without_client, without_marks}
 use Rattle.cb_protocol.specs.ServerMessages.{commit_allowed}
 use Rattle.cb_server.specs.Answering.{server_in}
-use Rattle.cb_server.proofs.Committing.{allowed_waits, applies_later, applies_live}
+use Rattle.cb_server.proofs.Committing.{allowed_waits, applies_ended, applies_later, applies_live}
 use Rattle.cb_server.proofs.engine.Engine.applies.Goals as goal
 
 pub returns-in-Later : goal.returns-in-Later
@@ -38,3 +38,9 @@ returns-in-Live c = c.commit_allowed.ensures
 
     last : IsLast (holdings.server_of c.args.self.now.callbacks.tables.holdings) c.args.client c.args.txn
     last = subst (λ (h : HoldingsState). IsLast (holdings.server_of h) c.args.client c.args.txn) c.holdings-holdings.ensures c.in-Live.ensures.last
+
+pub returns-in-Ended : goal.returns-in-Ended
+returns-in-Ended c = sym (applies_ended (server_in c.args.self.now) c.args.client c.args.txn (page_writes c.args.writes.now) ended)
+  where
+    ended : standing.Ended ≡ standing_in (server_in c.args.self.now) c.args.client c.args.txn
+    ended = sym c.in-Ended.is ∙ (c.standing.ensures.value ∙ ap (λ (h : HoldingsState). standing_in (holdings.server_of h) c.args.client c.args.txn) c.holdings-holdings.ensures)

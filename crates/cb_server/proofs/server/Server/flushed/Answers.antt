@@ -1,8 +1,10 @@
-use Rattle.std.proofs.Common.{subst}
+use Rattle.std.proofs.Common.{refl, subst}
 use Rattle.std.specs.List.{AllByRecursion}
 use Rattle.cb_frame_types.specs.Grammar.{Fits}
+use Rattle.cb_outbox.specs.Messages.{messages_of}
 use Rattle.cb_protocol.specs.AnyMessages.{ReachesDisk}
 use Rattle.cb_server.specs.ServerState.{ServerState}
+use Rattle.cb_server.specs.Taking.{Does}
 use Rattle.cb_server.proofs.Arising.{arises, said_fits}
 use Rattle.cb_server.proofs.server.Server.flushed.Goals as goal
 
@@ -19,3 +21,8 @@ pub returns-clause-fits : goal.returns-clause-fits
 returns-clause-fits c =
     subst (λ (v : ServerState). AllByRecursion (Fits v.limits) c.in_ok-dones.dones.items) c.self.view_is
     (said_fits c.self.inside.limits c.self.inside.engine.callbacks.tables (ReachesDisk c.args.number) c.in_ok-dones.dones.items c.self.invariant.is tt c.in_ok-dones.ensures.dones)
+
+pub returns-clause-ok : goal.returns-clause-ok
+returns-clause-ok c =
+    subst (λ (v : ServerState). Does v (ReachesDisk c.args.number) (messages_of c.in_ok-dones.dones.items) (record { limits = c.self.inside.limits; tables = c.flushed.new.self.tables })) c.self.view_is
+    (record { sends = c.in_ok-dones.ensures.dones; becomes = c.in_ok-dones.ensures.ok.becomes; limits = refl; opening = c.in_ok-dones.ensures.ok.stays.opening })
