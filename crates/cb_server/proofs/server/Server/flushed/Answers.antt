@@ -1,12 +1,16 @@
-use Rattle.std.proofs.Common.{refl, subst}
+use Rattle.std.proofs.Common.{◌≡◌, true, refl, sym, subst}
 use Rattle.std.specs.List.{AllByRecursion}
 use Rattle.cb_frame_types.specs.Grammar.{Fits}
 use Rattle.cb_outbox.specs.Messages.{messages_of}
 use Rattle.cb_protocol.specs.AnyMessages.{ReachesDisk}
-use Rattle.cb_server.specs.ServerState.{ServerState}
+use Rattle.cb_protocol.specs.Flush.{can_flush}
+use Rattle.cb_server.specs.ServerState.{ServerState, server_of}
 use Rattle.cb_server.specs.Taking.{Does}
 use Rattle.cb_server.proofs.Arising.{arises, said_fits}
 use Rattle.cb_server.proofs.server.Server.flushed.Goals as goal
+
+pub flushed-requires : goal.flushed-requires
+flushed-requires c = subst (λ (v : ServerState). can_flush (server_of v) c.args.number ≡ true) (sym c.self.view_is) c.requires
 
 pub invariant_of-self-2 : goal.invariant_of-self-2
 invariant_of-self-2 c = record {
