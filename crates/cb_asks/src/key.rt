@@ -5,7 +5,7 @@ use cb_page::ClientNo;
 use std::marker::Model;
 
 /// A client's number with a hash, which [`ClientNo`] lacks.
-#[derive(Clone, Copy, Debug, PartialEq, Eq, Hash)]
+#[derive(Clone, Copy, PartialEq, Eq, Hash)]
 pub(crate) struct Key {
     value: u16,
 }

@@ -8,7 +8,7 @@ use cb_page::{ClientNo, PageNo};
 use std::marker::Model;
 
 /// Where each client's ask waits, and how many asks are to read.
-#[derive(Debug, Drop)]
+#[derive(Drop)]
 pub(crate) struct Places {
     at: [Option<PageNo>; 32],
     /// The clients whose asks wait.

@@ -17,6 +17,7 @@ use cb_clients::ClientSet;
 use cb_page::{ClientNo, GrantNo, TxnNo};
 use indexmap::IndexMap;
 use std::alloc::AllocError;
+use std::fmt;
 use std::marker::Model;
 
 /// An ask that waits.
@@ -32,7 +33,7 @@ pub struct Waiting {
 }
 
 /// What a queue keeps of an ask beside its client.
-#[derive(Clone, Copy, Debug)]
+#[derive(Clone, Copy)]
 pub(crate) struct Entry {
     pub(crate) write_grant: Option<GrantNo>,
     pub(crate) called_back: bool,
@@ -56,10 +57,18 @@ impl Entry {
 /// The asks for one page, in order of arrival.
 ///
 /// The first costs the same however many wait; taking one out shifts those behind it.
-#[derive(Debug, Drop)]
+#[derive(Drop)]
 pub struct Queue {
     /// By client. `None`: nobody waits.
     entries: Option<Box<IndexMap<Key, Entry>>>,
+}
+
+impl fmt::Debug for Queue {
+    fn fmt<W: fmt::Write>(&self, f: &mut fmt::Formatter<W>) -> fmt::Result {
+        f.debug_struct("Queue")
+            .field("len", &self.len())
+            .finish_non_exhaustive()
+    }
 }
 
 impl Model for Queue {

@@ -12,7 +12,7 @@ use std::marker::Model;
 ///
 /// There are 32 of them and of those in queues, since a client waits for one page at most. The last
 /// one that came is the first to go: so short waits use the same memory, whatever their pages.
-#[derive(Debug, Drop)]
+#[derive(Drop)]
 pub(crate) struct Spare {
     maps: Vec<Box<IndexMap<Key, Entry>>>,
 }

@@ -1,5 +1,5 @@
 -- A first ask is decided, and the room that each decision leaves.
-use Rattle.std.proofs.Common.{◌≡◌, ℕ, Bool, true, false, ◌&&◌, if◌then◌else◌, List, [], ◌++◌, refl, sym, ap, subst}
+use Rattle.std.proofs.Common.{◌≡◌, ◌∙◌, ◌⊎◌, inl, inr, ℕ, Bool, true, false, ◌&&◌, if◌then◌else◌, List, [], ◌++◌, refl, sym, ap, subst}
 use Rattle.std.proofs.lemmas.List.{append-nil}
 use Rattle.cb_outbox.specs.Saying.{Decides, HasRoomFor, OutboxState, Says}
 use Rattle.cb_outbox.proofs.Saying.{decided, decides_as, room_after, room_first, says_nothing, settled, then_wait}
@@ -7,6 +7,16 @@ use Rattle.cb_tables.proofs.Rooms.{room_by}
 use Rattle.cb_protocol.specs.Basics.{is_none}
 use Rattle.cb_protocol.specs.Server.{DeadlockTest, Server, ServerStep, WaitingAsk, has_row, server_after}
 use Rattle.cb_protocol.specs.Settling.{Decided, Settled, call_back_once, decide_read, decide_write, decision_steps, doom_client, downgrade_once, grant_row, no_other_holder, permit_write, sole_row, wait_or_doom}
+
+-- not all of these hold, by which of them is the first that doesn't
+pub not_both : (a b : Bool) → ((a ≡ true) × (b ≡ false)) ⊎ (a ≡ false) → (a && b) ≡ false
+not_both a b (inl second) = ap (λ (x : Bool). x && b) second.0 ∙ second.1
+not_both a b (inr first) = ap (λ (x : Bool). x && b) first
+
+pub not_all : (a b d : Bool) → ((a ≡ true) × (b ≡ true) × (d ≡ false)) ⊎ (((a ≡ true) × (b ≡ false)) ⊎ (a ≡ false)) → (a && b && d) ≡ false
+not_all a b d (inl third) = ap (λ (x : Bool). x && b && d) third.0 ∙ (ap (λ (x : Bool). true && x && d) third.1 ∙ third.2)
+not_all a b d (inr (inl second)) = ap (λ (x : Bool). x && b && d) second.0 ∙ ap (λ (x : Bool). true && x && d) second.1
+not_all a b d (inr (inr first)) = ap (λ (x : Bool). x && b && d) first
 
 -- the deadlock test
 pub waits_doomed : (cycle : DeadlockTest) (s t : Server) (client : ℕ) (a b : OutboxState) → cycle s client ≡ true

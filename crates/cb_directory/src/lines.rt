@@ -11,7 +11,7 @@ use std::alloc::{AllocError, Global};
 use std::marker::Model;
 
 /// One page: the clients that have a copy, and the write holder.
-#[derive(Clone, Copy, Debug)]
+#[derive(Clone, Copy)]
 pub struct PageLine {
     pub clients: ClientSet,
     pub holder: Option<ClientNo>,
@@ -20,7 +20,7 @@ pub struct PageLine {
 }
 
 /// A grant or none, in eight bytes: no grant has the number 0.
-#[derive(Clone, Copy, Debug)]
+#[derive(Clone, Copy)]
 struct GrantPlace {
     number: u64,
 }
@@ -49,8 +49,11 @@ impl GrantPlace {
     fn new(grant: Option<GrantNo>) -> GrantPlace
         ensures { result ≡ grant }
     {
-        GrantPlace {
-            number: grant.map_or(0, |grant| grant.get()),
+        match grant {
+            Some(grant) => GrantPlace {
+                number: grant.get(),
+            },
+            None => GrantPlace::NONE,
         }
     }
 
@@ -64,11 +67,20 @@ impl GrantPlace {
 
 /// One client: the grants of its copies, the pages of which it has a copy, and those that it may
 /// write. So a walk over the one or the other costs what it finds.
-#[derive(Debug, Drop)]
 pub struct ClientLine {
     grants: Vec<GrantPlace>,
     copied: PageSet,
     writable: PageSet,
+}
+
+impl Drop for ClientLine {
+    fn drop(self) {
+        let ClientLine {
+            grants: _,
+            copied: _,
+            writable: _,
+        } = self;
+    }
 }
 
 impl Model for ClientLine {

@@ -14,7 +14,7 @@ use std::alloc::{AllocError, Global};
 use std::marker::Model;
 
 /// One line a client and one a page.
-#[derive(Debug, Drop)]
+#[derive(Drop)]
 pub struct Tables {
     clients: Vec<ClientLine>,
     pages: Vec<PageLine>,

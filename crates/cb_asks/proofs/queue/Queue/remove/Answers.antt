@@ -1,4 +1,5 @@
-use Rattle.std.proofs.Common.{◌≡◌, ◌≤◌, ℕ, List, None, Some, nat_eq, ap, sym, subst, ◌∙◌}
+use Rattle.std.proofs.Common.{arith, rules, ◌≡◌, ◌≤◌, ℕ, List, None, Some, nat_eq, ap, sym, subst, ◌∙◌}
+use Rattle.std.proofs.lemmas.Grind.{common_steps}
 use Rattle.std.specs.Map.{lookup, remove_entry}
 use Rattle.std.specs.Option.{option_map}
 use Rattle.cb_protocol.specs.Deadlock.{ask_count}
@@ -44,3 +45,48 @@ returns-clause-asks c = rw (← c.self.view_is) (λ one. ap asks_of c.shift_remo
   where
     read : asks_of c.deref_mut.result.now.entries ≡ asks_in c.self.inside.entries
     read = asks_read _ _ _ c.in-Some.is c.deref_mut.ensures.value
+
+pub returns-in_err-ask-clause-ask : goal.returns-in_err-ask-clause-ask
+returns-in_err-ask-clause-ask c = search rules
+
+pub returns-in_err-ask-clause-asks : goal.returns-in_err-ask-clause-asks
+returns-in_err-ask-clause-asks c = grind (arith, common_steps)
+
+pub close-requires-clause-some : goal.close-requires-clause-some
+close-requires-clause-some c = search rules
+
+pub close-requires-clause-few : goal.close-requires-clause-few
+close-requires-clause-few c = search rules
+
+pub returns-then-len-eq1-clause-ask : goal.returns-then-len-eq1-clause-ask
+returns-then-len-eq1-clause-ask c = search rules
+
+pub returns-then-len-eq1-clause-asks : goal.returns-then-len-eq1-clause-asks
+returns-then-len-eq1-clause-asks c = grind (arith, common_steps)
+
+pub returns-then-len-eq1-clause-maps : goal.returns-then-len-eq1-clause-maps
+returns-then-len-eq1-clause-maps c = search rules
+
+pub returns-in_default-clause-ask : goal.returns-in_default-clause-ask
+returns-in_default-clause-ask c = search rules
+
+pub returns-in_default-clause-asks : goal.returns-in_default-clause-asks
+returns-in_default-clause-asks c = search rules
+
+pub invariant_of-self-in_err-entry : goal.invariant_of-self-in_err-entry
+invariant_of-self-in_err-entry c = search rules
+
+pub returns-in_err-entry-clause-room : goal.returns-in_err-entry-clause-room
+returns-in_err-entry-clause-room c = search rules
+
+pub returns-in_err-entry-clause-maps : goal.returns-in_err-entry-clause-maps
+returns-in_err-entry-clause-maps c = search rules
+
+pub invariant_of-self-2 : goal.invariant_of-self-2
+invariant_of-self-2 c = grind (arith, common_steps)
+
+pub returns-clause-room : goal.returns-clause-room
+returns-clause-room c = search rules
+
+pub returns-clause-maps : goal.returns-clause-maps
+returns-clause-maps c = grind (arith, common_steps)

@@ -1,4 +1,4 @@
-use Rattle.std.proofs.Common.{subst}
+use Rattle.std.proofs.Common.{◌≡◌, ◌+◌, subst}
 use Rattle.cb_callbacks.specs.Callbacks.{CallbacksState, Changes}
 use Rattle.cb_tables.specs.Tables.{server_of}
 use Rattle.cb_callbacks.proofs.Ending.{commits_ends, changes_forgot, ended, forgot, kept_ended, waits_forgot}
@@ -22,3 +22,6 @@ pub returns-clause-ok : goal.returns-clause-ok
 returns-clause-ok c = subst (λ (v : CallbacksState). Changes v.tables (ended c.args.client (ApplyCommit c.args.txn (page_writes c.args.writes))) c.forget.new.self) c.self.view_is
     (changes_forgot c.self.inside.tables c.forget.new.self c.apply_commit.new.self c.args.client (ApplyCommit c.args.txn (page_writes c.args.writes))
     c.in_ok-number.ensures.ok c.forget.ensures.holdings c.forget.ensures.asks c.forget.ensures.marks)
+
+pub returns-clause-number : goal.returns-clause-number
+returns-clause-number c = subst (λ (v : CallbacksState). c.in_ok-number.number ≡ (server_of v.tables).store.last_commit + 1) c.self.view_is c.in_ok-number.ensures.number

@@ -1,4 +1,4 @@
-use Rattle.std.proofs.Common.{◌≡◌, ◌∙◌, ◌&&◌, sym, subst, true, false, rules}
+use Rattle.std.proofs.Common.{◌≡◌, ◌∙◌, sym, subst, true, false}
 use Rattle.cb_asks.specs.Queues.{waiting_ask}
 use Rattle.cb_protocol.specs.Server.{has_row}
 use Rattle.cb_protocol.specs.Settling.{call_back_once, no_other_holder, sole_row}
@@ -6,7 +6,7 @@ use Rattle.cb_protocol.specs.WaitsFor.{on_cycle}
 use Rattle.cb_callbacks.specs.Callbacks.{CallbacksState}
 use Rattle.cb_callbacks.specs.Deciding.{IsFirst}
 use Rattle.cb_tables.specs.Tables.{server_of}
-use Rattle.cb_callbacks.proofs.Deciding.{may_write, room_permitted, room_tested, room_told, room_write_waits, writes_permitted, writes_wait}
+use Rattle.cb_callbacks.proofs.Deciding.{may_write, not_all, room_permitted, room_tested, room_told, room_write_waits, writes_permitted, writes_wait}
 use Rattle.cb_callbacks.proofs.Kept.{first_known}
 use Rattle.cb_callbacks.proofs.callbacks.Callbacks.decide_write.Goals as goal
 
@@ -32,20 +32,20 @@ permit_first-requires-clause-room c =
 
 pub call_back_once-requires-clause-room : goal.call_back_once-requires-clause-room
 call_back_once-requires-clause-room c =
-    let not_all : (c.no_other_holder-is_free.result && c.has_row-has_copy.result && c.sole_row-is_alone.result) ≡ false = search rules in
+    let some_not = not_all c.no_other_holder-is_free.result c.has_row-has_copy.result c.sole_row-is_alone.result c.else-is_free.either in
     let none : may_write (server_of c.args.self.now.tables) c.args.page (waiting_ask c.args.first) c.args.grant ≡ false =
     subst (λ (v : CallbacksState). may_write (server_of v.tables) c.args.page (waiting_ask c.args.first) c.args.grant ≡ false) c.self.view_is
-    (rw (← c.no_other_holder-is_free.ensures, ← c.has_row-has_copy.ensures, ← c.sole_row-is_alone.ensures) not_all) in
+    (rw (← c.no_other_holder-is_free.ensures, ← c.has_row-has_copy.ensures, ← c.sole_row-is_alone.ensures) some_not) in
     room_told on_cycle (server_of c.args.self.now.tables) c.args.first.client
     (call_back_once (server_of c.args.self.now.tables) c.args.page (waiting_ask c.args.first)) c.args.outbox.now
     (room_write_waits on_cycle (server_of c.args.self.now.tables) c.args.page (waiting_ask c.args.first) c.args.grant c.args.outbox.now none c.requires.room)
 
 pub wait_or_doom-requires-clause-room : goal.wait_or_doom-requires-clause-room
 wait_or_doom-requires-clause-room c =
-    let not_all : (c.no_other_holder-is_free.result && c.has_row-has_copy.result && c.sole_row-is_alone.result) ≡ false = search rules in
+    let some_not = not_all c.no_other_holder-is_free.result c.has_row-has_copy.result c.sole_row-is_alone.result c.else-is_free.either in
     let none : may_write (server_of c.args.self.now.tables) c.args.page (waiting_ask c.args.first) c.args.grant ≡ false =
     subst (λ (v : CallbacksState). may_write (server_of v.tables) c.args.page (waiting_ask c.args.first) c.args.grant ≡ false) c.self.view_is
-    (rw (← c.no_other_holder-is_free.ensures, ← c.has_row-has_copy.ensures, ← c.sole_row-is_alone.ensures) not_all) in
+    (rw (← c.no_other_holder-is_free.ensures, ← c.has_row-has_copy.ensures, ← c.sole_row-is_alone.ensures) some_not) in
     room_tested on_cycle (server_of c.args.self.now.tables) (server_of c.call_back_once.new.self.tables) c.args.first.client
     (λ server. call_back_once server c.args.page (waiting_ask c.args.first)) c.args.outbox.now c.call_back_once.new.outbox
     (room_write_waits on_cycle (server_of c.args.self.now.tables) c.args.page (waiting_ask c.args.first) c.args.grant c.args.outbox.now none c.requires.room)
@@ -64,10 +64,10 @@ returns-then-is_alone-clause-decides c =
 
 pub returns-else-is_free-clause-decides : goal.returns-else-is_free-clause-decides
 returns-else-is_free-clause-decides c =
-    let not_all : (c.no_other_holder-is_free.result && c.has_row-has_copy.result && c.sole_row-is_alone.result) ≡ false = search rules in
+    let some_not = not_all c.no_other_holder-is_free.result c.has_row-has_copy.result c.sole_row-is_alone.result c.else-is_free.either in
     let none : may_write (server_of c.args.self.now.tables) c.args.page (waiting_ask c.args.first) c.args.grant ≡ false =
     subst (λ (v : CallbacksState). may_write (server_of v.tables) c.args.page (waiting_ask c.args.first) c.args.grant ≡ false) c.self.view_is
-    (rw (← c.no_other_holder-is_free.ensures, ← c.has_row-has_copy.ensures, ← c.sole_row-is_alone.ensures) not_all) in
+    (rw (← c.no_other_holder-is_free.ensures, ← c.has_row-has_copy.ensures, ← c.sole_row-is_alone.ensures) some_not) in
     writes_wait on_cycle (server_of c.args.self.now.tables) (server_of c.call_back_once.new.self.tables) (server_of c.wait_or_doom.new.self.tables) c.args.page
     (waiting_ask c.args.first) c.args.grant c.wait_or_doom.result c.args.outbox.now c.call_back_once.new.outbox c.wait_or_doom.new.outbox none
     c.call_back_once.ensures.says c.wait_or_doom.ensures.decides

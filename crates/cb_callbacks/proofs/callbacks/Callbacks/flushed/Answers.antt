@@ -1,8 +1,10 @@
-use Rattle.std.proofs.Common.{subst, rules}
+use Rattle.std.proofs.Common.{◌≡◌, subst, sym, true}
 use Rattle.cb_callbacks.specs.Callbacks.{CallbacksState, Changes}
 use Rattle.cb_tables.specs.Tables.{server_of}
 use Rattle.cb_callbacks.proofs.Flushing.{flushes_changes, kept_flushed}
-use Rattle.cb_protocol.specs.Flush.{server_flush}
+use Rattle.cb_outbox.specs.Messages.{messages_of}
+use Rattle.cb_protocol.specs.Flush.{can_flush, server_flush}
+use Rattle.cb_protocol.specs.World.{messages_sent}
 use Rattle.cb_callbacks.proofs.callbacks.Callbacks.flushed.Goals as goal
 
 pub invariant_of-self-2 : goal.invariant_of-self-2
@@ -14,4 +16,8 @@ returns-clause-ok c =
     (flushes_changes c.self.inside.tables c.flushed.new.self c.args.number c.in_ok-dones.ensures.ok)
 
 pub returns-clause-dones : goal.returns-clause-dones
-returns-clause-dones c = search rules
+returns-clause-dones c =
+    subst (λ (v : CallbacksState). messages_of c.in_ok-dones.dones.items ≡ messages_sent (server_flush (server_of v.tables) c.args.number)) c.self.view_is c.in_ok-dones.ensures.dones
+
+pub flushed-requires : goal.flushed-requires
+flushed-requires c = subst (λ (v : CallbacksState). can_flush (server_of v.tables) c.args.number ≡ true) (sym c.self.view_is) c.requires

@@ -1,4 +1,4 @@
-use Rattle.std.proofs.Common.{sym, subst}
+use Rattle.std.proofs.Common.{rules, sym, subst}
 use Rattle.cb_callbacks.specs.Callbacks.{CallbacksState}
 use Rattle.cb_tables.specs.Tables.{HasPage, server_of}
 use Rattle.cb_tables.specs.Waits.{HasBegun}
@@ -14,3 +14,6 @@ invariant_of-self c =
     c.give_permission.ensures.are c.give_permission.ensures.says.becomes
     (permits_at c.args.client c.args.page c.args.grant (server_of c.self.inside.tables) c.self.invariant.waits
     (subst (λ (v : CallbacksState). HasBegun (server_of v.tables) c.args.client) (sym c.self.view_is) c.requires.begun)) c.follow_page.ensures
+
+pub returns-clause-says : goal.returns-clause-says
+returns-clause-says c = search rules

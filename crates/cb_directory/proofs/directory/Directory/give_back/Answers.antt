@@ -1,4 +1,5 @@
-use Rattle.std.proofs.Common.{rules, arith}
+use Rattle.std.proofs.Common.{arith, refl, rules, subst}
+use Rattle.cb_directory.specs.Directories.{DirectoryState, GivesBack}
 use Rattle.cb_directory.proofs.directory.Directory.give_back.Goals as goal
 
 pub invariant_of-self : goal.invariant_of-self
@@ -19,3 +20,14 @@ invariant_of-self c = record {
     holder_known = λ client page is. grind (arith, c.put_row.ensures.holders page, c.put_row.ensures.size, c.self.invariant.agree.holder_known client page);
   };
 }
+
+pub returns : goal.returns
+returns c = subst (λ (before : DirectoryState). GivesBack before c.args.client c.args.page (record { tables = c.put_row.new.self; next_grant = c.self.inside.next_grant })) c.self.view_is (record {
+  has = record {
+    rows = c.put_row.ensures.rows;
+    holders = c.put_row.ensures.holders;
+    tags = c.put_row.ensures.tags;
+    size = c.put_row.ensures.size;
+  };
+  next = refl;
+})
