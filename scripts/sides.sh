@@ -19,8 +19,9 @@ for file in "$@"; do
     *.gz) gzip -dc "$file" >"$list" ;;
     *) cat "$file" >"$list" ;;
   esac || { bad=1; continue; }
-  # The first line is the word itself, the last one the status.
+  # The first line is the word itself, the last one the status; what ended the list before its end is no answer.
   "$program" "sides $list" | sed '1d;$d' >"$answers"
+  ! grep -o 'Error: .*' "$answers" >&2 || sed -i 's/Error: .*//' "$answers"
   ! grep '^references differ' "$answers" || bad=1
   # What is said of references stands in no list that is handed in.
   sed -i '/^references /d' "$answers"
