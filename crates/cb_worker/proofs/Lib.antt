@@ -6,3 +6,4 @@ pub mod Standing
 pub mod Staying
 pub mod Refusing
 pub mod Asking
+pub mod Steps

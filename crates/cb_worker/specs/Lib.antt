@@ -6,3 +6,4 @@ pub mod Waiting
 pub mod Lending
 pub mod Refusals
 pub mod Asking
+pub mod Steps

@@ -1,16 +1,17 @@
 //! The calls that take the office, and may wait.
-ghost use Rattle.std.specs.Prelude.{◌≡◌, ◌↔◌, [], false, true, IfErr, IfOk, IsTrue, MatchBool, Ok};
-ghost use Rattle.std.specs.Prelude.{Err, OnOk};
+ghost use Rattle.std.specs.Prelude.{◌≡◌, ◌↔◌, [], false, true, IfErr, IfOk, IfSome, IsTrue};
+ghost use Rattle.std.specs.Prelude.{MatchBool, Ok, Err, OnOk};
 ghost use Rattle.std.specs.Borrow.{sem};
 ghost use Rattle.cb_protocol.specs.Client as protocol;
 ghost use Rattle.cb_protocol.specs.ClientCalls.{CallDrop, CallWant};
 ghost use Rattle.cb_worker.specs.Asking.{AsksFor, AsksToWrite};
 ghost use Rattle.cb_worker.specs.Lending.{worker_ends};
 ghost use Rattle.cb_worker.specs.Refusals.{RefusesAsk, RefusesCall, RefusesDrop, RefusesFetch};
-ghost use Rattle.cb_worker.specs.Refusals.{RefusesFinish, RefusesServing, RefusesWant};
-ghost use Rattle.cb_worker.specs.Refusals.{StopsFetch, StopsServing};
-ghost use Rattle.cb_worker.specs.Waiting.{Drops, Fetches, Finishes, HasRead, IsDropped, IsServed};
-ghost use Rattle.cb_worker.specs.Waiting.{Wants};
+ghost use Rattle.cb_worker.specs.Refusals.{RefusesCommit, RefusesFinish, RefusesServing};
+ghost use Rattle.cb_worker.specs.Refusals.{RefusesWant, StopsFetch, StopsServing};
+ghost use Rattle.cb_worker.specs.Steps.{MayOrEnded, Reads, StopsOr};
+ghost use Rattle.cb_worker.specs.Waiting.{Drops, Fetches, Finishes, HasRead, IsDropped};
+ghost use Rattle.cb_worker.specs.Waiting.{IsFinished, IsServed, Wants};
 ghost use Rattle.cb_worker.specs.Workers.{Ended, Ends, IsStill, after_hit, may_hit};
 
 use crate::answers::{Fetched, Finished, Wanted};
@@ -131,24 +132,63 @@ impl<Q: Chooser> Worker<Q> {
         }
         self.needs_transaction()?;
         let mut shared = office.lock(rt);
-        if self.serve_first(rt, alloc, office, &mut shared)? {
-            return Ok(false);
-        }
-        if self.touch(page) {
-            return Ok(true);
-        }
-        self.ask_for(page)?;
+        let mut fetched = self.begin_fetch(rt, alloc, office, page, &mut shared);
         for _ in rt.forever() {
-            self.serve_at(rt, alloc, office, &mut shared)?;
-            if self.touch(page) {
-                return Ok(true);
-            }
-            if self.is_aborted() {
-                return Ok(false);
+            if let Some(answer) = fetched.transpose() {
+                return answer;
             }
             shared = office.wait_for_frame(rt, shared, self.hand.client());
+            fetched = self.go_on_fetching(rt, alloc, office, page, &mut shared);
         }
         unreachable!()
+    }
+
+    /// Serves, and asks for the page where it isn't here. `None` where it is to be waited for.
+    fn begin_fetch<R: Wait>(
+        &mut self,
+        rt: &R,
+        alloc: Global,
+        office: &Office,
+        page: PageNo,
+        shared: &mut SharedStation,
+    ) -> Result<Option<bool>, WorkerFault>
+        ensures reads { IfOk result (λ found. IfSome found (Reads self.new page)) }
+        ensures still { IsStill self.old self.new }
+        ensures refused { IfErr result (StopsOr self.new (RefusesAsk self.new page)) }
+    {
+        let aborted = self.serve_first(rt, alloc, office, shared)?;
+        if aborted {
+            return Ok(Some(false));
+        }
+        if self.touch(page) {
+            return Ok(Some(true));
+        }
+        self.ask_for(page)?;
+        self.go_on_fetching(rt, alloc, office, page, shared)
+    }
+
+    /// Serves, and reads the page where it has come. `None` where it hasn't, and the transaction
+    /// goes on.
+    fn go_on_fetching<R: Wait>(
+        &mut self,
+        rt: &R,
+        alloc: Global,
+        office: &Office,
+        page: PageNo,
+        shared: &mut SharedStation,
+    ) -> Result<Option<bool>, WorkerFault>
+        ensures reads { IfOk result (λ found. IfSome found (Reads self.new page)) }
+        ensures still { IsStill self.old self.new }
+        ensures refused { IfErr result (StopsServing self.new) }
+    {
+        self.serve_at(rt, alloc, office, shared)?;
+        if self.touch(page) {
+            Ok(Some(true))
+        } else if self.is_aborted() {
+            Ok(Some(false))
+        } else {
+            Ok(None)
+        }
     }
 
     /// The client asks for the page, which isn't here.
@@ -184,21 +224,62 @@ impl<Q: Chooser> Worker<Q> {
     {
         self.needs_transaction()?;
         let mut shared = office.lock(rt);
-        if self.serve_first(rt, alloc, office, &mut shared)? {
-            return Ok(Wanted::Aborted);
-        }
-        self.ask_to_write(page)?;
+        let mut wanted = self.begin_want(rt, alloc, office, page, &mut shared);
         for _ in rt.forever() {
-            self.serve_at(rt, alloc, office, &mut shared)?;
-            if self.client.may_write(page) {
-                return Ok(Wanted::Permitted);
-            }
-            if self.is_aborted() {
-                return Ok(Wanted::Aborted);
+            if let Some(answer) = wanted.transpose() {
+                return answer;
             }
             shared = office.wait_for_frame(rt, shared, self.hand.client());
+            wanted = self.go_on_wanting(rt, alloc, office, page, &mut shared);
         }
         unreachable!()
+    }
+
+    /// Serves, and asks for the permission. `None` where it is to be waited for.
+    fn begin_want<R: Wait>(
+        &mut self,
+        rt: &R,
+        alloc: Global,
+        office: &Office,
+        page: PageNo,
+        shared: &mut SharedStation,
+    ) -> Result<Option<Wanted>, WorkerFault>
+        ensures wants { IfOk result (λ found. IfSome found (MayOrEnded self.new page)) }
+        ensures served { OnOk result (IsServed self.new) }
+        ensures still { IsStill self.old self.new }
+        ensures refused { IfErr result (StopsOr self.new (RefusesCall self.new (CallWant page))) }
+    {
+        let aborted = self.serve_first(rt, alloc, office, shared)?;
+        if aborted {
+            return Ok(Some(Wanted::Aborted));
+        }
+        self.ask_to_write(page)?;
+        self.go_on_wanting(rt, alloc, office, page, shared)
+    }
+
+    /// Serves, and looks for the permission. `None` where it hasn't come, and the transaction goes
+    /// on.
+    fn go_on_wanting<R: Wait>(
+        &mut self,
+        rt: &R,
+        alloc: Global,
+        office: &Office,
+        page: PageNo,
+        shared: &mut SharedStation,
+    ) -> Result<Option<Wanted>, WorkerFault>
+        ensures wants { IfOk result (λ found. IfSome found (MayOrEnded self.new page)) }
+        ensures served { OnOk result (IsServed self.new) }
+        ensures still { IsStill self.old self.new }
+        ensures refused { IfErr result (StopsServing self.new) }
+    {
+        self.serve_at(rt, alloc, office, shared)?;
+        if self.client.may_write(page) {
+            Ok(Some(Wanted::Permitted))
+        } else if self.is_aborted() {
+            Ok(Some(Wanted::Aborted))
+        } else {
+            Ok(None)
+        }
     }
 
     /// The client wants to write the page, and asks for the permission if it hasn't got it.
@@ -304,21 +385,55 @@ impl<Q: Chooser> Worker<Q> {
     {
         self.needs_transaction()?;
         let mut shared = office.lock(rt);
-        self.serve_at(rt, alloc, office, &mut shared)?;
+        let mut ended = self.begin_finish(rt, alloc, office, &mut shared);
+        for _ in rt.forever() {
+            if let Some(answer) = ended.transpose() {
+                return answer;
+            }
+            shared = office.wait_for_frame(rt, shared, self.hand.client());
+            ended = self.go_on_finishing(rt, alloc, office, &mut shared);
+        }
+        unreachable!()
+    }
+
+    /// Serves, and commits unless the transaction is over. `None` where its end is to be waited for.
+    fn begin_finish<R: Wait>(
+        &mut self,
+        rt: &R,
+        alloc: Global,
+        office: &Office,
+        shared: &mut SharedStation,
+    ) -> Result<Option<Finished>, WorkerFault>
+        ensures finished { IfOk result (λ found. IfSome found (IsFinished self.new)) }
+        ensures served { OnOk result (IsServed self.new) }
+        ensures still { IsStill self.old self.new }
+        ensures refused { IfErr result (StopsOr self.new (RefusesCommit self.new)) }
+    {
+        self.serve_at(rt, alloc, office, shared)?;
         if let Some(ended) = self.ended() {
-            return Ok(ended);
+            return Ok(Some(ended));
         }
         let committed = self.commit_at(alloc, shared.station_mut());
         office.tell();
-        office.tell_clients(&shared);
+        office.tell_clients(shared);
         let _number = committed?;
-        for _ in rt.forever() {
-            self.serve_at(rt, alloc, office, &mut shared)?;
-            if let Some(ended) = self.ended() {
-                return Ok(ended);
-            }
-            shared = office.wait_for_frame(rt, shared, self.hand.client());
-        }
-        unreachable!()
+        self.go_on_finishing(rt, alloc, office, shared)
+    }
+
+    /// Serves, and looks how the transaction ended. `None` where it goes on.
+    fn go_on_finishing<R: Wait>(
+        &mut self,
+        rt: &R,
+        alloc: Global,
+        office: &Office,
+        shared: &mut SharedStation,
+    ) -> Result<Option<Finished>, WorkerFault>
+        ensures finished { IfOk result (λ found. IfSome found (IsFinished self.new)) }
+        ensures served { OnOk result (IsServed self.new) }
+        ensures still { IsStill self.old self.new }
+        ensures refused { IfErr result (StopsServing self.new) }
+    {
+        self.serve_at(rt, alloc, office, shared)?;
+        Ok(self.ended())
     }
 }

@@ -1,1 +1,5 @@
--- Nothing is answered here: each goal is searched. With this file a refused edit is not proved twice.
+use Rattle.std.proofs.Common.{rules}
+use Rattle.cb_worker.proofs.worker.Worker.begin.Goals as goal
+
+pub returns-clause-rest : goal.returns-clause-rest
+returns-clause-rest g c = search rules

@@ -1,16 +1,34 @@
-use Rattle.std.proofs.Common.{◌≡◌, Err, inl, inr, rules}
-use Rattle.cb_worker.proofs.Staying.{after, commits_still}
+use Rattle.std.proofs.Common.{◌∙◌, sym}
+use Rattle.cb_worker.proofs.Staying.{after}
+use Rattle.cb_worker.proofs.Steps.{answered, finishes_so, refused, refuses_so, stops_so, where_ok}
+use Rattle.cb_worker.specs.Refusals.{RefusesCommit}
 use Rattle.cb_worker.proofs.worker.Worker.finish.Goals as goal
-
-pub returns-in_err-_number-clause-still : goal.returns-in_err-_number-clause-still
-returns-in_err-_number-clause-still g c =
-    after c.args.self.now c.serve_at.new.self c.commit_at-committed.new.self c.serve_at.ensures.still (commits_still c.serve_at.new.self c.commit_at-committed.new.self _ _ c.commit_at-committed.result c.commit_at-committed.ensures)
 
 pub loop-init : goal.loop-init
 loop-init g c =
-    (tt, tt, after c.args.self.now c.serve_at.new.self c.commit_at-committed.new.self c.serve_at.ensures.still (commits_still c.serve_at.new.self c.commit_at-committed.new.self _ _ c.commit_at-committed.result c.commit_at-committed.ensures))
+    (tt, tt, c.begin_finish-ended.ensures.still, c.begin_finish-ended.ensures.finished, c.begin_finish-ended.ensures.served, c.begin_finish-ended.ensures.refused)
 
-pub returns-in_err-serve_at-2-clause-refused : goal.returns-in_err-serve_at-2-clause-refused
-returns-in_err-serve_at-2-clause-refused g c =
-    let is : c.from_residual-in_err-serve_at-2.result ≡ Err c.in_err-serve_at-2.field-0.0 = search rules in
-    rw is (inl (inr (c.serve_at-in-loop.new.shared, c.in_err-serve_at-2.ensures.refused)))
+pub returns-in-Some-transpose-clause-finishes : goal.returns-in-Some-transpose-clause-finishes
+returns-in-Some-transpose-clause-finishes g c =
+    answered _ _ c.loop.ended c.in-Some-transpose.answer (sym c.transpose.ensures ∙ c.in-Some-transpose.is) (finishes_so c.args.self.now c.loop.self c.in_ok-needs_transaction.ensures.has.0 c.loop.invariant.2) c.loop.invariant.3
+
+pub returns-in-Some-transpose-clause-served : goal.returns-in-Some-transpose-clause-served
+returns-in-Some-transpose-clause-served g c =
+    where_ok _ c.loop.ended c.in-Some-transpose.answer (sym c.transpose.ensures ∙ c.in-Some-transpose.is) c.loop.invariant.4
+
+pub returns-in-Some-transpose-clause-still : goal.returns-in-Some-transpose-clause-still
+returns-in-Some-transpose-clause-still g c = c.loop.invariant.2
+
+pub returns-in-Some-transpose-clause-refused : goal.returns-in-Some-transpose-clause-refused
+returns-in-Some-transpose-clause-refused g c =
+    refused _ _ c.loop.ended c.in-Some-transpose.answer (sym c.transpose.ensures ∙ c.in-Some-transpose.is) (refuses_so c.args.self.now c.loop.self (RefusesCommit c.loop.self)) c.loop.invariant.5
+
+pub loop-preserved : goal.loop-preserved
+loop-preserved g c = (
+  tt,
+  tt,
+  after c.args.self.now c.loop.self c.go_on_finishing-ended.new.self c.loop.invariant.2 c.go_on_finishing-ended.ensures.still,
+  c.go_on_finishing-ended.ensures.finished,
+  c.go_on_finishing-ended.ensures.served,
+  stops_so c.go_on_finishing-ended.new.self (RefusesCommit c.go_on_finishing-ended.new.self) c.go_on_finishing-ended.result c.go_on_finishing-ended.ensures.refused,
+)

@@ -7,6 +7,9 @@ use Rattle.cb_worker.proofs.worker.Worker.serve_at.Goals as goal
 pub loop-init : goal.loop-init
 loop-init g c = (tt, tt, same c.args.self.now c.args.self.now refl, refl)
 
+pub returns-then-is_halted-clause-served : goal.returns-then-is_halted-clause-served
+returns-then-is_halted-clause-served g c = tt
+
 pub returns-then-is_halted-clause-still : goal.returns-then-is_halted-clause-still
 returns-then-is_halted-clause-still g c = c.loop.invariant.2
 

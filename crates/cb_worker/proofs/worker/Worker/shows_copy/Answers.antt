@@ -1,1 +1,5 @@
--- Nothing is answered here: each goal is searched. With this file a refused edit is not proved twice.
+use Rattle.std.proofs.Common.{rules}
+use Rattle.cb_worker.proofs.worker.Worker.shows_copy.Goals as goal
+
+pub returns-then-eq : goal.returns-then-eq
+returns-then-eq g c = search rules
