@@ -5,7 +5,7 @@ ghost use Rattle.cb_statements.specs.Writing.{Fits};
 
 use cb_commit::Batch;
 use cb_progress::Watch;
-use cb_shared::Office;
+use cb_shared::{Office, SharedStation};
 use cb_shelf::{Shelf, ShelfFault};
 use sqlite::Alter;
 use std::alloc::Global;
@@ -18,20 +18,28 @@ pub struct FlushStop {
     pub batch: Option<Batch>,
 }
 
+/// The next batch, or `None` once the office is closed and nothing is left; nothing where that is to
+/// be waited for.
+fn batch_at(alloc: Global, shared: &SharedStation) -> Option<Result<Option<Batch>, ShelfFault>>
+    ensures { IfSome result (λ next. IfErr next (λ fault. fault ≡ ShelfFault.Memory)) }
+{
+    let Ok(batch) = shared.station().batch(alloc) else {
+        return Some(Err(ShelfFault::Memory));
+    };
+    if batch.is_some() || shared.is_closed() {
+        return Some(Ok(batch));
+    }
+    None
+}
+
 /// The next batch; `None` once the office is closed and nothing is left.
 fn next_batch<R: Wait>(rt: &R, alloc: Global, office: &Office) -> Result<Option<Batch>, ShelfFault>
     ensures { IfErr result (λ fault. fault ≡ ShelfFault.Memory) }
 {
     let mut shared = office.lock(rt);
     for _ in rt.forever() {
-        let Ok(batch) = shared.station().batch(alloc) else {
-            return Err(ShelfFault::Memory);
-        };
-        if batch.is_some() {
-            return Ok(batch);
-        }
-        if shared.is_closed() {
-            return Ok(None);
+        if let Some(next) = batch_at(alloc, &shared) {
+            return next;
         }
         shared = office.wait(rt, shared);
     }

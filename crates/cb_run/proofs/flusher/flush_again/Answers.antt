@@ -1,1 +1,5 @@
--- Nothing is answered here: each goal is searched. With this file a refused edit is not proved twice.
+use Rattle.std.proofs.Common.{rules}
+use Rattle.cb_run.proofs.flusher.flush_again.Goals as goal
+
+pub returns-in-Err-clause-stops : goal.returns-in-Err-clause-stops
+returns-in-Err-clause-stops g c = search rules
