@@ -1,1 +1,5 @@
--- Nothing is answered here: each goal is searched. With this file a refused edit is not proved twice.
+use Rattle.std.proofs.Common.{rules}
+use Rattle.cb_worker.proofs.worker.Worker.drop_txn.Goals as goal
+
+pub returns-clause-drops : goal.returns-clause-drops
+returns-clause-drops g c = search rules
