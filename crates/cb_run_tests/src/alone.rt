@@ -1,5 +1,5 @@
 //! A client alone with the office, on one thread, which does the flusher's part too.
-use crate::offices::{Trial, goes_well};
+use crate::trials::{Trial, goes_well};
 use cb_commit::Store;
 use cb_office::{OfficeFault, Station};
 use cb_page::{ClientNo, CommitNo, Limits, PageNo};
@@ -71,9 +71,8 @@ fn writes<Q: Chooser, R: Wait>(
 }
 
 /// Whether the history has one entry, with page 0 read and written.
-fn is_noted<R: Wait>(rt: &R, office: &Office) -> bool {
-    let shared = office.lock(rt);
-    let history = shared.station().history();
+fn is_noted(station: &Station) -> bool {
+    let history = station.history();
     if history.len() != 1 {
         return false;
     }
@@ -114,7 +113,10 @@ pub(crate) fn commits_and_leaves<Q: Chooser, R: Wait>(
     let read = reads(rt, alloc, office, &mut worker) == Ok(true);
     let wrote = writes(rt, alloc, office, &mut worker) == Ok(true);
     match worker.leave(rt, alloc, office) {
-        Ok(()) => read && wrote && is_noted(rt, office) && comes_back::<Q, R>(rt, alloc, office),
+        Ok(()) => {
+            let noted = is_noted(office.lock(rt).station());
+            read && wrote && noted && comes_back::<Q, R>(rt, alloc, office)
+        }
         Err((_, worker)) => {
             worker.abandon();
             false

@@ -11,26 +11,35 @@ use std::sync::atomic::{AtomicU64, Ordering};
 #[derive(Drop)]
 pub(crate) struct Balky<'a, D: Disk> {
     inner: D,
-    left: &'a AtomicU64,
+    /// How many writes are left to be refused; where nobody says so, none is.
+    left: Option<&'a AtomicU64>,
     refused: u64,
 }
 
 impl<'a, D: Disk> Balky<'a, D> {
     /// Refuses as many writes as are left to be.
-    pub(crate) fn new(inner: D, left: &'a AtomicU64) -> Balky<'a, D> {
+    pub(crate) fn new(inner: D, left: Option<&'a AtomicU64>) -> Balky<'a, D> {
         Balky {
             inner,
             left,
             refused: 0,
         }
     }
+
+    /// The disk below.
+    pub(crate) fn inner(&self) -> &D {
+        &self.inner
+    }
 }
 
 /// Refuses a write, if one is left to be refused.
-fn refuse(left: &AtomicU64, refused: &mut u64) -> io::Result<()>
+fn refuse(left: Option<&AtomicU64>, refused: &mut u64) -> io::Result<()>
     ensures faults { CountsFault result refused.old refused.new }
     ensures kind { finds_no_room result ≡ false }
 {
+    let Some(left) = left else {
+        return Ok(());
+    };
     let count = left.load(Ordering::SeqCst);
     if count == 0 {
         return Ok(());

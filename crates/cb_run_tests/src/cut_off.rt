@@ -1,17 +1,18 @@
 //! Runs that end before all is done: a worker that can't join while another works, and an office
 //! that is halted or closed at each moment in turn.
-use crate::bench::{Trial, goes_well};
+use crate::gates::Gates;
+use crate::run::Told;
+use crate::stops::Answered;
+use crate::trials::{Trial, goes_well};
 use cb_jobs::{Gate, Turn};
 use cb_page::{ClientNo, Limits};
-use cb_progress::Unwatched;
-use cb_run::{AnyTime, run_on};
+use cb_run::run_on;
 use cb_shared::Office;
 use cb_shelf::Shelf;
 use sqlite::Alter;
 use std::alloc::Global;
 use std::sync::Wait;
 use std::sync::atomic::{AtomicU64, Ordering};
-use std::test::Fail;
 use std::thread::Threads;
 
 /// How many jobs each of two clients has, in a run that is cut off.
@@ -34,9 +35,11 @@ pub(crate) fn is_one_refused<R: Wait + Threads + Sync, S: Alter>(
     };
     let mut out = Vec::new(alloc);
     let mut err = Vec::new(alloc);
-    let watch = &mut Unwatched;
+    let answered = Answered::none(0);
+    let gate: Gates<'_, R> = Gates::Answered(&answered);
+    let told = &mut Told::none();
     let ran = run_on(
-        rt, alloc, limits, office, shelf, 100, &AnyTime, watch, &mut out, &mut err,
+        rt, alloc, limits, office, shelf, 100, &gate, told, &mut out, &mut err,
     );
     hand.abandon();
     let said = out.is_empty() && err.as_slice() == b"worker: Fault\n".as_slice();
@@ -44,14 +47,13 @@ pub(crate) fn is_one_refused<R: Wait + Threads + Sync, S: Alter>(
 }
 
 #[test]
-fn worker_that_faults_while_another_runs(rt: HostRuntime) -> Result<(), Fail> {
-    assert!(rt; goes_well(&Trial::OneRefused, &rt, rt.alloc()));
-    Ok(())
+fn worker_that_faults_while_another_runs(rt: HostRuntime) {
+    assert!(rt; goes_well(Trial::OneRefused, &rt, rt.alloc()));
 }
 
 /// Halts or closes the office at one of its calls, and counts the jobs that were answered as done.
 #[derive(Drop)]
-struct Stopper<'a, R> {
+pub(crate) struct Stopper<'a, R> {
     rt: &'a R,
     office: &'a Office,
     halts: bool,
@@ -111,7 +113,7 @@ pub(crate) fn ends_at_once<R: Wait + Threads + Sync, S: Alter>(
     at: u64,
     halts: bool,
 ) -> bool {
-    let gate = Stopper {
+    let stopper = Stopper {
         rt,
         office,
         halts,
@@ -121,11 +123,12 @@ pub(crate) fn ends_at_once<R: Wait + Threads + Sync, S: Alter>(
     };
     let mut out = Vec::new(alloc);
     let mut err = Vec::new(alloc);
-    let watch = &mut Unwatched;
+    let gate = Gates::Stopper(&stopper);
+    let told = &mut Told::none();
     let ran = run_on(
-        rt, alloc, limits, office, shelf, JOBS, &gate, watch, &mut out, &mut err,
+        rt, alloc, limits, office, shelf, JOBS, &gate, told, &mut out, &mut err,
     );
-    let answered = gate.answered.load(Ordering::SeqCst);
+    let answered = stopper.answered.load(Ordering::SeqCst);
     let none = at == 0 && halts;
     let all = at >= CALLS - 1;
     let ended = err.is_empty() && ran.ok() == Some(0) && office.lock(rt).is_halted();
@@ -134,10 +137,9 @@ pub(crate) fn ends_at_once<R: Wait + Threads + Sync, S: Alter>(
 }
 
 #[test]
-fn halted_or_closed_at_each_call(rt: HostRuntime) -> Result<(), Fail> {
+fn halted_or_closed_at_each_call(rt: HostRuntime) {
     for at in 0..CALLS + 1 {
-        assert!(rt; goes_well(&Trial::CutOff { at, halts: true }, &rt, rt.alloc()));
-        assert!(rt; goes_well(&Trial::CutOff { at, halts: false }, &rt, rt.alloc()));
+        assert!(rt; goes_well(Trial::CutOff { at, halts: true }, &rt, rt.alloc()));
+        assert!(rt; goes_well(Trial::CutOff { at, halts: false }, &rt, rt.alloc()));
     }
-    Ok(())
 }

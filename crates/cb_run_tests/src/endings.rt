@@ -1,16 +1,28 @@
 //! The flusher ends once the office is closed and everything is on disk.
-use crate::bench::{Trial, goes_well, holds, is_reported, visit};
+use crate::commits::holds;
+use crate::run::Told;
+use crate::trials::{Trial, goes_well};
+use crate::visits::{is_reported, visit};
 use cb_page::{ClientNo, Limits};
-use cb_progress::Unwatched;
 use cb_run::flush_loop;
 use cb_shared::Office;
 use cb_shelf::Shelf;
 use sqlite::Alter;
 use std::alloc::Global;
 use std::sync::Wait;
-use std::test::Fail;
 use std::thread;
 use std::thread::Threads;
+
+/// Whether the tables hold what so many commits of page 0 leave, each of sevens.
+pub(crate) fn holds_sevens<S: Alter>(
+    alloc: Global,
+    limits: &Limits,
+    shelf: &mut Shelf<S>,
+    number: u64,
+) -> bool {
+    let byte = if number == 0 { 0 } else { 7 };
+    holds(alloc, limits, shelf, number, &[(number, byte), (0, 0)])
+}
 
 /// Whether the flusher of a closed office writes everything, reports it, and ends.
 fn flushes_all<R: Wait, S: Alter>(
@@ -21,8 +33,8 @@ fn flushes_all<R: Wait, S: Alter>(
     shelf: &mut Shelf<S>,
     number: u64,
 ) -> bool {
-    let ended = flush_loop(rt, alloc, office, shelf, &mut Unwatched).is_ok();
-    ended && is_reported(rt, alloc, office) && holds(alloc, limits, shelf, number)
+    let ended = flush_loop(rt, alloc, office, shelf, &mut Told::none()).is_ok();
+    ended && is_reported(rt, alloc, office) && holds_sevens(alloc, limits, shelf, number)
 }
 
 /// So many commits, then the office is closed, or halted; whether all is written.
@@ -49,7 +61,7 @@ pub(crate) fn ends_well<R: Wait, S: Alter>(
     visited && flushes_all(rt, alloc, limits, office, shelf, u64::from(commits))
 }
 
-static ENDINGS: [Trial; 3] = [
+static ENDINGS: [Trial<'static>; 3] = [
     Trial::Ended {
         commits: 0,
         halts: false,
@@ -65,11 +77,10 @@ static ENDINGS: [Trial; 3] = [
 ];
 
 #[test]
-fn closed_and_halted_offices_are_written(rt: HostRuntime) -> Result<(), Fail> {
+fn closed_and_halted_offices_are_written(rt: HostRuntime) {
     for ended in &ENDINGS {
-        assert!(rt; goes_well(ended, &rt, rt.alloc()));
+        assert!(rt; goes_well(*ended, &rt, rt.alloc()));
     }
-    Ok(())
 }
 
 /// Three commits under one lock, then the end of the only `work`.
@@ -101,7 +112,6 @@ pub(crate) fn flushes_beside<R: Wait + Threads + Sync, S: Alter>(
 }
 
 #[test]
-fn a_flusher_waits_for_commits(rt: HostRuntime) -> Result<(), Fail> {
-    assert!(rt; goes_well(&Trial::Waited, &rt, rt.alloc()));
-    Ok(())
+fn a_flusher_waits_for_commits(rt: HostRuntime) {
+    assert!(rt; goes_well(Trial::Waited, &rt, rt.alloc()));
 }

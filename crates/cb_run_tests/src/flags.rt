@@ -1,11 +1,12 @@
 //! Closing, halting, and waiting for it.
-use crate::offices::{Trial, goes_well};
+use crate::trials::{Trial, goes_well};
 use cb_page::ClientNo;
-use cb_shared::Office;
+use cb_shared::{Office, SharedStation};
 use std::alloc::Global;
 use std::sync::Wait;
 use std::sync::atomic::{AtomicU64, Ordering};
 use std::thread;
+use std::thread::Threads;
 
 /// Whether the office is closed, and whether it is halted.
 fn flags<R: Wait>(rt: &R, office: &Office) -> (bool, bool) {
@@ -56,90 +57,58 @@ fn closed_and_halted(rt: HostRuntime) {
     assert!(rt; goes_well(Trial::Unused, &rt, rt.alloc()));
 }
 
-/// Waits until the office is closed. `entered` counts who holds the lock or waits.
-fn wait_closed<R: Wait>(rt: &R, office: &Office, entered: &AtomicU64) {
+/// What those that wait are woken by.
+#[derive(Clone, Copy)]
+pub(crate) enum Waking {
+    Closing,
+    Halting,
+    /// Client 1 has a frame.
+    Greeting,
+}
+
+/// How many wait.
+fn waiting(waking: Waking) -> u64 {
+    match waking {
+        Waking::Closing | Waking::Halting => 2,
+        Waking::Greeting => 1,
+    }
+}
+
+/// Whether it has come.
+fn has_come(shared: &SharedStation, waking: Waking) -> bool {
+    match waking {
+        Waking::Closing | Waking::Halting => shared.is_closed(),
+        Waking::Greeting => shared.station().has_frame_for(ClientNo::new(1)),
+    }
+}
+
+/// Waits for it, or until the office is halted. `counted` counts who holds the lock or waits, and once
+/// more who was woken by what it waits for.
+fn wait_for<R: Wait>(rt: &R, office: &Office, counted: &AtomicU64, waking: Waking) {
     let mut shared = office.lock(rt);
-    entered.fetch_add(1, Ordering::SeqCst);
+    counted.fetch_add(1, Ordering::SeqCst);
     for _ in rt.forever() {
-        if shared.is_closed() {
+        let come = has_come(&shared, waking);
+        if come || shared.is_halted() {
+            counted.fetch_add(u64::from(come), Ordering::SeqCst);
             return;
         }
-        shared = office.wait(rt, shared);
+        shared = match waking {
+            Waking::Closing | Waking::Halting => office.wait(rt, shared),
+            Waking::Greeting => office.wait_for_frame(rt, shared, ClientNo::new(1)),
+        };
     }
     unreachable!()
 }
 
-/// Until so many have entered.
-fn spin_until<R: Wait>(rt: &R, entered: &AtomicU64, count: u64) {
+/// Until so many are counted.
+fn spin_until<R: Wait>(rt: &R, counted: &AtomicU64, count: u64) {
     for _ in rt.forever() {
-        if entered.load(Ordering::SeqCst) >= count {
+        if counted.load(Ordering::SeqCst) >= count {
             return;
         }
         thread::yield_now();
     }
-}
-
-/// Closes the office once all of so many wait: each counts itself under the lock, which it lets go
-/// only by waiting.
-fn close_when<R: Wait>(rt: &R, office: &Office, entered: &AtomicU64, waiting: u64, halts: bool) {
-    spin_until(rt, entered, waiting);
-    if halts {
-        office.halt(rt);
-    } else {
-        office.close(rt);
-    }
-}
-
-/// Two threads wait, and this one closes or halts.
-fn two_are_woken<R: Wait + thread::Threads + Sync>(rt: &R, office: &Office, halts: bool) -> u64 {
-    let counter = AtomicU64::new(0);
-    let entered = &counter;
-    thread::scope(thread::scope_env(), rt, |scope| {
-        for _waiter in 0..2 {
-            if scope
-                .spawn(move || wait_closed(rt, office, entered))
-                .is_err()
-            {
-                entered.fetch_add(1, Ordering::SeqCst);
-            }
-        }
-        close_when(rt, office, entered, 2, halts);
-    });
-    counter.load(Ordering::SeqCst)
-}
-
-/// Whether two that wait are woken as the office is closed, or halted.
-pub(crate) fn wakes<R: Wait + thread::Threads + Sync>(
-    rt: &R,
-    office: &Office,
-    halts: bool,
-) -> bool {
-    two_are_woken(rt, office, halts) == 2 && flags(rt, office) == (true, halts)
-}
-
-#[test]
-fn those_that_wait_are_woken(rt: HostRuntime) {
-    assert!(rt; goes_well(Trial::Woken { halts: false }, &rt, rt.alloc()));
-    assert!(rt; goes_well(Trial::Woken { halts: true }, &rt, rt.alloc()));
-}
-
-/// Waits for a frame to client 1, or until the office is halted. `entered` counts who holds the lock
-/// or waits, and who was woken by a frame.
-fn wait_for_frame<R: Wait>(rt: &R, office: &Office, entered: &AtomicU64) {
-    let client = ClientNo::new(1);
-    let mut shared = office.lock(rt);
-    entered.fetch_add(1, Ordering::SeqCst);
-    for _ in rt.forever() {
-        if shared.station().has_frame_for(client) {
-            entered.fetch_add(1, Ordering::SeqCst);
-            return;
-        }
-        if shared.is_halted() {
-            return;
-        }
-        shared = office.wait_for_frame(rt, shared, client);
-    }
-    unreachable!()
 }
 
 /// The client joins, so that there is a Welcome to it, and is told; where it can't join the office is
@@ -155,33 +124,57 @@ fn greet<R: Wait>(rt: &R, alloc: Global, office: &Office, client: ClientNo) {
     }
 }
 
-/// A thread waits for a frame to client 1, and this one has it greeted.
-fn one_is_greeted<R: Wait + thread::Threads + Sync>(rt: &R, alloc: Global, office: &Office) -> u64 {
+/// Wakes them once all wait: each counts itself under the lock, which it lets go only by waiting.
+fn wake_when<R: Wait>(rt: &R, alloc: Global, office: &Office, counted: &AtomicU64, waking: Waking) {
+    spin_until(rt, counted, waiting(waking));
+    match waking {
+        Waking::Closing => office.close(rt),
+        Waking::Halting => office.halt(rt),
+        Waking::Greeting => greet(rt, alloc, office, ClientNo::new(1)),
+    }
+}
+
+/// Threads wait, and this one wakes them; what they counted.
+fn count_woken<R: Wait + Threads + Sync>(
+    rt: &R,
+    alloc: Global,
+    office: &Office,
+    waking: Waking,
+) -> u64 {
     let counter = AtomicU64::new(0);
-    let entered = &counter;
+    let counted = &counter;
     thread::scope(thread::scope_env(), rt, |scope| {
-        if scope
-            .spawn(move || wait_for_frame(rt, office, entered))
-            .is_err()
-        {
-            entered.fetch_add(1, Ordering::SeqCst);
+        for _waiter in 0..waiting(waking) {
+            if scope
+                .spawn(move || wait_for(rt, office, counted, waking))
+                .is_err()
+            {
+                counted.fetch_add(1, Ordering::SeqCst);
+            }
         }
-        spin_until(rt, entered, 1);
-        greet(rt, alloc, office, ClientNo::new(1));
+        wake_when(rt, alloc, office, counted, waking);
     });
     counter.load(Ordering::SeqCst)
 }
 
-/// Whether a client that waits is woken by its frame.
-pub(crate) fn wakes_by_a_frame<R: Wait + thread::Threads + Sync>(
+/// Whether all that wait are woken by it, and the flags are what it makes of them.
+pub(crate) fn wakes<R: Wait + Threads + Sync>(
     rt: &R,
     alloc: Global,
     office: &Office,
+    waking: Waking,
 ) -> bool {
-    one_is_greeted(rt, alloc, office) == 2
+    let wanted = match waking {
+        Waking::Closing => (true, false),
+        Waking::Halting => (true, true),
+        Waking::Greeting => (false, false),
+    };
+    count_woken(rt, alloc, office, waking) == 2 * waiting(waking) && flags(rt, office) == wanted
 }
 
 #[test]
-fn client_is_woken_by_its_frame(rt: HostRuntime) {
-    assert!(rt; goes_well(Trial::Greeted, &rt, rt.alloc()));
+fn those_that_wait_are_woken(rt: HostRuntime) {
+    assert!(rt; goes_well(Trial::Woken(Waking::Closing), &rt, rt.alloc()));
+    assert!(rt; goes_well(Trial::Woken(Waking::Halting), &rt, rt.alloc()));
+    assert!(rt; goes_well(Trial::Woken(Waking::Greeting), &rt, rt.alloc()));
 }

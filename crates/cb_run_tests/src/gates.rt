@@ -1,10 +1,44 @@
-//! Workers that wait for each other at their gate.
-use crate::run::{Row, comes_of};
+//! Gates of runs: one type for all, so that a run is built once; and workers that wait for each other.
+use crate::cut_off::Stopper;
+use crate::run::{Row, comes_at};
+use crate::stops::Answered;
+use crate::trials::{Trial, goes_well};
 use cb_jobs::{Gate, Turn};
-use cb_page::ClientNo;
+use cb_page::{ClientNo, Limits};
+use cb_shared::Office;
+use cb_shelf::Shelf;
+use sqlite::Alter;
+use std::alloc::Global;
+use std::sync::Wait;
 use std::sync::atomic::{AtomicU64, Ordering};
-use std::test::Fail;
 use std::thread;
+use std::thread::Threads;
+
+/// The gate of a run.
+#[derive(Drop)]
+pub(crate) enum Gates<'a, R> {
+    Answered(&'a Answered),
+    Stopper(&'a Stopper<'a, R>),
+    Mutual(&'a Mutual),
+}
+
+impl<R: Wait> Gate for Gates<'_, R> {
+    fn before_job(&self, client: ClientNo, job: u64) -> Turn {
+        match self {
+            Gates::Answered(gate) => gate.before_job(client, job),
+            Gates::Stopper(gate) => gate.before_job(client, job),
+            Gates::Mutual(gate) => gate.before_job(client, job),
+        }
+    }
+
+    fn after_commit(&self, client: ClientNo, job: u64) {
+        match self {
+            Gates::Answered(gate) => gate.after_commit(client, job),
+            Gates::Stopper(gate) => gate.after_commit(client, job),
+            Gates::Mutual(gate) => gate.after_commit(client, job),
+        }
+    }
+}
 
 /// How often a gate says `Later` in all.
 const TURNS: u64 = 10_000_000;
@@ -12,7 +46,7 @@ const TURNS: u64 = 10_000_000;
 /// Each job is let go at its second asking at the earliest, and a client's second one only after the
 /// other client's first commit.
 #[derive(Drop)]
-struct Mutual {
+pub(crate) struct Mutual {
     /// How many jobs of each client were asked for: by client.
     asked: [AtomicU64; 2],
     /// How many were let go: by client.
@@ -56,7 +90,7 @@ impl Gate for Mutual {
     }
 }
 
-static MUTUAL: Row<'static> = Row {
+static TWO: Row<'static> = Row {
     clients: 2,
     jobs: 2,
     steps: 0,
@@ -66,8 +100,14 @@ static MUTUAL: Row<'static> = Row {
     err: "",
 };
 
-#[test]
-fn two_at_once(rt: HostRuntime) -> Result<(), Fail> {
+/// Whether a run of two workers that wait for each other ends well, each job let go by the gate.
+pub(crate) fn two_take_turns<R: Threads + Wait + Sync, S: Alter>(
+    rt: &R,
+    alloc: Global,
+    limits: &Limits,
+    office: &Office,
+    shelf: &mut Shelf<S>,
+) -> bool {
     let gate = Mutual {
         asked: [AtomicU64::new(0), AtomicU64::new(0)],
         let_go: [AtomicU64::new(0), AtomicU64::new(0)],
@@ -75,8 +115,13 @@ fn two_at_once(rt: HostRuntime) -> Result<(), Fail> {
         ungated: AtomicU64::new(0),
         spent: AtomicU64::new(0),
     };
-    assert!(rt; comes_of(&rt, rt.alloc(), &MUTUAL, &gate));
-    assert!(rt; gate.ungated.load(Ordering::SeqCst) == 0);
-    assert!(rt; gate.spent.load(Ordering::SeqCst) < TURNS);
-    Ok(())
+    let mutual = Gates::Mutual(&gate);
+    let came = comes_at(rt, alloc, limits, office, shelf, &TWO, &mutual);
+    let gated = gate.ungated.load(Ordering::SeqCst) == 0;
+    came && gated && gate.spent.load(Ordering::SeqCst) < TURNS
+}
+
+#[test]
+fn two_at_once(rt: HostRuntime) {
+    assert!(rt; goes_well(Trial::TurnByTurn, &rt, rt.alloc()));
 }

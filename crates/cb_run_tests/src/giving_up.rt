@@ -1,6 +1,6 @@
 //! Transactions that are dropped, restarts, and an office that was halted.
 use crate::alone::is_all;
-use crate::offices::{Trial, goes_well};
+use crate::trials::{Trial, goes_well};
 use cb_client::ClientFault;
 use cb_office::OfficeFault;
 use cb_page::{Incarnation, PageNo};

@@ -1,6 +1,6 @@
-//! Tests of the running program's parts, the office, workers, jobs and the flusher, and of whole runs,
-//! by public calls. They stand in one crate, since each crate that owns an office proves the drops of
-//! all its parts.
+//! Tests of the shelf and of the running program's parts, the office, workers, jobs and the flusher,
+//! and of whole runs, by public calls. They stand in one crate, since each crate that owns an office or
+//! a connection proves the drops of all its parts, and builds the library of the database.
 #![tactic(auto)]
 
 #[cfg(test)]
@@ -8,11 +8,15 @@ mod alone;
 #[cfg(test)]
 mod balky;
 #[cfg(test)]
-mod bench;
+mod commits;
 #[cfg(test)]
 mod counting;
 #[cfg(test)]
+mod crashes;
+#[cfg(test)]
 mod cut_off;
+#[cfg(test)]
+mod disks;
 #[cfg(test)]
 mod endings;
 #[cfg(test)]
@@ -22,11 +26,7 @@ mod gates;
 #[cfg(test)]
 mod giving_up;
 #[cfg(test)]
-mod greatest;
-#[cfg(test)]
 mod lines;
-#[cfg(test)]
-mod offices;
 #[cfg(test)]
 mod printing;
 #[cfg(test)]
@@ -34,6 +34,16 @@ mod refusals;
 #[cfg(test)]
 mod run;
 #[cfg(test)]
+mod shapes;
+#[cfg(test)]
 mod sharing;
 #[cfg(test)]
 mod stops;
+#[cfg(test)]
+mod trials;
+#[cfg(test)]
+mod visits;
+#[cfg(test)]
+mod work;
+#[cfg(test)]
+mod writes;

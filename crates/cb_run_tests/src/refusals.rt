@@ -1,22 +1,77 @@
 //! A store that refuses each write, and later none.
-use crate::bench::{Trial, commit_page, goes_well, holds, is_reported, visit};
-use cb_frame::{Body, ShortBody};
+use crate::endings::holds_sevens;
+use crate::run::Told;
+use crate::trials::{Trial, goes_well};
+use crate::visits::{commit_page, is_reported, visit};
+use cb_frame::{Body, Frame, ShortBody};
 use cb_hands::Hand;
-use cb_page::{ClientNo, CommitNo, Limits, TxnNo};
-use cb_progress::{Unwatched, Watch};
+use cb_office::Station;
+use cb_page::{ClientNo, Limits, TxnNo};
 use cb_run::{FlushStop, flush_again, flush_in_tries, flush_loop};
 use cb_shared::Office;
 use cb_shelf::{Shelf, ShelfFault};
 use sqlite::Alter;
 use std::alloc::Global;
 use std::sync::Wait;
-use std::test::Fail;
 
 /// Whether the database refused the batch that ends with this commit.
 fn is_refused(stop: &FlushStop, number: u64) -> bool {
     match &stop.batch {
         Some(batch) => stop.fault == ShelfFault::Store && batch.number().get() == number,
         None => false,
+    }
+}
+
+/// What the flusher stops with where no write gets through, under a limit of one step.
+fn refused_stop<R: Wait, S: Alter>(
+    rt: &R,
+    alloc: Global,
+    office: &Office,
+    shelf: &mut Shelf<S>,
+    told: &mut Told,
+) -> Option<FlushStop> {
+    shelf.limit_steps(1);
+    let ran = flush_loop(rt, alloc, office, shelf, told);
+    shelf.limit_steps(0);
+    ran.err()
+}
+
+/// Whether the batch of a stop is written now, after which the tables hold so many commits.
+fn is_written_now<R: Wait, S: Alter>(
+    rt: &R,
+    alloc: Global,
+    limits: &Limits,
+    office: &Office,
+    shelf: &mut Shelf<S>,
+    told: &mut Told,
+    stop: FlushStop,
+    number: u64,
+) -> bool {
+    let before = holds_sevens(alloc, limits, shelf, 0);
+    let written = flush_again(rt, alloc, office, shelf, told, stop).is_ok();
+    before && written && holds_sevens(alloc, limits, shelf, number)
+}
+
+/// Whether the batch of a stop is refused again, and then written.
+fn is_written_after<R: Wait, S: Alter>(
+    rt: &R,
+    alloc: Global,
+    limits: &Limits,
+    office: &Office,
+    shelf: &mut Shelf<S>,
+    first: FlushStop,
+) -> bool {
+    let mut told = Told::none();
+    shelf.limit_steps(1);
+    let ran = flush_again(rt, alloc, office, shelf, &mut told, first);
+    shelf.limit_steps(0);
+    match ran {
+        Err(second) => {
+            let again = is_refused(&second, 2) && !is_reported(rt, alloc, office);
+            let written = is_written_now(rt, alloc, limits, office, shelf, &mut told, second, 2);
+            again && written
+        }
+        Ok(()) => false,
     }
 }
 
@@ -29,19 +84,14 @@ fn is_written_at_last<R: Wait, S: Alter>(
     office: &Office,
     shelf: &mut Shelf<S>,
 ) -> bool {
-    shelf.limit_steps(1);
-    let Err(first) = flush_loop(rt, alloc, office, shelf, &mut Unwatched) else {
-        return false;
-    };
-    let refused = is_refused(&first, 2);
-    let Err(second) = flush_again(rt, alloc, office, shelf, &mut Unwatched, first) else {
-        return false;
-    };
-    let again = is_refused(&second, 2) && !is_reported(rt, alloc, office);
-    shelf.limit_steps(0);
-    let before = holds(alloc, limits, shelf, 0);
-    let written = flush_again(rt, alloc, office, shelf, &mut Unwatched, second).is_ok();
-    refused && again && before && written && holds(alloc, limits, shelf, 2)
+    match refused_stop(rt, alloc, office, shelf, &mut Told::none()) {
+        Some(first) => {
+            let refused = is_refused(&first, 2);
+            let written = is_written_after(rt, alloc, limits, office, shelf, first);
+            refused && written
+        }
+        None => false,
+    }
 }
 
 /// Whether three tries are refused under that limit, then the office is halted, and nothing was
@@ -54,11 +104,11 @@ fn is_given_up<R: Wait, S: Alter>(
     shelf: &mut Shelf<S>,
 ) -> bool {
     shelf.limit_steps(1);
-    let refused = flush_in_tries(rt, alloc, office, shelf, &mut Unwatched)
+    let refused = flush_in_tries(rt, alloc, office, shelf, &mut Told::none())
         == Err(ShelfFault::Store);
     shelf.limit_steps(0);
     let halted = office.lock(rt).is_halted();
-    refused && halted && !is_reported(rt, alloc, office) && holds(alloc, limits, shelf, 0)
+    refused && halted && !is_reported(rt, alloc, office) && holds_sevens(alloc, limits, shelf, 0)
 }
 
 /// Two commits are given up, and then written.
@@ -77,18 +127,22 @@ pub(crate) fn is_refused_at_first<R: Wait, S: Alter>(
 }
 
 #[test]
-fn refused_write_is_written_again(rt: HostRuntime) -> Result<(), Fail> {
-    assert!(rt; goes_well(&Trial::Refused, &rt, rt.alloc()));
-    Ok(())
+fn refused_write_is_written_again(rt: HostRuntime) {
+    assert!(rt; goes_well(Trial::Refused, &rt, rt.alloc()));
+}
+
+/// Whether a frame is a Done.
+fn says_done(frame: &Frame) -> bool {
+    match frame.body {
+        Body::Short(ShortBody::Done { .. }) => true,
+        _ => false,
+    }
 }
 
 /// Whether a Done comes next.
-fn is_done<R: Wait>(rt: &R, office: &Office, hand: &mut Hand) -> bool {
-    match office.lock(rt).station_mut().collect(hand) {
-        Ok(Some(frame)) => match frame.body {
-            Body::Short(ShortBody::Done { .. }) => true,
-            _ => false,
-        },
+fn is_done(station: &mut Station, hand: &mut Hand) -> bool {
+    match station.collect(hand) {
+        Ok(Some(frame)) => says_done(&frame),
         _ => false,
     }
 }
@@ -102,30 +156,15 @@ fn is_done_at_last<R: Wait, S: Alter>(
     shelf: &mut Shelf<S>,
     hand: &mut Hand,
 ) -> bool {
-    shelf.limit_steps(1);
-    let Err(stop) = flush_loop(rt, alloc, office, shelf, &mut Unwatched) else {
-        return false;
-    };
-    shelf.limit_steps(0);
-    let early = is_done(rt, office, hand);
-    let before = holds(alloc, limits, shelf, 0);
-    let written = flush_again(rt, alloc, office, shelf, &mut Unwatched, stop).is_ok();
-    let late = is_done(rt, office, hand);
-    !early && before && written && late && holds(alloc, limits, shelf, 1)
-}
-
-/// The numbers of the batches that were told of as on disk, in their order.
-#[derive(Drop)]
-struct Numbers {
-    told: Vec<u64>,
-}
-
-impl Watch for Numbers {
-    fn begins(&mut self, _jobs: u64, _number: u64) {}
-
-    fn flushed(&mut self, number: CommitNo) {
-        // One that is lost for want of memory fails the test.
-        let _ = self.told.push(number.get());
+    let mut told = Told::none();
+    match refused_stop(rt, alloc, office, shelf, &mut told) {
+        Some(stop) => {
+            let early = is_done(office.lock(rt).station_mut(), hand);
+            let written = is_written_now(rt, alloc, limits, office, shelf, &mut told, stop, 1);
+            let late = is_done(office.lock(rt).station_mut(), hand);
+            !early && written && late
+        }
+        None => false,
     }
 }
 
@@ -138,20 +177,18 @@ fn is_written_first<R: Wait, S: Alter>(
     shelf: &mut Shelf<S>,
     hand: &mut Hand,
 ) -> bool {
-    let mut numbers = Numbers {
-        told: Vec::new(alloc),
-    };
-    shelf.limit_steps(1);
-    let Err(stop) = flush_loop(rt, alloc, office, shelf, &mut numbers) else {
-        return false;
-    };
-    shelf.limit_steps(0);
-    let refused = is_refused(&stop, 1) && numbers.told.is_empty();
-    let txn = TxnNo::new(2);
-    let committed = commit_page(alloc, office.lock(rt).station_mut(), hand, txn).is_ok();
-    let written = flush_again(rt, alloc, office, shelf, &mut numbers, stop).is_ok();
-    let in_order = numbers.told.as_slice() == [1, 2].as_slice();
-    refused && committed && written && in_order && holds(alloc, limits, shelf, 2)
+    let mut told = Told::none();
+    match refused_stop(rt, alloc, office, shelf, &mut told) {
+        Some(stop) => {
+            let refused = is_refused(&stop, 1) && told == Told::none();
+            let txn = TxnNo::new(2);
+            let done = commit_page(alloc, office.lock(rt).station_mut(), hand, txn).is_ok();
+            let written = is_written_now(rt, alloc, limits, office, shelf, &mut told, stop, 2);
+            let in_order = (told.batches, told.first, told.last) == (2, 1, 2);
+            refused && done && written && in_order
+        }
+        None => false,
+    }
 }
 
 /// A client commits, the office is closed, and the batch is refused at first. Then the client waits
@@ -181,13 +218,11 @@ pub(crate) fn is_refused_after_a_commit<R: Wait, S: Alter>(
 }
 
 #[test]
-fn no_done_before_its_batch_is_written(rt: HostRuntime) -> Result<(), Fail> {
-    assert!(rt; goes_well(&Trial::Awaited { again: false }, &rt, rt.alloc()));
-    Ok(())
+fn no_done_before_its_batch_is_written(rt: HostRuntime) {
+    assert!(rt; goes_well(Trial::Awaited { again: false }, &rt, rt.alloc()));
 }
 
 #[test]
-fn refused_batch_goes_first(rt: HostRuntime) -> Result<(), Fail> {
-    assert!(rt; goes_well(&Trial::Awaited { again: true }, &rt, rt.alloc()));
-    Ok(())
+fn refused_batch_goes_first(rt: HostRuntime) {
+    assert!(rt; goes_well(Trial::Awaited { again: true }, &rt, rt.alloc()));
 }

@@ -1,30 +1,17 @@
-//! Whole runs over stores in memory.
-ghost use Rattle.std.specs.Prelude.{◌≡◌, false};
-
-use cb_jobs::{Gate, Turn};
+//! Whole runs, and what is told of them.
+use crate::gates::Gates;
+use crate::stops::Answered;
+use crate::trials::{Trial, goes_well};
 use cb_office::Station;
-use cb_page::{ClientNo, CommitNo, Limits};
+use cb_page::{CommitNo, Limits};
 use cb_progress::Watch;
 use cb_run::run_on;
 use cb_shared::Office;
 use cb_shelf::Shelf;
-use sqlite::{Alter, Connection};
+use sqlite::Alter;
 use std::alloc::Global;
 use std::sync::Wait;
-use std::test::Fail;
 use std::thread::Threads;
-
-/// Every job may begin.
-#[derive(Drop)]
-struct Always;
-
-impl Gate for Always {
-    fn before_job(&self, _client: ClientNo, _job: u64) -> Turn {
-        Turn::Go
-    }
-
-    fn after_commit(&self, _client: ClientNo, _job: u64) {}
-}
 
 /// A run of so many clients with so many jobs each, and what is to come of it.
 #[derive(Drop)]
@@ -72,126 +59,99 @@ static REFUSED: Row<'static> = Row {
     err: "store: Store\n",
 };
 
-/// The number of the last commit that was told of as on disk.
-#[derive(Drop)]
-struct Last {
-    number: u64,
+/// Which batches were told of as on disk.
+#[derive(Clone, Copy, PartialEq, Eq)]
+pub(crate) struct Told {
+    /// How many.
+    pub(crate) batches: u64,
+    /// The number of the first one's last commit; 0 before there is one.
+    pub(crate) first: u64,
+    /// The number of the last one's.
+    pub(crate) last: u64,
 }
 
-impl Watch for Last {
+impl Told {
+    /// None was told of yet.
+    pub(crate) fn none() -> Told {
+        Told {
+            batches: 0,
+            first: 0,
+            last: 0,
+        }
+    }
+}
+
+impl Watch for Told {
     fn begins(&mut self, _jobs: u64, _number: u64) {}
 
     fn flushed(&mut self, number: CommitNo) {
-        self.number = number.get();
+        if self.batches == 0 {
+            self.first = number.get();
+        }
+        self.batches = self.batches.saturating_add(1);
+        self.last = number.get();
     }
 }
 
 /// Whether each entry of the history has both pages read and written, and they are so many, of which
 /// the last was told of.
-fn are_whole<R: Wait>(rt: &R, office: &Office, entries: Option<u16>, last: &Last) -> bool {
-    let shared = office.lock(rt);
-    let history = shared.station().history();
+fn are_whole(station: &Station, entries: Option<u16>, last: u64) -> bool {
+    let history = station.history();
     for entry in history {
         if entry.reads.len() != 2 || entry.writes.len() != 2 {
             return false;
         }
     }
     match entries {
-        Some(entries) => {
-            history.len() == usize::from(entries) && last.number == u64::from(entries)
-        }
+        Some(entries) => history.len() == usize::from(entries) && last == u64::from(entries),
         None => true,
     }
 }
 
-/// Whether that comes of the run in an office.
-fn comes_in<R: Threads + Wait + Sync, G: Gate + Sync, S: Alter>(
+/// Whether that comes of the run with this gate.
+pub(crate) fn comes_at<R: Threads + Wait + Sync, S: Alter>(
     rt: &R,
     alloc: Global,
     limits: &Limits,
-    row: &Row<'_>,
-    gate: &G,
     office: &Office,
     shelf: &mut Shelf<S>,
+    row: &Row<'_>,
+    gate: &Gates<'_, R>,
 ) -> bool {
-    let mut last = Last { number: 0 };
+    let mut told = Told::none();
     let mut out = Vec::new(alloc);
     let mut err = Vec::new(alloc);
     shelf.limit_steps(row.steps);
     let ran = run_on(
-        rt, alloc, limits, office, shelf, row.jobs, gate, &mut last, &mut out, &mut err,
+        rt, alloc, limits, office, shelf, row.jobs, gate, &mut told, &mut out, &mut err,
     );
     let said = out.as_slice() == row.out.as_bytes() && err.as_slice() == row.err.as_bytes();
-    said && ran.ok() == Some(row.status) && are_whole(rt, office, row.entries, &last)
+    let whole = are_whole(office.lock(rt).station(), row.entries, told.last);
+    said && whole && ran.ok() == Some(row.status)
 }
 
-/// The same over a shelf: the office is over what that holds.
-fn comes_over<R: Threads + Wait + Sync, G: Gate + Sync, S: Alter>(
+/// Whether that comes of the run where every job may begin at once.
+pub(crate) fn comes_of<R: Threads + Wait + Sync, S: Alter>(
     rt: &R,
     alloc: Global,
     limits: &Limits,
-    row: &Row<'_>,
-    gate: &G,
+    office: &Office,
     shelf: &mut Shelf<S>,
-) -> bool
-    requires plain { limits.now.keep_write ≡ false }
-    requires shelf { shelf.old.limits ≡ limits.now }
-{
-    let Ok(store) = shelf.load(alloc) else {
-        return false;
-    };
-    match Station::new(alloc, limits, store) {
-        Ok(station) => {
-            let office = Office::new(station, usize::from(limits.clients()));
-            comes_in(rt, alloc, limits, row, gate, &office, shelf)
-        }
-        Err(_) => false,
-    }
-}
-
-/// The same over a new database.
-fn comes_of_database<R: Threads + Wait + Sync, G: Gate + Sync, S: Alter + Drop>(
-    rt: &R,
-    alloc: Global,
-    limits: &Limits,
     row: &Row<'_>,
-    gate: &G,
-    conn: Connection<S>,
-) -> bool
-    requires { limits.now.keep_write ≡ false }
-{
-    match Shelf::open(alloc, conn, limits) {
-        Ok(mut shelf) => comes_over(rt, alloc, limits, row, gate, &mut shelf),
-        Err(_) => false,
-    }
-}
-
-/// Whether that comes of the run over a new database, of two pages of sixteen bytes.
-pub(crate) fn comes_of<R: Threads + Wait + Sync, G: Gate + Sync>(
-    rt: &R,
-    alloc: Global,
-    row: &Row<'_>,
-    gate: &G,
 ) -> bool {
-    let Ok(limits) = Limits::new(u64::from(row.clients), 2, 16, 2, 1, 1) else {
-        return false;
-    };
-    match Connection::open_in_memory(alloc) {
-        Ok(conn) => comes_of_database(rt, alloc, &limits, row, gate, conn),
-        Err(_) => false,
-    }
+    let answered = Answered::none(0);
+    let gate = Gates::Answered(&answered);
+    comes_at(rt, alloc, limits, office, shelf, row, &gate)
 }
 
 #[test]
-fn counters(rt: HostRuntime) -> Result<(), Fail> {
+fn counters(rt: HostRuntime) {
     for row in &COUNTERS {
-        assert!(rt; comes_of(&rt, rt.alloc(), row, &Always));
+        assert!(rt; goes_well(Trial::Run(row), &rt, rt.alloc()));
     }
-    Ok(())
 }
 
 #[test]
-fn store_that_refuses_each_write(rt: HostRuntime) -> Result<(), Fail> {
-    assert!(rt; comes_of(&rt, rt.alloc(), &REFUSED, &Always));
-    Ok(())
+fn store_that_refuses_each_write(rt: HostRuntime) {
+    assert!(rt; goes_well(Trial::Run(&REFUSED), &rt, rt.alloc()));
 }

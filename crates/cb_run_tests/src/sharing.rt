@@ -1,8 +1,9 @@
 //! Threads that share a station.
-use crate::offices::{Trial, goes_well};
-use cb_frame::{Body, Frame, ShortBody, ShortFrame, Writes};
+use crate::trials::{Trial, goes_well};
+use crate::visits::{commit, first_page, said};
+use cb_frame::{ShortBody, Writes};
 use cb_hands::Hand;
-use cb_office::OfficeFault;
+use cb_office::{OfficeFault, Station};
 use cb_page::{ClientNo, PageNo, PageSet, TxnNo};
 use cb_shared::Office;
 use std::alloc::{AllocError, Global};
@@ -13,37 +14,6 @@ use std::thread::Threads;
 /// How many transactions each client commits.
 const COUNT: u64 = 200;
 
-/// The ask to read page 0.
-fn ask(hand: &Hand, txn: TxnNo) -> Frame {
-    Frame::from(ShortFrame {
-        client: hand.client(),
-        incarnation: hand.incarnation(),
-        body: ShortBody::AskRead {
-            txn,
-            page: PageNo::new(0),
-        },
-    })
-}
-
-/// The commit of a transaction that wrote nothing.
-fn commit(alloc: Global, hand: &Hand, txn: TxnNo) -> Frame {
-    Frame {
-        client: hand.client(),
-        incarnation: hand.incarnation(),
-        body: Body::Commit {
-            txn,
-            writes: Writes::from_vec(Vec::new(alloc)),
-        },
-    }
-}
-
-/// Page 0, alone.
-fn first_page(alloc: Global) -> Result<PageSet, AllocError> {
-    let mut pages = PageSet::new(alloc, 2)?;
-    pages.insert(PageNo::new(0));
-    Ok(pages)
-}
-
 /// A transaction reads page 0 and commits, with a lock for each call.
 fn read_once<R: Wait>(
     rt: &R,
@@ -53,14 +23,15 @@ fn read_once<R: Wait>(
     txn: TxnNo,
     pages: &PageSet,
 ) -> Result<(), OfficeFault> {
-    let ask = ask(hand, txn);
+    let page = PageNo::new(0);
+    let ask = said(hand, ShortBody::AskRead { txn, page });
     office.lock(rt).station_mut().take(alloc, &ask, hand)?;
     for _frame in 0..4 {
         if office.lock(rt).station_mut().collect(hand)?.is_none() {
             break;
         }
     }
-    let commit = commit(alloc, hand, txn);
+    let commit = commit(hand, txn, Writes::from_vec(Vec::new(alloc)));
     office
         .lock(rt)
         .station_mut()
@@ -120,10 +91,9 @@ fn four_visits<R: Wait + Threads + Sync>(
 }
 
 /// Whether the client's transactions stand in the history, each once and in their order.
-fn has_all<R: Wait>(rt: &R, office: &Office, client: ClientNo) -> bool {
-    let shared = office.lock(rt);
+fn has_all(station: &Station, client: ClientNo) -> bool {
     let mut next = 1;
-    for entry in shared.station().history() {
+    for entry in station.history() {
         if entry.client == client {
             if entry.txn.get() != next || entry.reads.len() != 1 || next > COUNT {
                 return false;
@@ -140,7 +110,7 @@ pub(crate) fn are_shared<R: Wait + Threads + Sync>(rt: &R, alloc: Global, office
         return false;
     }
     for client in 0..4u16 {
-        if !has_all(rt, office, ClientNo::new(client)) {
+        if !has_all(office.lock(rt).station(), ClientNo::new(client)) {
             return false;
         }
     }

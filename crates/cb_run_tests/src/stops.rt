@@ -1,17 +1,19 @@
 //! Whole runs over a store whose disk stops, at each of its calls in turn, while the workers run, or
 //! refuses some writes.
-ghost use Rattle.std.specs.Prelude.{◌≡◌, false, IfOk};
+ghost use Rattle.std.specs.Prelude.{◌≡◌, false};
 
-use crate::balky::Balky;
+use crate::crashes::{Left, survived};
+use crate::disks::{Disks, new_disks, over_new};
+use crate::gates::Gates;
+use crate::run::Told;
+use crate::work::{Outcome, Task, Work, config_of};
 use cb_commit::Store;
 use cb_jobs::{Gate, Turn, counter_sum};
-use cb_page::{ClientNo, LimitFault, Limits, PageNo};
-use cb_progress::Unwatched;
+use cb_page::{ClientNo, Limits, PageNo};
 use cb_run::run_over;
 use cb_settings::Config;
 use cb_shelf::Shelf;
-use sqlite::{Alter, Connection, FileStore, Files, Options};
-use sqlite_disk::{Crash, Disk, Fuse, Memory};
+use sqlite::{Alter, Connection};
 use std::alloc::Global;
 use std::sync::Wait;
 use std::sync::atomic::{AtomicU64, Ordering};
@@ -20,9 +22,6 @@ use std::thread::Threads;
 
 /// How many jobs two clients have together.
 const JOBS: u64 = 4;
-
-/// The files of a database on disks in memory, of which one stops after a number of calls.
-type Disks = Files<Fuse<Memory>>;
 
 /// Which file's disk stops.
 #[derive(Clone, Copy)]
@@ -35,8 +34,8 @@ enum Stopping {
 
 /// Counts the jobs that were answered as done. As the first job begins, writes are set to be refused.
 #[derive(Drop)]
-struct Answered {
-    count: AtomicU64,
+pub(crate) struct Answered {
+    pub(crate) count: AtomicU64,
     /// How many writes are to be refused from the first job on.
     refusals: u64,
     /// How often the gate was asked.
@@ -47,7 +46,7 @@ struct Answered {
 
 impl Answered {
     /// None was answered yet.
-    fn none(refusals: u64) -> Answered {
+    pub(crate) fn none(refusals: u64) -> Answered {
         Answered {
             count: AtomicU64::new(0),
             refusals,
@@ -72,11 +71,13 @@ impl Gate for Answered {
 
 /// What came of a run.
 #[derive(Clone, Copy, PartialEq, Eq)]
-enum Came {
+pub(crate) enum Came {
     /// Every job was done.
     Whole,
     /// The disk stopped.
     Stopped,
+    /// No number was left.
+    Exhausted,
     /// It said something else.
     Wrong,
 }
@@ -89,37 +90,41 @@ fn came_of(status: Option<u8>, out: &[u8], err: &[u8]) -> Came {
     if status == Some(3) && out.is_empty() && err == b"store: Store\n".as_slice() {
         return Came::Stopped;
     }
+    if status == Some(3) && out.is_empty() && err == b"store: Exhausted\n".as_slice() {
+        return Came::Exhausted;
+    }
     Came::Wrong
 }
 
 /// The run over a database, which comes back.
-fn run_on<R: Threads + Wait + Sync, S: Alter>(
+pub(crate) fn work_through<R: Threads + Wait + Sync, S: Alter>(
     rt: &R,
     alloc: Global,
     config: &Config,
-    answered: &Answered,
+    gate: &Answered,
     conn: Connection<S>,
-) -> (Came, Connection<S>)
+) -> (Outcome, Connection<S>)
     requires { config.now.limits.keep_write ≡ false }
 {
     let mut out = Vec::new(alloc);
     let mut err = Vec::new(alloc);
+    let gate: Gates<'_, R> = Gates::Answered(gate);
     let (status, conn) = run_over(
         rt,
         alloc,
         config,
         conn,
-        answered,
-        &mut Unwatched,
+        &gate,
+        &mut Told::none(),
         &mut out,
         &mut err,
     );
     let came = came_of(status.ok(), out.as_slice(), err.as_slice());
-    (came, conn)
+    (Outcome::Ran(came), conn)
 }
 
 /// Whether the store is what the first commits left, at least as many as were answered as done.
-fn is_beginning(limits: &Limits, store: &Store, answered: u64) -> bool {
+fn are_first(limits: &Limits, store: &Store, answered: u64) -> bool {
     let number = store.number();
     let (Some(first), Some(second)) = (PageNo::in_store(limits, 0), PageNo::in_store(limits, 1))
     else {
@@ -132,160 +137,82 @@ fn is_beginning(limits: &Limits, store: &Store, answered: u64) -> bool {
     versions == (number, number) && answered <= number && number <= JOBS
 }
 
-/// The same of what a database holds, which comes back.
-fn look_on<S: Alter>(
+/// The same of what a shelf holds.
+pub(crate) fn is_beginning<S: Alter>(
     alloc: Global,
     limits: &Limits,
+    shelf: &mut Shelf<S>,
     answered: u64,
-    conn: Connection<S>,
-) -> (Came, Connection<S>) {
-    match Shelf::open(alloc, conn, limits) {
-        Ok(mut shelf) => {
-            let came = match shelf.load(alloc) {
-                Ok(store) if is_beginning(limits, &store, answered) => Came::Whole,
-                _ => Came::Wrong,
-            };
-            (came, shelf.close())
-        }
-        Err((_, conn)) => (Came::Wrong, conn),
+) -> bool {
+    match shelf.load(alloc) {
+        Ok(store) => are_first(limits, &store, answered),
+        Err(_) => false,
     }
 }
 
-/// What is done over a database.
-#[derive(Clone, Copy)]
-enum Task {
-    /// Workers run.
-    Run,
-    /// What it holds is looked at.
-    Look,
-}
-
-/// Does this over a connection, and gives the files under it back.
-fn done_over<R: Threads + Wait + Sync, D: Disk + Drop>(
-    rt: &R,
-    alloc: Global,
-    config: &Config,
-    answered: &Answered,
-    task: Task,
-    conn: Connection<FileStore<D>>,
-) -> (Came, Files<D>)
-    requires { config.now.limits.keep_write ≡ false }
-{
-    let (came, conn) = match task {
-        Task::Run => run_on(rt, alloc, config, answered, conn),
-        Task::Look => look_on(
-            alloc,
-            &config.limits,
-            answered.count.load(Ordering::SeqCst),
-            conn,
-        ),
-    };
-    (came, conn.into_store().close())
-}
-
-/// Does this over a new connection to these files, which come back. A disk that stops before there is
-/// a database counts as stopped.
-fn done<R: Threads + Wait + Sync, D: Disk + Drop>(
-    rt: &R,
-    alloc: Global,
-    config: &Config,
-    answered: &Answered,
-    task: Task,
-    files: Files<D>,
-) -> (Came, Files<D>)
-    requires { config.now.limits.keep_write ≡ false }
-{
-    if !files.may_be_used() {
-        return (Came::Wrong, files);
-    }
-    match Connection::open_files(alloc, files, Options::new(1)) {
-        Ok(conn) => done_over(rt, alloc, config, answered, task, conn),
-        Err((_, left)) => (Came::Stopped, left.into_files()),
-    }
-}
-
-/// New files, of which one's disk stops after so many calls.
-fn stopping_files(alloc: Global, stopping: Stopping, calls: u64) -> Disks {
-    let (log, db) = match stopping {
-        Stopping::Log => (calls, u64::MAX),
-        Stopping::Database => (u64::MAX, calls),
-    };
-    Files {
-        log: Fuse::new(Memory::new(alloc), log),
-        db: Fuse::new(Memory::new(alloc), db),
-    }
-}
-
-/// What comes of a run over new files. After a crash the database holds what the first commits left,
-/// at least as many as were answered as done; else the run is wrong.
-fn came_over<R: Threads + Wait + Sync, D: Crash + Drop>(
-    rt: &R,
-    alloc: Global,
-    config: &Config,
-    answered: &Answered,
-    files: Files<D>,
-) -> Came
-    requires { config.now.limits.keep_write ≡ false }
-{
-    let (ran, mut files) = done(rt, alloc, config, answered, Task::Run, files);
-    files.log.crash();
-    files.db.crash();
-    match done(rt, alloc, config, answered, Task::Look, files).0 {
-        Came::Whole => ran,
+/// How the run ended, if after a crash the database holds what the first commits left, at least as
+/// many as were answered as done; else it is wrong. A disk that stops before there is a database
+/// counts as stopped.
+fn ended_as(survived: Option<Outcome>) -> Came {
+    match survived {
+        Some(Outcome::Ran(came)) => came,
+        Some(Outcome::Nothing) => Came::Stopped,
         _ => Came::Wrong,
     }
 }
 
-/// What comes of a run of which one disk stops after so many calls.
-fn stopped_after<R: Threads + Wait + Sync>(
+/// What comes of a run over these files.
+fn came_over<R: Threads + Wait + Sync>(
     rt: &R,
     alloc: Global,
     config: &Config,
-    stopping: Stopping,
-    calls: u64,
+    answered: &Answered,
+    files: Disks<'_>,
 ) -> Came
     requires { config.now.limits.keep_write ≡ false }
 {
-    let files = stopping_files(alloc, stopping, calls);
-    came_over(rt, alloc, config, &Answered::none(0), files)
+    let work = Work {
+        text: "",
+        task: Task::Run(answered),
+    };
+    ended_as(survived(rt, alloc, config, files, work, Left::Answered(answered)))
 }
 
-/// How many runs stop, one for each call in turn, until one doesn't; `None` where a run is wrong.
-fn stops<R: Threads + Wait + Sync>(
+/// New files, of which one's disk stops after so many calls.
+fn stopping_files(alloc: Global, stopping: Stopping, calls: u64) -> Disks<'static> {
+    match stopping {
+        Stopping::Log => new_disks(alloc, calls, u64::MAX, None),
+        Stopping::Database => new_disks(alloc, u64::MAX, calls, None),
+    }
+}
+
+/// Whether more runs stop than so many, one for each call in turn, until one doesn't, and none is
+/// wrong.
+fn stops_often<R: Threads + Wait + Sync>(
     rt: &R,
     alloc: Global,
     config: &Config,
     stopping: Stopping,
-) -> Option<u64>
+    least: u64,
+) -> bool
     requires { config.now.limits.keep_write ≡ false }
 {
     for calls in 0..1_000 {
-        match stopped_after(rt, alloc, config, stopping, calls) {
+        let files = stopping_files(alloc, stopping, calls);
+        match came_over(rt, alloc, config, &Answered::none(0), files) {
             Came::Stopped => {}
-            Came::Whole => return Some(calls),
-            Came::Wrong => return None,
+            Came::Whole => return calls > least,
+            Came::Exhausted | Came::Wrong => return false,
         }
     }
-    None
-}
-
-/// The configuration of the runs.
-fn config() -> Result<Config, LimitFault>
-    ensures { IfOk result (λ config. config.limits.keep_write ≡ false) }
-{
-    Ok(Config {
-        limits: Limits::new(2, 2, 16, 2, 1, 1)?,
-        jobs: JOBS / 2,
-    })
+    false
 }
 
 #[test]
 fn store_that_stops_at_each_call(rt: HostRuntime) -> Result<(), Fail> {
-    let config = config()?;
-    let log = stops(&rt, rt.alloc(), &config, Stopping::Log);
-    assert!(rt; log.is_some_and(|stops| stops > 20));
-    let database = stops(&rt, rt.alloc(), &config, Stopping::Database);
-    assert!(rt; database.is_some_and(|stops| stops > 8));
+    let config = config_of(2, 16, JOBS / 2)?;
+    assert!(rt; stops_often(&rt, rt.alloc(), &config, Stopping::Log, 20));
+    assert!(rt; stops_often(&rt, rt.alloc(), &config, Stopping::Database, 8));
     Ok(())
 }
 
@@ -299,20 +226,39 @@ fn refused_so_often<R: Threads + Wait + Sync>(
     requires { config.now.limits.keep_write ≡ false }
 {
     let answered = Answered::none(refusals);
-    let none = AtomicU64::new(0);
-    let files = Files {
-        log: Balky::new(Memory::new(alloc), &answered.left),
-        db: Balky::new(Memory::new(alloc), &none),
-    };
+    let files = new_disks(alloc, u64::MAX, u64::MAX, Some(&answered.left));
     came_over(rt, alloc, config, &answered, files)
 }
 
 #[test]
 fn third_refusal_is_the_last(rt: HostRuntime) -> Result<(), Fail> {
-    let config = config()?;
+    let config = config_of(2, 16, JOBS / 2)?;
     for refusals in 0..3 {
         assert!(rt; refused_so_often(&rt, rt.alloc(), &config, refusals) == Came::Whole);
     }
     assert!(rt; refused_so_often(&rt, rt.alloc(), &config, 3) == Came::Stopped);
+    Ok(())
+}
+
+/// The tables of a store of zeros whose last commit has the greatest number that there is.
+static LAST: &'static str =
+    "BEGIN; CREATE TABLE mark2(id INTEGER PRIMARY KEY, commits INTEGER NOT NULL, page_size \
+     INTEGER NOT NULL, pages INTEGER NOT NULL) STRICT; CREATE TABLE page2(no INTEGER PRIMARY KEY, \
+     version INTEGER NOT NULL) STRICT; CREATE TABLE part(no INTEGER NOT NULL, place INTEGER NOT \
+     NULL, body BLOB NOT NULL, PRIMARY KEY(no, place)) STRICT; \
+     INSERT INTO mark2 VALUES (1, 4611686018427387903, 16, 2); \
+     INSERT INTO page2 VALUES (0, 0), (1, 0); \
+     INSERT INTO part VALUES (0, 0, x'00000000000000000000000000000000'), \
+     (1, 0, x'00000000000000000000000000000000'); COMMIT";
+
+#[test]
+fn no_number_is_left(rt: HostRuntime) -> Result<(), Fail> {
+    let config = config_of(2, 16, JOBS / 2)?;
+    let gate = Answered::none(0);
+    let work = Work {
+        text: LAST,
+        task: Task::Run(&gate),
+    };
+    assert!(rt; over_new(&rt, rt.alloc(), &config, work) == Outcome::Ran(Came::Exhausted));
     Ok(())
 }

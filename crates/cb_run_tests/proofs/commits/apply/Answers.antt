@@ -1,6 +1,6 @@
 use Rattle.std.proofs.Common.{ap, ◌∙◌}
 use Rattle.cb_commit.proofs.Rewriting.{rewritten_length}
-use Rattle.cb_shelf_tests.proofs.bench.apply.Goals as goal
+use Rattle.cb_run_tests.proofs.commits.apply.Goals as goal
 
 pub returns-in-Commit : goal.returns-in-Commit
 returns-in-Commit c =
