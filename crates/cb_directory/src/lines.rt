@@ -73,6 +73,7 @@ pub struct ClientLine {
     writable: PageSet,
 }
 
+// By hand, since the proof of a derived one is dear.
 impl Drop for ClientLine {
     fn drop(self) {
         let ClientLine {

@@ -1,1 +1,5 @@
--- Nothing is answered here: each goal is searched. With this file a refused edit is not proved twice.
+use Rattle.std.proofs.Common.{rules}
+use Rattle.cb_asks.proofs.ask.Ask.granted.Goals as goal
+
+pub returns-clause-grant : goal.returns-clause-grant
+returns-clause-grant c = search rules

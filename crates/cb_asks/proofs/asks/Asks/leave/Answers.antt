@@ -1,9 +1,10 @@
-use Rattle.std.proofs.Common.{List, ◌+◌, ◌≡◌, ◌<◌, ◌∷◌, ℕ, length, slice_index_or, ap, sym, ◌∙◌, arith}
+use Rattle.std.proofs.Common.{Some, slice_get, List, ◌+◌, ◌≡◌, ◌<◌, ◌∷◌, ℕ, length, slice_index_or, ap, sym, ◌∙◌, arith}
+use Rattle.std.specs.Option.{option_map}
 use Rattle.cb_asks.specs.Asks.{queue_at}
 use Rattle.cb_asks.specs.Maps.{used}
 use Rattle.cb_asks.specs.Queues.{QueueState, no_queue}
 use Rattle.cb_protocol.specs.Server.{WaitingAsk, after_first}
-use Rattle.cb_asks.specs.Queues.{waiting_ask}
+use Rattle.cb_asks.specs.Queues.{asked, waiting_ask}
 use Rattle.cb_asks.proofs.Calls.{has_here, left_is, left_reads, none_of, read_here, reads_none, room_here}
 use Rattle.cb_asks.proofs.Maps.{map_here, maps_kept}
 use Rattle.cb_asks.proofs.asks.Asks.leave.Goals as goal
@@ -56,3 +57,15 @@ returns-clause-leaves c = rw (← c.self.view_is) (record {
 
     read : c.index_mut.result.now ≡ slice_index_or c.self.inside.queues.items c.args.page no_queue
     read = read_here c.self.inside.queues.items c.self.inside.places c.args.page c.self.invariant.0 within c.index.result c.index.ensures.value c.index_mut.result.now c.index_mut.ensures.value
+
+pub returns-clause-ask : goal.returns-clause-ask
+returns-clause-ask c = rw (← c.self.view_is) (ap (λ (l : List WaitingAsk). option_map asked (slice_get l 0)) same ∙ ap Some (sym c.new.ensures))
+  where
+    within : c.args.page < length c.self.inside.queues.items
+    within = rw (← c.self.view_is) at c.requires.page
+
+    read : c.index_mut.result.now ≡ slice_index_or c.self.inside.queues.items c.args.page no_queue
+    read = read_here c.self.inside.queues.items c.self.inside.places c.args.page c.self.invariant.0 within c.index.result c.index.ensures.value c.index_mut.result.now c.index_mut.ensures.value
+
+    same : queue_at (record { queues = c.self.inside.queues.items; places = c.self.inside.places }) c.args.page ≡ waiting_ask c.in-Some.first ∷ c.leave.new.self.asks
+    same = sym (ap (λ (q : QueueState). q.asks) read) ∙ c.in-Some.ensures.first ∙ ap (λ (l : List WaitingAsk). waiting_ask c.in-Some.first ∷ l) (sym c.leave.ensures.asks)
