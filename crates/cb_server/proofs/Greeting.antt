@@ -1,5 +1,5 @@
 -- Hello, by its incarnation, and every other message.
-use Rattle.std.proofs.Common.{◌≡◌, ◌≢◌, ℕ, ◌<◌, ◌≤◌, nat_lt, nat_le, Bool, true, false, ◌==◌, ◌&&◌, if◌then◌else◌, [], ◌∷◌, refl, ap, ◌∙◌, arith}
+use Rattle.std.proofs.Common.{◌≡◌, ◌≢◌, ℕ, ◌<◌, ◌≤◌, nat_lt, nat_le, Bool, true, false, ◌==◌, ◌&&◌, if◌then◌else◌, [], ◌∷◌, refl, sym, ap, ◌∙◌, arith, true≢false}
 use Rattle.std.proofs.lemmas.Bool.Decides.{nat_tests}
 use Rattle.cb_holdings.specs.Questions.{admission_in}
 use Rattle.cb_links.specs.declared.sessions.Admission.{Admission}
@@ -106,8 +106,15 @@ both true true e f = refl
 both true false e f = absurd cc
 both false b e f = absurd cc
 
+-- what a test of two numbers says of them
 same_number : (i n : ℕ) → i ≡ n → (i == n) ≡ true
 same_number i n e = grind (arith, nat_tests)
+
+pub one_number : (i n : ℕ) → (i == n) ≡ true → i ≡ n
+one_number i n e = grind (arith, nat_tests)
+
+pub two_numbers : (i n : ℕ) → (i == n) ≡ false → i ≢ n
+two_numbers i n e same = absurd (true≢false (sym (same_number i n same) ∙ e))
 
 at_most : (n i : ℕ) → n ≤ i → nat_le n i ≡ true
 at_most n i l = grind (arith, nat_tests)

@@ -1,5 +1,6 @@
 //! What a server does for a message, step by step.
-ghost use Rattle.std.specs.Prelude.{◌≡◌, ◌<◌, ◌≤◌, ◌∷◌, [], ℕ, false, true, IfErr, OnErr, OnOk};
+ghost use Rattle.std.specs.Prelude.{◌≡◌, ◌==◌, ◌<◌, ◌≤◌, ◌∷◌, [], ℕ, false, true, IfErr, OnErr};
+ghost use Rattle.std.specs.Prelude.{OnOk};
 ghost use Rattle.cb_tables.specs.Tables.{HasClient};
 ghost use Rattle.cb_tables.specs.Waits.{IsGreeted};
 ghost use Rattle.cb_holdings.specs.Holdings.{AreOf};
@@ -64,7 +65,7 @@ impl Engine {
             self.hello(alloc, limits, client, incarnation)?;
             return Ok(());
         }
-        if self.callbacks.holdings().admission(client, incarnation) != Admission::Current {
+        if !self.is_current(client, incarnation) {
             return Ok(());
         }
         self.take_current(alloc, limits, client, incarnation, body)
@@ -116,8 +117,15 @@ impl Engine {
         ensures { result
             ≡ is_exhausted (server_in self.now) client incarnation (body_of body.now) }
     {
+        self.is_current(client, incarnation) && self.lacks_number(client, body)
+    }
+
+    /// Whether the client's current incarnation is this one.
+    fn is_current(&self, client: ClientNo, incarnation: Incarnation) -> bool
+        requires { HasClient self.now.callbacks.tables client }
+        ensures { result ≡ (incarnation == ((server_in self.now).session client).current) }
+    {
         self.callbacks.holdings().admission(client, incarnation) == Admission::Current
-            && self.lacks_number(client, body)
     }
 
     /// Whether no number would be left for the message, once its transaction has begun.
