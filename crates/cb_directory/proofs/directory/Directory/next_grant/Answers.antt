@@ -1,1 +1,8 @@
--- Nothing is answered here: each goal is searched. With this file a refused edit is not proved twice.
+use Rattle.std.proofs.Common.{rules}
+use Rattle.cb_directory.proofs.directory.Directory.next_grant.Goals as goal
+
+pub returns-clause-value : goal.returns-clause-value
+returns-clause-value c = search rules
+
+pub returns-clause-left : goal.returns-clause-left
+returns-clause-left c = search rules

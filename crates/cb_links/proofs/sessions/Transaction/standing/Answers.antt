@@ -1,1 +1,5 @@
--- Nothing is answered here: each goal is searched. With this file a refused edit is not proved twice.
+use Rattle.std.proofs.Common.{rules}
+use Rattle.cb_links.proofs.sessions.Transaction.standing.Goals as goal
+
+pub returns-then-is_doomed : goal.returns-then-is_doomed
+returns-then-is_doomed c = search rules
