@@ -1,6 +1,6 @@
 //! Drawn calls of three clients; all pairs of hands are shown to meet after each.
 use crate::frames::{ask_read, ask_write, commit, insert, no_writes, said, short_body, write};
-use crate::stations::{Trial, goes_well};
+use crate::stations::over_zeros;
 use cb_frame::ShortBody;
 use cb_hands::Hand;
 use cb_office::{OfficeFault, Station};
@@ -24,22 +24,23 @@ impl Draws {
 }
 
 /// What was done in all.
-#[derive(Clone, Copy)]
+#[derive(Clone, Copy, Debug, Default, PartialEq, Eq)]
 struct Tally {
     commits: u32,
+    refused: u32,
     permitted: u32,
     doomed: u32,
 }
 
 /// The station of three clients, and what is drawn.
 #[derive(Drop)]
-struct Play<'a> {
-    station: &'a mut Station,
+struct Play {
+    station: Station,
     draws: Draws,
     tally: Tally,
 }
 
-impl Play<'_> {
+impl Play {
     /// One drawn call of one client, in its transaction; `false` where something is wrong.
     fn drawn(
         &mut self,
@@ -202,10 +203,16 @@ impl Play<'_> {
             Ok(_) => {
                 self.tally.commits = self.tally.commits.wrapping_add(1);
                 *txn = txn.next().unwrap_or(*txn);
-                Ok(hand.txn().is_none() && wrote(self.station, before, count))
+                Ok(hand.txn().is_none() && wrote(&self.station, before, count))
             }
-            Err(OfficeFault::NotLive) => Ok(true),
-            Err(OfficeFault::NotHeld) => Ok(count != 0),
+            Err(OfficeFault::NotLive) => {
+                self.tally.refused = self.tally.refused.wrapping_add(1);
+                Ok(true)
+            }
+            Err(OfficeFault::NotHeld) => {
+                self.tally.refused = self.tally.refused.wrapping_add(1);
+                Ok(count != 0)
+            }
             Err(fault) => Err(fault),
         }
     }
@@ -238,7 +245,7 @@ fn wrote(station: &Station, before: usize, count: usize) -> bool {
 /// Three thousand calls.
 fn plays(
     alloc: Global,
-    play: &mut Play<'_>,
+    play: &mut Play,
     one: &mut Hand,
     two: &mut Hand,
     three: &mut Hand,
@@ -261,7 +268,7 @@ fn plays(
 }
 
 /// Three clients join, and play.
-fn three_play(alloc: Global, play: &mut Play<'_>) -> bool {
+fn three_play(alloc: Global, play: &mut Play) -> bool {
     let Ok(mut one) = play.station.join(alloc, ClientNo::new(0)) else {
         return false;
     };
@@ -281,23 +288,24 @@ fn three_play(alloc: Global, play: &mut Play<'_>) -> bool {
     good
 }
 
-/// Whether all was right, and each thing was done.
-pub(crate) fn draws_well(alloc: Global, station: &mut Station) -> bool {
+/// What was done in all, where all was right.
+fn done(alloc: Global) -> Option<Tally> {
     let mut play = Play {
-        station,
+        station: over_zeros(alloc)?,
         draws: Draws { state: 7 },
-        tally: Tally {
-            commits: 0,
-            permitted: 0,
-            doomed: 0,
-        },
+        tally: Tally::default(),
     };
-    let good = three_play(alloc, &mut play);
-    let tally = play.tally;
-    good && tally.commits > 100 && tally.permitted > 0 && tally.doomed > 0
+    if three_play(alloc, &mut play) {
+        Some(play.tally)
+    } else {
+        None
+    }
 }
 
 #[test]
 fn two_hands_meet(rt: HostRuntime) {
-    assert!(rt; goes_well(Trial::Drawn, rt.alloc()));
+    let tally = done(rt.alloc()).unwrap_or_default();
+    assert!(rt; tally.commits > 100);
+    assert!(rt; tally.permitted > 0);
+    assert!(rt; tally.doomed > 0);
 }

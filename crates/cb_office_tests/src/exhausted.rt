@@ -2,7 +2,7 @@
 use crate::case::prepare;
 use crate::frames::{commit, commit_one, insert, no_writes};
 use crate::refusals::{refused_commit, restarted};
-use crate::stations::{Trial, goes_well, is_as_before, two_join};
+use crate::stations::{at_the_last_commit, is_as_before, over_zeros, two_join};
 use cb_hands::Hand;
 use cb_office::{OfficeFault, Station};
 use cb_page::{ClientNo, GrantNo, Incarnation, MAX_NUMBER, PageNo, PageSet, TxnNo};
@@ -72,29 +72,28 @@ fn stays(alloc: Global, station: &mut Station, one: Hand, two: &Hand) -> bool {
 }
 
 /// So it is with commits.
-pub(crate) fn no_commit_left(alloc: Global, station: &mut Station) -> bool {
-    let Some((mut one, two)) = two_join(alloc, station) else {
-        return false;
-    };
-    let good = commits_nothing(alloc, station, &mut one, &two).unwrap_or(false);
+fn no_commit_left(alloc: Global) -> Option<bool> {
+    let mut station = at_the_last_commit(alloc)?;
+    let (mut one, two) = two_join(alloc, &mut station)?;
+    let good = commits_nothing(alloc, &mut station, &mut one, &two).unwrap_or(false);
     one.abandon();
     two.abandon();
-    good
+    Some(good)
 }
 
 /// So it is with incarnations.
-pub(crate) fn no_incarnation_left(alloc: Global, station: &mut Station) -> bool {
-    let Some((one, two)) = two_join(alloc, station) else {
-        return false;
-    };
-    let mut good = joins_no_more(alloc, station, &one, &two);
-    good = stays(alloc, station, one, &two) && good;
+fn no_incarnation_left(alloc: Global) -> Option<bool> {
+    let mut station = over_zeros(alloc)?;
+    let (one, two) = two_join(alloc, &mut station)?;
+    let mut good = joins_no_more(alloc, &mut station, &one, &two);
+    good = stays(alloc, &mut station, one, &two) && good;
     two.abandon();
-    good
+    Some(good)
 }
 
 #[test]
 fn numbers_used_up(rt: HostRuntime) {
-    assert!(rt; goes_well(Trial::NoCommitLeft, rt.alloc()));
-    assert!(rt; goes_well(Trial::NoIncarnationLeft, rt.alloc()));
+    let commits = no_commit_left(rt.alloc()) == Some(true);
+    let incarnations = no_incarnation_left(rt.alloc()) == Some(true);
+    assert!(rt; commits && incarnations);
 }

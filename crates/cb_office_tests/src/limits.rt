@@ -1,6 +1,6 @@
 //! A station at the greatest limits.
 use crate::frames::{ask_read, ask_write, commit, insert, no_writes, write};
-use crate::stations::{Trial, goes_well};
+use crate::stations::greatest;
 use cb_hands::Hand;
 use cb_office::{OfficeFault, Station};
 use cb_page::{ClientNo, PageNo, PageSet, TxnNo};
@@ -57,6 +57,17 @@ fn commits(
     Ok(written == WRITTEN as usize && station.batch(alloc)?.is_none())
 }
 
+/// The last client works alone, after all others have joined.
+fn last_works(alloc: Global, station: &mut Station) -> Result<bool, OfficeFault> {
+    for client in 0..31u16 {
+        station.join(alloc, ClientNo::new(client))?.abandon();
+    }
+    let mut hand = station.join(alloc, ClientNo::new(31))?;
+    let worked = works(alloc, station, &mut hand);
+    hand.abandon();
+    worked
+}
+
 fn works(alloc: Global, station: &mut Station, hand: &mut Hand) -> Result<bool, OfficeFault> {
     let txn = TxnNo::new(1);
     let _welcome = station.collect(hand)?;
@@ -66,31 +77,11 @@ fn works(alloc: Global, station: &mut Station, hand: &mut Hand) -> Result<bool, 
     Ok(permitted && committed && station.collect(hand)?.is_none())
 }
 
-/// All clients but the last one join.
-fn others_join(alloc: Global, station: &mut Station) -> bool {
-    for client in 0..31u16 {
-        match station.join(alloc, ClientNo::new(client)) {
-            Ok(hand) => hand.abandon(),
-            Err(_) => return false,
-        }
-    }
-    true
-}
-
-/// The last client works alone, after all others have joined.
-pub(crate) fn last_works(alloc: Global, station: &mut Station) -> bool {
-    let joined = others_join(alloc, station);
-    match station.join(alloc, ClientNo::new(31)) {
-        Ok(mut hand) => {
-            let worked = works(alloc, station, &mut hand).unwrap_or(false);
-            hand.abandon();
-            joined && worked
-        }
-        Err(_) => false,
-    }
-}
-
 #[test]
 fn greatest_limits(rt: HostRuntime) {
-    assert!(rt; goes_well(Trial::Greatest, rt.alloc()));
+    let worked = match greatest(rt.alloc()) {
+        Some(mut station) => last_works(rt.alloc(), &mut station).unwrap_or(false),
+        None => false,
+    };
+    assert!(rt; worked);
 }

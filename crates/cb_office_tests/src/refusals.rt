@@ -1,7 +1,7 @@
 //! Bad input: each has its fault, and everything stays as it was.
 use crate::case::prepare;
 use crate::frames::{ask_read, commit, commit_one, insert, no_writes, said, shown};
-use crate::stations::{Trial, goes_well, two_join};
+use crate::stations::{over_zeros, two_join};
 use cb_frame::{Frame, ShortBody};
 use cb_hands::Hand;
 use cb_office::{OfficeFault, Station};
@@ -195,7 +195,7 @@ fn restarts(alloc: Global, station: &mut Station, two: &Hand) -> bool {
 }
 
 /// All of them, with the hand of another station.
-pub(crate) fn all_refused(alloc: Global, station: &mut Station, other: &mut Station) -> bool {
+fn all_refused(alloc: Global, station: &mut Station, other: &mut Station) -> bool {
     let Some((mut one, mut two)) = two_join(alloc, station) else {
         return false;
     };
@@ -220,7 +220,20 @@ fn is_refused(alloc: Global, station: &mut Station, client: ClientNo) -> bool {
     }
 }
 
+/// So it is at a station of its own.
+fn refused_beside(alloc: Global, other: &mut Station) -> bool {
+    match over_zeros(alloc) {
+        Some(mut station) => all_refused(alloc, &mut station, other),
+        None => false,
+    }
+}
+
 #[test]
 fn bad_input(rt: HostRuntime) {
-    assert!(rt; goes_well(Trial::Refused, rt.alloc()));
+    let alloc = rt.alloc();
+    let good = match over_zeros(alloc) {
+        Some(mut other) => refused_beside(alloc, &mut other),
+        None => false,
+    };
+    assert!(rt; good);
 }

@@ -64,8 +64,10 @@ fn writes<Q: Chooser, R: Wait>(
     worker.write(page, &[7; 16])?;
     let written = is_all(worker.hit(page), 7);
     let refused = is_foreign_elsewhere(alloc, worker);
-    let number = worker.commit_at(alloc, office.lock(rt).station_mut())?;
-    office.lock(rt).station_mut().flushed(alloc, first)?;
+    let committed = worker.commit_at(alloc, office.lock(rt).station_mut());
+    let number = committed?;
+    let flushed = office.lock(rt).station_mut().flushed(alloc, first);
+    flushed?;
     let finished = worker.finish(rt, alloc, office)? == Finished::Committed(first);
     Ok(written && refused && number == first && finished && is_all(worker.peek(page), 7))
 }

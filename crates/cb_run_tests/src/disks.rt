@@ -17,8 +17,8 @@ use std::thread::Threads;
 /// refuse some writes.
 pub(crate) type Disks<'a> = Files<Balky<'a, Fuse<Memory>>>;
 
-/// New disks, each of which stops after so many calls. The log refuses as many writes as are left to
-/// be.
+/// New disks, each of which stops after so many calls. The log refuses as many writes as are left
+/// to be.
 pub(crate) fn new_disks(alloc: Global, log: u64, db: u64, left: Option<&AtomicU64>) -> Disks<'_> {
     Files {
         log: Balky::new(Fuse::new(Memory::new(alloc), log), left),

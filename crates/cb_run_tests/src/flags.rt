@@ -82,8 +82,8 @@ fn has_come(shared: &SharedStation, waking: Waking) -> bool {
     }
 }
 
-/// Waits for it, or until the office is halted. `counted` counts who holds the lock or waits, and once
-/// more who was woken by what it waits for.
+/// Waits for it, or until the office is halted. `counted` counts who holds the lock or waits, and
+/// once more who was woken by what it waits for.
 fn wait_for<R: Wait>(rt: &R, office: &Office, counted: &AtomicU64, waking: Waking) {
     let mut shared = office.lock(rt);
     counted.fetch_add(1, Ordering::SeqCst);
@@ -111,8 +111,8 @@ fn spin_until<R: Wait>(rt: &R, counted: &AtomicU64, count: u64) {
     }
 }
 
-/// The client joins, so that there is a Welcome to it, and is told; where it can't join the office is
-/// halted.
+/// The client joins, so that there is a Welcome to it, and is told; where it can't join the office
+/// is halted.
 fn greet<R: Wait>(rt: &R, alloc: Global, office: &Office, client: ClientNo) {
     let mut shared = office.lock(rt);
     let joined = shared.station_mut().join(alloc, client);
@@ -164,12 +164,12 @@ pub(crate) fn wakes<R: Wait + Threads + Sync>(
     office: &Office,
     waking: Waking,
 ) -> bool {
-    let wanted = match waking {
-        Waking::Closing => (true, false),
-        Waking::Halting => (true, true),
-        Waking::Greeting => (false, false),
+    let (count, wanted) = match waking {
+        Waking::Closing => (4, (true, false)),
+        Waking::Halting => (4, (true, true)),
+        Waking::Greeting => (2, (false, false)),
     };
-    count_woken(rt, alloc, office, waking) == 2 * waiting(waking) && flags(rt, office) == wanted
+    count_woken(rt, alloc, office, waking) == count && flags(rt, office) == wanted
 }
 
 #[test]

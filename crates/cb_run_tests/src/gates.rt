@@ -1,4 +1,5 @@
-//! Gates of runs: one type for all, so that a run is built once; and workers that wait for each other.
+//! Gates of runs: one type for all, so that a run is built once; and workers that wait for each
+//! other.
 use crate::cut_off::Stopper;
 use crate::run::{Row, comes_at};
 use crate::stops::Answered;

@@ -1,6 +1,6 @@
-//! Tests of the shelf and of the running program's parts, the office, workers, jobs and the flusher,
-//! and of whole runs, by public calls. They stand in one crate, since each crate that owns an office or
-//! a connection proves the drops of all its parts, and builds the library of the database.
+//! Tests of the shelf and of the running program's parts, the office, workers, jobs and the
+//! flusher, and of whole runs, by public calls. They stand in one crate, since each crate that owns
+//! an office or a connection proves the drops of all its parts, and builds the database's library.
 #![tactic(auto)]
 
 #[cfg(test)]

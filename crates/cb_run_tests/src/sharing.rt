@@ -14,6 +14,48 @@ use std::thread::Threads;
 /// How many transactions each client commits.
 const COUNT: u64 = 200;
 
+/// It asks to read page 0.
+fn ask_once<R: Wait>(
+    rt: &R,
+    alloc: Global,
+    office: &Office,
+    hand: &mut Hand,
+    txn: TxnNo,
+) -> Result<(), OfficeFault> {
+    let page = PageNo::new(0);
+    let ask = said(hand, ShortBody::AskRead { txn, page });
+    office.lock(rt).station_mut().take(alloc, &ask, hand)
+}
+
+/// It takes what is sent next; whether nothing was.
+fn is_sent_nothing<R: Wait>(rt: &R, office: &Office, hand: &mut Hand) -> Result<bool, OfficeFault> {
+    let sent = office.lock(rt).station_mut().collect(hand);
+    match sent {
+        Ok(frame) => Ok(frame.is_none()),
+        Err(fault) => Err(fault),
+    }
+}
+
+/// It commits, having written nothing.
+fn commit_once<R: Wait>(
+    rt: &R,
+    alloc: Global,
+    office: &Office,
+    hand: &mut Hand,
+    txn: TxnNo,
+    pages: &PageSet,
+) -> Result<(), OfficeFault> {
+    let commit = commit(hand, txn, Writes::from_vec(Vec::new(alloc)));
+    let committed = office
+        .lock(rt)
+        .station_mut()
+        .commit(alloc, &commit, pages, hand);
+    match committed {
+        Ok(_) => Ok(()),
+        Err(fault) => Err(fault),
+    }
+}
+
 /// A transaction reads page 0 and commits, with a lock for each call.
 fn read_once<R: Wait>(
     rt: &R,
@@ -23,20 +65,13 @@ fn read_once<R: Wait>(
     txn: TxnNo,
     pages: &PageSet,
 ) -> Result<(), OfficeFault> {
-    let page = PageNo::new(0);
-    let ask = said(hand, ShortBody::AskRead { txn, page });
-    office.lock(rt).station_mut().take(alloc, &ask, hand)?;
+    ask_once(rt, alloc, office, hand, txn)?;
     for _frame in 0..4 {
-        if office.lock(rt).station_mut().collect(hand)?.is_none() {
+        if is_sent_nothing(rt, office, hand)? {
             break;
         }
     }
-    let commit = commit(hand, txn, Writes::from_vec(Vec::new(alloc)));
-    office
-        .lock(rt)
-        .station_mut()
-        .commit(alloc, &commit, pages, hand)?;
-    Ok(())
+    commit_once(rt, alloc, office, hand, txn, pages)
 }
 
 fn read_often<R: Wait>(

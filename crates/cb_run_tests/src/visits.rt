@@ -61,6 +61,22 @@ fn say(
     Ok(())
 }
 
+/// It commits page 0 of sevens, having read it.
+fn commit_sevens(
+    alloc: Global,
+    station: &mut Station,
+    hand: &mut Hand,
+    txn: TxnNo,
+    grant: GrantNo,
+) -> Result<(), OfficeFault> {
+    let reads = first_page(alloc)?;
+    let frame = commit(hand, txn, sevens(alloc, grant)?);
+    match station.commit(alloc, &frame, &reads, hand) {
+        Ok(_) => Ok(()),
+        Err(fault) => Err(fault),
+    }
+}
+
 /// A transaction reads page 0, writes it, and commits.
 pub(crate) fn commit_page(
     alloc: Global,
@@ -69,7 +85,6 @@ pub(crate) fn commit_page(
     txn: TxnNo,
 ) -> Result<(), OfficeFault> {
     let page = PageNo::new(0);
-    let reads = first_page(alloc)?;
     say(alloc, station, hand, ShortBody::AskRead { txn, page })?;
     let Some(shown) = hand.shows(page) else {
         return Err(OfficeFault::NotHeld);
@@ -77,11 +92,7 @@ pub(crate) fn commit_page(
     let grant = shown.grant;
     let body = ShortBody::AskWrite { txn, page, grant };
     say(alloc, station, hand, body)?;
-    let frame = commit(hand, txn, sevens(alloc, grant)?);
-    match station.commit(alloc, &frame, &reads, hand) {
-        Ok(_) => Ok(()),
-        Err(fault) => Err(fault),
-    }
+    commit_sevens(alloc, station, hand, txn, grant)
 }
 
 /// Transactions of the client commit, so many.
