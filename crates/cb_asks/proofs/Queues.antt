@@ -1,11 +1,10 @@
 -- What a step makes of a queue's counts.
-use Rattle.std.proofs.Common.{◌≡◌, ℕ, ◌+◌, ◌<◌, ◌≤◌, ◌==◌, if◌then◌else◌, List, [], ◌∷◌, ◌++◌, length, Some, None, zero, suc, ◌||◌, take, slice_get, refl, arith}
+use Rattle.std.proofs.Common.{◌≡◌, ℕ, ◌+◌, ◌≤◌, ◌==◌, if◌then◌else◌, List, [], ◌∷◌, ◌++◌, length, Some, None, refl, arith}
 use Rattle.cb_protocol.specs.Basics.{is_none}
 use Rattle.cb_protocol.specs.Deadlock.{ask_count}
 use Rattle.cb_protocol.specs.Server.{WaitingAsk, has_ask, set_called_back, set_downgrade_sent, without_client}
 use Rattle.cb_protocol.specs.ServerMessages.{read_asks_in}
-use Rattle.std.specs.Option.{IsSome}
-use Rattle.cb_asks.specs.Queues.{ask_by, client_at}
+use Rattle.cb_asks.specs.Queues.{ask_by}
 use Rattle.cb_asks.specs.Sums.{one_if}
 
 -- no more read asks than asks
@@ -77,23 +76,3 @@ reads_sent tag (first ∷ queue) = refl
 pub length_sent : (tag : ℕ) (queue : List WaitingAsk) → length (set_downgrade_sent tag queue) ≡ length queue
 length_sent tag [] = refl
 length_sent tag (first ∷ queue) = refl
-
--- there is somebody at each place
-pub someone_at : (queue : List WaitingAsk) (place : ℕ) → place < length queue → IsSome (client_at queue place)
-someone_at [] place within = absurd (omega arith)
-someone_at (first ∷ queue) zero within = refl
-someone_at (first ∷ queue) (suc place) within = someone_at queue place (omega arith)
-
--- one place more from the front
-pub taken : (client : ℕ) (queue : List WaitingAsk) (place : ℕ) (ask : WaitingAsk) → slice_get queue place ≡ Some ask
-    → has_ask client (take (suc place) queue) ≡ (has_ask client (take place queue) || (ask.client == client))
-taken client [] place ask is = grind arith
-taken client (first ∷ queue) zero ask is = grind arith
-taken client (first ∷ queue) (suc place) ask is = grind (arith, taken client queue place ask is)
-
--- the same by the client that is there
-pub taken_by : (client : ℕ) (queue : List WaitingAsk) (place who : ℕ) → client_at queue place ≡ Some who
-    → has_ask client (take (suc place) queue) ≡ (has_ask client (take place queue) || (who == client))
-taken_by client [] place who is = grind arith
-taken_by client (first ∷ queue) zero who is = grind arith
-taken_by client (first ∷ queue) (suc place) who is = grind (arith, taken_by client queue place who is)

@@ -33,20 +33,6 @@ impl Ask {
         }
     }
 
-    /// The client that asked.
-    pub fn client(&self) -> ClientNo
-        ensures { result ≡ self.now.client }
-    {
-        self.client
-    }
-
-    /// The grant by which it asked to write; `None`: it asked to read.
-    pub fn write_grant(&self) -> Option<GrantNo>
-        ensures { result ≡ self.now.write_grant }
-    {
-        self.write_grant
-    }
-
     /// It was granted: its client got the copy, or the write permission by that grant.
     pub fn granted(self) -> (ClientNo, Option<GrantNo>)
         ensures client { result.0 ≡ self.client }

@@ -1,9 +1,8 @@
 //! The queue of a page.
 ghost use Rattle.std.specs.Prelude.{◌≡◌, ◌≢◌, ◌++◌, ◌∷◌, [], ◌<◌, ◌≤◌, ◌+◌, ℕ, length, OnErr};
 ghost use Rattle.std.specs.Prelude.{MatchOption, OnOk};
-ghost use Rattle.cb_clients.specs.Clients.{has};
 ghost use Rattle.cb_protocol.specs.Deadlock.{ask_count};
-ghost use Rattle.cb_protocol.specs.Server.{after_first, has_ask, set_called_back};
+ghost use Rattle.cb_protocol.specs.Server.{after_first, set_called_back};
 ghost use Rattle.cb_protocol.specs.Server.{set_downgrade_sent, without_client};
 ghost use Rattle.cb_protocol.specs.ServerMessages.{is_empty, new_ask};
 ghost use Rattle.std.specs.Option.{option_map};
@@ -13,7 +12,6 @@ ghost use Rattle.cb_asks.specs.Queues.{ask_by, client_at, waiting_ask};
 
 use crate::key::Key;
 use crate::spare::Spare;
-use cb_clients::ClientSet;
 use cb_page::{ClientNo, GrantNo, TxnNo};
 use indexmap::IndexMap;
 use std::alloc::AllocError;
@@ -139,18 +137,6 @@ impl Queue {
         };
         let entry = entries.get(&Key::of(client))?;
         Some(entry.of(client))
-    }
-
-    /// The clients that wait.
-    #[tactic(auto, using(crate::proofs::Queues::someone_at))]
-    pub fn clients(&self) -> ClientSet
-        ensures { (client : ℕ) → has result client ≡ has_ask client self.now.asks }
-    {
-        let mut clients = ClientSet::empty();
-        for place in 0..self.len() {
-            clients.insert(self.client_at(place).unwrap());
-        }
-        clients
     }
 
     /// Makes room for one more ask. Where nobody waits there is room.

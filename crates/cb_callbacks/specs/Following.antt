@@ -5,12 +5,16 @@ use Rattle.cb_protocol.specs.WaitsFor.{holds_up, waits_for}
 use Rattle.cb_waits.specs.Follows.{waited_for}
 use Rattle.cb_waits.specs.Graph.{Edges, waits}
 
+-- each ask that waits at the page, the last of its client there, waits by its place
+abbrev pub WaitByPlace : Server → (page : ℕ) → Edges → Type 0
+WaitByPlace server page view = (front back : List WaitingAsk) (ask : WaitingAsk)
+    → server.queue page ≡ front ++ ask ∷ back → has_ask ask.client back ≡ false
+    → (other : ℕ) → waits view ask.client other
+    ≡ (not (ask.client == other) && waited_for (holds_up server page ask) front other)
+
 -- Each ask that waits at the page waits by its place; all others as before.
 pub record FollowsPage (before : Edges) (server : Server) (page : ℕ) (after : Edges) : Type 0 where
-  pub asks : (front back : List WaitingAsk) (ask : WaitingAsk)
-      → server.queue page ≡ front ++ ask ∷ back → has_ask ask.client back ≡ false
-      → (other : ℕ) → waits after ask.client other
-      ≡ (not (ask.client == other) && waited_for (holds_up server page ask) front other)
+  pub asks : WaitByPlace server page after
   pub rest : (waiting other : ℕ) → has_ask waiting (server.queue page) ≡ false
       → waits after waiting other ≡ waits before waiting other
 

@@ -86,20 +86,6 @@ impl Callbacks {
         &self.tables.holdings
     }
 
-    /// The queues of asks.
-    pub fn asks(&self) -> &Asks
-        ensures { result.now ≡ self.now.tables.asks }
-    {
-        &self.tables.asks
-    }
-
-    /// Who uses which page that it was called back for.
-    pub fn marks(&self) -> &Marks
-        ensures { result.now ≡ self.now.tables.marks }
-    {
-        &self.tables.marks
-    }
-
     /// Who waits for whom, as it is kept.
     pub fn kept_view(&self) -> &View
         ensures { Follows result.now (server_of self.now.tables) }

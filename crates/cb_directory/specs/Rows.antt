@@ -1,6 +1,6 @@
 -- The directory's lines: what stands for one client, and for one page.
-use Rattle.std.specs.Prelude.{ℕ, zero, suc, Bool, false, List, Option, None, Some, replicate}
-use Rattle.std.specs.Prelude.{slice_index_or, ◌≡◌, refl}
+use Rattle.std.specs.Prelude.{ℕ, zero, suc, Bool, false, true, List, Option, None, Some, replicate}
+use Rattle.std.specs.Prelude.{slice_index_or, ◌≡◌, ◌<◌, ◌≤◌, refl, MatchOption}
 
 -- what stands for one client: the grant of its copy of each page, the pages of which it has a
 -- copy, and those that it may write
@@ -20,6 +20,13 @@ no_rows pages = record {
   copied = replicate pages false;
   writable = replicate pages false;
 }
+
+-- the answer is the least page from a place on of which it holds; none: it holds of none from there
+abbrev pub IsLeastFrom : (from pages : ℕ) → (holds : ℕ → Bool) → Option ℕ → Type 0
+IsLeastFrom from pages holds answer = MatchOption answer
+    ((page : ℕ) → from ≤ page → holds page ≡ false)
+    (λ page. (from ≤ page) × (page < pages) × (holds page ≡ true)
+    × ((other : ℕ) → from ≤ other → other < page → holds other ≡ false))
 
 -- what a number stands for where no grant has the number 0 (this project's rule)
 abbrev pub grant_at : ℕ → Option ℕ

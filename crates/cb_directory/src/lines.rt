@@ -1,9 +1,8 @@
 //! What stands for one client, and for one page.
-ghost use Rattle.std.specs.Prelude.{◌≡◌, ℕ, ◌<◌, ◌≤◌, true, false, length};
-ghost use Rattle.std.specs.Prelude.{slice_set, IfOk, MatchOption};
+ghost use Rattle.std.specs.Prelude.{◌≡◌, ◌<◌, ◌≤◌, true, false, length, slice_set, IfOk};
 ghost use Rattle.std.specs.Option.{is_some};
 ghost use Rattle.cb_page.specs.Flags.{has};
-ghost use Rattle.cb_directory.specs.Rows.{grant_of, no_rows};
+ghost use Rattle.cb_directory.specs.Rows.{IsLeastFrom, grant_of, no_rows};
 
 use cb_clients::ClientSet;
 use cb_page::{ClientNo, GrantNo, PageNo, PageSet, TxnNo};
@@ -154,22 +153,14 @@ impl ClientLine {
 
     /// The least page of which the client has a copy, at or after a place.
     pub fn next_copied(&self, from: usize) -> Option<PageNo>
-        ensures { MatchOption result
-            ((page : ℕ) → from ≤ page → has self.now.copied page ≡ false)
-            (λ page. (from ≤ page) × (page < length self.now.copied)
-            × (has self.now.copied page ≡ true)
-            × ((other : ℕ) → from ≤ other → other < page → has self.now.copied other ≡ false)) }
+        ensures { IsLeastFrom from (length self.now.copied) (has self.now.copied) result }
     {
         self.copied.next(from)
     }
 
     /// The least page that the client may write, at or after a place.
     pub fn next_writable(&self, from: usize) -> Option<PageNo>
-        ensures { MatchOption result
-            ((page : ℕ) → from ≤ page → has self.now.writable page ≡ false)
-            (λ page. (from ≤ page) × (page < length self.now.writable)
-            × (has self.now.writable page ≡ true)
-            × ((other : ℕ) → from ≤ other → other < page → has self.now.writable other ≡ false)) }
+        ensures { IsLeastFrom from (length self.now.writable) (has self.now.writable) result }
     {
         self.writable.next(from)
     }

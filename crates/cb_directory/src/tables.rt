@@ -1,9 +1,9 @@
 //! The rows and write holders as tables by client and by page, without their rule.
 ghost use Rattle.std.specs.Prelude.{◌≡◌, ℕ, ◌<◌, ◌≤◌, None, Some, false, true, length, replicate};
-ghost use Rattle.std.specs.Prelude.{IfOk, MatchOption};
+ghost use Rattle.std.specs.Prelude.{IfOk};
 ghost use Rattle.cb_clients.specs.Clients.{has};
 ghost use Rattle.std.specs.Option.{is_some};
-ghost use Rattle.cb_directory.specs.Rows.{no_rows};
+ghost use Rattle.cb_directory.specs.Rows.{IsLeastFrom, no_rows};
 ghost use Rattle.cb_directory.specs.Tables.{IsEmpty, PutsHolder, PutsRow, holder, is_copied};
 ghost use Rattle.cb_directory.specs.Tables.{is_marked, is_writable, row, tag};
 
@@ -101,12 +101,7 @@ impl Tables {
     /// The least page of which the client has a row, at or after a place.
     pub fn next_copied(&self, client: ClientNo, from: usize) -> Option<PageNo>
         requires { client < length self.now.clients }
-        ensures { MatchOption result
-            ((page : ℕ) → from ≤ page → is_copied self.now client page ≡ false)
-            (λ page. (from ≤ page) × (page < length self.now.pages)
-            × (is_copied self.now client page ≡ true)
-            × ((other : ℕ) → from ≤ other → other < page
-            → is_copied self.now client other ≡ false)) }
+        ensures { IsLeastFrom from (length self.now.pages) (is_copied self.now client) result }
     {
         self.clients[client.index()].next_copied(from)
     }
@@ -114,12 +109,7 @@ impl Tables {
     /// The least page that the client may write, at or after a place.
     pub fn next_writable(&self, client: ClientNo, from: usize) -> Option<PageNo>
         requires { client < length self.now.clients }
-        ensures { MatchOption result
-            ((page : ℕ) → from ≤ page → is_writable self.now client page ≡ false)
-            (λ page. (from ≤ page) × (page < length self.now.pages)
-            × (is_writable self.now client page ≡ true)
-            × ((other : ℕ) → from ≤ other → other < page
-            → is_writable self.now client other ≡ false)) }
+        ensures { IsLeastFrom from (length self.now.pages) (is_writable self.now client) result }
     {
         self.clients[client.index()].next_writable(from)
     }

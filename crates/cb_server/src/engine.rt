@@ -1,6 +1,6 @@
 //! What a server does for a message, step by step.
 ghost use Rattle.std.specs.Prelude.{◌≡◌, ◌==◌, ◌<◌, ◌≤◌, ◌∷◌, [], ℕ, false, true, IfErr, OnErr};
-ghost use Rattle.std.specs.Prelude.{OnOk};
+ghost use Rattle.std.specs.Prelude.{◌+◌, OnOk, max};
 ghost use Rattle.cb_tables.specs.Tables.{HasClient};
 ghost use Rattle.cb_tables.specs.Waits.{IsGreeted};
 ghost use Rattle.cb_holdings.specs.Holdings.{AreOf};
@@ -14,7 +14,8 @@ ghost use Rattle.cb_protocol.specs.Settling.{settle_pages};
 ghost use Rattle.cb_protocol.specs.WaitsFor.{on_cycle};
 ghost use Rattle.cb_server.specs.Answering.{CanAnswer, CanSettle, FitsIn, IsCurrent, IsLeft};
 ghost use Rattle.cb_server.specs.Answering.{IsReady, LacksNumber, Makes, Serves, is_hello};
-ghost use Rattle.cb_server.specs.Answering.{copies_for_body, messages_for_body, server_in};
+ghost use Rattle.cb_server.specs.Answering.{copies_for_body, messages_for_body};
+ghost use Rattle.cb_server.specs.Answering.{read_asks_in_all, server_in};
 ghost use Rattle.cb_server.specs.Taking.{is_exhaustion, may_want_memory};
 
 mod answers;
@@ -211,6 +212,8 @@ impl Engine {
         requires ready { IsReady self.old }
         requires of { AreOf limits.now self.old.callbacks.tables.holdings }
         ensures ok { OnOk result (CanAnswer self.new (body_of body.now)) }
+        ensures most { self.new.outbox.spare ≤ max self.old.outbox.spare
+            (read_asks_in_all self.old + copies_for_body (body_of body.now)) }
         ensures callbacks { self.new.callbacks ≡ self.old.callbacks }
         ensures left { IsLeft self.old self.new }
     {

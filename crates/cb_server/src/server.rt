@@ -1,9 +1,13 @@
 //! The type, its opening, what it takes, and what it shows.
-ghost use Rattle.std.specs.Prelude.{◌≡◌, ◌<◌, [], ◌∷◌, IfErr, IfOk, IfSome, OnErr, true};
+ghost use Rattle.std.specs.Prelude.{◌≡◌, ◌≢◌, ◌<◌, [], ◌∷◌, IfErr, IfOk, IfSome, OnErr, Err};
+ghost use Rattle.std.specs.Prelude.{slice_index, false, true};
 ghost use Rattle.std.specs.List.{AllByRecursion};
 ghost use Rattle.std.specs.Option.{option_map};
 ghost use Rattle.cb_commit.specs.History.{CatchesUp};
 ghost use Rattle.cb_commit.specs.Stores.{IsOf};
+ghost use Rattle.cb_frame.specs.Checks.{has_pages, kind_of};
+ghost use Rattle.cb_frame.specs.declared.fault.BytesFault.TheVariants as reading;
+ghost use Rattle.cb_frame.specs.declared.fault.FrameFault.TheVariants as fault;
 ghost use Rattle.cb_frame_types.specs.Grammar.{Fits};
 ghost use Rattle.cb_holdings.specs.Commits.{batch_of};
 ghost use Rattle.cb_holdings.specs.Holdings.{AreOf, newest_first};
@@ -136,6 +140,9 @@ impl Server {
         ensures fits { IfOk result (λ answered.
             AllByRecursion (Fits self.old.limits) answered.0.items) }
         ensures err { IfErr result (IsBytesFault self.old bytes.now) }
+        // Reading it wants memory only where the kind is one whose frames have page bytes.
+        ensures memory { has_pages (kind_of (slice_index bytes.now 1)) ≡ false →
+            result ≢ Err (reading.Frame fault.Memory) }
         ensures unchanged { OnErr result (IsUnchanged self.old self.new) }
     {
         match decode(alloc, &self.limits, bytes) {

@@ -54,8 +54,8 @@ fn asks_leave_in_order(rt: HostRuntime) -> anyhow::Result<()> {
     };
     let waits = asks.waits_at(ClientNo::new(1)) == Some(page)
         && asks.waits_at(ClientNo::new(0)).is_none()
-        && asks.queue(page).clients().contains(ClientNo::new(2))
         && asks.queue(page).client_at(1) == Some(ClientNo::new(1))
+        && asks.queue(page).client_at(2) == Some(ClientNo::new(2))
         && asks.read_asks() == 2;
     let gone = match asks.remove(ClientNo::new(1)) {
         Some(ask) => ask.gone() == ClientNo::new(1),

@@ -93,8 +93,8 @@ fn settle(
     Ok(outbox.take(alloc))
 }
 
-/// Whether two frames are sent as two clients read a page, and one each as one of them asks to write
-/// it and as the other has given its copy back.
+/// Whether two frames are sent as two clients read a page, and one each as one of them asks to
+/// write it and as the other has given its copy back.
 fn writes_after_callback(
     alloc: Global,
     limits: &Limits,

@@ -22,7 +22,7 @@ fn cycle_of_three(rt: HostRuntime) {
     view.put_row(ClientNo::new(0), only(5));
     view.put_row(ClientNo::new(5), only(31));
     let open = view.closes_cycle(ClientNo::new(0));
-    view.add_row(ClientNo::new(31), only(0).union(only(31)));
+    view.put_row(ClientNo::new(31), only(0).union(only(31)));
     view.put_row(ClientNo::new(7), only(5));
     let ring = view.closes_cycle(ClientNo::new(0))
         && view.closes_cycle(ClientNo::new(5))

@@ -1,4 +1,4 @@
-ghost use Rattle.std.specs.Prelude.{◌≡◌, ◌≢◌, ◌⊎◌, ◌↔◌, ◌==◌, ◌&&◌, ◌||◌, if◌then◌else◌, not, ℕ};
+ghost use Rattle.std.specs.Prelude.{◌≡◌, ◌≢◌, ◌⊎◌, ◌↔◌, ◌==◌, if◌then◌else◌, ℕ};
 ghost use Rattle.std.specs.Prelude.{true, false, IsTrue};
 ghost use Rattle.cb_clients.specs.Clients.{has};
 ghost use Rattle.cb_protocol.specs.WaitsFor.{LiesOnCycle};
@@ -82,17 +82,5 @@ impl View {
             ahead.insert(client);
             waited_for = ahead;
         }
-    }
-
-    /// The client waits for the others of the set, too.
-    pub fn add_row(&mut self, client: ClientNo, others: ClientSet)
-        ensures row { (other : ℕ) → waits self.new client other
-            ≡ (waits self.old client other || (not (other == client) && has others other)) }
-        ensures rest { (waiting other : ℕ) → waiting ≢ client
-            → waits self.new waiting other ≡ waits self.old waiting other }
-    {
-        let mut row = others;
-        row.remove(client);
-        self.rows[client.index()] = self.row(client).union(row);
     }
 }

@@ -172,14 +172,6 @@ impl Holdings {
         self.commits.store().version(page)
     }
 
-    /// The bytes of a page as they are now.
-    pub fn bytes(&self, page: PageNo) -> &[u8]
-        requires { HasPage self.now page }
-        ensures { result.now ≡ (server_of self.now).store.bytes page }
-    {
-        self.commits.store().bytes(page)
-    }
-
     /// The number that the next grant gets; `None` where all numbers are used up.
     pub fn next_grant(&self) -> Option<GrantNo>
         ensures value { IsSome result → or_zero result ≡ (server_of self.now).next_grant }

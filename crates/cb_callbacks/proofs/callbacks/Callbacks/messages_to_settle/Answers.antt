@@ -1,4 +1,4 @@
-use Rattle.std.proofs.Common.{◌≤◌, ◌∙◌, sym, arith}
+use Rattle.std.proofs.Common.{◌∙◌, sym, arith}
 use Rattle.cb_tables.specs.Tables.{server_of}
 use Rattle.cb_callbacks.proofs.Bounds.{few_by_kind, messages_counted, reads_among}
 use Rattle.cb_callbacks.proofs.callbacks.Callbacks.messages_to_settle.Goals as goal

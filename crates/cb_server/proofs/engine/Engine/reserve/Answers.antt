@@ -9,3 +9,6 @@ returns-clause-left c = record {
   page_size = c.reserve.ensures.page_size;
   few = λ few. let most = c.reserve.ensures.most in let reads = c.read_asks.ensures.few in let more = c.copies_for_body.ensures.few in omega (arith, few, most, reads, more);
 }
+
+pub returns-clause-most : goal.returns-clause-most
+returns-clause-most c = let most = c.reserve.ensures.most in let reads = c.read_asks.ensures.reads in let more = c.copies_for_body.ensures.copies in omega (arith, most, reads, more)

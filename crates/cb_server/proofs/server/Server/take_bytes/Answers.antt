@@ -3,3 +3,6 @@ use Rattle.cb_server.proofs.server.Server.take_bytes.Goals as goal
 
 pub returns-in-Ok-take-clause-ok : goal.returns-in-Ok-take-clause-ok
 returns-in-Ok-take-clause-ok c = search rules
+
+pub returns-in-Err-take-clause-memory : goal.returns-in-Err-take-clause-memory
+returns-in-Err-take-clause-memory c = search rules
