@@ -1,6 +1,6 @@
 -- What a client does at a frame.
-use Rattle.std.specs.Prelude.{if◌then◌else◌, ◌≡◌, ◌==◌, ◌<◌, ◌≤◌, ◌⊎◌, ℕ, Bool, true, false, ◌&&◌, List}
-use Rattle.std.specs.Prelude.{[], length, take}
+use Rattle.std.specs.Prelude.{if◌then◌else◌, ◌≡◌, ◌==◌, ◌<◌, ◌≤◌, ◌⊎◌, ℕ, Bool, true, false, ◌&&◌}
+use Rattle.std.specs.Prelude.{List, [], length, take}
 use Rattle.cb_page.specs.Bounds.{Bounds}
 use Rattle.cb_page.specs.Faults.{first_fault}
 use Rattle.cb_frame.specs.Checks.{causes, fault_in_bytes}
