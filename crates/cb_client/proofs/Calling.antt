@@ -152,10 +152,9 @@ answers_bytes v page bytes h e lt =
     let here = reads v page h lt (rw there refl) in
     record { word = λ ops. here.word ops ∙ ap (λ (o : Option Bytes). table.AnsweredBytes (unwrap_or o [])) there; said = here.makes.said }
 
-pub answers_ask : (v : ClientState) (page : ℕ) → FindsNone v (CallRead page) → None ≡ content_at (after_read v page).copies page → Answers v (CallRead page) table.Asked (read_ask v page ∷ [])
+pub answers_ask : (v : ClientState) (page : ℕ) → FindsNone v (CallRead page) → is_some (content_at (after_read v page).copies page) ≡ false → Answers v (CallRead page) table.Asked (read_ask v page ∷ [])
 answers_ask v page h e =
-    let out : content_at v.copies page ≡ None = sym (kept_there v page h) ∙ sym e in
-    let asked = asks_read v page h (rw out refl) in
+    let asked = asks_read v page h (ap is_some (sym (kept_there v page h)) ∙ e) in
     record { word = asked.word; said = asked.makes.said }
 
 -- the copies with a page that is wanted

@@ -1,5 +1,6 @@
 -- The first fault of a call's causes, test by test.
-use Rattle.std.proofs.Common.{if◌then◌else◌, ◌≡◌, ℕ, nat_le, Bool, true, false, not, ◌&&◌, ◌==◌, length, List, [], ◌∷◌, ◌++◌, Option, Some, None, refl, sym, ◌∙◌, ap}
+use Rattle.std.proofs.Common.{if◌then◌else◌, ◌≡◌, ◌≢◌, ℕ, nat_le, Bool, true, false, not, ◌&&◌, ◌==◌, length, List, [], ◌∷◌, ◌++◌, Option, Some, None, ◌<◌, refl, sym, ◌∙◌, ap, arith}
+use Rattle.std.proofs.lemmas.Bool.Decides.{nat_tests}
 use Rattle.std.specs.Option.{is_some, option_map}
 use Rattle.cb_protocol.proofs.Cases.{fault_of_finish, fault_of_read, fault_of_want, fault_of_write}
 use Rattle.cb_protocol.specs.Answers as table
@@ -8,7 +9,12 @@ use Rattle.cb_protocol.specs.Client.{Client, has_room, is_asking}
 use Rattle.cb_protocol.specs.Serial.{Operation}
 use Rattle.cb_page.specs.Flags.{has}
 use Rattle.cb_copies.specs.CopiesState.{client_with, content_at}
-use Rattle.cb_client_engine.specs.ClientState.{ClientState, ask_of, base_of, client_of, locks_with}
+use Rattle.cb_protocol.proofs.ClientInvariant.{tidy}
+use Rattle.cb_protocol.specs.Cache.{Idle}
+use Rattle.cb_protocol.specs.Ranges.{InputFits}
+use Rattle.cb_client_engine.specs.ClientState.{ClientState, IsClient, ask_of, base_of, client_of, locks_with, stage_of}
+use Rattle.cb_client_engine.specs.declared.standing.Stage.{Stage}
+use Rattle.cb_client_engine.specs.declared.standing.Stage.TheVariants as stages
 use Rattle.cb_client.specs.ByTable.{limits_at}
 use Rattle.cb_protocol.specs.ClientCalls.{CallFinish, CallRead, CallWant, CallWrite, Cause, call_fault, cause_of, first_refusal, open_causes, page_causes, read_causes}
 
@@ -39,26 +45,65 @@ of_second xs ys r e f = f ∙ ap (λ (o : Option table.ClientFault). option_map 
 abbrev pub FirstIs : ClientState → (Client → List Cause) → Option (Option table.ClientFault) → Type 0
 FirstIs v causes r = (ops : List Operation) → r ≡ option_map Some (first_refusal (causes (client_of v ops)))
 
+-- a transaction that has begun did so after the Welcome
+pub begun_welcomed : (v : ClientState) (stage : Stage) → IsClient v → v.stage ≡ stage → stage_of stage ≢ Idle → v.welcomed ≡ true
+begun_welcomed v stage is stands begun = by v.welcomed refl
+  where
+    by : (b : Bool) → v.welcomed ≡ b → v.welcomed ≡ true
+    by true e = e
+    by false e =
+        let keeps = tidy (limits_at v) (InputFits (limits_at v)) (client_of v is.reached.operations) is.reached.arises in
+        absurd (begun (sym (ap stage_of stands) ∙ keeps.shut e))
+
+-- of a call that needs an open transaction
+pub open_free : (v : ClientState) → IsClient v → v.stage ≡ stages.Open → FirstIs v open_causes None
+open_free v is stands ops = rw (begun_welcomed v stages.Open is stands (λ e. cc), stands) refl
+
+pub open_committing : (v : ClientState) → IsClient v → v.stage ≡ stages.Committing → FirstIs v open_causes (Some (Some table.Committing))
+open_committing v is stands ops = rw (begun_welcomed v stages.Committing is stands (λ e. cc), stands) refl
+
+pub open_idle : (v : ClientState) → v.welcomed ≡ true → v.stage ≡ stages.Idle → FirstIs v open_causes (Some (Some table.NoTransaction))
+open_idle v welcome stands ops = rw (welcome, stands) refl
+
+pub open_unwelcome : (v : ClientState) → v.welcomed ≡ false → FirstIs v open_causes (Some (Some table.NotWelcome))
+open_unwelcome v unwelcome ops = rw unwelcome refl
+
 -- of a call that names a page
 abbrev pub of_page : ClientState → ℕ → Client → List Cause
 of_page v p k = page_causes (limits_at v) k p
 
 abbrev page_rest : ClientState → ℕ → List Cause
-page_rest v p = cause_of (is_asking (ask_of v.ask)) table.Waiting ∷ cause_of (nat_le v.copies.limits.pages p) table.PageRange ∷ []
+page_rest v p = cause_of (nat_le v.copies.limits.pages p) table.PageRange ∷ []
 
-pub page_shut : (v : ClientState) (p : ℕ) (f : Option table.ClientFault) → FirstIs v open_causes (Some f) → FirstIs v (of_page v p) (Some f)
-page_shut v p f e ops = of_first (open_causes (client_of v ops)) (page_rest v p) f (e ops)
+-- what is found of a call that names no page
+abbrev pub FreeIs : ClientState → Option (Option table.ClientFault) → Type 0
+FreeIs v r = (ops : List Operation) → r ≡ option_map Some (call_fault (limits_at v) (client_of v ops) CallFinish)
 
-pub page_waits : (v : ClientState) (p : ℕ) → FirstIs v open_causes None → is_asking (ask_of v.ask) ≡ true → FirstIs v (of_page v p) (Some (Some table.Waiting))
-page_waits v p n e ops = of_second (open_causes (client_of v ops)) (page_rest v p) _ (n ops) (rw e refl)
+-- the causes of the end of a transaction by its commit
+abbrev finish_rest : ClientState → List Cause
+finish_rest v = cause_of (is_asking (ask_of v.ask)) table.Waiting ∷ []
 
-pub page_past : (v : ClientState) (p : ℕ) → FirstIs v open_causes None → is_asking (ask_of v.ask) ≡ false → nat_le v.copies.limits.pages p ≡ true
-    → FirstIs v (of_page v p) (Some (Some table.PageRange))
-page_past v p n e f ops = of_second (open_causes (client_of v ops)) (page_rest v p) _ (n ops) (rw (e, f) refl)
+abbrev pub of_finish : ClientState → Client → List Cause
+of_finish v k = open_causes k ++ finish_rest v
 
-pub page_free : (v : ClientState) (p : ℕ) → FirstIs v open_causes None → is_asking (ask_of v.ask) ≡ false → nat_le v.copies.limits.pages p ≡ false
-    → FirstIs v (of_page v p) None
-page_free v p n e f ops = of_second (open_causes (client_of v ops)) (page_rest v p) _ (n ops) (rw (e, f) refl)
+pub finish_is : (v : ClientState) (r : Option (Option table.ClientFault)) → FirstIs v (of_finish v) r → FreeIs v r
+finish_is v r e ops = e ops ∙ ap (λ (o : Option table.ClientFault). option_map Some o) (sym (fault_of_finish (limits_at v) (client_of v ops)))
+
+finish_first : (v : ClientState) (r : Option (Option table.ClientFault)) → FreeIs v r → FirstIs v (of_finish v) r
+finish_first v r e ops = e ops ∙ ap (λ (o : Option table.ClientFault). option_map Some o) (fault_of_finish (limits_at v) (client_of v ops))
+
+-- what such a call is refused for, one that names a page is too
+pub page_shut : (v : ClientState) (p : ℕ) (f : Option table.ClientFault) → FreeIs v (Some f) → FirstIs v (of_page v p) (Some f)
+page_shut v p f e ops = of_first (of_finish v (client_of v ops)) (page_rest v p) f (finish_first v (Some f) e ops)
+
+pub page_past : (v : ClientState) (p : ℕ) → FreeIs v None → nat_le v.copies.limits.pages p ≡ true → FirstIs v (of_page v p) (Some (Some table.PageRange))
+page_past v p n e ops = of_second (of_finish v (client_of v ops)) (page_rest v p) _ (finish_first v None n ops) (rw e refl)
+
+pub page_free : (v : ClientState) (p : ℕ) → FreeIs v None → nat_le v.copies.limits.pages p ≡ false → FirstIs v (of_page v p) None
+page_free v p n e ops = of_second (of_finish v (client_of v ops)) (page_rest v p) _ (finish_first v None n ops) (rw e refl)
+
+pub page_within : (v : ClientState) (p : ℕ) → FreeIs v None → p < v.copies.limits.pages → FirstIs v (of_page v p) None
+page_within v p n lt = page_free v p n (grind (arith, nat_tests))
 
 none_there : {A : Type 0} (o : Option A) → is_some o ≡ false → is_none o ≡ true
 none_there None e = refl
@@ -149,15 +194,6 @@ fetch_room v p n room ops = of_second (of_page v p (client_of v ops)) (fetch_res
     by false = refl
 
 -- of the end of a transaction by its commit
-abbrev finish_rest : ClientState → List Cause
-finish_rest v = cause_of (is_asking (ask_of v.ask)) table.Waiting ∷ []
-
-abbrev pub of_finish : ClientState → Client → List Cause
-of_finish v k = open_causes k ++ finish_rest v
-
-pub finish_is : (v : ClientState) (r : Option (Option table.ClientFault)) → FirstIs v (of_finish v) r → (ops : List Operation) → r ≡ option_map Some (call_fault (limits_at v) (client_of v ops) CallFinish)
-finish_is v r e ops = e ops ∙ ap (λ (o : Option table.ClientFault). option_map Some o) (sym (fault_of_finish (limits_at v) (client_of v ops)))
-
 pub finish_shut : (v : ClientState) (f : Option table.ClientFault) → FirstIs v open_causes (Some f) → FirstIs v (of_finish v) (Some f)
 finish_shut v f e ops = of_first (open_causes (client_of v ops)) (finish_rest v) f (e ops)
 

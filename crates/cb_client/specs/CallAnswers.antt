@@ -1,6 +1,6 @@
 -- What each call of an application answers, by the protocol's table.
-use Rattle.std.specs.Prelude.{if◌then◌else◌, ◌≡◌, ℕ, List, [], ◌∷◌, Option, Some, None, Result, Ok, Err, ⊤}
-use Rattle.std.specs.Prelude.{true, slice_set, unwrap_or}
+use Rattle.std.specs.Prelude.{if◌then◌else◌, ◌≡◌, ℕ, List, [], ◌∷◌, Option, Some, None, Result}
+use Rattle.std.specs.Prelude.{Ok, Err, ⊤, true, slice_set, unwrap_or}
 use Rattle.std.specs.Option.{is_some}
 use Rattle.cb_copies.specs.CopiesState.{content_at, copy_at}
 use Rattle.cb_frame_types.specs.Grammar.{Fits}

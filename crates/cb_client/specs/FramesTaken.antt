@@ -1,6 +1,6 @@
 -- What a client does at a frame.
-use Rattle.std.specs.Prelude.{if◌then◌else◌, ◌≡◌, ◌==◌, ◌<◌, ◌≤◌, ◌⊎◌, ℕ, Bool, true, false, ◌&&◌, List}
-use Rattle.std.specs.Prelude.{[], length, take}
+use Rattle.std.specs.Prelude.{if◌then◌else◌, ◌≡◌, ◌==◌, ◌<◌, ◌≤◌, ◌⊎◌, ℕ, Bool, true, false, ◌&&◌}
+use Rattle.std.specs.Prelude.{List, [], length, take}
 use Rattle.cb_page.specs.Bounds.{Bounds}
 use Rattle.cb_page.specs.Faults.{first_fault}
 use Rattle.cb_frame.specs.Checks.{causes, fault_in_bytes}
@@ -41,12 +41,13 @@ pub record BeginWith (limits : Bounds) (bytes : List ℕ) (frame : Frame) (used 
   pub within : used ≤ length bytes
   pub read : IsFrameInSome limits frame (take used bytes)
 
--- The bytes begin with a frame, of that many bytes, which is taken.
+-- The bytes begin with a frame, of that many bytes, which is taken, with room for its answers.
 pub record TakesBytes (old : ClientState) (bytes : List ℕ) (used : ℕ) (messages : List Message)
-    (new : ClientState) : Type 0 where
+    (capacity : ℕ) (new : ClientState) : Type 0 where
   pub frame : Frame
   pub begin : BeginWith old.copies.limits bytes frame used
   pub takes : TakesFrame old frame messages new
+  pub room : capacity ≡ room_to_take old frame
 
 -- A growth was refused for the frame that the bytes begin with, which is for this client and needs
 -- room for a frame, or brings a page into the pool.

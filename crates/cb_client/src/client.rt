@@ -123,8 +123,8 @@ impl<Q: Chooser> Client<Q> {
         self.engine.stage.is_open() && self.engine.copies.may_write(page)
     }
 
-    /// The grant of the client's copy of a page and the copy's version. `None` where it holds none, or
-    /// there is no such page.
+    /// The grant of the client's copy of a page and the copy's version. `None` where it holds none,
+    /// or there is no such page.
     pub fn held(&self, page: PageNo) -> Option<(GrantNo, Version)>
         ensures { result ≡ held_copy self.now page }
     {

@@ -2,4 +2,3 @@ pub use Rattle.cb_pool.specs.PoolState
 pub mod Rows
 pub mod CopiesState
 pub mod ByTable
-pub mod Lending

@@ -1,6 +1,5 @@
 ghost use Rattle.std.specs.Prelude.{◌≡◌, ℕ, ◌<◌, ◌≤◌, ◌↔◌, ◌||◌, [], ◌∷◌, length, true, false};
 ghost use Rattle.std.specs.Prelude.{Some, None, Ok, Err, IfOk, OnErr, IsTrue, MatchOption};
-ghost use Rattle.std.specs.Borrow.{sem};
 ghost use Rattle.std.specs.Option.{is_some, option_copied};
 ghost use Rattle.cb_page.specs.Bounds.{AreInRange};
 ghost use Rattle.cb_page.specs.Flags.{has};
@@ -13,7 +12,6 @@ ghost use Rattle.cb_copies.specs.CopiesState.{AreCopies, IsFull, client_with, co
 ghost use Rattle.cb_copies.specs.CopiesState.{limits_of, no_copies};
 ghost use Rattle.cb_pool.specs.PoolState.{has_free_slot};
 ghost use Rattle.cb_copies.specs.ByTable.{BringsIn, Does, DoesInTxn};
-ghost use Rattle.cb_copies.specs.Lending.{copies_end_as};
 
 use crate::table::{CopyTable, PageCopy, greatest_grant};
 use crate::written::{drop_copies, set_versions};
@@ -158,23 +156,21 @@ impl<Q: Chooser> Copies<Q> {
         self.pool.peek(page)
     }
 
-    /// The same, counted as a reference to the page.
-    ///
-    /// The copies are the same once the loan is over, save that the pool may let another page go
-    /// later.
-    pub fn read(&mut self, page: PageNo) -> Option<&[u8]>
-        ensures* ends { sem 𝓛 (copies_end_as Q.row Q.Chooser self.entry self.old) }
-        ensures bytes { option_copied result ≡ content_at self.old page }
+    /// The bytes of the page's copy, which are in the pool, with no reference to it.
+    pub fn bytes(&self, page: PageNo) -> &[u8]
+        requires { is_some (content_at self.now page) ≡ true }
+        ensures { Some result.now ≡ content_at self.now page }
     {
-        self.refer(page);
-        self.peek(page)
+        self.pool.bytes(page)
     }
 
     /// Refers to a page, if its bytes are in the pool.
-    fn refer(&mut self, page: PageNo)
+    ///
+    /// The copies are the same, save that the pool may let another page go later.
+    pub fn refer(&mut self, page: PageNo)
         ensures { self.new ≡ self.old }
     {
-        let _bytes = self.pool.hit(page);
+        self.pool.touch(page);
     }
 
     /// Whether the pool can take in one more page.

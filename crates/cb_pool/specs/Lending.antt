@@ -10,4 +10,5 @@ module _ (Q : RattleType) (choose : chooser.Ghosts Q.Denot) where
   -- the pool ends as this value
   abbrev pub pool_ends_as : MutBor PoolState → PoolState → Fml
   pool_ends_as lent last =
-      follows_so (the_row Q choose) (the_row Q choose) lent.ghost_name none (λ _ _. ⊤) (λ now. now ≡ last)
+      follows_so (the_row Q choose) (the_row Q choose) lent.ghost_name none (λ _ _. ⊤)
+      (λ now. now ≡ last)

@@ -88,6 +88,17 @@ impl Copies {
         }
     }
 
+    /// The bytes of a page that is known to be here.
+    pub(crate) fn bytes(&self, page: PageNo) -> &[u8]
+        requires { IsTrue (is_some (slice_index_or self.now.pages page None)) }
+        ensures { Some result.now ≡ slice_index_or self.now.pages page None }
+    {
+        match &self.pages[page.index()] {
+            Some(bytes) => bytes.as_slice(),
+            None => unreachable!(),
+        }
+    }
+
     /// Puts bytes in the place of a page, or takes them away.
     pub(crate) fn put(&mut self, page: PageNo, bytes: Option<Page>)
         requires { page < length self.old.pages }

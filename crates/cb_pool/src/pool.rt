@@ -116,6 +116,14 @@ impl<Q: Chooser> Pool<Q> {
         self.copies.get(page)
     }
 
+    /// Lends the bytes of a page that is here, with no reference to it.
+    pub fn bytes(&self, page: PageNo) -> &[u8]
+        requires { IsTrue (is_some (copy_of self.now page)) }
+        ensures { Some result.now ≡ copy_of self.now page }
+    {
+        self.copies.bytes(page)
+    }
+
     /// Lends the bytes of a page, if it is here, and counts as a reference to it.
     ///
     /// The pool is the same once the loan is over, save that the chooser may let another page go
@@ -129,7 +137,9 @@ impl<Q: Chooser> Pool<Q> {
     }
 
     /// Refers to a page, if it is here.
-    fn touch(&mut self, page: PageNo)
+    ///
+    /// The pool is the same, save that the chooser may let another page go later.
+    pub fn touch(&mut self, page: PageNo)
         ensures { self.new ≡ self.old }
     {
         if self.copies.has(page) {

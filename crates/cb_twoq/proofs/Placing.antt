@@ -1,12 +1,13 @@
 -- The list that has a page, as the queues change.
-use Rattle.std.proofs.Common.{◌≡◌, ◌≢◌, ◌≤◌, ◌<◌, ◌+◌, ◌⊎◌, inl, inr, ℕ, Bool, true, false, nat_eq, nat_lt, List, ◌∷◌, Option, Some, None, if◌then◌else◌, ◌||◌, refl, sym, ◌∙◌, ap, subst, arith}
+use Rattle.std.proofs.Common.{◌≡◌, ◌≢◌, ◌⊎◌, inl, inr, ℕ, Bool, true, false, nat_eq, nat_lt, List, ◌∷◌, Some, if◌then◌else◌, ◌||◌, refl, sym, ◌∙◌, ap, subst, arith}
 use Rattle.std.proofs.lemmas.Grind.{common_steps}
 use Rattle.std.proofs.Math.ListN.{get_or, replicate}
 use Rattle.std.proofs.lemmas.List.{get_or-replicate, get_or_past, length-replicate}
-use Rattle.cb_twoq.specs.Pages.{has, without, times}
+use Rattle.cb_twoq.specs.Pages.{has, without}
 use Rattle.cb_twoq.specs.Queues.{TwoQState, empty, Slot, Free, OfA1in, OfAm, page_of, let_go, enter, renew, forget, AreQueues}
 use Rattle.cb_twoq.specs.Indexed.{IsSlotOf}
 use Rattle.cb_twoq.specs.Places.{Place, Out, A1in, Am, place_in, ArePlaces, IsPut, ComesIn}
+use Rattle.cb_twoq.proofs.PageLists.{without_absent}
 use Rattle.cb_twoq.proofs.Counts.{times_cons, is_there, isnt_there, not_there, same_there, times_without}
 use Rattle.cb_twoq.proofs.Referred.{off_both}
 use Rattle.cb_twoq.proofs.Forgotten.{times_off, others_off, own_off}
@@ -164,3 +165,32 @@ module _ (q : TwoQState) (page : ℕ) (queues : AreQueues q) (places new : List 
             | inr n ↦ rest_placed slot of comes p n ∙ same_place rest (record rest { a1in = page ∷ rest.a1in }) p refl (behind rest.a1in p n)
           ];
         })
+
+-- a page leaves the one list that its place names
+module _ (q : TwoQState) (page : ℕ) where
+  on_neither_list : has q.am page ≡ false → has q.a1in page ≡ false → q ≡ forget page q
+  on_neither_list h k = sym (ap (λ l. record q { a1in = l; am = without page q.am }) (without_absent page q.a1in k) ∙ ap (λ l. record q { am = l }) (without_absent page q.am h))
+
+  pub forgets_none : Out ≡ place_in q page → q ≡ forget page q
+  forgets_none is = by (has q.am page) (has q.a1in page) refl refl
+    where
+      by : (b d : Bool) → has q.am page ≡ b → has q.a1in page ≡ d → q ≡ forget page q
+      by true d h k = let e : Out ≡ Am = is ∙ on_am q page h in absurd (cc)
+      by false true h k = let e : Out ≡ A1in = is ∙ on_a1in q page h k in absurd (cc)
+      by false false h k = on_neither_list h k
+
+  pub forgets_a1in : A1in ≡ place_in q page → record q { a1in = without page q.a1in } ≡ forget page q
+  forgets_a1in is = by (has q.am page) refl
+    where
+      by : (b : Bool) → has q.am page ≡ b → record q { a1in = without page q.a1in } ≡ forget page q
+      by true h = let e : A1in ≡ Am = is ∙ on_am q page h in absurd (cc)
+      by false h = sym (ap (λ l. record q { a1in = without page q.a1in; am = l }) (without_absent page q.am h))
+
+  pub forgets_am : AreQueues q → Am ≡ place_in q page → record q { am = without page q.am } ≡ forget page q
+  forgets_am queues is = by (has q.am page) (has q.a1in page) refl refl
+    where
+      by : (b d : Bool) → has q.am page ≡ b → has q.a1in page ≡ d → record q { am = without page q.am } ≡ forget page q
+      by true true h k = let i = is_there q.am page h in let j = is_there q.a1in page k in let o = queues.once page in absurd (omega arith)
+      by true false h k = sym (ap (λ l. record q { a1in = l; am = without page q.am }) (without_absent page q.a1in k))
+      by false true h k = let e : Am ≡ A1in = is ∙ on_a1in q page h k in absurd (cc)
+      by false false h k = let e : Am ≡ Out = is ∙ on_neither q page h k in absurd (cc)

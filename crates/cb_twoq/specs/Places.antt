@@ -1,5 +1,6 @@
 -- Which list of pages in slots has a page, for each page.
-use Rattle.std.specs.Prelude.{◌≡◌, ◌≢◌, ℕ, Bool, List, length, slice_index_or, Option, Some, if◌then◌else◌}
+use Rattle.std.specs.Prelude.{◌≡◌, ◌≢◌, ℕ, Bool, List, length, slice_index_or, Option, Some}
+use Rattle.std.specs.Prelude.{if◌then◌else◌}
 use Rattle.cb_twoq.specs.Pages.{has}
 use Rattle.cb_twoq.specs.Queues.{TwoQState}
 pub use Rattle.cb_twoq.specs.declared.twoq.places.Place.{Place}
@@ -18,7 +19,8 @@ pub record ArePlaces (places : List Place) (queues : TwoQState) : Type 0 where
 -- the page has that place, and all others have theirs
 pub record IsPut (old : List Place) (page : ℕ) (place : Place) (new : List Place) : Type 0 where
   pub own : slice_index_or new page Out ≡ place
-  pub others : (other : ℕ) → other ≢ page → slice_index_or new other Out ≡ slice_index_or old other Out
+  pub others : (other : ℕ) → other ≢ page
+      → slice_index_or new other Out ≡ slice_index_or old other Out
   pub count : length new ≡ length old
 
 -- the page is on Am if it was remembered, else on A1in; the page that went is in no slot

@@ -10,6 +10,6 @@ mod twoq;
 
 pub use chooser::{ChooseFault, Chooser};
 pub use lists::Lists;
-pub use plain::PlainTwoQ;
+pub use plain::{PlainTwoQ, is_on, oldest_unfixed, take_off};
 pub use runs::{Answer, run_refs};
 pub use twoq::{Parts, TwoQ};

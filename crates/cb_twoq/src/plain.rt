@@ -13,6 +13,7 @@ use crate::lists::Lists;
 use crate::plain::queue::copied;
 use crate::plain::queues::PlainQueues;
 use cb_page::{Limits, PageNo, PageSet};
+pub use queue::{is_on, oldest_unfixed, take_off};
 use std::alloc::{AllocError, Global};
 use std::marker::Model;
 

@@ -145,7 +145,8 @@ impl Chooser for TwoQ {
         ensures forgets { Forgets (members_of self.old) page (members_of self.new) }
         ensures slots { self.new.slots ≡ self.old.slots }
     {
-        self.queues.forget(page);
+        let place = place_of(&self.queues.places, page);
+        self.queues.forget(page, place);
         put_place(&mut self.queues.places, page, Place::Out);
     }
 }

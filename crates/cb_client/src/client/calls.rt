@@ -1,7 +1,7 @@
 //! The calls of an application: what each is refused for, and what it does.
 ghost use Rattle.std.specs.Prelude.{◌≡◌, ◌≢◌, ◌+◌, ◌<◌, List, ◌∷◌, ◌++◌, [], Ok, Some, None};
-ghost use Rattle.std.specs.Prelude.{IfOk, IfSome, IsOk, option_to_list, length, false, true};
-ghost use Rattle.std.specs.Prelude.{unwrap_or};
+ghost use Rattle.std.specs.Prelude.{IfOk, IfSome, IsOk, IsTrue, option_to_list, length, nat_le};
+ghost use Rattle.std.specs.Prelude.{false, true, unwrap_or};
 ghost use Rattle.std.specs.Borrow.{sem};
 ghost use Rattle.std.specs.Option.{is_some, option_copied, option_map};
 ghost use Rattle.cb_client.specs.ByTable.{Called, Calls, IsDecided, IsFirst, as_before, limits_at};
@@ -99,14 +99,21 @@ impl<Q: Chooser> Client<Q> {
         ensures causes { IsFirst self.now (λ client. open_causes client) result }
         ensures open { IsOk result → self.now.stage ≡ Open }
     {
-        if !self.engine.welcomed {
-            return Err(ClientFault::NotWelcome);
-        }
+        // A transaction that has begun did so after the Welcome.
         match self.engine.stage {
-            Stage::Idle => Err(ClientFault::NoTransaction),
-            Stage::Committing => Err(ClientFault::Committing),
             Stage::Open => Ok(()),
+            Stage::Committing => Err(ClientFault::Committing),
+            Stage::Idle if self.engine.welcomed => Err(ClientFault::NoTransaction),
+            Stage::Idle => Err(ClientFault::NotWelcome),
         }
+    }
+
+    /// Whether there is no such page.
+    fn is_past(&self, page: PageNo) -> bool
+        ensures value { result ≡ nat_le self.now.copies.limits.pages page }
+        ensures within { result ≡ false → page < self.now.copies.limits.pages }
+    {
+        !self.limits().has_page(page.get())
     }
 
     /// That a transaction is open which waits for nothing, and that there is such a page.
@@ -117,19 +124,17 @@ impl<Q: Chooser> Client<Q> {
         ensures no_ask { IsOk result → self.now.ask ≡ Nothing }
         ensures page { IsOk result → page < self.now.copies.limits.pages }
     {
-        self.check_open()?;
-        if self.engine.ask.is_out() {
-            return Err(ClientFault::Waiting);
-        }
-        if !self.limits().has_page(page.get()) {
+        self.check_finish()?;
+        if self.is_past(page) {
             return Err(ClientFault::PageRange);
         }
         Ok(())
     }
 
-    /// Whether the page's bytes are in the pool.
+    /// Whether the page's bytes are in the pool: there is such a page then.
     fn is_here(&self, page: PageNo) -> bool
-        ensures { result ≡ is_some (content_at self.now.copies page) }
+        ensures here { result ≡ is_some (content_at self.now.copies page) }
+        ensures within { IsTrue result → page < self.now.copies.limits.pages }
     {
         let bytes = self.engine.copies.peek(page);
         bytes.is_some()
@@ -173,25 +178,29 @@ impl<Q: Chooser> Client<Q> {
         Ok(())
     }
 
-    /// Reads the page where its bytes are in the pool; else an ask for it is out, if there is room
-    /// for them.
-    fn read_or_ask(&mut self, page: PageNo) -> Result<(), ClientFault>
+    /// Reads the page where its bytes are in the pool, and says whether they are; else an ask for
+    /// it is out, if there is room for them.
+    fn read_or_ask(&mut self, page: PageNo) -> Result<bool, ClientFault>
         ensures decided { IsDecided self.old (CallRead page) result }
         ensures after { self.new ≡ after_read self.old page }
         ensures called { Called self.old (CallRead page) self.new }
-        ensures page { IsOk result → page < length self.old.locks.locked }
+        ensures here { IfOk result (λ here. here ≡ is_some (content_at self.new.copies page)) }
+        ensures page { IfOk result (λ here. IsTrue here → page < length self.old.locks.locked) }
     {
-        self.check_page(page)?;
+        self.check_finish()?;
         if self.is_here(page) {
-            let _bytes = self.engine.copies.read(page);
+            self.engine.copies.refer(page);
             self.engine.locks.lock(page);
-            return Ok(());
+            return Ok(true);
+        }
+        if self.is_past(page) {
+            return Err(ClientFault::PageRange);
         }
         if !self.engine.copies.has_room() {
             return Err(ClientFault::PoolFull);
         }
         self.engine.ask = Ask::Read(page);
-        Ok(())
+        Ok(false)
     }
 
     /// Reads a page in the open transaction, and lends its bytes, which is a reference to it; or
@@ -202,10 +211,11 @@ impl<Q: Chooser> Client<Q> {
         ensures by_table { Called self.old (CallRead page) (after_read self.old page) }
         ensures answer { AnswersRead self.old page result }
     {
-        self.read_or_ask(page)?;
-        match self.engine.copies.peek(page) {
-            Some(bytes) => Ok(ReadAnswer::Bytes(bytes)),
-            None => Ok(ReadAnswer::Asked),
+        let here = self.read_or_ask(page)?;
+        if here {
+            Ok(ReadAnswer::Bytes(self.engine.copies.bytes(page)))
+        } else {
+            Ok(ReadAnswer::Asked)
         }
     }
 

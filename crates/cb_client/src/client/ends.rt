@@ -1,11 +1,11 @@
 //! How a transaction ends.
-ghost use Rattle.std.specs.Prelude.{◌≡◌, ◌+◌, true, IfErr, IfOk, IsOk, OnOk};
+ghost use Rattle.std.specs.Prelude.{◌≡◌, ◌+◌, true, IfErr, IfOk, OnOk};
 ghost use Rattle.std.specs.List.{AllByRecursion};
 ghost use Rattle.std.specs.Vec.{vec_capacity};
 ghost use Rattle.cb_frame_types.specs.Grammar.{Fits};
-ghost use Rattle.cb_client.specs.ByTable.{Calls, IsDecided, RefusesOrLacks, over};
+ghost use Rattle.cb_client.specs.ByTable.{Calls, RefusesOrLacks, over};
 ghost use Rattle.cb_ending.specs.Room.{room_below};
-ghost use Rattle.cb_client_engine.specs.declared.standing.Stage.TheVariants.{Idle, Open};
+ghost use Rattle.cb_client_engine.specs.declared.standing.Stage.TheVariants.{Idle};
 ghost use Rattle.cb_protocol.specs.Answers.{AnsweredOk};
 ghost use Rattle.cb_protocol.specs.ClientCalls.{CallDrop};
 ghost use Rattle.cb_outbox.specs.Messages.{messages_of};
@@ -19,14 +19,6 @@ use cb_twoq::Chooser;
 use std::alloc::Global;
 
 impl<Q: Chooser> Client<Q> {
-    /// That a transaction is open, which is all that a drop needs.
-    fn check_drop(&self) -> Result<(), ClientFault>
-        ensures decided { IsDecided self.now CallDrop result }
-        ensures open { IsOk result → self.now.stage ≡ Open }
-    {
-        self.check_open()
-    }
-
     /// Ends the transaction without a commit. Answers what its end says: that it is dropped, and
     /// what is given back, by rising page.
     ///
@@ -42,7 +34,7 @@ impl<Q: Chooser> Client<Q> {
         ensures fits { IfOk result (λ frames.
             AllByRecursion (Fits self.old.copies.limits) frames.items) }
     {
-        self.check_drop()?;
+        self.check_open()?;
         let txn = self.present_txn();
         let said = self.engine.say(ShortBody::Drop { txn });
         let frames = drop_ends(alloc, &mut self.engine.copies, &mut self.engine.locks, said)?;

@@ -4,6 +4,7 @@ ghost use Rattle.cb_page.specs.Flags.{has};
 ghost use Rattle.cb_client.specs.ByTable.{IsDecided, limits_at, messages_from};
 ghost use Rattle.cb_client_engine.specs.ClientState.{client_of};
 ghost use Rattle.cb_client.specs.CallAnswers.{Finishes};
+ghost use Rattle.cb_client_engine.specs.declared.standing.Ask.TheVariants.{Nothing};
 ghost use Rattle.cb_client_engine.specs.declared.standing.Stage.TheVariants.{Idle, Open};
 ghost use Rattle.cb_client.specs.declared.client_fault.ClientFault.TheVariants.{Memory};
 ghost use Rattle.cb_frame_types.specs.Grammar.{Fits};
@@ -20,10 +21,12 @@ use cb_twoq::Chooser;
 use std::alloc::{AllocError, Global};
 
 impl<Q: Chooser> Client<Q> {
-    /// That a transaction is open which waits for nothing.
-    fn check_finish(&self) -> Result<(), ClientFault>
+    /// That a transaction is open which waits for nothing: all that `finish` asks, and what each
+    /// call on a page asks first.
+    pub(super) fn check_finish(&self) -> Result<(), ClientFault>
         ensures decided { IsDecided self.now CallFinish result }
         ensures open { IsOk result → self.now.stage ≡ Open }
+        ensures no_ask { IsOk result → self.now.ask ≡ Nothing }
     {
         self.check_open()?;
         if self.engine.ask.is_out() {

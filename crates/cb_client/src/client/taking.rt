@@ -1,7 +1,11 @@
 //! Frames that come.
-ghost use Rattle.std.specs.Prelude.{◌≡◌, ◌==◌, ◌&&◌, false, IfErr, IfOk, IsOk, OnErr};
+ghost use Rattle.std.specs.Prelude.{◌≡◌, ◌≢◌, ◌==◌, ◌&&◌, Err, false, IfErr, IfOk, IsOk, OnErr};
+ghost use Rattle.std.specs.Prelude.{slice_index};
 ghost use Rattle.std.specs.List.{AllByRecursion};
 ghost use Rattle.std.specs.Vec.{vec_capacity};
+ghost use Rattle.cb_frame.specs.Checks.{has_pages, kind_of};
+ghost use Rattle.cb_frame.specs.declared.fault.BytesFault.TheVariants as reading;
+ghost use Rattle.cb_frame.specs.declared.fault.FrameFault.TheVariants as fault;
 ghost use Rattle.cb_frame_types.specs.Grammar.{Fits};
 ghost use Rattle.cb_client.specs.ByTable.{Takes};
 ghost use Rattle.cb_client.specs.FramesTaken.{IsBytesFault, TakesBytes, TakesFrame, brings_page};
@@ -20,9 +24,10 @@ impl<Q: Chooser> Client<Q> {
     /// Takes a frame, and answers what the client says to it. A frame for another client or another
     /// incarnation is ignored, and so are one for the server and, before the Welcome, all others.
     ///
-    /// `Memory` only where a growth was refused. It makes room for the frames that it may say and no
-    /// more: for none where a page comes in and a slot is free. It is not refused where these are none
-    /// and no page comes in, whose pool may need memory of its own: so not at a frame that is ignored.
+    /// `Memory` only where a growth was refused. It makes room for the frames that it may say and
+    /// no more: for none where a page comes in and a slot is free. It is not refused where these
+    /// are none and no page comes in, whose pool may need memory of its own: so not at a frame that
+    /// is ignored.
     pub fn take(&mut self, alloc: Global, frame: Frame) -> Result<Vec<Frame>, ClientFault>
         requires { Fits self.old.copies.limits frame }
         ensures ok { IfOk result (λ said. TakesFrame self.old frame (messages_of said.items)
@@ -54,8 +59,10 @@ impl<Q: Chooser> Client<Q> {
         bytes: &[u8],
     ) -> Result<(Vec<Frame>, usize), BytesFault<ClientFault>>
         ensures ok { IfOk result (λ answered. TakesBytes self.old bytes.now answered.1
-            (messages_of answered.0.items) self.new) }
+            (messages_of answered.0.items) (vec_capacity answered.0) self.new) }
         ensures err { IfErr result (IsBytesFault self.old bytes.now) }
+        ensures memory { has_pages (kind_of (slice_index bytes.now 1)) ≡ false →
+            result ≢ Err (reading.Frame fault.Memory) }
         ensures unchanged { OnErr result (self.new ≡ self.old) }
         ensures fits { IfOk result (λ answered.
             AllByRecursion (Fits self.old.copies.limits) answered.0.items) }

@@ -1,7 +1,7 @@
 //! A copy that comes, and the page that goes for it.
-ghost use Rattle.std.specs.Prelude.{◌≡◌, ◌<◌, ◌≤◌, ◌≢◌, ◌==◌, ◌&&◌, not, nat_lt, true, false, unwrap_or};
-ghost use Rattle.std.specs.Prelude.{length, option_to_list, None, Ok, Err, IfOk, IfSome, IsErr, IsOk};
-ghost use Rattle.std.specs.Prelude.{OnErr};
+ghost use Rattle.std.specs.Prelude.{◌≡◌, ◌<◌, ◌≤◌, ◌≢◌, ◌==◌, ◌&&◌, not, nat_lt, true, false};
+ghost use Rattle.std.specs.Prelude.{unwrap_or, length, option_to_list, None, Ok, Err, IfOk};
+ghost use Rattle.std.specs.Prelude.{IfSome, IsErr, IsOk, OnErr};
 ghost use Rattle.std.specs.Option.{is_some};
 ghost use Rattle.cb_page.specs.Flags.{has};
 ghost use Rattle.cb_page.specs.Numbers.{IsNumber};

@@ -11,7 +11,7 @@ use std::alloc::{AllocError, Global};
 use std::collections::VecDeque;
 
 /// Whether a page is on a list.
-pub(crate) fn is_on(pages: &VecDeque<PageNo>, page: PageNo) -> bool
+pub fn is_on(pages: &VecDeque<PageNo>, page: PageNo) -> bool
     ensures { result ≡ has pages.now.items page }
 {
     pages.contains(&page)
@@ -30,8 +30,7 @@ fn place_on(pages: &VecDeque<PageNo>, page: PageNo) -> Option<usize>
 }
 
 /// Takes a page off a list, and says whether it was there.
-#[tactic(auto, using(crate::proofs::PageLists::without_absent, crate::proofs::Counts::length_without))]
-pub(crate) fn take_off(pages: &mut VecDeque<PageNo>, page: PageNo) -> bool
+pub fn take_off(pages: &mut VecDeque<PageNo>, page: PageNo) -> bool
     ensures there { result ≡ has pages.old.items page }
     ensures items { pages.new.items ≡ without page pages.old.items }
     ensures shorter { IsTrue result → length pages.new.items + 1 ≡ length pages.old.items }
@@ -62,7 +61,7 @@ pub(crate) fn remember(pages: &mut VecDeque<PageNo>, page: PageNo, most: usize)
 }
 
 /// The oldest page of a list that isn't fixed.
-pub(crate) fn oldest_unfixed(pages: &VecDeque<PageNo>, fixed: &PageSet) -> Option<PageNo>
+pub fn oldest_unfixed(pages: &VecDeque<PageNo>, fixed: &PageSet) -> Option<PageNo>
     ensures { result ≡ oldest_unfixed fixed.now pages.now.items }
 {
     let mut i = pages.len();

@@ -19,8 +19,8 @@ use std::alloc::{AllocError, Global};
 use std::num::NonZeroUsize;
 
 /// The settings of 2Q, its three lists (A1in and A1out oldest first, Am newest first), and which
-/// list of pages in slots has each page. Its methods change the lists alone: whoever calls them puts
-/// the places.
+/// list of pages in slots has each page. Its methods change the lists alone: whoever calls them
+/// puts the places.
 ///
 /// The cache holds one page more than there are slots, so that it never drops one by itself.
 #[derive(Debug, Drop)]
@@ -174,13 +174,18 @@ impl IndexedQueues {
     }
 
     /// Takes a page out of its slot, and remembers nothing of it.
-    pub(crate) fn forget(&mut self, page: PageNo)
+    pub(crate) fn forget(&mut self, page: PageNo, place: Place)
+        requires queues { AreQueues (queues_of self.old) }
+        requires place { place ≡ place_in (queues_of self.old) page }
         ensures queues { queues_of self.new ≡ forget page (queues_of self.old) }
         ensures cap { self.new.am.cap ≡ self.old.am.cap }
         ensures slots { self.new.slots ≡ self.old.slots }
         ensures places { self.new.places.items ≡ self.old.places.items }
     {
-        take_off(&mut self.a1in, page);
-        pop(&mut self.am, page);
+        match place {
+            Place::Out => {}
+            Place::A1in => take_off(&mut self.a1in, page),
+            Place::Am => pop(&mut self.am, page),
+        }
     }
 }

@@ -69,16 +69,15 @@ pub(crate) fn first_unfixed(pages: &[PageNo], fixed: &PageSet) -> Option<PageNo>
     None
 }
 
-/// Moves a page of a cache to its head, and says whether it is there.
+/// Moves a page of a cache to its head, if it is there.
 ///
 /// It stays a call of its own, so that a reference to a page of A1in is short.
 #[inline(never)]
-pub(crate) fn renew(cache: &mut LruCache<PageNo, ()>, page: PageNo) -> bool
-    ensures there { result ≡ has (cached cache.old) page }
+pub(crate) fn renew(cache: &mut LruCache<PageNo, ()>, page: PageNo)
     ensures pages { cached cache.new ≡ renewed page (cached cache.old) }
     ensures cap { cache.new.cap ≡ cache.old.cap }
 {
-    cache.promote(&page)
+    cache.promote(&page);
 }
 
 /// Puts a page at the head of a cache that has room for it.

@@ -16,9 +16,9 @@ returns-then-not-is_locked-clause-causes g c =
 pub returns-then-not-is_here-clause-causes : goal.returns-then-not-is_here-clause-causes
 returns-then-not-is_here-clause-causes g c =
     let locked : has c.args.self.now.locks.locked c.args.page ≡ true = rw (← c.self.view_is) (sym c.if-not-is_locked.ensures) in
-    read_bare c.args.self.now c.args.page c.in_ok-check_page.ensures.causes locked (sym c.if-not-is_here.ensures)
+    read_bare c.args.self.now c.args.page c.in_ok-check_page.ensures.causes locked (sym c.if-not-is_here.ensures.here)
 
 pub returns-clause-causes : goal.returns-clause-causes
 returns-clause-causes g c =
     let locked : has c.args.self.now.locks.locked c.args.page ≡ true = rw (← c.self.view_is) (sym c.if-not-is_locked.ensures) in
-    read_free c.args.self.now c.args.page c.in_ok-check_page.ensures.causes locked (sym c.if-not-is_here.ensures)
+    read_free c.args.self.now c.args.page c.in_ok-check_page.ensures.causes locked (sym c.if-not-is_here.ensures.here)

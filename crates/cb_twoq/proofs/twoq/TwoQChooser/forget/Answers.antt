@@ -1,4 +1,4 @@
-use Rattle.std.proofs.Common.{List, sym, subst, arith}
+use Rattle.std.proofs.Common.{List, rules, sym, subst, arith}
 use Rattle.cb_twoq.specs.Law.{Forgets}
 use Rattle.cb_twoq.specs.Queues.{TwoQState, AreQueues, forget, members_of}
 use Rattle.cb_twoq.specs.Indexed.{queues_of}
@@ -6,6 +6,9 @@ use Rattle.cb_twoq.specs.Places.{ArePlaces, Place}
 use Rattle.cb_twoq.proofs.Placing.{forgotten_places}
 use Rattle.cb_twoq.proofs.Forgotten.{forgotten, forgotten_queues}
 use Rattle.cb_twoq.proofs.twoq.TwoQChooser.forget.Goals as goal
+
+pub forget-requires-clause-place : goal.forget-requires-clause-place
+forget-requires-clause-place c = search rules
 
 pub invariant_of-self : goal.invariant_of-self
 invariant_of-self c = (

@@ -1,10 +1,9 @@
-use Rattle.std.proofs.Common.{◌≡◌, List, None, Err, rules, refl, sym, ◌∙◌, subst, arith}
-use Rattle.cb_twoq.specs.Law.{Chooses, IsFull}
+use Rattle.std.proofs.Common.{List, None, sym, ◌∙◌, subst, arith}
+use Rattle.cb_twoq.specs.Law.{Chooses}
 use Rattle.cb_twoq.specs.Queues.{TwoQState, members_of}
-use Rattle.cb_twoq.specs.declared.chooser.ChooseFault.TheVariants as fault
 use Rattle.cb_twoq.specs.Indexed.{queues_of}
 use Rattle.cb_twoq.specs.Places.{ArePlaces, Place}
-use Rattle.cb_twoq.proofs.Indexing.{referred_member, now_slot, referred_newcomer, newcomer_not_full, newcomer_refused}
+use Rattle.cb_twoq.proofs.Indexing.{referred_member}
 use Rattle.cb_twoq.proofs.Placing.{renewed_places}
 use Rattle.cb_twoq.proofs.twoq.TwoQChooser.reference.Goals as goal
 

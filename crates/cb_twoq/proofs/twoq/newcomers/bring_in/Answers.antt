@@ -1,5 +1,5 @@
-use Rattle.std.proofs.Common.{◌≡◌, List, Err, rules, refl, sym, ◌∙◌, ap, subst}
-use Rattle.cb_twoq.specs.Queues.{TwoQState, renew, AreQueues, page_of}
+use Rattle.std.proofs.Common.{◌≡◌, List, Err, rules, refl, sym, ◌∙◌, subst}
+use Rattle.cb_twoq.specs.Queues.{TwoQState, page_of}
 use Rattle.cb_twoq.specs.Indexed.{queues_of}
 use Rattle.cb_twoq.specs.Places.{ArePlaces, ComesIn, Place}
 use Rattle.cb_twoq.specs.declared.chooser.ChooseFault.TheVariants as fault
