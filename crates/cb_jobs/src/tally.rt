@@ -54,7 +54,8 @@ impl Jobs {
     /// Sets a job's flag.
     fn set(&mut self, job: u64) -> Result<(), TallyFault>
         ensures stranger { (result ≡ Err TallyFault.Stranger) ↔ (length self.old ≤ job) }
-        ensures double { (result ≡ Err TallyFault.Double) ↔ (slice_index_or self.old job false ≡ true) }
+        ensures double { (result ≡ Err TallyFault.Double)
+            ↔ (slice_index_or self.old job false ≡ true) }
         ensures ok { OnOk result (self.new ≡ slice_set self.old job true) }
         ensures err { OnErr result (self.new ≡ self.old) }
     {

@@ -117,8 +117,8 @@ impl Station {
         }
     }
 
-    /// Whether a frame is to be sent to the client, so that `collect` answers one. Nothing is sent to
-    /// a client that isn't there.
+    /// Whether a frame is to be sent to the client, so that `collect` answers one. Nothing is sent
+    /// to a client that isn't there.
     pub fn has_frame_for(&self, client: ClientNo) -> bool
         ensures { IsTrue result ↔ ((client < self.now.dispatcher.server.limits.clients)
             × (outbox_of self.now client ≢ [])) }

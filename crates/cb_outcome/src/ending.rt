@@ -68,7 +68,8 @@ impl FirstEnding {
 
     /// Notes how a client's part ended, unless a lower client's is noted.
     pub fn note(&mut self, client: u16, ending: Ending)
-        ensures { self.new.told ≡ lower self.old.told (record { client = client; ending = ending }) }
+        ensures { self.new.told
+            ≡ lower self.old.told (record { client = client; ending = ending }) }
     {
         if let Some(told) = self.told {
             if told.client <= client {

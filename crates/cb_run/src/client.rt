@@ -1,8 +1,9 @@
 //! One client's part of a run.
 use crate::faults::of_worker;
+use crate::job::DoneJob;
 use crate::working::work;
 use cb_client::ClientFault;
-use cb_jobs::{Gate, JobDone};
+use cb_jobs::Gate;
 use cb_office::OfficeFault;
 use cb_outcome::{Ending, FirstEnding};
 use cb_page::{ClientNo, Limits};
@@ -49,7 +50,7 @@ pub(crate) fn run_client<Q: Chooser, R: Wait, G: Gate>(
     limits: &Limits,
     client: u16,
     jobs: &Receiver<u64>,
-    results: &Sender<JobDone>,
+    results: &Sender<DoneJob>,
     gate: &G,
     faults: &Mutex<FirstEnding>,
 ) {
@@ -69,7 +70,7 @@ fn join_and_work<Q: Chooser, R: Wait, G: Gate>(
     limits: &Limits,
     client: u16,
     jobs: &Receiver<u64>,
-    results: &Sender<JobDone>,
+    results: &Sender<DoneJob>,
     gate: &G,
 ) -> Result<(), WorkerFault> {
     if !limits.has_client(client) {

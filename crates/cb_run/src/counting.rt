@@ -4,6 +4,7 @@ ghost use Rattle.cb_jobs.specs.Tallies.{is_done, jobs_of};
 ghost use Rattle.cb_run.specs.Runs.{HasRows, IsCounted, KeepsRows};
 
 use crate::faults::of_shelf;
+use crate::job::DoneJob;
 use cb_jobs::{JobDone, Tally, counter_sum};
 use cb_outcome::{Counted, Ending};
 use cb_page::Limits;
@@ -30,12 +31,12 @@ pub(crate) fn new_tally(alloc: Global, limits: &Limits, jobs: u64) -> Result<Tal
 pub(crate) fn count_results<R: Wait>(
     rt: &R,
     tally: &mut Tally,
-    results: &Receiver<JobDone>,
+    results: &Receiver<DoneJob>,
 ) -> Result<(), Ending>
     ensures { KeepsRows tally.old tally.new }
 {
     for done in results.iter(rt) {
-        count(tally, done)?;
+        count(tally, done.told())?;
     }
     Ok(())
 }

@@ -1,7 +1,11 @@
 //! The loop, and its stops.
-ghost use Rattle.std.specs.Prelude.{◌≡◌, ◌↔◌, Err, IfErr, IfSome, OnOk};
+ghost use Rattle.std.specs.Prelude.{◌≡◌, ◌↔◌, Err, IfErr, IfSome, OnErr, OnOk};
+ghost use Rattle.sqlite.specs.Held.{state};
+ghost use Rattle.sqlite.specs.State.{Survives};
+ghost use Rattle.cb_run.specs.Flushing.{LeavesFirst, LeavesSome, MadeFirst, MadeSome, WritesFirst};
+ghost use Rattle.cb_run.specs.Flushing.{WritesOne, WritesOrStays, WritesSome};
 ghost use Rattle.cb_run.specs.Stopping.{Stops};
-ghost use Rattle.cb_statements.specs.Writing.{Fits};
+ghost use Rattle.cb_statements.specs.Writing.{Fits, Wrote};
 
 use cb_commit::Batch;
 use cb_progress::Watch;
@@ -11,15 +15,17 @@ use sqlite::Alter;
 use std::alloc::Global;
 use std::sync::Wait;
 
-/// Why the flusher stopped, and the batch that is still to be written, if there is one.
+/// Why the flusher stopped, the batch that is still to be written, if there is one, and whether its
+/// loop wrote and reported another before.
 #[derive(Drop)]
 pub struct FlushStop {
     pub fault: ShelfFault,
     pub batch: Option<Batch>,
+    pub wrote: bool,
 }
 
-/// The next batch, or `None` once the office is closed and nothing is left; nothing where that is to
-/// be waited for.
+/// The next batch, or `None` once the office is closed and nothing is left; nothing where that is
+/// to be waited for.
 fn batch_at(alloc: Global, shared: &SharedStation) -> Option<Result<Option<Batch>, ShelfFault>>
     ensures { IfSome result (λ next. IfErr next (λ fault. fault ≡ ShelfFault.Memory)) }
 {
@@ -46,7 +52,7 @@ fn next_batch<R: Wait>(rt: &R, alloc: Global, office: &Office) -> Result<Option<
     unreachable!()
 }
 
-/// Writes a batch, then reports it, and tells who looks on.
+/// Writes a batch, then reports it, and tells who looks on once it is reported.
 fn write_and_report<R: Wait, S: Alter, W: Watch>(
     rt: &R,
     alloc: Global,
@@ -58,22 +64,31 @@ fn write_and_report<R: Wait, S: Alter, W: Watch>(
     ensures limits { shelf.new.limits ≡ shelf.old.limits }
     ensures fits { OnOk result (Fits shelf.old.limits batch.now) }
     ensures shape { (result ≡ Err ShelfFault.Shape) ↔ ¬ Fits shelf.old.limits batch.now }
+    ensures untouched { result ≡ Err ShelfFault.Shape → shelf.new ≡ shelf.old }
+    ensures written { OnOk result (WritesOne S.Store shelf.old.limits batch.now shelf.old.conn
+        shelf.new.conn) }
+    ensures refused { OnErr result (WritesOrStays S.Store shelf.old.limits batch.now
+        shelf.old.conn shelf.new.conn) }
+    ensures crash { Survives (state S.Store shelf.old.conn) (state S.Store shelf.new.conn)
+        (Wrote S.Store batch.now shelf.old.conn) }
 {
     shelf.write(batch)?;
     let mut shared = office.lock(rt);
     let reported = shared.station_mut().flushed(alloc, batch.number());
     office.tell_clients(&shared);
     drop(shared);
-    watch.flushed(batch.number());
     match reported {
-        Ok(()) => Ok(()),
+        Ok(()) => {
+            watch.flushed(batch.number());
+            Ok(())
+        }
         Err(_) => Err(ShelfFault::Memory),
     }
 }
 
 /// Writes what is committed, a batch at a time, until the office is closed and nothing is left.
 ///
-/// It holds no lock while it writes. Which batches it writes no contract says, since it takes the
+/// It holds no lock while it writes. Which batches those are no contract says, since it takes the
 /// lock itself.
 pub fn flush_loop<R: Wait, S: Alter, W: Watch>(
     rt: &R,
@@ -84,19 +99,35 @@ pub fn flush_loop<R: Wait, S: Alter, W: Watch>(
 ) -> Result<(), FlushStop>
     ensures limits { shelf.new.limits ≡ shelf.old.limits }
     ensures stops { IfErr result (Stops shelf.old.limits) }
+    ensures written { OnOk result (WritesSome S.Store shelf.old.limits shelf.old.conn
+        shelf.new.conn) }
+    ensures left { OnErr result (LeavesSome S.Store shelf.old.limits shelf.old.conn
+        shelf.new.conn) }
+    ensures crash { Survives (state S.Store shelf.old.conn) (state S.Store shelf.new.conn)
+        (MadeSome S.Store shelf.old.conn) }
 {
+    let mut wrote = false;
     for _ in rt.forever() {
         let batch = match next_batch(rt, alloc, office) {
             Ok(Some(batch)) => batch,
             Ok(None) => return Ok(()),
-            Err(fault) => return Err(FlushStop { fault, batch: None }),
+            Err(fault) => {
+                let batch = None;
+                return Err(FlushStop {
+                    fault,
+                    batch,
+                    wrote,
+                });
+            }
         };
         if let Err(fault) = write_and_report(rt, alloc, office, shelf, watch, &batch) {
             return Err(FlushStop {
                 fault,
                 batch: Some(batch),
+                wrote,
             });
         }
+        wrote = true;
     }
     unreachable!()
 }
@@ -114,14 +145,22 @@ pub fn flush_again<R: Wait, S: Alter, W: Watch>(
     ensures limits { shelf.new.limits ≡ shelf.old.limits }
     ensures stops { IfErr result (Stops shelf.old.limits) }
     ensures held { OnOk result (IfSome stop.batch (Fits shelf.old.limits)) }
+    ensures written { OnOk result (WritesFirst S.Store shelf.old.limits stop.batch shelf.old.conn
+        shelf.new.conn) }
+    ensures left { OnErr result (LeavesFirst S.Store shelf.old.limits stop.batch shelf.old.conn
+        shelf.new.conn) }
+    ensures crash { Survives (state S.Store shelf.old.conn) (state S.Store shelf.new.conn)
+        (MadeFirst S.Store stop.batch shelf.old.conn) }
 {
-    if let Some(held) = stop.batch {
-        if let Err(fault) = write_and_report(rt, alloc, office, shelf, watch, &held) {
-            return Err(FlushStop {
-                fault,
-                batch: Some(held),
-            });
-        }
+    let Some(held) = stop.batch else {
+        return flush_loop(rt, alloc, office, shelf, watch);
+    };
+    if let Err(fault) = write_and_report(rt, alloc, office, shelf, watch, &held) {
+        return Err(FlushStop {
+            fault,
+            batch: Some(held),
+            wrote: false,
+        });
     }
     flush_loop(rt, alloc, office, shelf, watch)
 }

@@ -13,6 +13,22 @@ use cb_worker::{Fetched, Finished, Wanted, Worker, WorkerFault};
 use std::alloc::Global;
 use std::sync::Wait;
 
+/// What is told of a job that was done: nobody but `do_job` makes one, and nobody copies it.
+#[derive(Drop)]
+pub struct DoneJob {
+    done: JobDone,
+}
+
+impl DoneJob {
+    /// Which job it is, and the number of its commit.
+    pub fn told(self) -> JobDone
+        ensures { result ≡ self.done }
+    {
+        let DoneJob { done } = self;
+        done
+    }
+}
+
 /// Does a job, and tells of it once it is on disk.
 pub(crate) fn do_job<R: Wait, Q: Chooser>(
     rt: &R,
@@ -21,15 +37,16 @@ pub(crate) fn do_job<R: Wait, Q: Chooser>(
     worker: &mut Worker<Q>,
     client: ClientNo,
     job: u64,
-) -> Result<JobDone, WorkerFault>
-    ensures { IfOk result (λ done. TellsJob client job done worker.old worker.new) }
+) -> Result<DoneJob, WorkerFault>
+    ensures { IfOk result (λ told. TellsJob client job told.done worker.old worker.new) }
 {
     let number = run_job(rt, alloc, office, worker, client)?;
-    Ok(JobDone {
+    let done = JobDone {
         client,
         job,
         number,
-    })
+    };
+    Ok(DoneJob { done })
 }
 
 /// Runs a job, once more each time that it is aborted, and answers the number of its commit.

@@ -6,8 +6,9 @@ ghost use Rattle.cb_run.specs.Runs.{IsCounted, KeepsRows};
 use crate::client::{give_up, job_list, run_client};
 use crate::counting::{count_results, new_tally, sum_up};
 use crate::faults::of_run;
+use crate::job::DoneJob;
 use crate::tries::flush_in_tries;
-use cb_jobs::{Gate, JobDone, Tally};
+use cb_jobs::{Gate, Tally};
 use cb_outcome::{Counted, Ending, FirstEnding, print_run};
 use cb_page::Limits;
 use cb_progress::Watch;
@@ -23,8 +24,8 @@ use std::thread::Threads;
 use std::{io, thread};
 
 /// Starts a worker for each client, with so many jobs each, runs the flusher, and says what came of
-/// it: on `out` how many jobs were committed and the sum of the counters, else on `err` why not. The
-/// answer is the status.
+/// it: on `out` how many jobs were committed and the sum of the counters, else on `err` why not.
+/// The answer is the status.
 ///
 /// The office is halted when it returns.
 pub fn run_on<R, G, S, W, O, E>(
@@ -118,7 +119,7 @@ fn run_all<R, G, S, W>(
     jobs: u64,
     gate: &G,
     watch: &mut W,
-    results: &Sender<JobDone>,
+    results: &Sender<DoneJob>,
 ) -> Result<(), Ending>
 where
     R: Threads + Wait + Sync,
@@ -145,7 +146,7 @@ fn run_threads<R, G, S, W>(
     jobs: u64,
     gate: &G,
     watch: &mut W,
-    results: &Sender<JobDone>,
+    results: &Sender<DoneJob>,
     faults: &Mutex<FirstEnding>,
 ) -> Result<(), ShelfFault>
 where

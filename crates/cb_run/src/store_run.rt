@@ -161,7 +161,8 @@ where
     }
 }
 
-/// An office over the store in a shelf, that each client's work will use; `watch` is told of the run.
+/// An office over the store in a shelf, that each client's work will use; `watch` is told of the
+/// run.
 fn office_over<S: Alter, W: Watch>(
     alloc: Global,
     limits: &Limits,

@@ -12,7 +12,8 @@ use std::sync::Wait;
 /// How often a batch is tried in all.
 const TRIES: u64 = 3;
 
-/// The number of the batch that is still to be written; 0 where there was no memory for one.
+/// The number of the batch that is still to be written; 0 where there was no memory for one, which
+/// no batch has.
 fn batch_number(stop: &FlushStop) -> u64 {
     match &stop.batch {
         Some(batch) => batch.number().get(),
@@ -20,8 +21,9 @@ fn batch_number(stop: &FlushStop) -> u64 {
     }
 }
 
-/// Runs the flusher. A batch that is refused is tried again, three times in all; then the office is
-/// halted, and the last fault answered.
+/// Runs the flusher. A batch that is refused is tried again, three times in all, and so is one for
+/// which there is no memory; then the office is halted, and the last fault answered. A batch that
+/// is written in between ends the count.
 pub fn flush_in_tries<R: Wait, S: Alter, W: Watch>(
     rt: &R,
     alloc: Global,
@@ -33,13 +35,13 @@ pub fn flush_in_tries<R: Wait, S: Alter, W: Watch>(
 {
     let mut stopped = flush_loop(rt, alloc, office, shelf, watch);
     let mut tries: u64 = 0;
-    let mut last = None;
+    let mut last = 0;
     for _ in rt.forever() {
         let Err(stop) = stopped else {
             return Ok(());
         };
-        let number = Some(batch_number(&stop));
-        tries = if number == last {
+        let number = batch_number(&stop);
+        tries = if number == last && !stop.wrote {
             tries.saturating_add(1)
         } else {
             1

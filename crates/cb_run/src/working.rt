@@ -1,9 +1,9 @@
 //! A worker's jobs, one after another, and its end.
 ghost use Rattle.std.specs.Prelude.{◌≡◌, OnErr};
 
-use crate::job::do_job;
+use crate::job::{DoneJob, do_job};
 use cb_client::ClientFault;
-use cb_jobs::{Gate, JobDone, Turn};
+use cb_jobs::{Gate, Turn};
 use cb_page::ClientNo;
 use cb_shared::Office;
 use cb_twoq::Chooser;
@@ -13,15 +13,15 @@ use std::alloc::Global;
 use std::sync::Wait;
 
 /// Takes each job from the channel, and sends a result for each once it is on disk. Where no job is
-/// left the worker leaves; after a fault it is abandoned. Whatever happened, the office is told that
-/// one call of `work` has ended.
+/// left the worker leaves; after a fault it is abandoned. Whatever happened, the office is told
+/// that one call of `work` has ended.
 pub fn work<R: Wait, Q: Chooser, G: Gate>(
     rt: &R,
     alloc: Global,
     office: &Office,
     mut worker: Worker<Q>,
     jobs: &Receiver<u64>,
-    results: &Sender<JobDone>,
+    results: &Sender<DoneJob>,
     gate: &G,
 ) -> Result<(), WorkerFault> {
     let worked = run_jobs(rt, alloc, office, &mut worker, jobs, results, gate);
@@ -61,7 +61,7 @@ fn run_jobs<R: Wait, Q: Chooser, G: Gate>(
     office: &Office,
     worker: &mut Worker<Q>,
     jobs: &Receiver<u64>,
-    results: &Sender<JobDone>,
+    results: &Sender<DoneJob>,
     gate: &G,
 ) -> Result<(), WorkerFault> {
     let client = worker.client();

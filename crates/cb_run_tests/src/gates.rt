@@ -44,8 +44,8 @@ impl<R: Wait> Gate for Gates<'_, R> {
 /// How often a gate says `Later` in all.
 const TURNS: u64 = 10_000_000;
 
-/// Each job is let go at its second asking at the earliest, and a client's second one only after the
-/// other client's first commit.
+/// Each job is let go at its second asking at the earliest, and a client's second one only after
+/// the other client's first commit.
 #[derive(Drop)]
 pub(crate) struct Mutual {
     /// How many jobs of each client were asked for: by client.

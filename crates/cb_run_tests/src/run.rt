@@ -93,8 +93,8 @@ impl Watch for Told {
     }
 }
 
-/// Whether each entry of the history has both pages read and written, and they are so many, of which
-/// the last was told of.
+/// Whether each entry of the history has both pages read and written, and they are so many, of
+/// which the last was told of.
 fn are_whole(station: &Station, entries: Option<u16>, last: u64) -> bool {
     let history = station.history();
     for entry in history {

@@ -1,5 +1,5 @@
-//! Whole runs over a store whose disk stops, at each of its calls in turn, while the workers run, or
-//! refuses some writes.
+//! Whole runs over a store whose disk stops, at each of its calls in turn, while the workers run,
+//! or refuses some writes.
 ghost use Rattle.std.specs.Prelude.{◌≡◌, false};
 
 use crate::crashes::{Left, survived};
@@ -32,7 +32,8 @@ enum Stopping {
     Database,
 }
 
-/// Counts the jobs that were answered as done. As the first job begins, writes are set to be refused.
+/// Counts the jobs that were answered as done. As the first job begins, writes are set to be
+/// refused.
 #[derive(Drop)]
 pub(crate) struct Answered {
     pub(crate) count: AtomicU64,

@@ -63,8 +63,8 @@ impl Office {
         shared
     }
 
-    /// Lets the lock go until there may be a frame to that client, or the office is halted, and takes
-    /// it again. It may return for no reason.
+    /// Lets the lock go until there may be a frame to that client, or the office is halted, and
+    /// takes it again. It may return for no reason.
     pub fn wait_for_frame<'a, R: Wait>(
         &'a self,
         rt: &R,

@@ -7,3 +7,4 @@ pub mod Staying
 pub mod Refusing
 pub mod Asking
 pub mod Steps
+pub mod Serving

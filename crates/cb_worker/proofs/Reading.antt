@@ -1,5 +1,5 @@
 -- What a worker's read of a page rests on.
-use Rattle.std.proofs.Common.{◌≡◌, ◌&&◌, ℕ, Bor, Bool, true, false, List, [], Option, Some, None, Result, Ok, Err, refl, sym, ◌∙◌, ap, arith}
+use Rattle.std.proofs.Common.{◌≡◌, ◌&&◌, ℕ, Bor, Bool, true, false, List, [], ◌∷◌, Option, Some, None, Result, Ok, Err, refl, sym, ◌∙◌, ap, arith, drop, not, true≢false}
 use Rattle.std.specs.Option.{is_some, option_copied}
 use Rattle.std.specs.Result.{is_ok}
 use Rattle.std.proofs.lemmas.Bool.Decides.{nat_tests}
@@ -15,10 +15,11 @@ use Rattle.cb_protocol.proofs.Cases.{call_accepted, call_refused, fault_of_peek}
 use Rattle.cb_protocol.specs.Answers as table
 use Rattle.cb_protocol.specs.Basics.{Bytes, is_none}
 use Rattle.cb_protocol.specs.Client.{bodies_said}
-use Rattle.cb_protocol.specs.ClientCalls.{CallPeek, CallRead, Reply, call_fault, client_call, peek_word, read_page}
+use Rattle.cb_protocol.specs.Cache.{is_idle}
+use Rattle.cb_protocol.specs.ClientCalls.{CallPeek, CallRead, Cause, Reply, call_fault, cause_of, causes, client_call, first_refusal, peek_word, read_page}
 use Rattle.cb_protocol.specs.Serial.{Operation}
 use Rattle.cb_worker.specs.Waiting.{HasRead}
-use Rattle.cb_worker.specs.Workers.{Hit, Hits, WorkerState, after_hit, is_same, may_hit, may_read, shows_copy, with_client}
+use Rattle.cb_worker.specs.Workers.{HasTransaction, Hit, Hits, WorkerState, after_hit, is_same, may_hit, may_read, shows_copy, with_client}
 
 and_false : (b : Bool) → (b && false) ≡ false
 and_false true = refl
@@ -192,3 +193,19 @@ hand_lacks w page b a n = go (shows_copy w page) refl
     go : (s : Bool) → shows_copy w page ≡ s → shows_copy w page ≡ false
     go false e = e
     go true e = absurd (let y : true ≡ false = sym (may w page e (bytes_here w.client page b a) (sym (read_so w.client page (Ok (read.Bytes b)) a))) ∙ n in cc)
+
+-- a call whose first two causes don't hold
+two_clear : (a b : Bool) (f h : table.ClientFault) (rest : List Cause) → first_refusal (cause_of (not a) f ∷ cause_of b h ∷ rest) ≡ None → (a ≡ true) × (b ≡ false)
+two_clear true false f h rest e = (refl, refl)
+two_clear true true f h rest e = absurd cc
+two_clear false b f h rest e = absurd cc
+
+reads_open : (v : ClientState) (page : ℕ) → call_fault (limits_at v) (client_of v []) (CallRead page) ≡ None → (v.welcomed ≡ true) × (is_idle (client_of v []).cache.status ≡ false)
+unfolding call_fault
+reads_open v page e = two_clear v.welcomed (is_idle (client_of v []).cache.status) table.NotWelcome table.NoTransaction (drop 2 (causes (limits_at v) (client_of v []) (CallRead page))) e
+
+-- where a page could be read, there was a transaction
+pub reads_in_one : (w : WorkerState) (page : ℕ) → may_hit w page ≡ true → HasTransaction w
+reads_in_one w page m =
+    let parts : (w.client.welcomed ≡ true) × (is_idle (client_of w.client []).cache.status ≡ false) = reads_open w.client page (none_of _ (three _ _ _ m).2) in
+    record { welcomed = parts.0; busy = λ ops e. true≢false (ap is_idle (sym e) ∙ parts.1) }

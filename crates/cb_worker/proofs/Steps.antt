@@ -29,6 +29,10 @@ where_ok P (Ok (Some x)) answer e p = let is : answer ≡ Ok x = cc in rw is p
 where_ok P (Ok None) answer e p = absurd cc
 where_ok P (Err x) answer e p = let is : answer ≡ Err x = cc in rw is tt
 
+pub on_ok : {T : Type 0} (P : Type 0) (r : Result T WorkerFault) → P → OnOk r P
+on_ok P (Ok x) p = p
+on_ok P (Err f) p = tt
+
 -- one of two reasons is one
 pub stops_so : {T : Type 0} (new : WorkerState) (Why : WorkerFault → Type 0) (r : Result T WorkerFault) → IfErr r (StopsServing new) → IfErr r (StopsOr new Why)
 stops_so new Why (Ok x) s = tt
@@ -45,7 +49,7 @@ module _ (old new : WorkerState) where
     reads_so page false e = record { had = had; same = still.txn; ended = e }
 
     pub wants_so : (page : ℕ) (x : Wanted) → MayOrEnded new page x → Wants old new page x
-    wants_so page wanted.Permitted m = (m, still.txn)
+    wants_so page wanted.Permitted m = (had, m)
     wants_so page wanted.Aborted e = record { had = had; same = still.txn; ended = e }
 
     pub finishes_so : (x : Finished) → IsFinished new x → Finishes old new x

@@ -7,3 +7,4 @@ pub mod Lending
 pub mod Refusals
 pub mod Asking
 pub mod Steps
+pub mod Serving

@@ -27,11 +27,12 @@ IsTurnFault (worker.Client client.Memory) = ⊤
 IsTurnFault _ = ⊥
 
 -- A turn was refused so, and left the worker and the station thus.
-pub record RefusesTurn (new : WorkerState) (after : StationState) (fault : WorkerFault) : Type 0 where
-  pub kind : IsTurnFault fault
-  pub old : WorkerState
-  pub before : StationState
-  pub turns : Turns old before (Err fault) new after
+pub record RefusesTurn (new : WorkerState) (after : StationState) (fault : WorkerFault) : Type 0
+  where
+    pub kind : IsTurnFault fault
+    pub old : WorkerState
+    pub before : StationState
+    pub turns : Turns old before (Err fault) new after
 
 -- serving was refused: the office is halted, or a turn was refused
 abbrev pub RefusesServing : (new : WorkerState) → (shared : SharedState) → WorkerFault → Type 0
@@ -98,8 +99,8 @@ RefusesLeave old (worker.Office office.Exhausted) = max_number ≤ old.hand.inca
 RefusesLeave old (worker.Office office.Memory) = ⊤
 RefusesLeave old _ = ⊥
 
--- why it begins no such incarnation: the limits haven't got the client, or the hand isn't the stored
--- one; the incarnation isn't later; or memory was refused
+-- why it begins no such incarnation: the limits haven't got the client, or the hand isn't the
+-- stored one; the incarnation isn't later; or memory was refused
 abbrev pub RefusesStart : WorkerState → (incarnation : ℕ) → WorkerFault → Type 0
 RefusesStart old incarnation (worker.Office office.Foreign) =
     (old.client.copies.limits.clients ≤ old.hand.client)

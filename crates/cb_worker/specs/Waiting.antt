@@ -5,8 +5,8 @@ use Rattle.cb_client_engine.specs.ClientState.{client_of}
 use Rattle.cb_protocol.specs.Cache.{is_open}
 use Rattle.cb_protocol.specs.Client as protocol
 use Rattle.cb_protocol.specs.Serial.{Operation}
-use Rattle.cb_worker.specs.Workers.{Ended, Ends, Hit, IsIdle, IsStill, WorkerState, after_hit}
-use Rattle.cb_worker.specs.Workers.{last_txn, may_hit}
+use Rattle.cb_worker.specs.Workers.{Ended, Ends, HasTransaction, Hit, IsIdle, IsStill}
+use Rattle.cb_worker.specs.Workers.{WorkerState, after_hit, may_hit}
 use Rattle.cb_worker.specs.declared.answers.Fetched.{Fetched}
 use Rattle.cb_worker.specs.declared.answers.Fetched.TheVariants as fetched
 use Rattle.cb_worker.specs.declared.answers.Finished.{Finished}
@@ -33,11 +33,11 @@ abbrev pub HasRead : WorkerState → (page : ℕ) → Type 0
 HasRead worker page = (before : WorkerState) × (may_hit before page ≡ true)
     × (worker ≡ after_hit before page)
 
--- the page was read as `hit` reads it, with these bytes, and no transaction began; or the one that
--- there was was aborted; it is still the same worker
+-- there was a transaction, and the page was read as `hit` reads it, with these bytes; or the
+-- transaction was aborted; it is still the same worker, and no transaction began
 abbrev pub Fetches : (old new : WorkerState) → (page : ℕ) → Fetched → Type 0
-Fetches old new page (fetched.Bytes bytes) = (before : WorkerState) × Hit before page bytes.now
-    × (new ≡ after_hit before page) × (last_txn new.client ≡ last_txn old.client) × IsStill old new
+Fetches old new page (fetched.Bytes bytes) = HasTransaction old × (before : WorkerState)
+    × Hit before page bytes.now × (new ≡ after_hit before page) × IsStill old new
 Fetches old new page fetched.Aborted = Ends old new protocol.Aborted × IsStill old new
 
 -- the client may write the page in the transaction that is open
@@ -46,10 +46,9 @@ MayWrite worker page = (operations : List Operation)
     → (is_open (client_of worker.client operations).cache.status
     && (client_of worker.client operations).cache.may_write page) ≡ true
 
--- so after a want, and no transaction began; or the one that there was was aborted
+-- there was a transaction, and it is so after a want; or it was aborted
 abbrev pub Wants : (old new : WorkerState) → (page : ℕ) → Wanted → Type 0
-Wants old new page wanted.Permitted =
-    MayWrite new page × (last_txn new.client ≡ last_txn old.client)
+Wants old new page wanted.Permitted = HasTransaction old × MayWrite new page
 Wants old new page wanted.Aborted = Ends old new protocol.Aborted
 
 -- how such a transaction ended

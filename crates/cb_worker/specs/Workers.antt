@@ -24,7 +24,8 @@ pub record WorkerState : Type 0 where
   pub collected : Option Frame
   pub said : List Frame
 
--- The worker is of the client with that number, in that incarnation: so are its client and its hand.
+-- The worker is of the client with that number, in that incarnation: so are its client and its
+-- hand.
 pub record IsOf (worker : WorkerState) (number current : ℕ) : Type 0 where
   pub no : worker.client.no ≡ number
   pub incarnation : worker.client.incarnation ≡ current

@@ -104,9 +104,9 @@ impl<Q: Chooser> Worker<Q> {
         self.client.read(page).is_ok()
     }
 
-    /// Reads the page in the open transaction, and lends its bytes: those of the copy whose grant is
-    /// in the worker's hand. `None` where the copy or its bytes aren't here, or the read is refused;
-    /// nothing changes then. It takes no lock.
+    /// Reads the page in the open transaction, and lends its bytes: those of the copy whose grant
+    /// is in the worker's hand. `None` where the copy or its bytes aren't here, or the read is
+    /// refused; nothing changes then. It takes no lock.
     pub fn hit(&mut self, page: PageNo) -> Option<&[u8]>
         ensures* ends { sem 𝓛 (worker_ends Q.row Q.Chooser self.entry
             (λ worker. worker ≡ after_hit self.old page)) }

@@ -92,7 +92,8 @@ impl Station {
         hand: Hand,
         incarnation: Incarnation,
     ) -> Result<Hand, (OfficeFault, Hand)>
-        ensures refused { IfErr result (λ refused. (refused.1 ≡ hand) × IsUnchanged self.old self.new) }
+        ensures refused { IfErr result (λ refused. (refused.1 ≡ hand)
+            × IsUnchanged self.old self.new) }
         ensures foreign { IfErr result (λ refused.
             (refused.0 ≡ office.Foreign) ↔ (IsHeld self.old.hands hand → ⊥)) }
         ensures old { IfErr result (λ refused. (refused.0 ≡ office.Old)
@@ -133,7 +134,8 @@ impl Station {
     /// The hand comes back with each fault, as it was: `Foreign` where it isn't the one stored,
     /// `Exhausted` where no incarnation is left, `Memory` only where a growth was refused.
     pub fn leave(&mut self, alloc: Global, hand: Hand) -> Result<(), (OfficeFault, Hand)>
-        ensures refused { IfErr result (λ refused. (refused.1 ≡ hand) × IsUnchanged self.old self.new) }
+        ensures refused { IfErr result (λ refused. (refused.1 ≡ hand)
+            × IsUnchanged self.old self.new) }
         ensures foreign { IfErr result (λ refused.
             (refused.0 ≡ office.Foreign) ↔ (IsHeld self.old.hands hand → ⊥)) }
         ensures exhausted { IfErr result (λ refused. (refused.0 ≡ office.Exhausted)

@@ -28,8 +28,8 @@ impl Station {
     /// goes from the hand; where the hand doesn't hold it by that grant, nothing changes. A hand
     /// whose transaction has ended by the frame loses its permissions to write.
     ///
-    /// `Foreign` exactly where the frame isn't the hand's or isn't taken here, or the hand isn't the
-    /// one stored; else `Exhausted` exactly where the server has no number left for it; else
+    /// `Foreign` exactly where the frame isn't the hand's or isn't taken here, or the hand isn't
+    /// the one stored; else `Exhausted` exactly where the server has no number left for it; else
     /// `Memory`, only where a growth was refused.
     pub fn take(&mut self, alloc: Global, frame: &Frame, hand: &mut Hand) -> Result<(), OfficeFault>
         ensures foreign { (result ≡ Err office.Foreign) ↔ (IsOwn self.old frame.now hand.old

@@ -3,7 +3,8 @@ ghost use Rattle.std.specs.Prelude.{◌≡◌, ◌≤◌, ◌⊎◌, [], true, E
 ghost use Rattle.cb_client_engine.specs.ClientState.{new_state};
 ghost use Rattle.cb_worker.specs.Refusals.{RefusesLeave, RefusesRestart, RefusesStart};
 ghost use Rattle.cb_worker.specs.Refusals.{StopsServing};
-ghost use Rattle.cb_worker.specs.Workers.{IsOf, IsStill};
+ghost use Rattle.cb_worker.specs.Waiting.{IsServed};
+ghost use Rattle.cb_worker.specs.Workers.{IsOf, IsStill, last_txn};
 
 use crate::worker::Worker;
 use crate::worker_fault::WorkerFault;
@@ -17,8 +18,8 @@ use std::alloc::Global;
 use std::sync::Wait;
 
 impl<Q: Chooser> Worker<Q> {
-    /// The client joins the office, over an empty chooser, and is welcomed. Its incarnation is the one
-    /// that the station gave its hand. A client that these limits haven't got is `Foreign`.
+    /// The client joins the office, over an empty chooser, and is welcomed. Its incarnation is the
+    /// one that the station gave its hand. A client that these limits haven't got is `Foreign`.
     pub fn join<R: Wait>(
         rt: &R,
         alloc: Global,
@@ -32,6 +33,8 @@ impl<Q: Chooser> Worker<Q> {
         ensures welcomed { IfOk result (λ worker. worker.client.welcomed ≡ true) }
         ensures of { IfOk result (λ worker. IsOf worker client worker.hand.incarnation) }
         ensures same_limits { IfOk result (λ worker. worker.client.copies.limits ≡ limits.now) }
+        ensures unbegun { IfOk result (λ worker. last_txn worker.client ≡ 0) }
+        ensures served { IfOk result IsServed }
         ensures foreign { limits.now.clients ≤ client
             → result ≡ Err (WorkerFault.Office OfficeFault.Foreign) }
     {
@@ -56,8 +59,8 @@ impl<Q: Chooser> Worker<Q> {
 
     /// The client begins another incarnation, and is welcomed.
     ///
-    /// The worker comes back with each fault: as it was, or at the start of that incarnation, where the
-    /// Welcome didn't come.
+    /// The worker comes back with each fault: as it was, or at the start of that incarnation, where
+    /// the Welcome didn't come.
     pub fn restart<R: Wait>(
         self,
         rt: &R,
@@ -69,6 +72,8 @@ impl<Q: Chooser> Worker<Q> {
         ensures of { IfOk result (λ worker. IsOf worker self.hand.client incarnation) }
         ensures same_limits { IfOk result (λ worker.
             worker.client.copies.limits ≡ self.client.copies.limits) }
+        ensures unbegun { IfOk result (λ worker. last_txn worker.client ≡ 0) }
+        ensures served { IfOk result IsServed }
         ensures refused { IfErr result (λ refused.
             (refused.1 ≡ self) ⊎ IsOf refused.1 self.hand.client incarnation) }
         ensures why { IfErr result (λ refused.
@@ -183,6 +188,7 @@ impl<Q: Chooser> Worker<Q> {
     ) -> Result<Worker<Q>, (WorkerFault, Worker<Q>)>
         ensures welcomed { IfOk result (λ worker. worker.client.welcomed ≡ true) }
         ensures still { IfOk result (λ worker. IsStill self worker) }
+        ensures served { IfOk result IsServed }
         ensures refused { IfErr result (λ refused. IsStill self refused.1) }
         ensures why { IfErr result (λ refused. StopsServing refused.1 refused.0) }
     {
@@ -200,6 +206,7 @@ impl<Q: Chooser> Worker<Q> {
         office: &Office,
     ) -> Result<(), WorkerFault>
         ensures welcomed { OnOk result (self.new.client.welcomed ≡ true) }
+        ensures served { OnOk result (IsServed self.new) }
         ensures still { IsStill self.old self.new }
         ensures refused { IfErr result (StopsServing self.new) }
     {

@@ -9,10 +9,12 @@ ghost use Rattle.cb_worker.specs.Lending.{worker_ends};
 ghost use Rattle.cb_worker.specs.Refusals.{RefusesAsk, RefusesCall, RefusesDrop, RefusesFetch};
 ghost use Rattle.cb_worker.specs.Refusals.{RefusesCommit, RefusesFinish, RefusesServing};
 ghost use Rattle.cb_worker.specs.Refusals.{RefusesWant, StopsFetch, StopsServing};
+ghost use Rattle.cb_worker.specs.Serving.{HandsAllIn, Serves, ServesSome};
 ghost use Rattle.cb_worker.specs.Steps.{MayOrEnded, Reads, StopsOr};
 ghost use Rattle.cb_worker.specs.Waiting.{Drops, Fetches, Finishes, HasRead, IsDropped};
 ghost use Rattle.cb_worker.specs.Waiting.{IsFinished, IsServed, Wants};
-ghost use Rattle.cb_worker.specs.Workers.{Ended, Ends, IsStill, after_hit, may_hit};
+ghost use Rattle.cb_worker.specs.Workers.{Ended, Ends, HasTransaction, IsStill};
+ghost use Rattle.cb_worker.specs.Workers.{after_hit, may_hit};
 
 use crate::answers::{Fetched, Finished, Wanted};
 use crate::worker::Worker;
@@ -34,6 +36,7 @@ impl<Q: Chooser> Worker<Q> {
         alloc: Global,
         office: &Office,
     ) -> Result<(), WorkerFault>
+        ensures serves { ServesSome self.old result self.new }
         ensures served { OnOk result (IsServed self.new) }
         ensures still { IsStill self.old self.new }
         ensures refused { IfErr result (StopsServing self.new) }
@@ -50,6 +53,7 @@ impl<Q: Chooser> Worker<Q> {
         office: &Office,
         shared: &mut SharedStation,
     ) -> Result<(), WorkerFault>
+        ensures serves { Serves self.old shared.old.station result self.new shared.new.station }
         ensures served { OnOk result (IsServed self.new) }
         ensures still { IsStill self.old self.new }
         ensures halted { (result ≡ Err WorkerFault.Halted) ↔ (shared.old.halted ≡ true) }
@@ -124,6 +128,7 @@ impl<Q: Chooser> Worker<Q> {
             MatchBool fetched (HasRead self.new page) (Ends self.old self.new protocol.Aborted)) }
         ensures at_once { may_hit self.old page ≡ true
             → (result ≡ Ok true) × (self.new ≡ after_hit self.old page) }
+        ensures had { OnOk result (HasTransaction self.old) }
         ensures still { IsStill self.old self.new }
         ensures refused { IfErr result (RefusesFetch self.old self.new page) }
     {
@@ -355,6 +360,7 @@ impl<Q: Chooser> Worker<Q> {
         office: &Office,
         shared: &mut SharedStation,
     ) -> Result<(), WorkerFault>
+        ensures hands { HandsAllIn self.old shared.old.station result self.new shared.new.station }
         ensures client { self.new.client ≡ self.old.client }
         ensures all { OnOk result (self.new.said ≡ []) }
         ensures still { IsStill self.old self.new }
@@ -396,7 +402,8 @@ impl<Q: Chooser> Worker<Q> {
         unreachable!()
     }
 
-    /// Serves, and commits unless the transaction is over. `None` where its end is to be waited for.
+    /// Serves, and commits unless the transaction is over. `None` where its end is to be waited
+    /// for.
     fn begin_finish<R: Wait>(
         &mut self,
         rt: &R,

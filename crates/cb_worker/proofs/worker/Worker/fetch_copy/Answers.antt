@@ -1,7 +1,7 @@
 use Rattle.std.proofs.Common.{◌≡◌, ◌∙◌, false, true, subst, sym}
-use Rattle.cb_worker.proofs.Reading.{stays}
+use Rattle.cb_worker.proofs.Reading.{reads_in_one, stays}
 use Rattle.cb_worker.proofs.Staying.{after, same}
-use Rattle.cb_worker.proofs.Steps.{answered, reads_so, refused, refuses_so, stops_so}
+use Rattle.cb_worker.proofs.Steps.{answered, on_ok, reads_so, refused, refuses_so, stops_so}
 use Rattle.cb_worker.specs.Refusals.{RefusesAsk}
 use Rattle.cb_worker.specs.Workers.{HasTransaction, WorkerState, may_hit}
 use Rattle.cb_worker.proofs.worker.Worker.fetch_copy.Goals as goal
@@ -37,3 +37,13 @@ loop-preserved g c = (
   c.go_on_fetching-fetched.ensures.reads,
   stops_so c.go_on_fetching-fetched.new.self (RefusesAsk c.go_on_fetching-fetched.new.self c.args.page) c.go_on_fetching-fetched.result c.go_on_fetching-fetched.ensures.refused,
 )
+
+pub returns-then-touch-clause-had : goal.returns-then-touch-clause-had
+returns-then-touch-clause-had g c = reads_in_one c.args.self.now c.args.page (sym c.if-touch.ensures.touched)
+
+pub returns-in-Some-transpose-clause-had : goal.returns-in-Some-transpose-clause-had
+returns-in-Some-transpose-clause-had g c =
+    let no : may_hit c.args.self.now c.args.page ≡ false = sym c.if-touch.ensures.touched in
+    let is : c.touch.new.self ≡ c.args.self.now = c.touch.ensures.after ∙ sym (stays c.args.self.now c.args.page no) in
+    let had : HasTransaction c.args.self.now = subst (λ (w : WorkerState). HasTransaction w) is c.in_ok-needs_transaction.ensures.has.0 in
+    on_ok _ c.in-Some-transpose.answer had
