@@ -23,8 +23,8 @@ use Rattle.cb_console.specs.declared.play.Play.TheVariants as play
 use Rattle.cb_console.specs.declared.play.ReadFault.{ReadFault}
 use Rattle.cb_console.specs.declared.play.ReadFault.TheVariants as fault
 
--- These events are played in a world of zeros in which nothing had happened; the transcript tells of
--- them, and is serial.
+-- These events are played in a world of zeros in which nothing had happened; the transcript tells
+-- of them, and is serial.
 pub record PlaysFromZeros (bounds : Bounds) (events : List Event) (transcript : TranscriptState)
     : Type 0 where
   pub world : WorldState

@@ -1,6 +1,7 @@
 //! A packet, and the frame that it is.
-ghost use Rattle.std.specs.Prelude.{◌≡◌, IfOk};
+ghost use Rattle.std.specs.Prelude.{◌≡◌, false, IfOk, OnErr};
 ghost use Rattle.cb_frame_types.specs.Grammar.{IsFrame};
+ghost use Rattle.cb_frame_types.specs.Kinds.{is_short, kind_of_body};
 ghost use Rattle.cb_frame_types.specs.declared.frame.Frame.{Frame};
 
 use cb_frame::{Frame, FrameFault, decode};
@@ -36,12 +37,14 @@ impl Packet {
     }
 }
 
-/// The frame that is spelled. It is refused only where memory is: a spelled frame has no other
-/// fault.
+/// The frame that is spelled. It is refused only where memory for page bytes is: a spelled frame has
+/// no other fault.
 pub(crate) fn frame_in(alloc: Global, limits: &Limits, bytes: &[u8]) -> Result<Frame, AllocError>
     requires { (frame : Frame) × IsFrame limits.now frame bytes.now }
-    ensures { (frame : Frame) → IsFrame limits.now frame bytes.now
+    ensures found { (frame : Frame) → IsFrame limits.now frame bytes.now
         → IfOk result (λ found. found ≡ frame) }
+    ensures memory { OnErr result ((frame : Frame) → IsFrame limits.now frame bytes.now
+        → is_short (kind_of_body frame.body) ≡ false) }
 {
     match decode(alloc, limits, bytes) {
         Ok((frame, _)) => Ok(frame),

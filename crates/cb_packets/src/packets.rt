@@ -1,10 +1,12 @@
 //! The type, how a frame is sent, and how it is found again.
 ghost use Rattle.std.specs.Prelude.{◌≡◌, ◌≢◌, ◌<◌, ℕ, [], ◌∷◌, ◌++◌, length, map, take};
-ghost use Rattle.std.specs.Prelude.{option_copied, slice_get, IfOk, None, OnErr, OnOk};
+ghost use Rattle.std.specs.Prelude.{false, option_copied, slice_get, IfOk, None, OnErr, OnOk};
 ghost use Rattle.std.specs.List.{AllByRecursion};
 ghost use Rattle.cb_frame_types.specs.Grammar.{Fits};
+ghost use Rattle.cb_frame_types.specs.Kinds.{is_short, kind_of_body};
 ghost use Rattle.cb_frame_types.specs.Spelling.{spelling};
-ghost use Rattle.cb_packets.specs.Packets.{IsAt};
+ghost use Rattle.cb_frame_types.specs.declared.frame.Frame.{Frame};
+ghost use Rattle.cb_packets.specs.Packets.{IsAt, IsFrameAt};
 
 use crate::packet::{Packet, frame_in};
 use cb_frame::{Frame, encode};
@@ -127,10 +129,12 @@ impl Packets {
     }
 
     /// The frame of the packet of that number; `None` where it was not sent yet. `AllocError` only
-    /// where memory for the bytes of its pages was refused.
+    /// where memory for the bytes of its pages was refused; so never at a frame without pages.
     pub fn frame(&self, alloc: Global, number: u64) -> Result<Option<Frame>, AllocError>
         ensures ok { IfOk result (IsAt self.now number) }
         ensures fails { OnErr result (slice_get self.now.sent number ≢ None) }
+        ensures pages { OnErr result ((frame : Frame) → IsFrameAt self.now number frame
+            → is_short (kind_of_body frame.body) ≡ false) }
     {
         // A look at a field tells the prover what holds of all packets.
         let limits = &self.limits;

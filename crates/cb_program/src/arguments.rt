@@ -13,8 +13,8 @@ pub struct DrawRequest<'a> {
     pub count: usize,
 }
 
-/// Workers to be run: the paths of the configuration and of the store, and whether it is to be shown
-/// how far they are.
+/// Workers to be run: the paths of the configuration and of the store, and whether it is to be
+/// shown how far they are.
 #[derive(Clone, Copy, Debug, PartialEq, Eq)]
 pub struct RunRequest<'a> {
     pub config: &'a str,

@@ -356,6 +356,10 @@ pub lent_limits : (s n : SitesState) (i c : ℕ) (u : ClientState) → IsLent s 
 lent_limits s n i c u l =
     ap (λ (x : ClientState). x.copies.limits) (its_own s n i c u l) ∙ ((l.sites.each c (here s n i c u l)).limits ∙ ap (λ (x : SitesState). x.limits) l.same)
 
+-- what holds of the client as it is lent holds of it as it was
+pub own_before : (s n : SitesState) (i c : ℕ) (u : ClientState) → IsLent s n i c u → u ≡ client_at n c
+own_before s n i c u l = its_own s n i c u l ∙ ap (λ (x : SitesState). client_at x c) l.same
+
 -- the frame was taken by the client that it names
 pub frame_delivers : {T X : Type 0} (s n : SitesState) (i : ℕ) (f : Frame) (u t : ClientState) (messages : T → List Message) (result : Result T X) → IsLent s n i f.client u
     → IfOk result (λ said. TakesFrame u f (messages said) t) → IfOk result (λ said. Delivers n (message_of f) (messages said) (with_client s i t))

@@ -1,8 +1,8 @@
 //! What one client answers to each call.
-ghost use Rattle.std.specs.Prelude.{◌≡◌, ℕ, IfOk, None, OnErr};
+ghost use Rattle.std.specs.Prelude.{◌≡◌, ℕ, false, IfOk, IsOk, None, OnErr};
 ghost use Rattle.std.specs.List.{AllByRecursion};
 ghost use Rattle.cb_client.specs.ByTable.{IsRefusal};
-ghost use Rattle.cb_client.specs.FramesTaken.{TakesFrame};
+ghost use Rattle.cb_client.specs.FramesTaken.{TakesFrame, brings_page, room_to_take};
 ghost use Rattle.cb_frame_types.specs.Grammar.{Fits};
 ghost use Rattle.cb_outbox.specs.Messages.{messages_of};
 ghost use Rattle.cb_client_engine.specs.declared.standing.Ask.TheVariants as asks;
@@ -44,7 +44,8 @@ pub(crate) fn answer<Q: Chooser>(
     }
 }
 
-/// The client takes a frame. `AllocError` only where memory was refused; then nothing changes.
+/// The client takes a frame. `AllocError` only where memory was refused; then nothing changes. It is
+/// not refused where no frame needs room and no page comes in.
 pub(crate) fn deliver<Q: Chooser>(
     alloc: Global,
     client: &mut Client<Q>,
@@ -57,6 +58,8 @@ pub(crate) fn deliver<Q: Chooser>(
     ensures stays { StaysOne client.old client.new }
     ensures fits { IfOk result (λ said.
         AllByRecursion (Fits client.old.copies.limits) said.items) }
+    ensures none { room_to_take client.old frame ≡ 0 → brings_page client.old frame ≡ false
+        → IsOk result }
 {
     match client.take(alloc, frame) {
         Ok(said) => Ok(said),

@@ -1,5 +1,5 @@
 //! The clients by their numbers.
-ghost use Rattle.std.specs.Prelude.{◌≡◌, ◌<◌, [], IfOk, None, OnErr};
+ghost use Rattle.std.specs.Prelude.{◌≡◌, ◌<◌, [], false, IfOk, IsOk, None, OnErr};
 ghost use Rattle.std.specs.List.{AllByRecursion};
 ghost use Rattle.cb_copies.specs.CopiesState.{limits_of};
 ghost use Rattle.cb_frame_types.specs.Grammar.{Fits};
@@ -9,6 +9,7 @@ ghost use Rattle.cb_protocol.specs.World.{ClientCalls, Opening, Restart as Resta
 ghost use Rattle.cb_sites.specs.ByWorld.{Answers, Delivers, Replies, StaysOne};
 ghost use Rattle.cb_client.specs.ByTable.{IsRefusal};
 ghost use Rattle.cb_client.specs.ClientState.{new_state};
+ghost use Rattle.cb_client.specs.FramesTaken.{brings_page, room_to_take};
 ghost use Rattle.cb_sites.specs.SitesState.{AreSites, Represents, client_at, first_clients};
 ghost use Rattle.cb_sites.specs.SitesState.{with_client};
 ghost use Rattle.cb_transcript.specs.ProtocolEvents.{call_of, word_of};
@@ -118,13 +119,16 @@ impl<Q: Chooser> Sites<Q> {
     }
 
     /// The client that a frame names takes it, if it is of its incarnation; what it says to it.
-    /// `AllocError` only where memory was refused; then nothing changes.
+    /// `AllocError` only where memory was refused; then nothing changes. It is not refused where the
+    /// client needs no room for frames and no page comes in, so not at a frame that is ignored.
     pub fn take(&mut self, alloc: Global, frame: Frame) -> Result<Vec<Frame>, AllocError>
         requires { Fits self.old.limits frame }
         ensures ok { IfOk result (λ said. Delivers self.old (message_of frame)
             (messages_of said.items) self.new) }
         ensures fits { IfOk result (λ said. AllByRecursion (Fits self.old.limits) said.items) }
         ensures err { OnErr result (self.new ≡ self.old) }
+        ensures none { room_to_take (client_at self.old frame.client) frame ≡ 0
+            → brings_page (client_at self.old frame.client) frame ≡ false → IsOk result }
     {
         let taker = &mut self.clients[frame.client.index()];
         deliver(alloc, taker, frame)

@@ -1,4 +1,6 @@
--- Which answers carry the bytes of a page.
+-- Which answers carry the bytes of a page, and which take memory to copy.
+use Rattle.std.specs.Prelude.{◌<◌, ◌⊎◌, length}
+use Rattle.cb_transcript.specs.declared.answer.Answer.{Answer}
 use Rattle.cb_transcript.specs.declared.answer.AnswerWord.{AnswerWord}
 use Rattle.cb_transcript.specs.declared.answer.AnswerWord.TheVariants as word
 
@@ -6,3 +8,7 @@ use Rattle.cb_transcript.specs.declared.answer.AnswerWord.TheVariants as word
 abbrev pub IsBytes : AnswerWord → Type 0
 IsBytes (word.Bytes bytes) = Unit {0}
 IsBytes other = ⊥
+
+-- an answer with page bytes or with packets; a copy takes memory for them alone
+abbrev pub TakesMemory : Answer → Type 0
+TakesMemory answer = IsBytes answer.word ⊎ (0 < length answer.sent)

@@ -1,5 +1,5 @@
-ghost use Rattle.std.specs.Prelude.{◌≡◌, List, [], ◌∷◌, Some, IfOk, IfSome, OnErr};
-ghost use Rattle.cb_transcript.specs.Answers.{IsBytes};
+ghost use Rattle.std.specs.Prelude.{◌≡◌, ◌<◌, List, [], ◌∷◌, length, Some, IfOk, IfSome, OnErr};
+ghost use Rattle.cb_transcript.specs.Answers.{IsBytes, TakesMemory};
 
 use crate::refusal::Refusal;
 use cb_event::Event;
@@ -121,10 +121,14 @@ impl SentPackets {
         self.list.as_slice()
     }
 
-    /// The same packets. `AllocError` only where memory was refused.
+    /// The same packets. No packet takes no memory.
     pub fn copy(&self, alloc: Global) -> Result<SentPackets, AllocError>
-        ensures { IfOk result (λ sent. sent ≡ self.now) }
+        ensures same { IfOk result (λ sent. sent ≡ self.now) }
+        ensures fails { OnErr result (0 < length self.now) }
     {
+        if self.list.is_empty() {
+            return Ok(SentPackets::none(alloc));
+        }
         Ok(SentPackets {
             list: Vec::from_slice(alloc, self.list.as_slice())?,
         })
@@ -149,9 +153,10 @@ impl Answer {
         }
     }
 
-    /// The same answer. `AllocError` only where memory was refused.
+    /// The same answer. It fails only where there is no memory for its bytes or its packets.
     pub fn copy(&self, alloc: Global) -> Result<Answer, AllocError>
-        ensures { IfOk result (λ answer. answer ≡ self.now) }
+        ensures same { IfOk result (λ answer. answer ≡ self.now) }
+        ensures fails { OnErr result (TakesMemory self.now) }
     {
         Ok(Answer {
             word: self.word.copy(alloc)?,

@@ -18,6 +18,6 @@ returns-in_ok-frame-in-Some-clause-ok c =
     subst (λ (v : PacketsState). IsFrameAt v c.args.number c.in_ok-frame-in-Some.frame) c.self.view_is (record {
       bytes = c.in-Some.bytes.now;
       is_sent = at;
-      spelled = subst (λ (f : Frame). IsFrame c.self.inside.limits f c.in-Some.bytes.now) (sym (c.in_ok-frame-in-Some.ensures is.0 is.1)) is.1;
-      only = λ other h. sym (c.in_ok-frame-in-Some.ensures other h);
+      spelled = subst (λ (f : Frame). IsFrame c.self.inside.limits f c.in-Some.bytes.now) (sym (c.in_ok-frame-in-Some.ensures.found is.0 is.1)) is.1;
+      only = λ other h. sym (c.in_ok-frame-in-Some.ensures.found other h);
     })

@@ -1,4 +1,6 @@
-use Rattle.std.proofs.Common.{Vec, Global, subst, sym}
+use Rattle.std.proofs.Common.{◌≡◌, Vec, Global, false, subst, sym}
+use Rattle.cb_client.specs.ClientState.{ClientState}
+use Rattle.cb_client.specs.FramesTaken.{brings_page, room_to_take}
 use Rattle.std.proofs.lemmas.Result.{on_err_weaker}
 use Rattle.std.specs.List.{AllByRecursion}
 use Rattle.std.specs.Prelude.{IfOk}
@@ -7,7 +9,7 @@ use Rattle.cb_frame_types.specs.declared.frame.Frame.{Frame}
 use Rattle.cb_outbox.specs.Messages.{messages_of}
 use Rattle.cb_page.specs.Bounds.{Bounds}
 use Rattle.cb_sites.specs.SitesState.{SitesState}
-use Rattle.cb_sites.proofs.Worlds.{IsLent, called_sites, frame_delivers, left_as_before, lent_limits}
+use Rattle.cb_sites.proofs.Worlds.{IsLent, called_sites, frame_delivers, left_as_before, lent_limits, own_before}
 use Rattle.cb_sites.proofs.sites.Sites.take.Goals as goal
 
 pub deliver-requires : goal.deliver-requires
@@ -71,3 +73,16 @@ returns-clause-err g c =
       read = c.index_mut-taker.ensures.value;
     } in
     on_err_weaker c.deliver.result (λ same. left_as_before sites c.args.self.now c.index.result c.args.frame.client c.index_mut-taker.result.now c.deliver.new.client lent same) c.deliver.ensures.err
+
+pub returns-clause-none : goal.returns-clause-none
+returns-clause-none g c room brings =
+    let sites : SitesState = record { limits = c.self.inside.limits; clients = c.self.inside.clients.items } in
+    let lent : IsLent sites c.args.self.now c.index.result c.args.frame.client c.index_mut-taker.result.now = record {
+      sites = c.self.invariant;
+      same = c.self.view_is;
+      has = c.requires.client;
+      place = c.index.ensures.value;
+      read = c.index_mut-taker.ensures.value;
+    } in
+    let own = sym (own_before sites c.args.self.now c.index.result c.args.frame.client c.index_mut-taker.result.now lent) in
+    c.deliver.ensures.none (subst (λ (x : ClientState). room_to_take x c.args.frame ≡ 0) own room) (subst (λ (x : ClientState). brings_page x c.args.frame ≡ false) own brings)
