@@ -146,7 +146,7 @@ impl Store {
     }
 
     /// Writes the pages of the next commit. It takes no memory.
-    #[tactic(auto, using(crate::proofs::Rewriting::rewritten_push, crate::proofs::Rewriting::stored_later))]
+    #[tactic(auto, using(crate::proofs::Rewriting::stored_later))]
     pub(crate) fn write(&mut self, number: CommitNo, writes: &[Write])
         requires next { number ≡ self.old.number + 1 }
         requires fit { All (WritesInto self.old) writes.now }

@@ -1,6 +1,6 @@
 -- What a server's engine does for a message, and the room that it has for it.
 use Rattle.std.specs.Prelude.{◌≡◌, ◌≤◌, ◌<◌, ◌+◌, ◌&&◌, ℕ, Bool, true, false, List}
-use Rattle.std.specs.Prelude.{[], ◌++◌}
+use Rattle.std.specs.Prelude.{[], ◌∷◌, ◌++◌}
 use Rattle.std.specs.Prelude.{length, ⊤}
 use Rattle.cb_asks.specs.Asks.{room_at}
 use Rattle.cb_callbacks.specs.Numbers as numbers
@@ -14,13 +14,14 @@ use Rattle.cb_outbox.specs.Messages.{short_of}
 use Rattle.cb_outbox.specs.Saying.{Says}
 use Rattle.cb_protocol.specs.Basics.{Limits}
 use Rattle.cb_protocol.specs.Messages as protocol
+use Rattle.cb_protocol.specs.Messages.{AbortNow}
 use Rattle.cb_protocol.specs.Numbers.{HasGrantsLeft, messages_for_pages}
 use Rattle.cb_protocol.specs.Ranges.{BodyFits}
 use Rattle.cb_protocol.specs.Server.{DeadlockTest, Server, ServerStep, has_not_ended, server_after}
 use Rattle.cb_protocol.specs.ServerMessages.{and_then, begin_transaction, commit_allowed}
 use Rattle.cb_protocol.specs.ServerMessages.{direct_answer, may_proceed, named_txn}
 use Rattle.cb_protocol.specs.ServerMessages.{read_asks_below}
-use Rattle.cb_protocol.specs.Settling.{settle_pages}
+use Rattle.cb_protocol.specs.Settling.{send_to, settle_pages}
 use Rattle.cb_protocol.specs.WaitsFor.{on_cycle}
 use Rattle.cb_protocol.specs.World.{messages_sent}
 use Rattle.cb_server.specs.declared.engine.Engine.{Engine}
@@ -155,6 +156,23 @@ abbrev pub Stands : Begun → Server → (client txn : ℕ) → Type 0
 Stands begun.Live server client txn = IsLiveOne server client txn false
 Stands begun.Doomed server client txn = IsLiveOne server client txn true
 Stands begun.Ended server client txn = has_not_ended server client txn ≡ false
+
+-- Its transaction has begun, and stands so.
+pub record HasBegun (old : Engine) (client txn : ℕ) (standing : Begun) (new : Engine)
+    : Type 0 where
+  pub begins : Begins old client txn new
+  pub stands : Stands standing (server_in new) client txn
+
+-- It has begun, is doomed, and its client was told so.
+pub record HasHeardOfDoom (old : Engine) (client txn : ℕ) (new : Engine) : Type 0 where
+  pub between : Engine
+  pub has : HasBegun old client txn begun.Doomed between
+  pub told : Makes between (λ server. send_to server client (AbortNow txn) ∷ []) new
+
+-- its transaction has begun, and stands so; the client of a doomed one was told
+abbrev pub HasBegunTold : Begun → Engine → (client txn : ℕ) → Engine → Type 0
+HasBegunTold begun.Doomed old client txn new = HasHeardOfDoom old client txn new
+HasBegunTold standing old client txn new = HasBegun old client txn standing new
 
 -- the protocol's limits that tables are of; a pool's size says nothing of a server
 abbrev pub limits_in : Engine → Limits

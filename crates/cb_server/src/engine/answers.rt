@@ -6,9 +6,9 @@ ghost use Rattle.cb_protocol.specs.Messages.{Downgraded, Drop as DropBody, GiveB
 ghost use Rattle.cb_protocol.specs.Ranges.{BodyFits};
 ghost use Rattle.cb_protocol.specs.Server.{Server, has_not_ended};
 ghost use Rattle.cb_protocol.specs.WaitsFor.{on_cycle};
-ghost use Rattle.cb_server.specs.Answering.{Begins, CanSayTo, FitsIn, IsCurrent, IsLeft};
-ghost use Rattle.cb_server.specs.Answering.{LacksNumber, Makes, Stands, answer_to, limits_in};
-ghost use Rattle.cb_server.specs.Answering.{server_in};
+ghost use Rattle.cb_server.specs.Answering.{Begins, CanSay, CanSayTo, FitsIn, HasBegunTold};
+ghost use Rattle.cb_server.specs.Answering.{IsCurrent, IsLeft, LacksNumber, Makes, Stands};
+ghost use Rattle.cb_server.specs.Answering.{answer_to, limits_in, server_in};
 
 use crate::engine::Engine;
 use cb_frame::{Body, ShortBody};
@@ -98,7 +98,7 @@ impl Engine {
     }
 
     /// The transaction begins where it is a later one. How it stands then is answered.
-    pub(crate) fn begin(&mut self, client: ClientNo, txn: TxnNo) -> Begun
+    fn begin(&mut self, client: ClientNo, txn: TxnNo) -> Begun
         requires { HasClient self.old.callbacks.tables client }
         ensures begins { Begins self.old client txn self.new }
         ensures stands { Stands result (server_in self.new) client txn }
@@ -111,6 +111,30 @@ impl Engine {
             Standing::Live => Begun::Live,
             Standing::Doomed => Begun::Doomed,
             Standing::Ended => Begun::Ended,
+        }
+    }
+
+    /// The transaction of an ask or a commit begins where it is a later one; a doomed one's client
+    /// hears AbortNow. How it stands is answered.
+    pub(crate) fn begin_or_abort(
+        &mut self,
+        client: ClientNo,
+        incarnation: Incarnation,
+        txn: TxnNo,
+    ) -> Begun
+        requires client { HasClient self.old.callbacks.tables client }
+        requires current { IsCurrent self.old client incarnation }
+        requires room { CanSay self.old }
+        ensures { HasBegunTold result self.old client txn self.new }
+    {
+        match self.begin(client, txn) {
+            Begun::Live => Begun::Live,
+            Begun::Doomed => {
+                self.outbox
+                    .say(client, incarnation, ShortBody::AbortNow { txn });
+                Begun::Doomed
+            }
+            Begun::Ended => Begun::Ended,
         }
     }
 

@@ -15,7 +15,6 @@ ghost use Rattle.cb_server.specs.Answering.{answer_to, server_in};
 use crate::engine::Engine;
 use crate::engine::answers::Begun;
 use cb_callbacks::an_ask_sends_at_most_one;
-use cb_frame::ShortBody;
 use cb_page::{ClientNo, GrantNo, Incarnation, PageNo, TxnNo};
 use std::alloc::AllocError;
 
@@ -37,11 +36,9 @@ impl Engine {
         ensures left { OnErr result (IsLeft self.old self.new) }
     {
         self.callbacks.reserve_ask(page)?;
-        match self.begin(client, txn) {
+        match self.begin_or_abort(client, incarnation, txn) {
             Begun::Live => self.ask_to_read(client, incarnation, page),
-            Begun::Doomed => self
-                .outbox
-                .say(client, incarnation, ShortBody::AbortNow { txn }),
+            Begun::Doomed => {}
             Begun::Ended => {}
         }
         Ok(())
@@ -131,11 +128,9 @@ impl Engine {
         ensures left { OnErr result (IsLeft self.old self.new) }
     {
         self.callbacks.reserve_ask(page)?;
-        match self.begin(client, txn) {
+        match self.begin_or_abort(client, incarnation, txn) {
             Begun::Live => self.ask_to_write(client, incarnation, page, grant),
-            Begun::Doomed => self
-                .outbox
-                .say(client, incarnation, ShortBody::AbortNow { txn }),
+            Begun::Doomed => {}
             Begun::Ended => {}
         }
         Ok(())

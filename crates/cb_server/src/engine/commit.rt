@@ -66,11 +66,9 @@ impl Engine {
         if self.applies(client, txn, &writes) {
             return self.apply(client, incarnation, txn, writes);
         }
-        match self.begin(client, txn) {
+        match self.begin_or_abort(client, incarnation, txn) {
             Begun::Live => {}
-            Begun::Doomed => self
-                .outbox
-                .say(client, incarnation, ShortBody::AbortNow { txn }),
+            Begun::Doomed => {}
             Begun::Ended => self.done_again(client, incarnation, txn),
         }
         Ok(())

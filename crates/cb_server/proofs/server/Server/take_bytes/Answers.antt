@@ -5,4 +5,4 @@ pub returns-in-Ok-take-clause-ok : goal.returns-in-Ok-take-clause-ok
 returns-in-Ok-take-clause-ok c = search rules
 
 pub returns-in-Err-take-clause-memory : goal.returns-in-Err-take-clause-memory
-returns-in-Err-take-clause-memory c = search rules
+returns-in-Err-take-clause-memory c = λ plain same. absurd cc
