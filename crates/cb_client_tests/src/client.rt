@@ -284,8 +284,8 @@ fn commits<Q: Chooser>(
     }
 }
 
-/// Whether the next transaction writes a page that is held, and commits. The other copy is given back
-/// as it is called, the written one once the commit is done.
+/// Whether the next transaction writes a page that is held, and commits. The other copy is given
+/// back as it is called, the written one once the commit is done.
 fn writes_and_commits<Q: Chooser>(alloc: Global, client: &mut Client<Q>) -> bool {
     let (page, grant) = (PageNo::new(2), GrantNo::new(3));
     let (other, old) = (PageNo::new(3), GrantNo::new(2));

@@ -3,9 +3,8 @@
 
 ghost use Rattle.std.specs.Prelude.{◌≡◌, length};
 
-use crate::queue::{is_on, oldest_unfixed, take_off};
 use cb_page::{Limits, PageNo, PageSet};
-use cb_twoq::{ChooseFault, Chooser};
+use cb_twoq::{ChooseFault, Chooser, is_on, oldest_unfixed, take_off};
 use std::alloc::{AllocError, Global};
 use std::collections::VecDeque;
 use std::marker::Model;

@@ -2,7 +2,6 @@
 #![tactic(auto)]
 
 mod fifo;
-mod queue;
 mod recorder;
 
 pub use fifo::Fifo;
