@@ -1,0 +1,8 @@
+use Rattle.std.proofs.Common.{arith}
+use Rattle.std.proofs.lemmas.Grind.{common_steps}
+use Rattle.cb_frame.specs.Checks.{can_be_length, numbers_fit, pages_rise}
+use Rattle.cb_frame.proofs.decoding.bodies.commit_of.Goals as goal
+
+pub returns-in_err-writes : goal.returns-in_err-writes
+unfolding can_be_length numbers_fit pages_rise
+returns-in_err-writes c = grind (arith, common_steps)
