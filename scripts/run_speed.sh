@@ -1,14 +1,15 @@
 #!/usr/bin/env bash
-# Times runs of workers beside a short C program over SQLite's library that does as many such jobs, each in a transaction of its
-# own (WAL, synchronous FULL), and 32 in one, on one disk, in turn: `run`, whose clients all fight for pages 0 and 1, and the
-# program run_speed/own_pages.txt, whose clients have two pages each that no other uses.
+# Times runs of workers beside short programs that do as many such jobs, each in a transaction of its own (WAL, synchronous FULL), on
+# one disk, in turn: `run`, whose clients all fight for pages 0 and 1, and the program run_speed/own_pages.txt, whose clients have
+# two pages each that no other uses; beside them run_speed/kit_jobs.txt over the same database library as these, and run_speed/jobs.c
+# over SQLite's own, that also with 32 jobs in a transaction.
 #
 #   scripts/run_speed.sh [JOBS [TURNS]]      40,000 jobs in all, three turns
 #
 # It prints durable jobs a second of each, and how many batches carried the commits of own pages. ROOM is the folder of the stores
 # (the system's temporary one if it isn't set). SYNC makes each sync of a file take so many microseconds longer, in all programs
-# alike, as on a slower disk. PLAY and OWN name built programs; else they are built first, by `rt run` (RT is that command, `rt` if
-# it isn't set). Nothing of this is in the gate.
+# alike, as on a slower disk. PLAY, OWN and ALONE (kit_jobs.txt) name built programs; else they are built first, by `rt run` (RT is
+# that command, `rt` if it isn't set). Nothing of this is in the gate.
 set -u
 top=$(cd "$(dirname "$0")/.." && pwd)
 room=$(mktemp -d -p "${ROOM:-${TMPDIR:-/tmp}}")
@@ -18,25 +19,34 @@ if [ -z "${PLAY:-}" ]; then
   (cd "$top/crates/cb_play" && "${RT:-rt}" run -- --version >/dev/null 2>&1) || { echo "the program isn't built"; exit 1; }
 fi
 
-# builds run_speed/own_pages.txt in a copy of the crates
-build_own() {
-  local copy=$room/copy
-  mkdir -p "$copy"
-  git init -q "$copy"
-  cp "$top/HANDLES" "$copy/"
-  cp -r --preserve=timestamps "$top/crates" "$copy/"
-  mkdir -p "$copy/crates/own_pages/src"
-  cp "$top/crates.txt" "$copy/"
-  echo "own_pages: cb_page cb_twoq cb_commit cb_office cb_shared cb_shelf cb_worker cb_jobs cb_progress cb_run sqlite anyhow" \
-    >>"$copy/crates.txt"
-  cp "$top/scripts/run_speed/own_pages.txt" "$copy/crates/own_pages/src/main.rt"
-  (cd "$copy/crates/own_pages" && "${RT:-rt}" run -- "$room/first.db" 1 1 >"$room/said" 2>&1)
-  own=$copy/crates/own_pages/out/own_pages
-  [ -x "$own" ] || { tail -n 20 "$room/said"; echo "the program isn't built"; exit 1; }
+# NAME LIBRARIES WORD..: builds run_speed/NAME.txt in a copy of the crates, and runs it once with these words
+build() {
+  local name=$1 libraries=$2 copy=$room/copy
+  shift 2
+  if [ ! -d "$copy" ]; then
+    git init -q "$copy"
+    cp "$top/HANDLES" "$top/crates.txt" "$copy/"
+    cp -r --preserve=timestamps "$top/crates" "$copy/"
+  fi
+  mkdir -p "$copy/crates/$name/src"
+  echo "$name: $libraries" >>"$copy/crates.txt"
+  cp "$top/scripts/run_speed/$name.txt" "$copy/crates/$name/src/main.rt"
+  (cd "$copy/crates/$name" && "${RT:-rt}" run -- "$@" >"$room/said" 2>&1)
+  built=$copy/crates/$name/out/$name
+  [ -x "$built" ] || { tail -n 20 "$room/said"; echo "the program isn't built"; exit 1; }
 }
 
 own=${OWN:-}
-[ -n "$own" ] || build_own
+if [ -z "$own" ]; then
+  build own_pages "cb_page cb_twoq cb_commit cb_office cb_shared cb_shelf cb_worker cb_jobs cb_progress cb_run sqlite anyhow" \
+    "$room/first.db" 1 1
+  own=$built
+fi
+alone=${ALONE:-}
+if [ -z "$alone" ]; then
+  build kit_jobs "cb_jobs sqlite anyhow" "$room/first_alone.db" 1
+  alone=$built
+fi
 jobs=${1:-40000}
 turns=${2:-3}
 "${CC:-cc}" -O2 -o "$room/jobs" "$top/scripts/run_speed/jobs.c" -lsqlite3 || exit 1
@@ -54,6 +64,7 @@ timed() {
 }
 
 for turn in $(seq "$turns"); do
+  timed "the same library alone, turn $turn" "$((jobs / 4))" "$alone" "$room/kit_$turn.db" "$((jobs / 4))"
   timed "sqlite alone, turn $turn" "$((jobs / 4))" "$room/jobs" "$room/alone_$turn.db" "$((jobs / 4))"
   timed "sqlite alone, 32 jobs a transaction, turn $turn" "$((jobs / 32 * 32))" "$room/jobs" "$room/together_$turn.db" "$jobs" 32
   for clients in 1 4 32; do

@@ -6,7 +6,6 @@ use Rattle.std.specs.Option.{option_map, unwrap_or}
 use Rattle.cb_clients.specs.Clients.{Clients, has}
 use Rattle.cb_protocol.specs.Server.{WaitingAsk, has_ask}
 use Rattle.cb_asks.specs.Queues.{client_at}
-use Rattle.cb_asks.proofs.Queues.{taken}
 use Rattle.cb_asks.proofs.Steps.{apart_is, same_is}
 use Rattle.cb_waits.specs.Graph.{Edges, waits}
 use Rattle.cb_waits.specs.Follows.{FollowsQueue, waited_for}
@@ -24,6 +23,13 @@ none_in client [] place none at = none_some at
 none_in client (ask ∷ queue) zero none at =
     true≢false (sym (ap (λ n. n == client) (some_same at) ∙ same_is client) ∙ none_left (ask.client == client) (has_ask client queue) none)
 none_in client (ask ∷ queue) (suc place) none at = none_in client queue place (none_right (ask.client == client) (has_ask client queue) none) at
+
+-- one place more from the front
+taken : (client : ℕ) (queue : List WaitingAsk) (place : ℕ) (ask : WaitingAsk) → slice_get queue place ≡ Some ask
+    → has_ask client (take (suc place) queue) ≡ (has_ask client (take place queue) || (ask.client == client))
+taken client [] place ask is = grind arith
+taken client (first ∷ queue) zero ask is = grind arith
+taken client (first ∷ queue) (suc place) ask is = grind (arith, taken client queue place ask is)
 
 -- a place of a queue has a client
 pub place_has : (queue : List WaitingAsk) (place : ℕ) → place < length queue → client_at queue place ≡ None → ⊥
