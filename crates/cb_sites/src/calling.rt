@@ -44,8 +44,8 @@ pub(crate) fn answer<Q: Chooser>(
     }
 }
 
-/// The client takes a frame. `AllocError` only where memory was refused; then nothing changes. It is
-/// not refused where no frame needs room and no page comes in.
+/// The client takes a frame. `AllocError` only where memory was refused; then nothing changes. It
+/// is not refused where no frame needs room and no page comes in.
 pub(crate) fn deliver<Q: Chooser>(
     alloc: Global,
     client: &mut Client<Q>,

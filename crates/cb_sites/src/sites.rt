@@ -119,8 +119,8 @@ impl<Q: Chooser> Sites<Q> {
     }
 
     /// The client that a frame names takes it, if it is of its incarnation; what it says to it.
-    /// `AllocError` only where memory was refused; then nothing changes. It is not refused where the
-    /// client needs no room for frames and no page comes in, so not at a frame that is ignored.
+    /// `AllocError` only where memory was refused; then nothing changes. It is not refused where
+    /// the client needs no room for frames and no page comes in, so not at a frame that is ignored.
     pub fn take(&mut self, alloc: Global, frame: Frame) -> Result<Vec<Frame>, AllocError>
         requires { Fits self.old.limits frame }
         ensures ok { IfOk result (λ said. Delivers self.old (message_of frame)

@@ -1,5 +1,5 @@
-//! The statements that write pages of a store to the tables of an SQLite database, each run inside a
-//! transaction.
+//! The statements that write pages of a store to the tables of an SQLite database, each run inside
+//! a transaction.
 //!
 //! [`run`], [`ask`] and [`is_there`] are single statements: in contracts each is a step
 //! (`Inside`), and what it makes of the database is what the statements make that ran (`MakesAll`).

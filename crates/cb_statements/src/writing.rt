@@ -4,7 +4,8 @@ ghost use Rattle.sqlite.specs.State.{HasCleanDisk, Survives};
 ghost use Rattle.sqlite.specs.Held.{state};
 ghost use Rattle.cb_statements.specs.Statements.{MakesAll, part_at, part_count, part_statement};
 ghost use Rattle.cb_statements.specs.Statements.{page_statement, page_statements, part_statements};
-ghost use Rattle.cb_statements.specs.Statements.{pages_statements, batch_statements, mark_statement};
+ghost use Rattle.cb_statements.specs.Statements.{pages_statements, batch_statements};
+ghost use Rattle.cb_statements.specs.Statements.{mark_statement};
 ghost use Rattle.cb_statements.specs.Inside.{Inside, IsSame, IsSettled};
 ghost use Rattle.cb_statements.specs.Writing.{Fits, Wrote};
 
