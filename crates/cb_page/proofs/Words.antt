@@ -21,19 +21,22 @@ has-flags_of words pages p lt = get_or-map-range_with_len (flag_at words) 0 page
 pub has_past : (words : List ℕ) (pages p : ℕ) → pages ≤ p → has (flags_of words pages) p ≡ false
 has_past words pages p le = get_or_past (flags_of words pages) p false (omega (arith, length-flags_of words pages))
 
--- no flag stands where all words are zero
-flag_of_zeros : (count p : ℕ) → flag_at (replicate count 0) p ≡ false
+-- a word of zero has no flag
+pub zero_not_flagged : (words : List ℕ) (p : ℕ) → slice_index_or words (p / 64) 0 ≡ 0 → flag_at words p ≡ false
 unfolding flag_at
-flag_of_zeros count p = elim (cases_lt (p / 64) count) [
-  | inl lt ↦ rw (get_or-replicate {A = ℕ} count (p / 64) 0 0 lt, bit_at-zero (p % 64)) refl
-  | inr le ↦ rw (get_or_past {X = ℕ} (replicate count 0) (p / 64) 0 (omega (arith, length-replicate {A = ℕ} count 0)), bit_at-zero (p % 64)) refl
-]
+zero_not_flagged words p zero = rw (zero, bit_at-zero (p % 64)) refl
+
+pub none_in : (words : List ℕ) (pages : ℕ) → ((k : ℕ) → flag_at words k ≡ false) → flags_of words pages ≡ replicate pages false
+none_in words pages none =
+    ext_get_or false _ _ (length-flags_of words pages ∙ sym (length-replicate pages false)) (λ i lt.
+    let within : i < pages = omega (arith, lt, length-flags_of words pages) in
+    has-flags_of words pages i within ∙ none i ∙ sym (get_or-replicate pages i false false within))
 
 pub flags_of_zeros : (count pages : ℕ) → flags_of (replicate count 0) pages ≡ replicate pages false
-flags_of_zeros count pages =
-    ext_get_or false _ _ (length-flags_of (replicate count 0) pages ∙ sym (length-replicate pages false)) (λ i lt.
-    let within : i < pages = omega (arith, lt, length-flags_of (replicate count 0) pages) in
-    has-flags_of (replicate count 0) pages i within ∙ flag_of_zeros count i ∙ sym (get_or-replicate pages i false false within))
+flags_of_zeros count pages = none_in _ pages (λ p. zero_not_flagged (replicate count 0) p (elim (cases_lt (p / 64) count) [
+  | inl lt ↦ get_or-replicate {A = ℕ} count (p / 64) 0 0 lt
+  | inr le ↦ get_or_past {X = ℕ} (replicate count 0) (p / 64) 0 (omega (arith, length-replicate {A = ℕ} count 0))
+]))
 
 -- a page whose bit is another one
 other_bit : (p q : ℕ) → q ≢ p → q / 64 ≡ p / 64 → q % 64 ≢ p % 64
@@ -66,7 +69,7 @@ flags_changed words pages p word b lt room is others =
     ])
 
 -- a word as a slice gives it
-read : (words : List ℕ) (i word : ℕ) → i < length words → word ≡ get_or words i word → slice_index_or words i 0 ≡ word
+pub read : (words : List ℕ) (i word : ℕ) → i < length words → word ≡ get_or words i word → slice_index_or words i 0 ≡ word
 read words i word lt e = get_or_default words i 0 word lt ∙ sym e
 
 pub flags-insert : (words : List ℕ) (pages p word : ℕ) → p < pages → p / 64 < length words → word ≡ get_or words (p / 64) word
@@ -111,35 +114,20 @@ none_from word start k empty from =
     let e : start + (k - start) ≡ k = omega arith in
     sym (ap (bit_at word) e) ∙ ap (λ (n : ℕ). n % 2) (sym (shr-shr word start (k - start)) ∙ ap (λ (n : ℕ). n / 2 ^ (k - start)) empty) ∙ bit_at-zero (k - start)
 
--- the flags of one word lie side by side: what has been seen of them and of those before them
-pub none_before : (words : List ℕ) (pages from at start word bit : ℕ) → at < length words → word ≡ get_or words at word → bit ≤ 64
-    → ((k : ℕ) → from ≤ k → k < 64 * at + start → has (flags_of words pages) k ≡ false)
-    → ((k : ℕ) → start ≤ k → k < bit → bit_at word k ≡ 0)
-    → (k : ℕ) → from ≤ k → k < 64 * at + bit → has (flags_of words pages) k ≡ false
+-- where the bit of a place is 0, its flag isn't set
+pub not_flagged : (words : List ℕ) (at k : ℕ) → k / 64 ≡ at → bit_at (slice_index_or words at 0) (k % 64) ≡ 0 → flag_at words k ≡ false
 unfolding flag_at
-none_before words pages from at start word bit room is small before none k after lt =
-    elim (cases_lt k (64 * at + start)) [
-      | inl early ↦ before k after early
-      | inr late ↦ elim (cases_lt k pages) [
-        | inl within ↦
-            let q : k / 64 ≡ at = omega arith in
-            let r : k % 64 ≡ k - 64 * at = omega arith in
-            has-flags_of words pages k within
-            ∙ ap (λ (i : ℕ). bit_at (slice_index_or words i 0) (k % 64) == 1) q
-            ∙ ap (λ (w : ℕ). bit_at w (k % 64) == 1) (read words at word room is)
-            ∙ ap (λ (i : ℕ). bit_at word i == 1) r
-            ∙ ap (λ (n : ℕ). n == 1) (none (k - 64 * at) (omega arith) (omega arith))
-        | inr past ↦ has_past words pages k past
-      ]
-    ]
+not_flagged words at k place none = rw (place, none) refl
 
-pub flag_there : (words : List ℕ) (pages at word bit : ℕ) → at < length words → word ≡ get_or words at word → bit < 64 → bit_at word bit ≡ 1 → 64 * at + bit < pages → has (flags_of words pages) (64 * at + bit) ≡ true
+pub flagged : (words : List ℕ) (at bit : ℕ) → bit < 64 → bit_at (slice_index_or words at 0) bit ≡ 1 → flag_at words (64 * at + bit) ≡ true
 unfolding flag_at
-flag_there words pages at word bit room is lt one within =
+flagged words at bit lt one =
     let q : (64 * at + bit) / 64 ≡ at = omega arith in
     let r : (64 * at + bit) % 64 ≡ bit = omega arith in
-    has-flags_of words pages (64 * at + bit) within
-    ∙ ap (λ (i : ℕ). bit_at (slice_index_or words i 0) ((64 * at + bit) % 64) == 1) q
-    ∙ ap (λ (w : ℕ). bit_at w ((64 * at + bit) % 64) == 1) (read words at word room is)
-    ∙ ap (λ (i : ℕ). bit_at word i == 1) r
-    ∙ ap (λ (n : ℕ). n == 1) one
+    rw (q, r, one) refl
+
+pub not_in : (words : List ℕ) (pages k : ℕ) → flag_at words k ≡ false → has (flags_of words pages) k ≡ false
+not_in words pages k none = elim (cases_lt k pages) [
+  | inl lt ↦ has-flags_of words pages k lt ∙ none
+  | inr past ↦ has_past words pages k past
+]

@@ -3,6 +3,7 @@ ghost use Rattle.std.specs.Prelude.{◌≡◌, ℕ, ◌+◌, ◌<◌, ◌≤◌,
 ghost use Rattle.std.specs.Prelude.{length, replicate, slice_set, IfOk, IsTrue, MatchOption};
 ghost use Rattle.std.specs.Int.{bit_at};
 ghost use Rattle.cb_page.specs.Flags.{has};
+ghost use Rattle.cb_page.specs.Words.{Summarizes, flag_at};
 
 use crate::PageNo;
 use std::alloc::{AllocError, Global};
@@ -11,31 +12,38 @@ use std::marker::Model;
 /// A set of the pages below a number that is fixed when the set is made. In contracts it is a list
 /// with one flag for each of these pages.
 ///
-/// Only `new` takes memory. The walk by `next` passes over 64 pages a step where none of them is in
-/// the set.
+/// Only `new` takes memory. A walk by `next` costs what the members are, wherever they lie: no call
+/// of it looks at more than two words. `clear` goes over those words alone that have members.
 #[derive(Debug)]
 pub struct PageSet {
     /// Bit `page % 64` of word `page / 64` is 1 where the page is in the set.
     words: Vec<u64>,
+    /// Bit `at` is 1 where word `at` isn't 0.
+    filled: u64,
     pages: usize,
 }
 
 // By hand, so that who owns a set of pages proves this drop alone, and not those of all its parts.
 impl Drop for PageSet {
     fn drop(self) {
-        let PageSet { words: _, pages: _ } = self;
+        let PageSet {
+            words: _,
+            filled: _,
+            pages: _,
+        } = self;
     }
 }
 
 impl Model for PageSet {
     ghost use Rattle.std.specs.Prelude.{◌≡◌, ◌≤◌, ◌+◌, ◌/◌, ◌*◌, List, Bool, length};
-    ghost use Rattle.cb_page.specs.Words.{flags_of};
+    ghost use Rattle.cb_page.specs.Words.{Summarizes, flags_of};
 
     ghost Value = { List Bool };
 
     ghost view = { λ a. flags_of a.words.items a.pages };
 
-    ghost invariant = { λ a. (a.pages ≤ 64 * length a.words.items) × (length a.words.items ≤ 64) };
+    ghost invariant = { λ a. (a.pages ≤ 64 * length a.words.items)
+        × Summarizes a.filled a.words.items };
 }
 
 impl PageSet {
@@ -46,6 +54,7 @@ impl PageSet {
     {
         Ok(PageSet {
             words: zero_words(alloc, pages.div_ceil(64))?,
+            filled: 0,
             pages,
         })
     }
@@ -74,6 +83,7 @@ impl PageSet {
         let page = page.index();
         let word = self.words[page / 64];
         self.words[page / 64] = word | 1 << (page % 64);
+        self.filled |= 1 << (page / 64);
     }
 
     /// Takes the page out.
@@ -82,15 +92,21 @@ impl PageSet {
         ensures { self.new ≡ slice_set self.old page false }
     {
         let page = page.index();
-        let word = self.words[page / 64];
-        self.words[page / 64] = word & !(1 << (page % 64));
+        let word = self.words[page / 64] & !(1 << (page % 64));
+        self.words[page / 64] = word;
+        if word == 0 {
+            self.filled &= !(1 << (page / 64));
+        }
     }
 
     /// Takes all pages out.
     pub fn clear(&mut self)
         ensures { self.new ≡ replicate (length self.old) false }
     {
-        self.words.fill(0);
+        while let Some(at) = lowest_bit(self.filled, 0) {
+            self.words[at] = 0;
+            self.filled &= !(1 << at);
+        }
     }
 
     /// The least member at or after a place: with `from` one past the last answer this walks
@@ -101,19 +117,12 @@ impl PageSet {
             (λ page. (from ≤ page) × (has self.now page ≡ true)
             × ((k : ℕ) → from ≤ k → k < page → has self.now k ≡ false)) }
     {
-        let mut start = from % 64;
-        for at in from / 64..self.words.len() {
-            if let Some(bit) = lowest_bit(self.words[at], start) {
-                let page = 64 * at + bit;
-                return if page < self.pages {
-                    Some(PageNo::new(page as u32))
-                } else {
-                    None
-                };
-            }
-            start = 0;
+        let page = next_bit(&self.words, self.filled, from)?;
+        if page < self.pages {
+            Some(PageNo::new(page as u32))
+        } else {
+            None
         }
-        None
     }
 }
 
@@ -123,14 +132,36 @@ fn zero_words(alloc: Global, count: usize) -> Result<Vec<u64>, AllocError>
     vec![in alloc; 0u64; count]
 }
 
+/// The least place at or after another whose bit in the words is 1, by their summary: the place of
+/// bit `k` of word `at` is `64 * at + k`.
+fn next_bit(words: &[u64], filled: u64, from: usize) -> Option<usize>
+    requires { Summarizes filled words.now }
+    ensures { MatchOption result
+        ((k : ℕ) → from ≤ k → flag_at words.now k ≡ false)
+        (λ place. (from ≤ place) × (flag_at words.now place ≡ true)
+        × ((k : ℕ) → from ≤ k → k < place → flag_at words.now k ≡ false)) }
+{
+    let at = from / 64;
+    if at >= words.len() {
+        return None;
+    }
+    if let Some(bit) = lowest_bit(words[at], from % 64) {
+        return Some(64 * at + bit);
+    }
+    let later = lowest_bit(filled, at + 1)?;
+    Some(64 * later + words[later].trailing_zeros() as usize)
+}
+
 /// The lowest bit that is 1 in the word, at or after a place.
 fn lowest_bit(word: u64, start: usize) -> Option<usize>
-    requires { start < 64 }
     ensures { MatchOption result
-        ((k : ℕ) → start ≤ k → k < 64 → bit_at word k ≡ 0)
+        ((k : ℕ) → start ≤ k → bit_at word k ≡ 0)
         (λ bit. (start ≤ bit) × (bit < 64) × (bit_at word bit ≡ 1)
         × ((k : ℕ) → start ≤ k → k < bit → bit_at word k ≡ 0)) }
 {
+    if start >= 64 {
+        return None;
+    }
     let rest = word >> start;
     if rest == 0 {
         None
