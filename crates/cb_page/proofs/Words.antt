@@ -24,7 +24,7 @@ has_past words pages p le = get_or_past (flags_of words pages) p false (omega (a
 -- a word of zero has no flag
 pub zero_not_flagged : (words : List ℕ) (p : ℕ) → slice_index_or words (p / 64) 0 ≡ 0 → flag_at words p ≡ false
 unfolding flag_at
-zero_not_flagged words p zero = rw (zero, bit_at-zero (p % 64)) refl
+zero_not_flagged words p e = rw (e, bit_at-zero (p % 64)) refl
 
 pub none_in : (words : List ℕ) (pages : ℕ) → ((k : ℕ) → flag_at words k ≡ false) → flags_of words pages ≡ replicate pages false
 none_in words pages none =
