@@ -86,8 +86,7 @@ impl Marks {
         self.by_page[page.index()].remove(client);
     }
 
-    /// The client uses no page any more. It costs a step for each page that it used, and one for
-    /// each 64 pages.
+    /// The client uses no page any more. It costs a step for each page that it used.
     pub fn clear(&mut self, client: ClientNo)
         requires { HasClient self.old client }
         ensures { HasMarks self.old self.new (without_marks (is_in_use self.old) client) }

@@ -166,8 +166,8 @@ impl Directory {
         }
     }
 
-    /// The client may write no page any more. It costs a step for each that it could, and one for
-    /// each 64 pages, however many copies it has.
+    /// The client may write no page any more. It costs a step for each that it could, however many
+    /// copies it has.
     pub fn clear_writers(&mut self, client: ClientNo)
         requires { HasClient self.old client }
         ensures { ReleasesAll self.old client self.new }
@@ -179,8 +179,7 @@ impl Directory {
         }
     }
 
-    /// All rows and permissions of the client go. It costs a step for each of them, and two for
-    /// each 64 pages.
+    /// All rows and permissions of the client go. It costs a step for each of them.
     pub fn forget_client(&mut self, client: ClientNo)
         requires { HasClient self.old client }
         ensures { Forgets self.old client self.new }
