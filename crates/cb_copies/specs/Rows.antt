@@ -1,5 +1,5 @@
 -- What is kept of each page beside its bytes.
-use Rattle.std.specs.Prelude.{◌≡◌, ℕ, Bool, List, None, slice_index_or, length, if◌then◌else◌}
+use Rattle.std.specs.Prelude.{◌≡◌, ℕ, Bool, false, List, None, slice_index_or, length, if◌then◌else◌}
 use Rattle.cb_page.specs.Flags.{has}
 use Rattle.cb_copies.specs.declared.table.PageCopy.{PageCopy}
 
@@ -10,6 +10,11 @@ no_copy = record { seen = None; held = None; version = 0; tag = None }
 -- what is kept of a page
 abbrev pub row_at : List PageCopy → (page : ℕ) → PageCopy
 row_at rows page = slice_index_or rows page no_copy
+
+-- there is a flag for each page, and no grant ever came for a page whose flag isn't set
+pub record AreKnown (rows : List PageCopy) (known : List Bool) : Type 0 where
+  pub count : length known ≡ length rows
+  pub others : (page : ℕ) → has known page ≡ false → row_at rows page ≡ no_copy
 
 -- the copies of these pages are dropped
 pub record Dropped (old : List PageCopy) (pages : List Bool) (new : List PageCopy) : Type 0 where

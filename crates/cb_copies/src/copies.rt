@@ -348,4 +348,21 @@ impl<Q: Chooser> Copies<Q> {
         self.wanted.clear();
         self.pool.unfix_all();
     }
+
+    /// Begins the client's next incarnation: no grant ever came, over an empty chooser of as many
+    /// slots as the limits say.
+    ///
+    /// It takes no memory, and costs the pages of which a grant came in the incarnation that ends
+    /// and what [`PageSet`] says of a walk, beside the drop of the chooser before.
+    pub fn restart(&mut self, chooser: Q)
+        requires members { Q.members chooser ≡ [] }
+        requires slots { Q.slots chooser ≡ self.old.limits.slots }
+        ensures { self.new ≡ no_copies self.old.limits }
+    {
+        self.pool.restart(chooser, self.table.known());
+        self.table.clear();
+        self.may_write.clear();
+        self.wrote.clear();
+        self.wanted.clear();
+    }
 }

@@ -1,9 +1,9 @@
 //! What is kept of each page beside its bytes.
-ghost use Rattle.std.specs.Prelude.{◌≡◌, ◌<◌, length, max, replicate, slice_set};
+ghost use Rattle.std.specs.Prelude.{◌≡◌, ◌<◌, ◌≤◌, length, max, replicate, slice_set};
 ghost use Rattle.std.specs.Prelude.{unwrap_or, IfOk};
-ghost use Rattle.cb_copies.specs.Rows.{no_copy, row_at};
+ghost use Rattle.cb_copies.specs.Rows.{AreKnown, no_copy, row_at};
 
-use cb_page::{GrantNo, PageNo, TxnNo, Version};
+use cb_page::{GrantNo, PageNo, PageSet, TxnNo, Version};
 use std::alloc::{AllocError, Global};
 use std::marker::Model;
 
@@ -30,35 +30,44 @@ pub(crate) fn greatest_grant(seen: Option<GrantNo>, grant: GrantNo) -> GrantNo
     }
 }
 
-/// What is known of each page.
+/// What is known of each page. Only `new` takes memory.
 #[derive(Debug, Drop)]
 pub(crate) struct CopyTable {
     rows: Vec<PageCopy>,
+    /// The pages whose rows were put; of no other a grant ever came.
+    known: PageSet,
 }
 
 impl Model for CopyTable {
     ghost use Rattle.std.specs.Prelude.{List};
     ghost use Rattle.cb_copies.specs.declared.table.PageCopy.{PageCopy};
 
+    ghost use Rattle.cb_copies.specs.Rows.{AreKnown};
+
     ghost Value = { List PageCopy };
 
     ghost view = { λ table. table.rows.items };
+
+    ghost invariant = { λ table. AreKnown table.rows.items table.known };
 }
 
 impl CopyTable {
     /// No grant ever came for any of so many pages.
     pub(crate) fn new(alloc: Global, pages: usize) -> Result<CopyTable, AllocError>
+        requires { pages ≤ 4096 }
         ensures { IfOk result (λ table. table ≡ replicate pages no_copy) }
     {
-        let nothing = PageCopy {
-            seen: None,
-            held: None,
-            version: Version::new(0),
-            tag: None,
-        };
         Ok(CopyTable {
-            rows: vec![in alloc; nothing; pages]?,
+            rows: vec![in alloc; nothing(); pages]?,
+            known: PageSet::new(alloc, pages)?,
         })
+    }
+
+    /// The pages beside which no grant ever came.
+    pub(crate) fn known(&self) -> &PageSet
+        ensures { AreKnown self.now result.now }
+    {
+        &self.known
     }
 
     /// What is known of a page.
@@ -74,6 +83,40 @@ impl CopyTable {
         requires { page < length self.old }
         ensures { self.new ≡ slice_set self.old page copy }
     {
+        self.known.insert(page);
         self.rows[page.index()] = copy;
+    }
+
+    /// No grant ever came for any page. It costs the pages that were put, and what [`PageSet`] says
+    /// of a walk.
+    pub(crate) fn clear(&mut self)
+        ensures { self.new ≡ replicate (length self.old) no_copy }
+    {
+        clear_rows(&mut self.rows, &self.known);
+        self.known.clear();
+    }
+}
+
+/// What is known of a page that no grant ever came for.
+fn nothing() -> PageCopy
+    ensures { result ≡ no_copy }
+{
+    PageCopy {
+        seen: None,
+        held: None,
+        version: Version::new(0),
+        tag: None,
+    }
+}
+
+/// Clears the rows of these pages, beside which no grant ever came.
+fn clear_rows(rows: &mut Vec<PageCopy>, known: &PageSet)
+    requires { AreKnown rows.old.items known.now }
+    ensures { rows.new.items ≡ replicate (length rows.old.items) no_copy }
+{
+    let mut from = 0;
+    while let Some(page) = known.next(from) {
+        rows[page.index()] = nothing();
+        from = page.index() + 1;
     }
 }
