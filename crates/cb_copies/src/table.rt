@@ -20,6 +20,18 @@ pub struct PageCopy {
     pub tag: Option<TxnNo>,
 }
 
+impl PageCopy {
+    /// No grant ever came.
+    fn clear(&mut self)
+        ensures { self.new ≡ no_copy }
+    {
+        self.seen = None;
+        self.held = None;
+        self.version = Version::new(0);
+        self.tag = None;
+    }
+}
+
 /// The greater of a grant and the greatest that came before it.
 pub(crate) fn greatest_grant(seen: Option<GrantNo>, grant: GrantNo) -> GrantNo
     ensures { result ≡ max (unwrap_or seen 0) grant }
@@ -34,15 +46,14 @@ pub(crate) fn greatest_grant(seen: Option<GrantNo>, grant: GrantNo) -> GrantNo
 #[derive(Debug, Drop)]
 pub(crate) struct CopyTable {
     rows: Vec<PageCopy>,
-    /// The pages whose rows were put; of no other a grant ever came.
+    /// The pages whose rows may have been put.
     known: PageSet,
 }
 
 impl Model for CopyTable {
     ghost use Rattle.std.specs.Prelude.{List};
-    ghost use Rattle.cb_copies.specs.declared.table.PageCopy.{PageCopy};
-
     ghost use Rattle.cb_copies.specs.Rows.{AreKnown};
+    ghost use Rattle.cb_copies.specs.declared.table.PageCopy.{PageCopy};
 
     ghost Value = { List PageCopy };
 
@@ -57,13 +68,19 @@ impl CopyTable {
         requires { pages ≤ 4096 }
         ensures { IfOk result (λ table. table ≡ replicate pages no_copy) }
     {
+        let nothing = PageCopy {
+            seen: None,
+            held: None,
+            version: Version::new(0),
+            tag: None,
+        };
         Ok(CopyTable {
-            rows: vec![in alloc; nothing(); pages]?,
+            rows: vec![in alloc; nothing; pages]?,
             known: PageSet::new(alloc, pages)?,
         })
     }
 
-    /// The pages beside which no grant ever came.
+    /// The pages of which something may be known: of no other a grant ever came.
     pub(crate) fn known(&self) -> &PageSet
         ensures { AreKnown self.now result.now }
     {
@@ -87,8 +104,8 @@ impl CopyTable {
         self.rows[page.index()] = copy;
     }
 
-    /// No grant ever came for any page. It costs the pages that were put, and what [`PageSet`] says
-    /// of a walk.
+    /// No grant ever came for any page. It costs the pages whose rows were put, and what [`PageSet`]
+    /// says of a walk.
     pub(crate) fn clear(&mut self)
         ensures { self.new ≡ replicate (length self.old) no_copy }
     {
@@ -97,26 +114,14 @@ impl CopyTable {
     }
 }
 
-/// What is known of a page that no grant ever came for.
-fn nothing() -> PageCopy
-    ensures { result ≡ no_copy }
-{
-    PageCopy {
-        seen: None,
-        held: None,
-        version: Version::new(0),
-        tag: None,
-    }
-}
-
-/// Clears the rows of these pages, beside which no grant ever came.
+/// Clears the rows of these pages, which are all of which something may be known.
 fn clear_rows(rows: &mut Vec<PageCopy>, known: &PageSet)
     requires { AreKnown rows.old.items known.now }
     ensures { rows.new.items ≡ replicate (length rows.old.items) no_copy }
 {
     let mut from = 0;
     while let Some(page) = known.next(from) {
-        rows[page.index()] = nothing();
+        rows[page.index()].clear();
         from = page.index() + 1;
     }
 }

@@ -155,17 +155,13 @@ impl Copies {
         self.here_fixed = 0;
     }
 
-    /// Takes the bytes of these pages away, beside which none is here, and fixes no page.
+    /// Takes the bytes of these pages away, which are all that may be here.
     pub(crate) fn clear(&mut self, pages: &PageSet)
         requires within { length pages.now ≤ length self.old.pages }
         requires all { HasNoneBut self.old.pages pages.now }
-        ensures { self.new ≡ record {
-          fixed = replicate (length self.old.fixed) false;
-          pages = replicate (length self.old.pages) None;
-        } }
+        ensures { self.new ≡ record self.old { pages = replicate (length self.old.pages) None } }
     {
         take_away(&mut self.pages, pages);
-        self.fixed.clear();
         self.here = 0;
         self.here_fixed = 0;
     }
@@ -194,7 +190,7 @@ fn changed(count: usize, was: bool, is: bool) -> usize
     count - was as usize + is as usize
 }
 
-/// Takes the bytes of these pages away, beside which none is here.
+/// Takes the bytes of these pages away, which are all that may be here.
 fn take_away(pages: &mut Vec<Option<Page>>, gone: &PageSet)
     requires within { length gone.now ≤ length pages.old.items }
     requires all { HasNoneBut pages.old.items gone.now }

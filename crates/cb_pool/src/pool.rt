@@ -221,11 +221,11 @@ impl<Q: Chooser> Pool<Q> {
         self.copies.put(page, None);
     }
 
-    /// Begins a client's next incarnation: no page is here or fixed, and another chooser chooses,
-    /// which is empty and has as many slots. The pages handed in are those that may be here.
+    /// Begins the client's next incarnation, with an empty chooser of as many slots in place of the
+    /// one before. The pages handed in are those that may be here.
     ///
-    /// It takes no memory, and costs the pages handed in and what [`PageSet`] says of a walk,
-    /// beside the drop of the chooser before, which isn't told of each page that goes.
+    /// It takes no memory, and costs these pages and what [`PageSet`] says of a walk, beside the
+    /// drop of the chooser before, which isn't told of the pages that go.
     pub fn restart(&mut self, chooser: Q, pages: &PageSet)
         requires members { Q.members chooser ≡ [] }
         requires slots { Q.slots chooser ≡ self.old.slots }
@@ -235,6 +235,7 @@ impl<Q: Chooser> Pool<Q> {
             ≡ empty_pool self.old.slots (length self.old.pages) self.old.page_size }
     {
         self.copies.clear(pages);
+        self.copies.unfix_all();
         self.chooser = chooser;
     }
 }
