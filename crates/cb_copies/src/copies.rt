@@ -352,7 +352,7 @@ impl<Q: Chooser> Copies<Q> {
     /// Begins the client's next incarnation, over an empty chooser of as many slots as the limits
     /// say.
     ///
-    /// It takes no memory, and costs the pages whose copies changed in the incarnation that ends
+    /// It takes no memory, and costs the pages that a grant came for in the incarnation that ends
     /// and what [`PageSet`] says of a walk, beside the drop of the chooser before.
     pub fn restart(&mut self, chooser: Q)
         requires members { Q.members chooser ≡ [] }

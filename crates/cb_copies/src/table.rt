@@ -1,7 +1,7 @@
 //! What is kept of each page beside its bytes.
-ghost use Rattle.std.specs.Prelude.{◌≡◌, ◌<◌, ◌≤◌, length, max, replicate, slice_set};
+ghost use Rattle.std.specs.Prelude.{◌≡◌, ◌<◌, ◌≤◌, length, map, max, replicate, slice_set};
 ghost use Rattle.std.specs.Prelude.{unwrap_or, IfOk};
-ghost use Rattle.cb_copies.specs.Rows.{AreKnown, no_copy, row_at};
+ghost use Rattle.cb_copies.specs.Rows.{is_known, no_copy, row_at};
 
 use cb_page::{GrantNo, PageNo, PageSet, TxnNo, Version};
 use std::alloc::{AllocError, Global};
@@ -21,6 +21,13 @@ pub struct PageCopy {
 }
 
 impl PageCopy {
+    /// Whether anything is known of the page.
+    fn is_known(&self) -> bool
+        ensures { result ≡ is_known self.now }
+    {
+        self.seen.is_some() || self.held.is_some() || self.tag.is_some() || self.version.get() > 0
+    }
+
     /// No grant ever came.
     fn clear(&mut self)
         ensures { self.new ≡ no_copy }
@@ -46,24 +53,25 @@ pub(crate) fn greatest_grant(seen: Option<GrantNo>, grant: GrantNo) -> GrantNo
 #[derive(Debug, Drop)]
 pub(crate) struct CopyTable {
     rows: Vec<PageCopy>,
-    /// The pages whose rows may have been put.
+    /// The pages of which anything is known.
     known: PageSet,
 }
 
 impl Model for CopyTable {
-    ghost use Rattle.std.specs.Prelude.{List};
-    ghost use Rattle.cb_copies.specs.Rows.{AreKnown};
+    ghost use Rattle.std.specs.Prelude.{◌≡◌, List, map};
+    ghost use Rattle.cb_copies.specs.Rows.{is_known};
     ghost use Rattle.cb_copies.specs.declared.table.PageCopy.{PageCopy};
 
     ghost Value = { List PageCopy };
 
     ghost view = { λ table. table.rows.items };
 
-    ghost invariant = { λ table. AreKnown table.rows.items table.known };
+    ghost invariant = { λ table. table.known ≡ map is_known table.rows.items };
 }
 
 impl CopyTable {
     /// No grant ever came for any of so many pages.
+    #[tactic(auto, using(crate::proofs::Known::known_none))]
     pub(crate) fn new(alloc: Global, pages: usize) -> Result<CopyTable, AllocError>
         requires { pages ≤ 4096 }
         ensures { IfOk result (λ table. table ≡ replicate pages no_copy) }
@@ -80,9 +88,9 @@ impl CopyTable {
         })
     }
 
-    /// The pages of which something may be known: of no other a grant ever came.
+    /// The pages of which anything is known.
     pub(crate) fn known(&self) -> &PageSet
-        ensures { AreKnown self.now result.now }
+        ensures { result.now ≡ map is_known self.now }
     {
         &self.known
     }
@@ -96,16 +104,17 @@ impl CopyTable {
     }
 
     /// Puts what is known of a page.
+    #[tactic(auto, using(crate::proofs::Known::known_put))]
     pub(crate) fn put(&mut self, page: PageNo, copy: PageCopy)
         requires { page < length self.old }
         ensures { self.new ≡ slice_set self.old page copy }
     {
-        self.known.insert(page);
+        flag(&mut self.known, page, copy.is_known());
         self.rows[page.index()] = copy;
     }
 
-    /// No grant ever came for any page. It costs the pages whose rows were put, and what [`PageSet`]
-    /// says of a walk.
+    /// No grant ever came for any page. It costs the pages of which anything is known, and what
+    /// [`PageSet`] says of a walk.
     pub(crate) fn clear(&mut self)
         ensures { self.new ≡ replicate (length self.old) no_copy }
     {
@@ -114,9 +123,22 @@ impl CopyTable {
     }
 }
 
-/// Clears the rows of these pages, which are all of which something may be known.
+/// Puts the page in, or takes it out.
+fn flag(pages: &mut PageSet, page: PageNo, is: bool)
+    requires { page < length pages.old }
+    ensures { pages.new ≡ slice_set pages.old page is }
+{
+    if is {
+        pages.insert(page);
+    } else {
+        pages.remove(page);
+    }
+}
+
+/// Clears the rows of these pages, which are those of which anything is known.
+#[tactic(auto, using(crate::proofs::Known::not_known, crate::proofs::Known::known_long))]
 fn clear_rows(rows: &mut Vec<PageCopy>, known: &PageSet)
-    requires { AreKnown rows.old.items known.now }
+    requires { known.now ≡ map is_known rows.old.items }
     ensures { rows.new.items ≡ replicate (length rows.old.items) no_copy }
 {
     let mut from = 0;

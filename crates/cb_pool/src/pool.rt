@@ -234,8 +234,8 @@ impl<Q: Chooser> Pool<Q> {
         ensures { self.new
             ≡ empty_pool self.old.slots (length self.old.pages) self.old.page_size }
     {
+        self.unfix_all();
         self.copies.clear(pages);
-        self.copies.unfix_all();
         self.chooser = chooser;
     }
 }
