@@ -1,15 +1,15 @@
 -- What holds of copies holds once a new copy came.
-use Rattle.std.proofs.Common.{◌≡◌, ◌≢◌, ◌<◌, ℕ, Bool, true, false, true≢false, nat_eq, List, length, slice_set, slice_index_or, Option, Some, None, refl, sym, subst, ◌∙◌, ap, arith}
+use Rattle.std.proofs.Common.{◌≡◌, ◌≢◌, ◌<◌, ℕ, Bool, true, false, nat_eq, List, length, slice_set, slice_index_or, Option, Some, None, refl, sym, subst, ◌∙◌, ap, arith}
 use Rattle.std.proofs.Math.ListN.{length-set}
 use Rattle.std.proofs.lemmas.List.{get_or-set_same, get_or-set_other}
 use Rattle.std.proofs.lemmas.Grind.{common_steps}
 use Rattle.std.specs.Option.{is_some}
 use Rattle.cb_page.specs.Flags as flags
-use Rattle.cb_pool.specs.PoolState.{copy_of, let_go, MayGo}
+use Rattle.cb_pool.specs.PoolState.{let_go, MayGo}
 use Rattle.cb_protocol.specs.Basics.{Bytes}
 use Rattle.cb_copies.specs.declared.table.PageCopy.{PageCopy}
 use Rattle.cb_copies.specs.Rows.{no_copy, row_at}
-use Rattle.cb_copies.specs.CopiesState.{AreCopies, CopiesState, content_at, copy_at}
+use Rattle.cb_copies.specs.CopiesState.{AreCopies, CopiesState, copy_at}
 
 -- a page let go isn't there any more, every other is as it was
 length_let_go : (gone : Option ℕ) (pages : List (Option Bytes)) → length (let_go gone pages) ≡ length pages

@@ -1,3 +1,4 @@
+pub mod Known
 pub mod Changing
 pub mod Steps
 pub mod Keeping

@@ -1,5 +1,5 @@
 -- The pool's room, and what it lets go, by the pool's words and by the protocol's.
-use Rattle.std.proofs.Common.{◌≡◌, ◌<◌, ◌≤◌, ◌+◌, ◌⊎◌, inl, inr, ℕ, IsTrue, ◌↔◌, true≢false, Bool, true, false, not, nat_lt, ◌||◌, ◌&&◌, List, [], ◌∷◌, length, take, Option, Some, None, zero, suc, slice_index_or, refl, sym, ◌∙◌, ap, subst, arith}
+use Rattle.std.proofs.Common.{◌≡◌, ◌<◌, ◌≤◌, ◌+◌, inl, inr, ℕ, IsTrue, ◌↔◌, true≢false, Bool, true, false, nat_lt, ◌||◌, List, [], ◌∷◌, length, take, Option, Some, None, zero, suc, slice_index_or, refl, sym, ◌∙◌, ap, subst, arith}
 use Rattle.std.proofs.lemmas.Bool.Decides.{nat_tests}
 use Rattle.std.proofs.lemmas.List.Sums.{count_by_more_no, count_by_more_yes}
 use Rattle.std.proofs.lemmas.List.{take_all}

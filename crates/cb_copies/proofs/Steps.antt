@@ -1,14 +1,13 @@
 -- What the protocol's steps make of copies.
-use Rattle.std.proofs.Common.{◌≡◌, ◌≢◌, ◌<◌, ◌≤◌, ℕ, Bool, true, false, max, if◌then◌else◌, List, [], ◌∷◌, ◌++◌, length, replicate, slice_set, Option, Some, None, unwrap_or, IfSome, Result, Ok, Err, IfOk, refl, sym, ◌∙◌, ap, arith}
-use Rattle.cb_page.specs.Flags.{has}
-use Rattle.cb_pool.specs.PoolState.{PoolState, copy_of, let_go, MayGo}
+use Rattle.std.proofs.Common.{◌≡◌, ◌≢◌, ◌<◌, ℕ, Bool, true, false, max, List, [], ◌∷◌, ◌++◌, length, replicate, slice_set, Option, Some, None, unwrap_or, IfSome, Result, Ok, Err, IfOk, refl, sym, ◌∙◌, ap, arith}
+use Rattle.cb_pool.specs.PoolState.{PoolState, let_go, MayGo}
 use Rattle.cb_pool.specs.declared.pool.PoolFault.{PoolFault}
 use Rattle.cb_protocol.specs.Basics.{Bytes, update}
 use Rattle.cb_protocol.specs.Cache.{Abandon, Fill, Install, LetGo, MakeBare, RefuseGrant, TakePermission, WriteBytes}
 use Rattle.cb_protocol.specs.Client.{ChangeCache, Client, ClientStep, EndTransaction, LastOutcome, client_after}
 use Rattle.cb_copies.specs.declared.table.PageCopy.{PageCopy}
 use Rattle.cb_copies.specs.Rows.{Dropped, row_at}
-use Rattle.cb_copies.specs.CopiesState.{AreCopies, CopiesState, Emptied, HaveSizes, client_with, content_at, copy_at}
+use Rattle.cb_copies.specs.CopiesState.{AreCopies, CopiesState, Emptied, HaveSizes, client_with, copy_at}
 use Rattle.cb_copies.specs.ByTable.{Brings, BringsIn, Does, DoesInTxn, Filled, Installed, lose_bytes}
 use Rattle.cb_copies.proofs.Changing.{go_first, go_last, none_in, pool_brings, put_entry, put_field, put_same}
 use Rattle.cb_copies.proofs.PoolRoom.{may_let_go, within_pool}

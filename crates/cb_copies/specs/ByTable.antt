@@ -1,5 +1,5 @@
 -- How a change of copies is bound to the protocol's steps.
-use Rattle.std.specs.Prelude.{◌≡◌, ℕ, true, ◌++◌, List, [], ◌∷◌, Option, Some, None}
+use Rattle.std.specs.Prelude.{◌≡◌, ℕ, ◌++◌, List, [], ◌∷◌, Option, Some, None}
 use Rattle.cb_protocol.specs.Basics.{Bytes}
 use Rattle.cb_protocol.specs.Cache.{Fill, Install, MakeBare}
 use Rattle.cb_protocol.specs.Client.{ChangeCache, Client, ClientStep, client_after}

@@ -1,5 +1,7 @@
 -- What is kept of each page beside its bytes.
-use Rattle.std.specs.Prelude.{◌≡◌, ℕ, Bool, List, None, slice_index_or, length, if◌then◌else◌}
+use Rattle.std.specs.Prelude.{◌≡◌, ℕ, nat_lt, Bool, ◌||◌, List, None, slice_index_or, length}
+use Rattle.std.specs.Prelude.{if◌then◌else◌}
+use Rattle.std.specs.Option.{is_some}
 use Rattle.cb_page.specs.Flags.{has}
 use Rattle.cb_copies.specs.declared.table.PageCopy.{PageCopy}
 
@@ -10,6 +12,10 @@ no_copy = record { seen = None; held = None; version = 0; tag = None }
 -- what is kept of a page
 abbrev pub row_at : List PageCopy → (page : ℕ) → PageCopy
 row_at rows page = slice_index_or rows page no_copy
+
+-- whether anything is known of a page
+abbrev pub is_known : PageCopy → Bool
+is_known row = is_some row.seen || is_some row.held || is_some row.tag || nat_lt 0 row.version
 
 -- the copies of these pages are dropped
 pub record Dropped (old : List PageCopy) (pages : List Bool) (new : List PageCopy) : Type 0 where

@@ -24,8 +24,8 @@ use std::marker::Model;
 /// A client's copies of pages: of each the grants that came, its version, its bytes in a pool, the
 /// permission to write it, and whether the transaction wrote it or asked to.
 ///
-/// Each method that changes something is one step of the protocol; which step comes when, its
-/// caller decides. Only `new`, `install` and `fill` take memory.
+/// Each method that changes something is one step of the protocol, save `restart`; which step comes
+/// when, its caller decides. Only `new`, `install` and `fill` take memory.
 pub struct Copies<Q: Chooser> {
     limits: Limits,
     table: CopyTable,
@@ -347,5 +347,22 @@ impl<Q: Chooser> Copies<Q> {
         self.wrote.clear();
         self.wanted.clear();
         self.pool.unfix_all();
+    }
+
+    /// Begins the client's next incarnation, over an empty chooser of as many slots as the limits
+    /// say.
+    ///
+    /// It takes no memory, and costs the pages that a grant came for in the incarnation that ends
+    /// and what [`PageSet`] says of a walk, beside the drop of the chooser before.
+    pub fn restart(&mut self, chooser: Q)
+        requires members { Q.members chooser ≡ [] }
+        requires slots { Q.slots chooser ≡ self.old.limits.slots }
+        ensures { self.new ≡ no_copies self.old.limits }
+    {
+        self.pool.restart(chooser, self.table.known());
+        self.table.clear();
+        self.may_write.clear();
+        self.wrote.clear();
+        self.wanted.clear();
     }
 }

@@ -165,9 +165,13 @@ module _ (pages : Pages) (fixed : List Bool) (n m : ℕ) (counted : AreCounted p
           counted_put i (Some bytes) n m (within_pages pages i is) (ap (λ x. n + bit x) is) (ap (λ x. m + bit (x && flags.has fixed i)) is)
 
 -- no page is here
-pub counted_none : (n : ℕ) → AreCounted (replicate n None) (replicate n false) 0 0
-counted_none n = record {
-  flags = length-replicate n false ∙ sym (length-replicate n None);
+pub counted_empty : (n : ℕ) (fixed : List Bool) → length fixed ≡ n → AreCounted (replicate n None) fixed 0 0
+counted_empty n fixed len = record {
+  flags = len ∙ sym (length-replicate n None);
   here_is = sym (held_none n);
-  here_fixed_is = sym (held_fixed_none (replicate n None) n);
+  here_fixed_is = let w = held_fixed_within (replicate n None) fixed in let e = held_none n in omega arith;
 }
+
+-- no page is here or fixed
+pub counted_none : (n : ℕ) → AreCounted (replicate n None) (replicate n false) 0 0
+counted_none n = counted_empty n (replicate n false) (length-replicate n false)

@@ -55,6 +55,11 @@ MayGo pool page (Some gone) =
     (is_some (copy_of pool page) ≡ false) × (pool.slots ≤ held pool.pages)
     × (is_some (copy_of pool gone) ≡ true) × (flags.has pool.fixed gone ≡ false) × (gone ≢ page)
 
+-- no page is here but those of the set
+abbrev pub HasNoneBut : List (Option (List ℕ)) → List Bool → Type 0
+HasNoneBut pages set = (page : ℕ)
+    → flags.has set page ≡ false → slice_index_or pages page None ≡ None
+
 -- each page here has the size
 abbrev pub AreSized : ℕ → List (Option (List ℕ)) → Type 0
 AreSized size pages = (page : ℕ) (bytes : List ℕ)

@@ -4,7 +4,7 @@ ghost use Rattle.std.specs.Prelude.{◌≡◌, ◌+◌, ◌<◌, ◌≤◌, ◌^
 ghost use Rattle.std.specs.Prelude.{slice_index_or, slice_set, true, false, Some, None, IfOk};
 ghost use Rattle.std.specs.Prelude.{IfSome, IsTrue};
 ghost use Rattle.std.specs.Option.{is_some, option_copied};
-ghost use Rattle.cb_pool.specs.PoolState.{HasLoose, held, let_go};
+ghost use Rattle.cb_pool.specs.PoolState.{HasLoose, HasNoneBut, held, let_go};
 ghost use Rattle.cb_pool.specs.CopiesState.{CopiesState, bit, IfHere};
 
 use cb_page::{Page, PageNo, PageSet};
@@ -154,6 +154,17 @@ impl Copies {
         self.fixed.clear();
         self.here_fixed = 0;
     }
+
+    /// Takes the bytes of these pages away, which are all that may be here.
+    pub(crate) fn clear(&mut self, pages: &PageSet)
+        requires within { length pages.now ≤ length self.old.pages }
+        requires all { HasNoneBut self.old.pages pages.now }
+        ensures { self.new ≡ record self.old { pages = replicate (length self.old.pages) None } }
+    {
+        take_away(&mut self.pages, pages);
+        self.here = 0;
+        self.here_fixed = 0;
+    }
 }
 
 /// Whether a page is here.
@@ -177,6 +188,19 @@ fn changed(count: usize, was: bool, is: bool) -> usize
     ensures { result + bit was ≡ count + bit is }
 {
     count - was as usize + is as usize
+}
+
+/// Takes the bytes of these pages away, which are all that may be here.
+fn take_away(pages: &mut Vec<Option<Page>>, gone: &PageSet)
+    requires within { length gone.now ≤ length pages.old.items }
+    requires all { HasNoneBut pages.old.items gone.now }
+    ensures { pages.new.items ≡ replicate (length pages.old.items) None }
+{
+    let mut from = 0;
+    while let Some(page) = gone.next(from) {
+        pages[page.index()] = None;
+        from = page.index() + 1;
+    }
 }
 
 /// Overwrites the bytes of a page that is here.

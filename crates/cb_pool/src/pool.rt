@@ -1,15 +1,15 @@
-ghost use Rattle.std.specs.Prelude.{◌≡◌, ℕ, ◌<◌, ◌↔◌, [], length, replicate, slice_set, true};
-ghost use Rattle.std.specs.Prelude.{false, Some, None, IfOk, IfSome, OnErr, IsTrue};
+ghost use Rattle.std.specs.Prelude.{◌≡◌, ℕ, ◌<◌, ◌≤◌, ◌↔◌, [], length, replicate, slice_set};
+ghost use Rattle.std.specs.Prelude.{true, false, Some, None, IfOk, IfSome, OnErr, IsTrue};
 ghost use Rattle.std.specs.Borrow.{sem};
 ghost use Rattle.std.specs.Option.{is_none, is_some, option_copied};
 ghost use Rattle.cb_twoq.specs.Pages.{has};
 ghost use Rattle.cb_pool.specs.Lending.{pool_ends_as};
 ghost use Rattle.cb_pool.specs.PoolState.{PoolState, empty_pool, copy_of, HasRoom, let_go, MayGo};
-ghost use Rattle.cb_pool.specs.PoolState.{IsPool, has_free_slot};
+ghost use Rattle.cb_pool.specs.PoolState.{HasNoneBut, IsPool, has_free_slot};
 ghost use Rattle.cb_pool.specs.Refusals.{fault_of};
 
 use crate::copies::Copies;
-use cb_page::{Limits, Page, PageNo};
+use cb_page::{Limits, Page, PageNo, PageSet};
 use cb_twoq::{ChooseFault, Chooser};
 use std::alloc::{AllocError, Global};
 use std::marker::Model;
@@ -219,5 +219,23 @@ impl<Q: Chooser> Pool<Q> {
     {
         self.chooser.forget(page);
         self.copies.put(page, None);
+    }
+
+    /// Begins the client's next incarnation, with an empty chooser of as many slots in place of the
+    /// one before. The pages handed in are those that may be here.
+    ///
+    /// It takes no memory, and costs these pages and what [`PageSet`] says of a walk, beside the
+    /// drop of the chooser before, which isn't told of the pages that go.
+    pub fn restart(&mut self, chooser: Q, pages: &PageSet)
+        requires members { Q.members chooser ≡ [] }
+        requires slots { Q.slots chooser ≡ self.old.slots }
+        requires within { length pages.now ≤ length self.old.pages }
+        requires all { HasNoneBut self.old.pages pages.now }
+        ensures { self.new
+            ≡ empty_pool self.old.slots (length self.old.pages) self.old.page_size }
+    {
+        self.unfix_all();
+        self.copies.clear(pages);
+        self.chooser = chooser;
     }
 }

@@ -1,5 +1,3 @@
-use Rattle.std.proofs.Common.{◌≡◌, ◌<◌, length, ap, ◌∙◌, sym}
-use Rattle.cb_copies.specs.CopiesState.{CopiesState, content_at}
 use Rattle.cb_copies.proofs.PoolRoom.{within_pool}
 use Rattle.cb_copies.proofs.Steps.{writes}
 use Rattle.cb_copies.proofs.copies.Copies.write.Goals as goal
