@@ -25,7 +25,7 @@ use cb_twoq::Chooser;
 use std::alloc::{AllocError, Global};
 use std::marker::Model;
 
-/// One incarnation of a client over any pool.
+/// One incarnation of a client over any pool, which `restart` makes another.
 ///
 /// `new`, `finish`, `commit_again`, `drop_txn`, `take`, `take_bytes` and `again` take memory; no
 /// other call does.
@@ -85,6 +85,30 @@ impl<Q: Chooser> Client<Q> {
                 locks,
             },
         })
+    }
+
+    /// The client at the start of another incarnation, over an empty chooser of as many slots as
+    /// before. Nothing is left of the one that ended.
+    ///
+    /// It takes no memory, and costs what that one touched: what [`Copies::restart`] says of its
+    /// copies, and [`ReadLocks`] of the pages due.
+    pub fn restart(&mut self, incarnation: Incarnation, chooser: Q)
+        requires members { Q.members chooser ≡ [] }
+        requires slots { Q.slots chooser ≡ self.old.copies.limits.slots }
+        ensures state { self.new ≡ new_state self.old.no incarnation self.old.copies.limits }
+        ensures by_table { client_of self.new [] ≡ new_client }
+    {
+        // In range by its type: `get` says so.
+        let _in_range = incarnation.get();
+        self.engine.incarnation = incarnation;
+        self.engine.welcomed = false;
+        self.engine.txn = None;
+        self.engine.stage = Stage::Idle;
+        self.engine.ask = Ask::Nothing;
+        self.engine.dropped = None;
+        self.engine.last = None;
+        self.engine.copies.restart(chooser);
+        self.engine.locks.restart(incarnation);
     }
 
     /// Its incarnation.

@@ -42,10 +42,6 @@ unlocked locks page = record locks {
   dues = slice_set locks.dues page nothing_due;
 }
 
--- nothing is due of any page
-abbrev pub with_nothing_due : LocksState → LocksState
-with_nothing_due locks = record locks { dues = replicate (length locks.dues) nothing_due }
-
 -- nothing is locked or due
 abbrev pub ended : LocksState → LocksState
 ended locks = record locks {

@@ -24,6 +24,12 @@ pub struct PageDue {
 }
 
 impl PageDue {
+    /// Nothing is due.
+    pub(crate) const NOTHING: PageDue = PageDue {
+        callback: None,
+        downgrade: None,
+    };
+
     /// Whether anything is due.
     fn is_due(&self) -> bool
         ensures { result ≡ is_due self.now }
@@ -87,12 +93,8 @@ impl Dues {
         requires { pages ≤ 4096 }
         ensures { IfOk result (λ dues. dues ≡ replicate pages nothing_due) }
     {
-        let nothing = PageDue {
-            callback: None,
-            downgrade: None,
-        };
         Ok(Dues {
-            entries: vec![in alloc; nothing; pages]?,
+            entries: vec![in alloc; PageDue::NOTHING; pages]?,
             pages: PageSet::new(alloc, pages)?,
             count: 0,
         })
@@ -143,6 +145,18 @@ impl Dues {
         self.count = changed(self.count, was, is);
         flag(&mut self.pages, page, is);
         self.entries[page.index()] = due;
+    }
+
+    /// Nothing is due of any page. It costs the pages of which something was, and what [`PageSet`]
+    /// says of a walk.
+    pub(crate) fn clear(&mut self)
+        ensures { self.new ≡ replicate (length self.old) nothing_due }
+    {
+        let mut from = 0;
+        while let Some(page) = self.next(from) {
+            self.put(page, PageDue::NOTHING);
+            from = page.index() + 1;
+        }
     }
 }
 

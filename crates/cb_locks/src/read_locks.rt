@@ -1,13 +1,13 @@
 //! The pages that a client's transaction reads.
-ghost use Rattle.std.specs.Prelude.{◌≡◌, ℕ, ◌+◌, ◌<◌, ◌≤◌, IsSome, Some, None, [], ◌++◌, true};
-ghost use Rattle.std.specs.Prelude.{false, length, map, count_by, option_to_list, reverse};
+ghost use Rattle.std.specs.Prelude.{◌≡◌, ℕ, ◌+◌, ◌<◌, ◌≤◌, IsSome, Some, None, [], true};
+ghost use Rattle.std.specs.Prelude.{false, length, map, count_by, reverse};
 ghost use Rattle.std.specs.Prelude.{slice_set, IfOk, IfSome, IsOk, OnOk, OnErr};
 ghost use Rattle.std.specs.Option.{is_some};
-ghost use Rattle.std.specs.Vec.{vec_capacity, vec_len};
+ghost use Rattle.std.specs.Vec.{vec_capacity};
 ghost use Rattle.cb_page.specs.Flags.{has};
-ghost use Rattle.cb_locks.specs.Dues.{is_due, nothing_due};
+ghost use Rattle.cb_locks.specs.Dues.{is_due};
 ghost use Rattle.cb_locks.specs.Locks.{callback, due_at, ended, no_locks, owed_at, owed_below};
-ghost use Rattle.cb_locks.specs.Locks.{unlocked, with_due, with_noted, with_nothing_due};
+ghost use Rattle.cb_locks.specs.Locks.{unlocked, with_noted};
 
 use crate::CallbackDue;
 use crate::dues::{Dues, PageDue};
@@ -17,9 +17,9 @@ use std::marker::Model;
 
 /// The pages that a client's transaction reads, and what is due of each page at its end.
 ///
-/// Only `new` and `end` take memory. `end` costs the pages that are due, and what [`PageSet`] says
-/// of a walk; a caller that has more to say of each page ends the transaction by a walk over
-/// `locked` and `unlock` of each page.
+/// Only `new` and `end` take memory. `end` and `restart` cost the pages that are due, and what
+/// [`PageSet`] says of a walk and of its `clear`; a caller that has more to say of each page ends
+/// the transaction by a walk over `locked` and `unlock` of each page.
 #[derive(Debug)]
 pub struct ReadLocks {
     client: ClientNo,
@@ -155,8 +155,10 @@ impl ReadLocks {
         ensures due { result ≡ owed_at self.old page }
         ensures state { self.new ≡ unlocked self.old page }
     {
+        let due = self.owed(page);
         self.locked.remove(page);
-        self.take_due(page)
+        self.dues.put(page, PageDue::NOTHING);
+        due
     }
 
     /// The transaction ends: nothing is locked or due any more. What was due of each page is
@@ -175,55 +177,51 @@ impl ReadLocks {
         let mut handed = Vec::with_capacity(alloc, self.due_count())?;
         self.hand_out(&mut handed);
         handed.reverse();
-        self.locked.clear();
+        self.clear();
         Ok(handed)
     }
 
+    /// Another incarnation of the client begins: of no transaction, and nothing is locked or due.
+    /// What was due of the one that ended is owed by nobody.
+    pub fn restart(&mut self, incarnation: Incarnation)
+        ensures { self.new ≡ no_locks self.old.client incarnation (length self.old.locked) }
+    {
+        self.clear();
+        self.incarnation = incarnation;
+        self.txn = None;
+    }
+
+    /// Nothing is locked or due any more.
+    fn clear(&mut self)
+        ensures { self.new ≡ ended self.old }
+    {
+        self.locked.clear();
+        self.dues.clear();
+    }
+
     /// Hands out what is due of each page, rising.
-    fn hand_out(&mut self, handed: &mut Vec<CallbackDue>)
+    fn hand_out(&self, handed: &mut Vec<CallbackDue>)
         requires empty { handed.old.items ≡ [] }
-        requires room { count_by is_due self.old.dues ≤ vec_capacity handed.old }
-        ensures handed { handed.new.items ≡ owed_below self.old (length self.old.locked) }
+        requires room { count_by is_due self.now.dues ≤ vec_capacity handed.old }
+        ensures handed { handed.new.items ≡ owed_below self.now (length self.now.locked) }
         ensures capacity { vec_capacity handed.new ≡ vec_capacity handed.old }
-        ensures state { self.new ≡ with_nothing_due self.old }
     {
         let mut from = 0;
         while let Some(page) = self.dues.next(from) {
-            self.hand_one(page, handed);
+            let Some(due) = self.owed(page) else {
+                unreachable!()
+            };
+            handed.push_reserved(due);
             from = page.index() + 1;
         }
     }
 
-    /// Hands out what is due of a page.
-    fn hand_one(&mut self, page: PageNo, handed: &mut Vec<CallbackDue>)
-        requires page { page < length self.old.locked }
-        requires room { vec_len handed.old < vec_capacity handed.old }
-        ensures handed { handed.new.items
-            ≡ handed.old.items ++ option_to_list (owed_at self.old page) }
-        ensures len { vec_len handed.new ≤ vec_len handed.old + 1 }
-        ensures capacity { vec_capacity handed.new ≡ vec_capacity handed.old }
-        ensures state { self.new ≡ with_due self.old page nothing_due }
+    /// What is due of a page, to be answered.
+    fn owed(&self, page: PageNo) -> Option<CallbackDue>
+        requires { page < length self.now.locked }
+        ensures { result ≡ owed_at self.now page }
     {
-        if let Some(due) = self.take_due(page) {
-            handed.push_reserved(due);
-        }
-    }
-
-    /// Takes out what is due of a page.
-    fn take_due(&mut self, page: PageNo) -> Option<CallbackDue>
-        requires { page < length self.old.locked }
-        ensures due { result ≡ owed_at self.old page }
-        ensures state { self.new ≡ with_due self.old page nothing_due }
-    {
-        let due = self.dues.at(page);
-        self.dues.put(
-            page,
-            PageDue {
-                callback: None,
-                downgrade: None,
-            },
-        );
-        match due.called_by() {
+        match self.dues.at(page).called_by() {
             Some((grant, tag)) => Some(self.callback(page, grant, tag)),
             None => None,
         }
