@@ -38,3 +38,8 @@ known_put rows known page row are = ap (λ k. slice_set k page (is_known row)) a
 pub known_none : (n : ℕ) → replicate n false ≡ map is_known (replicate n no_copy)
 known_none zero = refl
 known_none (suc n) = ap (λ k. false ∷ k) (known_none n)
+
+-- the rows and the flags are cleared
+pub known_cleared : (rows cleared : List PageCopy) (known flags : List Bool) → known ≡ map is_known rows
+    → cleared ≡ replicate (length rows) no_copy → flags ≡ replicate (length known) false → flags ≡ map is_known cleared
+known_cleared rows cleared known flags are none unset = rw (unset, none, known_long rows known are) (known_none (length rows))

@@ -1,5 +1,6 @@
-use Rattle.cb_copies.proofs.Known.{known_long, known_none}
+use Rattle.std.proofs.Common.{rules}
+use Rattle.cb_copies.proofs.Known.{known_cleared}
 use Rattle.cb_copies.proofs.table.CopyTable.clear.Goals as goal
 
 pub invariant_of-self : goal.invariant_of-self
-invariant_of-self c = rw (c.clear.ensures, c.clear_rows.ensures, known_long _ _ c.self.invariant) (known_none _)
+invariant_of-self c = known_cleared _ _ _ _ c.self.invariant (search rules) (search rules)
