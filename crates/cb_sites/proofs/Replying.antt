@@ -4,7 +4,7 @@ use Rattle.std.specs.Prelude.{IfOk, OnErr}
 use Rattle.std.specs.Option.{is_some, option_map}
 use Rattle.std.specs.List.{AllByRecursion}
 use Rattle.std.proofs.lemmas.Result.{IfOk-weaker, on_err_weaker}
-use Rattle.cb_client.specs.ByTable.{Called, Calls, IsRefusal, IsRefused, Refuses, RefusesOrLacks, as_before, limits_at, messages_from, refusal}
+use Rattle.cb_client.specs.ByTable.{Called, Calls, IsRefusal, IsRefused, RefusesOrLacks, as_before, limits_at, messages_from, refusal}
 use Rattle.cb_client.specs.CallAnswers.{Answers, ShortFrameFits, after_read, page_asked, page_read, read_ask, short_message}
 use Rattle.cb_client.specs.ClientState.{ClientState, ask_of, client_of}
 use Rattle.cb_client.specs.declared.client_fault.ClientFault.{ClientFault}

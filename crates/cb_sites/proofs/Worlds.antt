@@ -1,17 +1,17 @@
 -- The clients of a world as one of them changes.
-use Rattle.std.proofs.Common.{◌≡◌, ◌≢◌, ℕ, ◌<◌, ◌≤◌, ◌+◌, ◌==◌, ◌&&◌, nat_le, nat_lt, Bool, true, false, List, [], ◌∷◌, ◌++◌, Option, None, Result, length, map, refl, ap, sym, ◌∙◌, subst, arith, if◌then◌else◌}
+use Rattle.std.proofs.Common.{◌≡◌, ◌≢◌, ℕ, ◌<◌, ◌≤◌, ◌+◌, ◌==◌, ◌&&◌, nat_le, nat_lt, Bool, true, false, List, [], ◌∷◌, ◌++◌, Option, None, Result, length, refl, ap, sym, ◌∙◌, subst, arith, if◌then◌else◌}
 use Rattle.std.specs.Prelude.{slice_set, slice_index_or}
 use Rattle.std.proofs.lemmas.Bool.Decides.{nat_tests}
 use Rattle.std.proofs.lemmas.Grind.{get_or-set_at}
 use Rattle.std.proofs.lemmas.List.{get_or-set_other, get_or_read_under, length-set, set-get_or}
 use Rattle.cb_page.specs.Bounds.{AreInRange, Bounds}
-use Rattle.std.specs.List.{AllByRecursion, range_with_len}
+use Rattle.std.specs.List.{AllByRecursion}
 use Rattle.std.specs.Prelude.{IfOk, OnErr}
 use Rattle.std.proofs.lemmas.List.FromFn.{get_or-map-range_with_len, length-map-range_with_len, map-range_with_len_more}
 use Rattle.std.proofs.lemmas.Result.{IfOk-weaker, on_err_weaker}
 use Rattle.cb_frame_types.specs.Grammar.{Fits}
 use Rattle.cb_client_engine.proofs.Reaching.{starts}
-use Rattle.cb_client.specs.ByTable.{Calls, IsRefusal, Takes, messages_from}
+use Rattle.cb_client.specs.ByTable.{IsRefusal, Takes, messages_from}
 use Rattle.cb_client.specs.ClientState.{ClientState, client_of, new_state}
 use Rattle.cb_client.specs.FramesTaken.{TakesFrame, is_for}
 use Rattle.cb_copies.specs.CopiesState.{limits_of}
@@ -26,7 +26,7 @@ use Rattle.cb_protocol.specs.ClientMessages.{ChoiceAllowed, client_take}
 use Rattle.cb_protocol.specs.Messages.{Body, Message}
 use Rattle.cb_protocol.specs.Serial.{Operation}
 use Rattle.cb_protocol.specs.WaitsFor.{on_cycle}
-use Rattle.cb_protocol.specs.World.{ClientCalls, Event, Opening, Restart, World, answer_only, answer_with, client_does, deliver_to_client, messages_said, new_world, step}
+use Rattle.cb_protocol.specs.World.{ClientCalls, Event, Opening, Restart, World, answer_only, answer_with, client_does, deliver_to_client, messages_said, new_world}
 use Rattle.cb_transcript.specs.ProtocolEvents.{word_of}
 use Rattle.cb_sites.specs.ByWorld.{Answers, Delivers, Replies, StaysOne}
 use Rattle.cb_sites.specs.SitesState.{AreSites, IsSite, Represents, SitesState, client_at, first_clients, with_client}
@@ -375,10 +375,18 @@ left_as_before s n i c u t l e =
     ap (λ (x : ℕ). with_client s x t) l.place ∙ (ap (λ (x : ClientState). with_client s c x) (e ∙ its_own s n i c u l)
     ∙ (ap (λ (xs : List ClientState). record { limits = s.limits; clients = xs }) (set-get_or s.clients c (new_state c 1 s.limits)) ∙ l.same))
 
+-- a client that restarts is the one of its number
+pub restarted_is : (s n : SitesState) (i c next : ℕ) (u t : ClientState) → IsLent s n i c u → t ≡ new_state u.no next u.copies.limits → t ≡ new_state c next s.limits
+restarted_is s n i c next u t l made =
+    let own = its_own s n i c u l in
+    let site = l.sites.each c (here s n i c u l) in
+    made ∙ ap (λ (x : ℕ). new_state x next u.copies.limits) (ap (λ (x : ClientState). x.no) own ∙ site.no)
+    ∙ ap (λ (L : Bounds). new_state c next L) (ap (λ (x : ClientState). x.copies.limits) own ∙ site.limits)
+
 -- the clients once one is new
-pub restart_sites : (s n : SitesState) (i j c next : ℕ) (u t : ClientState) → IsLent s n i c u → j ≡ c → t ≡ new_state c next s.limits → AreSites (with_client s j t)
-restart_sites s n i j c next u t l e made =
-    subst (λ (x : ℕ). AreSites (with_client s x t)) (sym e) (subst (λ (x : ClientState). AreSites (with_client s c x)) (sym made)
+pub restart_sites : (s n : SitesState) (i c next : ℕ) (u t : ClientState) → IsLent s n i c u → t ≡ new_state c next s.limits → AreSites (with_client s i t)
+restart_sites s n i c next u t l made =
+    subst (λ (x : ℕ). AreSites (with_client s x t)) (sym l.place) (subst (λ (x : ClientState). AreSites (with_client s c x)) (sym made)
     (sites_with s c (new_state c next s.limits) l.sites (here s n i c u l) (record { no = refl; limits = refl })))
 
 pub restart_becomes : (s n : SitesState) (i j c k next : ℕ) (u t : ClientState) → IsLent s n i c u → k ≡ u.incarnation → next ≡ k + 1 → k + 1 ≤ max_number → j ≡ c → t ≡ new_state c next s.limits
@@ -413,11 +421,8 @@ restart_full s n i c k u l was full =
     (restart_refused s c (here s n i c u l) (subst (λ (x : ℕ). max_number ≤ x) own (no_more k max_number full)))
 
 -- one more of the first clients
-pub first_pushed : (L : Bounds) (n m i : ℕ) (before after : List ClientState) (client : ClientState) → before ≡ first_clients L n → client ≡ new_state m i L → m ≡ n → i ≡ 1
+pub first_pushed : (L : Bounds) (n m : ℕ) (before after : List ClientState) (client : ClientState) → before ≡ first_clients L n → client ≡ new_state m 1 L → m ≡ n
     → after ≡ before ++ client ∷ [] → after ≡ first_clients L (n + 1)
-first_pushed L n m i before after client so_far made number one pushed =
-    pushed ∙ (ap (λ (xs : List ClientState). xs ++ client ∷ []) so_far ∙ (ap (λ (x : ClientState). first_clients L n ++ x ∷ []) made_so
+first_pushed L n m before after client so_far made number pushed =
+    pushed ∙ (ap (λ (xs : List ClientState). xs ++ client ∷ []) so_far ∙ (ap (λ (x : ClientState). first_clients L n ++ x ∷ []) (made ∙ ap (λ (x : ℕ). new_state x 1 L) number)
     ∙ sym (map-range_with_len_more (λ x. new_state x 1 L) 0 n n (omega arith))))
-  where
-    made_so : client ≡ new_state n 1 L
-    made_so = made ∙ (ap (λ (x : ℕ). new_state x i L) number ∙ ap (λ (x : ℕ). new_state n x L) one)

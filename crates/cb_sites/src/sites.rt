@@ -135,7 +135,9 @@ impl<Q: Chooser> Sites<Q> {
     }
 
     /// The client of that number is new, at its next incarnation, if there is such a client and one
-    /// is left. `AllocError` only where memory was refused for that; then nothing changes.
+    /// is left. `AllocError` only where memory was refused for its chooser; then nothing changes.
+    ///
+    /// It costs the making of that chooser, and what [`Client::restart`] says.
     pub fn restart(&mut self, alloc: Global, client: ClientNo) -> Result<AnswerWord, AllocError>
         ensures ok { IfOk result (λ word. Answers self.old (RestartEvent client) (word_of word) []
             self.new) }
@@ -149,7 +151,9 @@ impl<Q: Chooser> Sites<Q> {
         let Some(next) = self.clients[client.index()].incarnation().next() else {
             return Ok(AnswerWord::Refused(Refusal::Exhausted));
         };
-        self.clients[client.index()] = new_client(alloc, &self.limits, client, next)?;
+        let chooser = Q::make(alloc, &self.limits)?;
+        let restarted = &mut self.clients[client.index()];
+        restarted.restart(next, chooser);
         Ok(AnswerWord::Ok)
     }
 }
@@ -161,22 +165,21 @@ fn new_clients<Q: Chooser>(alloc: Global, limits: &Limits) -> Result<Vec<Client<
 {
     let mut clients = Vec::new(alloc);
     for number in 0..limits.clients() {
-        let client = new_client(alloc, limits, ClientNo::new(number), Incarnation::new(1))?;
+        let client = first_client(alloc, limits, ClientNo::new(number))?;
         clients.push(client)?;
     }
     Ok(clients)
 }
 
-/// The client of that number at the start of that incarnation.
-fn new_client<Q: Chooser>(
+/// The client of that number at the start of its first incarnation.
+fn first_client<Q: Chooser>(
     alloc: Global,
     limits: &Limits,
     number: ClientNo,
-    incarnation: Incarnation,
 ) -> Result<Client<Q>, AllocError>
     requires { number < limits.now.clients }
-    ensures { IfOk result (λ client. client ≡ new_state number incarnation limits.now) }
+    ensures { IfOk result (λ client. client ≡ new_state number 1 limits.now) }
 {
     let chooser = Q::make(alloc, limits)?;
-    Client::new(alloc, number, incarnation, limits, chooser)
+    Client::new(alloc, number, Incarnation::new(1), limits, chooser)
 }

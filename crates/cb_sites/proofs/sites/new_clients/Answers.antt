@@ -6,8 +6,8 @@ use Rattle.cb_sites.proofs.sites.new_clients.Goals as goal
 pub loop-number-preserved : goal.loop-number-preserved
 loop-number-preserved g c =
     let pushed : c.push.new.self.items ≡ c.loop-number.clients.items ++ c.in_ok-client.client ∷ [] = search rules in
-    first_pushed c.args.limits.now c.loop-number.number c.new.result c.new-in-loop-number.result c.loop-number.clients.items c.push.new.self.items c.in_ok-client.client
-    c.loop-number.invariant c.in_ok-client.ensures c.new.ensures c.new-in-loop-number.ensures pushed
+    first_pushed c.args.limits.now c.loop-number.number c.new.result c.loop-number.clients.items c.push.new.self.items c.in_ok-client.client
+    c.loop-number.invariant c.in_ok-client.ensures c.new.ensures pushed
 
 pub returns : goal.returns
 returns g c =

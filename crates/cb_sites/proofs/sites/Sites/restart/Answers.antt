@@ -1,7 +1,9 @@
-use Rattle.std.proofs.Common.{◌≤◌, refl}
+use Rattle.std.proofs.Common.{◌≡◌, ◌≤◌, ◌∙◌, ap, refl, sym}
+use Rattle.cb_page.specs.Bounds.{Bounds}
+use Rattle.cb_client.specs.ClientState.{new_state}
 use Rattle.cb_sites.specs.SitesState.{SitesState}
 use Rattle.cb_sites.proofs.Replying.{on_any_err}
-use Rattle.cb_sites.proofs.Worlds.{IsLent, has_it, lacks_it, restart_becomes, restart_fails, restart_full, restart_nobody, restart_sites}
+use Rattle.cb_sites.proofs.Worlds.{IsLent, has_it, lacks_it, lent_limits, restarted_is, restart_becomes, restart_fails, restart_full, restart_nobody, restart_sites}
 use Rattle.cb_sites.proofs.sites.Sites.restart.Goals as goal
 
 pub returns-then-not-has_client-clause-ok : goal.returns-then-not-has_client-clause-ok
@@ -23,18 +25,32 @@ returns-in_default-clause-ok g c =
     } in
     restart_full sites c.args.self.now c.index.result c.args.client c.incarnation.result c.index-2.result.now lent c.incarnation.ensures c.in_default.ensures.succeeds.1
 
-pub invariant_of-self : goal.invariant_of-self
-invariant_of-self g c =
+pub restart-requires-clause-slots : goal.restart-requires-clause-slots
+restart-requires-clause-slots g c =
     let sites : SitesState = record { limits = c.self.inside.limits; clients = c.self.inside.clients.items } in
-    let lent : IsLent sites c.args.self.now c.index.result c.args.client c.index-2.result.now = record {
+    let restarted : IsLent sites c.args.self.now c.index-3.result c.args.client c.index_mut-restarted.result.now = record {
       sites = c.self.invariant;
       same = c.self.view_is;
       has = has_it sites c.args.self.now c.args.client c.get.result c.self.view_is c.get.ensures.value (c.if-not-has_client.ensures.value.0 refl);
-      place = c.index.ensures.value;
-      read = c.index-2.ensures;
+      place = c.index-3.ensures.value;
+      read = c.index_mut-restarted.ensures.value;
     } in
-    restart_sites sites c.args.self.now c.index.result c.index-3.result c.args.client c.in-Some.next c.index-2.result.now c.in_ok-self-inside.field-0 lent c.index-3.ensures.value
-    c.in_ok-self-inside.ensures
+    c.in_ok-chooser.ensures.slots ∙ ap (λ (x : SitesState). x.limits.slots) c.self.view_is
+    ∙ ap (λ (x : Bounds). x.slots) (sym (lent_limits sites c.args.self.now c.index-3.result c.args.client c.index_mut-restarted.result.now restarted))
+
+pub invariant_of-self : goal.invariant_of-self
+invariant_of-self g c =
+    let sites : SitesState = record { limits = c.self.inside.limits; clients = c.self.inside.clients.items } in
+    let restarted : IsLent sites c.args.self.now c.index-3.result c.args.client c.index_mut-restarted.result.now = record {
+      sites = c.self.invariant;
+      same = c.self.view_is;
+      has = has_it sites c.args.self.now c.args.client c.get.result c.self.view_is c.get.ensures.value (c.if-not-has_client.ensures.value.0 refl);
+      place = c.index-3.ensures.value;
+      read = c.index_mut-restarted.ensures.value;
+    } in
+    let made : c.restart.new.self ≡ new_state c.args.client c.in-Some.next sites.limits
+    = restarted_is sites c.args.self.now c.index-3.result c.args.client c.in-Some.next c.index_mut-restarted.result.now c.restart.new.self restarted c.restart.ensures.state in
+    restart_sites sites c.args.self.now c.index-3.result c.args.client c.in-Some.next c.index_mut-restarted.result.now c.restart.new.self restarted made
 
 pub returns-clause-ok : goal.returns-clause-ok
 returns-clause-ok g c =
@@ -46,11 +62,20 @@ returns-clause-ok g c =
       place = c.index.ensures.value;
       read = c.index-2.ensures;
     } in
-    restart_becomes sites c.args.self.now c.index.result c.index-3.result c.args.client c.incarnation.result c.in-Some.next c.index-2.result.now c.in_ok-self-inside.field-0 lent
-    c.incarnation.ensures c.in-Some.ensures.value (c.in-Some.ensures.succeeds.0 refl) c.index-3.ensures.value c.in_ok-self-inside.ensures
+    let restarted : IsLent sites c.args.self.now c.index-3.result c.args.client c.index_mut-restarted.result.now = record {
+      sites = c.self.invariant;
+      same = c.self.view_is;
+      has = has_it sites c.args.self.now c.args.client c.get.result c.self.view_is c.get.ensures.value (c.if-not-has_client.ensures.value.0 refl);
+      place = c.index-3.ensures.value;
+      read = c.index_mut-restarted.ensures.value;
+    } in
+    let made : c.restart.new.self ≡ new_state c.args.client c.in-Some.next sites.limits
+    = restarted_is sites c.args.self.now c.index-3.result c.args.client c.in-Some.next c.index_mut-restarted.result.now c.restart.new.self restarted c.restart.ensures.state in
+    restart_becomes sites c.args.self.now c.index.result c.index-3.result c.args.client c.incarnation.result c.in-Some.next c.index-2.result.now c.restart.new.self lent
+    c.incarnation.ensures c.in-Some.ensures.value (c.in-Some.ensures.succeeds.0 refl) c.index-3.ensures.value made
 
-pub returns-in_err-self-inside-clause-fails : goal.returns-in_err-self-inside-clause-fails
-returns-in_err-self-inside-clause-fails g c =
+pub returns-in_err-chooser-clause-fails : goal.returns-in_err-chooser-clause-fails
+returns-in_err-chooser-clause-fails g c =
     let sites : SitesState = record { limits = c.self.inside.limits; clients = c.self.inside.clients.items } in
     let lent : IsLent sites c.args.self.now c.index.result c.args.client c.index-2.result.now = record {
       sites = c.self.invariant;
