@@ -18,8 +18,8 @@ use std::marker::Model;
 /// The pages that a client's transaction reads, and what is due of each page at its end.
 ///
 /// Only `new` and `end` take memory. `end` and `restart` cost the pages that are due, and what
-/// [`PageSet`] says of a walk and of its `clear`; a caller that has more to say of each page ends
-/// the transaction by a walk over `locked` and `unlock` of each page.
+/// [`PageSet`] says of a walk; a caller that has more to say of each page ends the transaction by a
+/// walk over `locked` and `unlock` of each page.
 #[derive(Debug)]
 pub struct ReadLocks {
     client: ClientNo,
