@@ -6,6 +6,7 @@ ghost use Rattle.cb_worker.specs.Refusals.{StopsServing};
 ghost use Rattle.cb_worker.specs.Waiting.{IsServed};
 ghost use Rattle.cb_worker.specs.Workers.{IsOf, IsStill, last_txn};
 
+use crate::said::Said;
 use crate::worker::Worker;
 use crate::worker_fault::WorkerFault;
 use cb_client::{Client, ClientFault};
@@ -160,7 +161,7 @@ impl<Q: Chooser> Worker<Q> {
             client,
             hand,
             collected: None,
-            said: Vec::new(alloc),
+            said: Said::nothing(alloc),
         }
     }
 

@@ -8,7 +8,7 @@ ghost use Rattle.cb_worker.specs.Asking.{AsksFor, AsksToWrite};
 ghost use Rattle.cb_worker.specs.Lending.{worker_ends};
 ghost use Rattle.cb_worker.specs.Refusals.{RefusesAsk, RefusesCall, RefusesDrop, RefusesFetch};
 ghost use Rattle.cb_worker.specs.Refusals.{RefusesCommit, RefusesFinish, RefusesServing};
-ghost use Rattle.cb_worker.specs.Refusals.{RefusesWant, StopsFetch, StopsServing};
+ghost use Rattle.cb_worker.specs.Refusals.{RefusesToDrop, RefusesWant, StopsFetch, StopsServing};
 ghost use Rattle.cb_worker.specs.Serving.{HandsAllIn, Serves, ServesSome};
 ghost use Rattle.cb_worker.specs.Steps.{MayOrEnded, Reads, StopsOr};
 ghost use Rattle.cb_worker.specs.Waiting.{Drops, Fetches, Finishes, HasRead, IsDropped};
@@ -17,10 +17,10 @@ ghost use Rattle.cb_worker.specs.Workers.{Ended, Ends, HasTransaction, IsStill};
 ghost use Rattle.cb_worker.specs.Workers.{after_hit, may_hit};
 
 use crate::answers::{Fetched, Finished, Wanted};
+use crate::said::Said;
 use crate::worker::Worker;
 use crate::worker_fault::WorkerFault;
 use cb_client::{ReadAnswer, WantAnswer};
-use cb_frame::Frame;
 use cb_office::OfficeFault;
 use cb_page::PageNo;
 use cb_shared::{Office, SharedStation};
@@ -198,17 +198,17 @@ impl<Q: Chooser> Worker<Q> {
 
     /// The client asks for the page, which isn't here.
     fn ask_for(&mut self, page: PageNo) -> Result<(), WorkerFault>
+        requires { self.old.said ≡ [] }
         ensures still { IsStill self.old self.new }
         ensures asks { OnOk result (AsksFor self.old page self.new) }
         ensures refused { may_hit self.old page ≡ false → IfErr result (RefusesAsk self.new page) }
     {
-        self.said.reserve(1)?;
         match self.client.read(page)? {
             ReadAnswer::Bytes(_) => return Err(WorkerFault::Office(OfficeFault::NotHeld)),
             ReadAnswer::Asked => {}
         }
         if let Some(ask) = self.client.ask() {
-            self.said.push_reserved(Frame::from(ask));
+            self.said.keep(ask);
         }
         Ok(())
     }
@@ -294,10 +294,9 @@ impl<Q: Chooser> Worker<Q> {
         ensures asks { OnOk result (AsksToWrite self.old page self.new) }
         ensures refused { IfErr result (RefusesCall self.new (CallWant page)) }
     {
-        self.said.reserve(1)?;
         match self.client.want(page)? {
             WantAnswer::Permitted => {}
-            WantAnswer::Asked(ask) => self.said.push_reserved(Frame::from(ask)),
+            WantAnswer::Asked(ask) => self.said.keep(ask),
         }
         Ok(())
     }
@@ -345,11 +344,10 @@ impl<Q: Chooser> Worker<Q> {
         requires { self.old.said ≡ [] }
         ensures dropped { OnOk result (Ended self.new protocol.Dropped) }
         ensures still { IsStill self.old self.new }
-        ensures refused { IfErr result (RefusesCall self.new CallDrop) }
+        ensures refused { IfErr result (RefusesToDrop self.new) }
     {
-        let mut said = self.client.drop_txn(alloc)?;
-        said.reverse();
-        self.said = said;
+        let said = self.client.drop_txn(alloc)?;
+        self.said = Said::of(said);
         Ok(())
     }
 
