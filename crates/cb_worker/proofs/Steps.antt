@@ -1,6 +1,6 @@
 -- What a call that waits is answered, once a step has an answer.
 use Rattle.std.proofs.Common.{◌≡◌, inl, inr, Option, Some, None, Result, Ok, Err, IfSome}
-use Rattle.std.specs.Prelude.{◌⊎◌, IfErr, IfOk, OnOk}
+use Rattle.std.specs.Prelude.{IfErr, IfOk, OnOk}
 use Rattle.std.specs.Result.{result_transpose}
 use Rattle.cb_worker.specs.Refusals.{StopsServing}
 use Rattle.cb_worker.specs.Steps.{StopsOr}

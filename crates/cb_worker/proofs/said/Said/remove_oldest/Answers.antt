@@ -1,4 +1,4 @@
-use Rattle.std.proofs.Common.{rules, ◌≡◌, ◌<◌, ◌-◌, length, arith}
+use Rattle.std.proofs.Common.{rules, ◌≡◌, ◌<◌, ◌-◌, length}
 use Rattle.std.specs.Option.{option_to_list}
 use Rattle.cb_worker.proofs.Kept.{others_left}
 use Rattle.cb_worker.proofs.said.Said.remove_oldest.Goals as goal

@@ -1,4 +1,4 @@
-use Rattle.std.proofs.Common.{◌∙◌, Ok, None, [], inr, ap, refl}
+use Rattle.std.proofs.Common.{◌∙◌, Ok, None, [], inr, ap}
 use Rattle.cb_client.specs.CallAnswers.{AnswersRead, after_read}
 use Rattle.cb_client.specs.declared.answers.ReadAnswer.TheVariants as read
 use Rattle.cb_worker.proofs.Asking.{asks_for, says_it}
