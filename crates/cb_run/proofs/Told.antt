@@ -1,5 +1,5 @@
 -- What is printed of an outcome is what is printed of some.
-use Rattle.std.proofs.Common.{◌≡◌, ℕ, List, Option, Result, Ok, Err}
+use Rattle.std.proofs.Common.{ℕ, List, Option, Result, Ok, Err}
 use Rattle.std.specs.Prelude.{IfOk}
 use Rattle.cb_outcome.specs.Outcomes.{PrintsCounted, PrintsRun}
 use Rattle.cb_outcome.specs.declared.ending.Ending.{Ending}

@@ -66,6 +66,20 @@ module _ {S : Type 0} (g : Ghosts S) (limits : Bounds) where
   LeavesFirst (Some held) old new =
       LeavesAll [] old new ⊎ ((rest : List BatchState) × LeavesAll (held ∷ rest) old new)
 
+  -- Tries, one after another, each of which wrote some batches and stopped: they began at these
+  -- connections, the last one first.
+  abbrev pub TriesAt : List (Held S) → (old new : Held S) → Type 0
+  TriesAt [] old new = new ≡ old
+  TriesAt (at ∷ earlier) old new = TriesAt earlier old at × LeavesSome at new
+
+  -- so of some tries
+  abbrev pub Tries : (old new : Held S) → Type 0
+  Tries old new = (at : List (Held S)) × TriesAt at old new
+
+  -- some batches were written behind some tries
+  abbrev pub WritesAtLast : (old new : Held S) → Type 0
+  WritesAtLast old new = (stop : Held S) × Tries old stop × WritesSome stop new
+
 module _ {S : Type 0} (g : Ghosts S) where
   -- a database that some batches make of the one that a connection sees
   abbrev pub MadeSome : Held S → Trees → Type 0
@@ -77,3 +91,8 @@ module _ {S : Type 0} (g : Ghosts S) where
   MadeFirst None old trees = MadeSome old trees
   MadeFirst (Some held) old trees = (rest : List BatchState) × (db : Database)
       × MakesBatches g (held ∷ rest) (state g old).now db × (trees ≡ db.trees)
+
+  -- a database that some batches make of the one that it sees behind some tries
+  abbrev pub MadeAtLast : Bounds → Held S → Trees → Type 0
+  MadeAtLast limits old trees =
+      (stop : Held S) × Tries g limits old stop × MadeSome stop trees

@@ -1,5 +1,6 @@
 -- Why a flusher stops.
-use Rattle.std.specs.Prelude.{◌≡◌, ◌↔◌, None, IfSome}
+use Rattle.std.specs.Prelude.{◌≡◌, ◌==◌, ◌-◌, ◌&&◌, ◌↔◌, if◌then◌else◌, not, ℕ, Option, Some, None, IfSome}
+use Rattle.cb_commit.specs.Batches.{BatchState}
 use Rattle.cb_page.specs.Bounds.{Bounds}
 use Rattle.cb_statements.specs.declared.fault.ShelfFault.TheVariants.{Shape, Memory}
 use Rattle.cb_statements.specs.Writing.{Fits}
@@ -10,3 +11,15 @@ use Rattle.cb_run.specs.declared.flusher.FlushStop.{FlushStop}
 pub record Stops (limits : Bounds) (stop : FlushStop) : Type 0 where
   pub unheld : stop.batch ≡ None → stop.fault ≡ Memory
   pub shape : IfSome stop.batch (λ batch. (stop.fault ≡ Shape) ↔ (¬ Fits limits batch))
+
+-- the number of the batch that is still to be written; 0 where there was no memory for one, which no
+-- batch has
+abbrev pub number_of : Option BatchState → ℕ
+number_of (Some batch) = batch.number
+number_of None = 0
+
+-- how many of its three tries it has left, by those that the batch of the last stop had: one fewer
+-- where it is the same and none was written in between
+abbrev pub tries_left : FlushStop → (last : ℕ) → (left : ℕ) → ℕ
+tries_left stop last left =
+    if (number_of stop.batch == last) && not stop.wrote then left - 1 else 2

@@ -1,5 +1,9 @@
 //! How often a batch is tried.
-ghost use Rattle.std.specs.Prelude.{◌≡◌};
+ghost use Rattle.std.specs.Prelude.{◌≡◌, OnErr, OnOk};
+ghost use Rattle.sqlite.specs.Held.{state};
+ghost use Rattle.sqlite.specs.State.{Survives};
+ghost use Rattle.cb_run.specs.Flushing.{MadeAtLast, Tries, WritesAtLast};
+ghost use Rattle.cb_run.specs.Stopping.{number_of, tries_left};
 
 use crate::flusher::{FlushStop, flush_again, flush_loop};
 use cb_progress::Watch;
@@ -14,10 +18,24 @@ const TRIES: u64 = 3;
 
 /// The number of the batch that is still to be written; 0 where there was no memory for one, which
 /// no batch has.
-fn batch_number(stop: &FlushStop) -> u64 {
+fn batch_number(stop: &FlushStop) -> u64
+    ensures { result ≡ number_of stop.now.batch }
+{
     match &stop.batch {
         Some(batch) => batch.number().get(),
         None => 0,
+    }
+}
+
+/// How many tries the batch of a stop has left, by the number of the last stop's batch and how many
+/// that had.
+fn tries_left(stop: &FlushStop, last: u64, left: u64) -> u64
+    ensures { result ≡ tries_left stop.now last left }
+{
+    if batch_number(stop) == last && !stop.wrote {
+        left.saturating_sub(1)
+    } else {
+        TRIES - 1
     }
 }
 
@@ -31,26 +49,26 @@ pub fn flush_in_tries<R: Wait, S: Alter, W: Watch>(
     shelf: &mut Shelf<S>,
     watch: &mut W,
 ) -> Result<(), ShelfFault>
-    ensures { shelf.new.limits ≡ shelf.old.limits }
+    ensures limits { shelf.new.limits ≡ shelf.old.limits }
+    ensures written { OnOk result (WritesAtLast S.Store shelf.old.limits shelf.old.conn
+        shelf.new.conn) }
+    ensures left { OnErr result (Tries S.Store shelf.old.limits shelf.old.conn shelf.new.conn) }
+    ensures crash { Survives (state S.Store shelf.old.conn) (state S.Store shelf.new.conn)
+        (MadeAtLast S.Store shelf.old.limits shelf.old.conn) }
 {
     let mut stopped = flush_loop(rt, alloc, office, shelf, watch);
-    let mut tries: u64 = 0;
+    let mut left = TRIES;
     let mut last = 0;
     for _ in rt.forever() {
         let Err(stop) = stopped else {
             return Ok(());
         };
-        let number = batch_number(&stop);
-        tries = if number == last && !stop.wrote {
-            tries.saturating_add(1)
-        } else {
-            1
-        };
-        if tries >= TRIES {
+        left = tries_left(&stop, last, left);
+        if left == 0 {
             office.halt(rt);
             return Err(stop.fault);
         }
-        last = number;
+        last = batch_number(&stop);
         stopped = flush_again(rt, alloc, office, shelf, watch, stop);
     }
     unreachable!()

@@ -41,10 +41,7 @@ impl Office {
         ensures sound { IsStation (mutex_guard_value result).station }
         ensures flags { AreFlags (mutex_guard_value result) }
     {
-        let shared = self.shared.lock(rt);
-        // What holds of every station under the lock, `station` says.
-        let _sound = shared.station();
-        shared
+        sound(self.shared.lock(rt))
     }
 
     /// Lets the lock go until somebody tells of a commit, closes or halts the office, and takes it
@@ -57,10 +54,7 @@ impl Office {
         ensures sound { IsStation (mutex_guard_value result).station }
         ensures flags { AreFlags (mutex_guard_value result) }
     {
-        let shared = self.changed.wait(rt, shared);
-        // What holds of every station under the lock, `station` says.
-        let _sound = shared.station();
-        shared
+        sound(self.changed.wait(rt, shared))
     }
 
     /// Lets the lock go until there may be a frame to that client, or the office is halted, and
@@ -74,10 +68,7 @@ impl Office {
         ensures sound { IsStation (mutex_guard_value result).station }
         ensures flags { AreFlags (mutex_guard_value result) }
     {
-        let shared = self.frames[client.index()].wait(rt, shared);
-        // What holds of every station under the lock, `station` says.
-        let _sound = shared.station();
-        shared
+        sound(self.frames[client.index()].wait(rt, shared))
     }
 
     /// Tells those clients to which there is a frame; the lock is held.
@@ -115,4 +106,14 @@ impl Office {
         self.lock(rt).halt();
         self.tell_all();
     }
+}
+
+/// What lies under the lock, with what always holds of it.
+fn sound(shared: MutexGuard<'_, SharedStation>) -> MutexGuard<'_, SharedStation>
+    ensures sound { IsStation (mutex_guard_value result).station }
+    ensures flags { AreFlags (mutex_guard_value result) }
+{
+    // What holds of every station under the lock, `station` says.
+    let _sound = shared.station();
+    shared
 }

@@ -1,8 +1,8 @@
 -- Why the calls that take the office are refused. What lies under its lock no clause of a call that
 -- takes it can name: so each cause is one at something that lay there.
-use Rattle.std.specs.Prelude.{◌≡◌, ◌≤◌, ◌⊎◌, ℕ, true, false, Err, ⊤}
+use Rattle.std.specs.Prelude.{◌≡◌, ◌≤◌, ◌⊎◌, ℕ, true, false, None, Err, ⊤}
 use Rattle.std.specs.Option.{is_some}
-use Rattle.cb_client.specs.ByTable.{IsRefused}
+use Rattle.cb_client.specs.ByTable.{IsRefusal, IsRefused}
 use Rattle.cb_client.specs.declared.client_fault.ClientFault.TheVariants as client
 use Rattle.cb_copies.specs.CopiesState.{content_at}
 use Rattle.cb_joined.specs.Joined.{IsHeld}
@@ -47,9 +47,8 @@ StopsServing new fault = (shared : SharedState) × RefusesServing new shared fau
 abbrev pub RefusesAny : (old new : WorkerState) → WorkerFault → Type 0
 RefusesAny old new fault = (LacksTransaction old fault × (new ≡ old)) ⊎ StopsServing new fault
 
--- the client, as it is left, refuses the call so; or memory for it was refused
+-- the client, as it is left, refuses the call so: never for want of memory
 abbrev pub RefusesCall : (new : WorkerState) → Call → WorkerFault → Type 0
-RefusesCall new call (worker.Client client.Memory) = ⊤
 RefusesCall new call (worker.Client fault) = IsRefused new.client call fault
 RefusesCall new call _ = ⊥
 
@@ -75,9 +74,14 @@ StopsFetch old page fault =
 abbrev pub RefusesWant : (old new : WorkerState) → (page : ℕ) → WorkerFault → Type 0
 RefusesWant old new page fault = RefusesAny old new fault ⊎ RefusesCall new (CallWant page) fault
 
+-- why the client drops none: it refuses to; or memory was refused where it would
+abbrev pub RefusesToDrop : (new : WorkerState) → WorkerFault → Type 0
+RefusesToDrop new (worker.Client client.Memory) = IsRefusal new.client CallDrop None
+RefusesToDrop new fault = RefusesCall new CallDrop fault
+
 -- why one isn't dropped
 abbrev pub RefusesDrop : (old new : WorkerState) → WorkerFault → Type 0
-RefusesDrop old new fault = RefusesAny old new fault ⊎ RefusesCall new CallDrop fault
+RefusesDrop old new fault = RefusesAny old new fault ⊎ RefusesToDrop new fault
 
 -- A commit was refused so, and left the worker thus.
 pub record RefusesCommit (new : WorkerState) (fault : WorkerFault) : Type 0 where

@@ -5,6 +5,8 @@
 #![tactic(auto)]
 
 mod answers;
+mod awaited;
+mod said;
 mod worker;
 mod worker_fault;
 

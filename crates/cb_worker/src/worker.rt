@@ -14,6 +14,7 @@ mod standing;
 mod turning;
 mod waiting;
 
+use crate::said::Said;
 use cb_client::{Client, ClientFault};
 use cb_frame::Frame;
 use cb_hands::Hand;
@@ -27,12 +28,10 @@ pub struct Worker<Q: Chooser> {
     hand: Hand,
     /// What was collected and not yet taken.
     collected: Option<Frame>,
-    /// What the client said and nobody handed in yet, the newest first.
-    said: Vec<Frame>,
+    said: Said,
 }
 
 impl<Q: Chooser> Model for Worker<Q> {
-    ghost use Rattle.std.specs.Prelude.{reverse};
     ghost use Rattle.cb_worker.specs.Workers.{WorkerState};
 
     ghost Value = { WorkerState };
@@ -41,7 +40,7 @@ impl<Q: Chooser> Model for Worker<Q> {
       client = worker.client;
       hand = worker.hand;
       collected = worker.collected;
-      said = reverse worker.said.items;
+      said = worker.said;
     } };
 }
 

@@ -1,11 +1,13 @@
 //! Workers join, begin another incarnation, and end.
-ghost use Rattle.std.specs.Prelude.{◌≡◌, ◌≤◌, ◌⊎◌, [], true, Err, IfErr, IfOk, None, OnOk};
+ghost use Rattle.std.specs.Prelude.{◌≡◌, ◌≤◌, ◌⊎◌, [], true, Err, IfErr, IfOk, None};
 ghost use Rattle.cb_client_engine.specs.ClientState.{new_state};
 ghost use Rattle.cb_worker.specs.Refusals.{RefusesLeave, RefusesRestart, RefusesStart};
 ghost use Rattle.cb_worker.specs.Refusals.{StopsServing};
 ghost use Rattle.cb_worker.specs.Waiting.{IsServed};
 ghost use Rattle.cb_worker.specs.Workers.{IsOf, IsStill, last_txn};
 
+use crate::awaited::Awaited;
+use crate::said::Said;
 use crate::worker::Worker;
 use crate::worker_fault::WorkerFault;
 use cb_client::{Client, ClientFault};
@@ -160,7 +162,7 @@ impl<Q: Chooser> Worker<Q> {
             client,
             hand,
             collected: None,
-            said: Vec::new(alloc),
+            said: Said::nothing(alloc),
         }
     }
 
@@ -192,33 +194,10 @@ impl<Q: Chooser> Worker<Q> {
         ensures refused { IfErr result (λ refused. IsStill self refused.1) }
         ensures why { IfErr result (λ refused. StopsServing refused.1 refused.0) }
     {
-        match self.wait_for_welcome(rt, alloc, office) {
-            Ok(()) => Ok(self),
+        match self.wait_for(rt, alloc, office, &Awaited::Welcome) {
+            Ok(_) => Ok(self),
             Err(fault) => Err((fault, self)),
         }
-    }
-
-    /// Serves until the client is welcomed.
-    fn wait_for_welcome<R: Wait>(
-        &mut self,
-        rt: &R,
-        alloc: Global,
-        office: &Office,
-    ) -> Result<(), WorkerFault>
-        ensures welcomed { OnOk result (self.new.client.welcomed ≡ true) }
-        ensures served { OnOk result (IsServed self.new) }
-        ensures still { IsStill self.old self.new }
-        ensures refused { IfErr result (StopsServing self.new) }
-    {
-        let mut shared = office.lock(rt);
-        for _ in rt.forever() {
-            self.serve_at(rt, alloc, office, &mut shared)?;
-            if self.is_welcomed() {
-                return Ok(());
-            }
-            shared = office.wait_for_frame(rt, shared, self.hand.client());
-        }
-        unreachable!()
     }
 
     /// Its hand; all else is let go.

@@ -7,6 +7,7 @@ ghost use Rattle.cb_worker.specs.Waiting.{IsFinished, LacksTransaction, ending_o
 ghost use Rattle.cb_worker.specs.Workers.{Ended, HasTransaction};
 
 use crate::answers::Finished;
+use crate::awaited::Came;
 use crate::worker::Worker;
 use crate::worker_fault::WorkerFault;
 use cb_client::{ClientFault, ClientStatus, Outcome};
@@ -63,6 +64,17 @@ impl<Q: Chooser> Worker<Q> {
             return false;
         };
         true
+    }
+
+    /// That the last transaction is over and was aborted, where it was.
+    pub(super) fn aborted(&self) -> Option<Came>
+        ensures { IfSome result (λ came.
+            (came ≡ Came.Ended Finished.Aborted) × Ended self.now protocol.Aborted) }
+    {
+        if !self.is_aborted() {
+            return None;
+        }
+        Some(Came::Ended(Finished::Aborted))
     }
 }
 

@@ -2,6 +2,7 @@
 ghost use Rattle.std.specs.Prelude.{◌≡◌, ◌≢◌, ◌<◌, [], length, None, IfSome, IsSome, OnOk};
 ghost use Rattle.cb_worker.specs.Turns.{Collects, TakesCollected, Turns};
 
+use crate::said::Said;
 use crate::worker::Worker;
 use crate::worker_fault::WorkerFault;
 use cb_client::ClientFault;
@@ -41,13 +42,13 @@ impl<Q: Chooser> Worker<Q> {
         ensures client { self.new.client ≡ self.old.client }
         ensures fewer { OnOk result (length self.new.said < length self.old.said) }
     {
-        let Some(frame) = self.said.as_slice().last() else {
+        let Some(frame) = self.said.oldest() else {
             unreachable!()
         };
         match station.take(alloc, frame, &mut self.hand) {
             Err(fault) => Err(WorkerFault::Office(fault)),
             Ok(()) => {
-                self.said.truncate(self.said.len() - 1);
+                self.said.remove_oldest();
                 Ok(true)
             }
         }
@@ -69,9 +70,8 @@ impl<Q: Chooser> Worker<Q> {
         let Ok(copy) = copy_of(alloc, frame) else {
             return Err(WorkerFault::Client(ClientFault::Memory));
         };
-        let mut said = self.client.take(alloc, copy)?;
-        said.reverse();
-        self.said = said;
+        let said = self.client.take(alloc, copy)?;
+        self.said = Said::of(said);
         self.collected = None;
         Ok(true)
     }

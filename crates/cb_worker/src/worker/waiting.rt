@@ -8,19 +8,20 @@ ghost use Rattle.cb_worker.specs.Asking.{AsksFor, AsksToWrite};
 ghost use Rattle.cb_worker.specs.Lending.{worker_ends};
 ghost use Rattle.cb_worker.specs.Refusals.{RefusesAsk, RefusesCall, RefusesDrop, RefusesFetch};
 ghost use Rattle.cb_worker.specs.Refusals.{RefusesCommit, RefusesFinish, RefusesServing};
-ghost use Rattle.cb_worker.specs.Refusals.{RefusesWant, StopsFetch, StopsServing};
+ghost use Rattle.cb_worker.specs.Refusals.{RefusesToDrop, RefusesWant, StopsFetch, StopsServing};
 ghost use Rattle.cb_worker.specs.Serving.{HandsAllIn, Serves, ServesSome};
-ghost use Rattle.cb_worker.specs.Steps.{MayOrEnded, Reads, StopsOr};
+ghost use Rattle.cb_worker.specs.Steps.{Comes, RefusesToBegin, StopsOr};
 ghost use Rattle.cb_worker.specs.Waiting.{Drops, Fetches, Finishes, HasRead, IsDropped};
-ghost use Rattle.cb_worker.specs.Waiting.{IsFinished, IsServed, Wants};
+ghost use Rattle.cb_worker.specs.Waiting.{IsServed, Wants};
 ghost use Rattle.cb_worker.specs.Workers.{Ended, Ends, HasTransaction, IsStill};
 ghost use Rattle.cb_worker.specs.Workers.{after_hit, may_hit};
 
 use crate::answers::{Fetched, Finished, Wanted};
+use crate::awaited::{Awaited, Came};
+use crate::said::Said;
 use crate::worker::Worker;
 use crate::worker_fault::WorkerFault;
 use cb_client::{ReadAnswer, WantAnswer};
-use cb_frame::Frame;
 use cb_office::OfficeFault;
 use cb_page::PageNo;
 use cb_shared::{Office, SharedStation};
@@ -136,16 +137,10 @@ impl<Q: Chooser> Worker<Q> {
             return Ok(true);
         }
         self.needs_transaction()?;
-        let mut shared = office.lock(rt);
-        let mut fetched = self.begin_fetch(rt, alloc, office, page, &mut shared);
-        for _ in rt.forever() {
-            if let Some(answer) = fetched.transpose() {
-                return answer;
-            }
-            shared = office.wait_for_frame(rt, shared, self.hand.client());
-            fetched = self.go_on_fetching(rt, alloc, office, page, &mut shared);
+        match self.wait_for(rt, alloc, office, &Awaited::Page(page))? {
+            Came::There => Ok(true),
+            Came::Ended(_) => Ok(false),
         }
-        unreachable!()
     }
 
     /// Serves, and asks for the page where it isn't here. `None` where it is to be waited for.
@@ -156,59 +151,36 @@ impl<Q: Chooser> Worker<Q> {
         office: &Office,
         page: PageNo,
         shared: &mut SharedStation,
-    ) -> Result<Option<bool>, WorkerFault>
-        ensures reads { IfOk result (λ found. IfSome found (Reads self.new page)) }
+    ) -> Result<Option<Came>, WorkerFault>
+        ensures comes { IfOk result (λ came. IfSome came (Comes (Awaited.Page page) self.new)) }
+        ensures served { OnOk result (IsServed self.new) }
         ensures still { IsStill self.old self.new }
         ensures refused { IfErr result (StopsOr self.new (RefusesAsk self.new page)) }
     {
         let aborted = self.serve_first(rt, alloc, office, shared)?;
         if aborted {
-            return Ok(Some(false));
+            return Ok(Some(Came::Ended(Finished::Aborted)));
         }
         if self.touch(page) {
-            return Ok(Some(true));
+            return Ok(Some(Came::There));
         }
         self.ask_for(page)?;
-        self.go_on_fetching(rt, alloc, office, page, shared)
-    }
-
-    /// Serves, and reads the page where it has come. `None` where it hasn't, and the transaction
-    /// goes on.
-    fn go_on_fetching<R: Wait>(
-        &mut self,
-        rt: &R,
-        alloc: Global,
-        office: &Office,
-        page: PageNo,
-        shared: &mut SharedStation,
-    ) -> Result<Option<bool>, WorkerFault>
-        ensures reads { IfOk result (λ found. IfSome found (Reads self.new page)) }
-        ensures still { IsStill self.old self.new }
-        ensures refused { IfErr result (StopsServing self.new) }
-    {
-        self.serve_at(rt, alloc, office, shared)?;
-        if self.touch(page) {
-            Ok(Some(true))
-        } else if self.is_aborted() {
-            Ok(Some(false))
-        } else {
-            Ok(None)
-        }
+        self.go_on(rt, alloc, office, &Awaited::Page(page), shared)
     }
 
     /// The client asks for the page, which isn't here.
     fn ask_for(&mut self, page: PageNo) -> Result<(), WorkerFault>
+        requires { self.old.said ≡ [] }
         ensures still { IsStill self.old self.new }
         ensures asks { OnOk result (AsksFor self.old page self.new) }
         ensures refused { may_hit self.old page ≡ false → IfErr result (RefusesAsk self.new page) }
     {
-        self.said.reserve(1)?;
         match self.client.read(page)? {
             ReadAnswer::Bytes(_) => return Err(WorkerFault::Office(OfficeFault::NotHeld)),
             ReadAnswer::Asked => {}
         }
         if let Some(ask) = self.client.ask() {
-            self.said.push_reserved(Frame::from(ask));
+            self.said.keep(ask);
         }
         Ok(())
     }
@@ -228,16 +200,10 @@ impl<Q: Chooser> Worker<Q> {
         ensures refused { IfErr result (RefusesWant self.old self.new page) }
     {
         self.needs_transaction()?;
-        let mut shared = office.lock(rt);
-        let mut wanted = self.begin_want(rt, alloc, office, page, &mut shared);
-        for _ in rt.forever() {
-            if let Some(answer) = wanted.transpose() {
-                return answer;
-            }
-            shared = office.wait_for_frame(rt, shared, self.hand.client());
-            wanted = self.go_on_wanting(rt, alloc, office, page, &mut shared);
+        match self.wait_for(rt, alloc, office, &Awaited::Permission(page))? {
+            Came::There => Ok(Wanted::Permitted),
+            Came::Ended(_) => Ok(Wanted::Aborted),
         }
-        unreachable!()
     }
 
     /// Serves, and asks for the permission. `None` where it is to be waited for.
@@ -248,43 +214,19 @@ impl<Q: Chooser> Worker<Q> {
         office: &Office,
         page: PageNo,
         shared: &mut SharedStation,
-    ) -> Result<Option<Wanted>, WorkerFault>
-        ensures wants { IfOk result (λ found. IfSome found (MayOrEnded self.new page)) }
+    ) -> Result<Option<Came>, WorkerFault>
+        ensures comes { IfOk result
+            (λ came. IfSome came (Comes (Awaited.Permission page) self.new)) }
         ensures served { OnOk result (IsServed self.new) }
         ensures still { IsStill self.old self.new }
         ensures refused { IfErr result (StopsOr self.new (RefusesCall self.new (CallWant page))) }
     {
         let aborted = self.serve_first(rt, alloc, office, shared)?;
         if aborted {
-            return Ok(Some(Wanted::Aborted));
+            return Ok(Some(Came::Ended(Finished::Aborted)));
         }
         self.ask_to_write(page)?;
-        self.go_on_wanting(rt, alloc, office, page, shared)
-    }
-
-    /// Serves, and looks for the permission. `None` where it hasn't come, and the transaction goes
-    /// on.
-    fn go_on_wanting<R: Wait>(
-        &mut self,
-        rt: &R,
-        alloc: Global,
-        office: &Office,
-        page: PageNo,
-        shared: &mut SharedStation,
-    ) -> Result<Option<Wanted>, WorkerFault>
-        ensures wants { IfOk result (λ found. IfSome found (MayOrEnded self.new page)) }
-        ensures served { OnOk result (IsServed self.new) }
-        ensures still { IsStill self.old self.new }
-        ensures refused { IfErr result (StopsServing self.new) }
-    {
-        self.serve_at(rt, alloc, office, shared)?;
-        if self.client.may_write(page) {
-            Ok(Some(Wanted::Permitted))
-        } else if self.is_aborted() {
-            Ok(Some(Wanted::Aborted))
-        } else {
-            Ok(None)
-        }
+        self.go_on(rt, alloc, office, &Awaited::Permission(page), shared)
     }
 
     /// The client wants to write the page, and asks for the permission if it hasn't got it.
@@ -294,10 +236,9 @@ impl<Q: Chooser> Worker<Q> {
         ensures asks { OnOk result (AsksToWrite self.old page self.new) }
         ensures refused { IfErr result (RefusesCall self.new (CallWant page)) }
     {
-        self.said.reserve(1)?;
         match self.client.want(page)? {
             WantAnswer::Permitted => {}
-            WantAnswer::Asked(ask) => self.said.push_reserved(Frame::from(ask)),
+            WantAnswer::Asked(ask) => self.said.keep(ask),
         }
         Ok(())
     }
@@ -345,11 +286,10 @@ impl<Q: Chooser> Worker<Q> {
         requires { self.old.said ≡ [] }
         ensures dropped { OnOk result (Ended self.new protocol.Dropped) }
         ensures still { IsStill self.old self.new }
-        ensures refused { IfErr result (RefusesCall self.new CallDrop) }
+        ensures refused { IfErr result (RefusesToDrop self.new) }
     {
-        let mut said = self.client.drop_txn(alloc)?;
-        said.reverse();
-        self.said = said;
+        let said = self.client.drop_txn(alloc)?;
+        self.said = Said::of(said);
         Ok(())
     }
 
@@ -390,16 +330,10 @@ impl<Q: Chooser> Worker<Q> {
         ensures refused { IfErr result (RefusesFinish self.old self.new) }
     {
         self.needs_transaction()?;
-        let mut shared = office.lock(rt);
-        let mut ended = self.begin_finish(rt, alloc, office, &mut shared);
-        for _ in rt.forever() {
-            if let Some(answer) = ended.transpose() {
-                return answer;
-            }
-            shared = office.wait_for_frame(rt, shared, self.hand.client());
-            ended = self.go_on_finishing(rt, alloc, office, &mut shared);
+        match self.wait_for(rt, alloc, office, &Awaited::End)? {
+            Came::Ended(finished) => Ok(finished),
+            Came::There => unreachable!(),
         }
-        unreachable!()
     }
 
     /// Serves, and commits unless the transaction is over. `None` where its end is to be waited
@@ -410,37 +344,114 @@ impl<Q: Chooser> Worker<Q> {
         alloc: Global,
         office: &Office,
         shared: &mut SharedStation,
-    ) -> Result<Option<Finished>, WorkerFault>
-        ensures finished { IfOk result (λ found. IfSome found (IsFinished self.new)) }
+    ) -> Result<Option<Came>, WorkerFault>
+        ensures comes { IfOk result (λ came. IfSome came (Comes Awaited.End self.new)) }
         ensures served { OnOk result (IsServed self.new) }
         ensures still { IsStill self.old self.new }
         ensures refused { IfErr result (StopsOr self.new (RefusesCommit self.new)) }
     {
         self.serve_at(rt, alloc, office, shared)?;
         if let Some(ended) = self.ended() {
-            return Ok(Some(ended));
+            return Ok(Some(Came::Ended(ended)));
         }
         let committed = self.commit_at(alloc, shared.station_mut());
         office.tell();
         office.tell_clients(shared);
         let _number = committed?;
-        self.go_on_finishing(rt, alloc, office, shared)
+        self.go_on(rt, alloc, office, &Awaited::End, shared)
     }
 
-    /// Serves, and looks how the transaction ended. `None` where it goes on.
-    fn go_on_finishing<R: Wait>(
+    /// Waits, and serves meanwhile, until something came of it.
+    pub(super) fn wait_for<R: Wait>(
         &mut self,
         rt: &R,
         alloc: Global,
         office: &Office,
+        awaited: &Awaited,
+    ) -> Result<Came, WorkerFault>
+        ensures comes { IfOk result (Comes awaited.now self.new) }
+        ensures served { OnOk result (IsServed self.new) }
+        ensures still { IsStill self.old self.new }
+        ensures refused { IfErr result (StopsOr self.new (RefusesToBegin awaited.now self.new)) }
+    {
+        let mut shared = office.lock(rt);
+        let mut came = self.begin_to_wait(rt, alloc, office, awaited, &mut shared);
+        for _ in rt.forever() {
+            if let Some(answer) = came.transpose() {
+                return answer;
+            }
+            shared = office.wait_for_frame(rt, shared, self.hand.client());
+            came = self.go_on(rt, alloc, office, awaited, &mut shared);
+        }
+        unreachable!()
+    }
+
+    /// Does what is to be done before one waits. `None` where nothing has come of it yet.
+    fn begin_to_wait<R: Wait>(
+        &mut self,
+        rt: &R,
+        alloc: Global,
+        office: &Office,
+        awaited: &Awaited,
         shared: &mut SharedStation,
-    ) -> Result<Option<Finished>, WorkerFault>
-        ensures finished { IfOk result (λ found. IfSome found (IsFinished self.new)) }
+    ) -> Result<Option<Came>, WorkerFault>
+        ensures comes { IfOk result (λ came. IfSome came (Comes awaited.now self.new)) }
+        ensures served { OnOk result (IsServed self.new) }
+        ensures still { IsStill self.old self.new }
+        ensures refused { IfErr result (StopsOr self.new (RefusesToBegin awaited.now self.new)) }
+    {
+        match awaited {
+            Awaited::Welcome => self.go_on(rt, alloc, office, awaited, shared),
+            Awaited::Page(page) => self.begin_fetch(rt, alloc, office, *page, shared),
+            Awaited::Permission(page) => self.begin_want(rt, alloc, office, *page, shared),
+            Awaited::End => self.begin_finish(rt, alloc, office, shared),
+        }
+    }
+
+    /// Serves, and looks what has come. `None` where nothing has.
+    fn go_on<R: Wait>(
+        &mut self,
+        rt: &R,
+        alloc: Global,
+        office: &Office,
+        awaited: &Awaited,
+        shared: &mut SharedStation,
+    ) -> Result<Option<Came>, WorkerFault>
+        ensures comes { IfOk result (λ came. IfSome came (Comes awaited.now self.new)) }
         ensures served { OnOk result (IsServed self.new) }
         ensures still { IsStill self.old self.new }
         ensures refused { IfErr result (StopsServing self.new) }
     {
         self.serve_at(rt, alloc, office, shared)?;
-        Ok(self.ended())
+        Ok(self.come(awaited))
+    }
+
+    /// What has come; a page is read then.
+    fn come(&mut self, awaited: &Awaited) -> Option<Came>
+        ensures comes { IfSome result (Comes awaited.now self.new) }
+        ensures served { IsServed self.old → IsServed self.new }
+        ensures still { IsStill self.old self.new }
+    {
+        match awaited {
+            Awaited::Welcome => {
+                if self.is_welcomed() {
+                    return Some(Came::There);
+                }
+                None
+            }
+            Awaited::Page(page) => {
+                if self.touch(*page) {
+                    return Some(Came::There);
+                }
+                self.aborted()
+            }
+            Awaited::Permission(page) => {
+                if self.client.may_write(*page) {
+                    return Some(Came::There);
+                }
+                self.aborted()
+            }
+            Awaited::End => Some(Came::Ended(self.ended()?)),
+        }
     }
 }

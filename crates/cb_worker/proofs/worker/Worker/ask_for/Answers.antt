@@ -1,7 +1,6 @@
-use Rattle.std.proofs.Common.{◌∙◌, Ok, None, [], inr, ap, refl}
+use Rattle.std.proofs.Common.{◌∙◌, Ok, None, [], inr, ap}
 use Rattle.cb_client.specs.CallAnswers.{AnswersRead, after_read}
 use Rattle.cb_client.specs.declared.answers.ReadAnswer.TheVariants as read
-use Rattle.cb_outbox.specs.Messages.{message_of}
 use Rattle.cb_worker.proofs.Asking.{asks_for, says_it}
 use Rattle.cb_worker.proofs.Refusing.{lacks_grant}
 use Rattle.cb_worker.specs.Workers.{WorkerState}
@@ -17,8 +16,7 @@ returns-in-Bytes-clause-refused g c =
 pub returns-in-Some-clause-asks : goal.returns-in-Some-clause-asks
 returns-in-Some-clause-asks g c =
     let a : AnswersRead c.self.inside.client c.args.page (Ok read.Asked) = rw c.in-Asked.is at c.in_ok-read.ensures.answer in
-    asks_for c.args.self.now _ c.args.page c.reserve.new.self.items c.from.result c.in-Some.ask (rw (← c.self.view_is) a) (rw (← c.self.view_is) c.read.follows.holds-at-none)
-    c.in-Some.ensures.by_table (ap message_of c.from.ensures) (rw (← c.self.view_is, c.reserve.ensures.items) refl) (rw c.push_reserved.ensures.items refl)
+    asks_for c.args.self.now _ c.args.page c.in-Some.ask (rw (← c.self.view_is) a) (rw (← c.self.view_is) c.read.follows.holds-at-none) c.in-Some.ensures.by_table c.keep.ensures
 
 pub returns-in_default-clause-asks : goal.returns-in_default-clause-asks
 returns-in_default-clause-asks g c =

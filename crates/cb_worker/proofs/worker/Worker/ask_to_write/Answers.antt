@@ -1,7 +1,6 @@
-use Rattle.std.proofs.Common.{◌≡◌, [], Ok, ap, refl, reverse}
+use Rattle.std.proofs.Common.{Ok, refl}
 use Rattle.cb_client.specs.CallAnswers.{Wants}
 use Rattle.cb_client.specs.declared.answers.WantAnswer.TheVariants as want
-use Rattle.cb_outbox.specs.Messages.{message_of}
 use Rattle.cb_worker.proofs.Asking.{asks_to_write, may_already}
 use Rattle.cb_worker.proofs.Staying.{wants_still}
 use Rattle.cb_worker.proofs.worker.Worker.ask_to_write.Goals as goal
@@ -12,8 +11,7 @@ returns-in-Permitted-clause-still g c = rw (← c.self.view_is) (wants_still _ _
 pub returns-in-Permitted-clause-asks : goal.returns-in-Permitted-clause-asks
 returns-in-Permitted-clause-asks g c =
     let w : Wants c.self.inside.client c.args.page (Ok want.Permitted) c.want.new.self = rw c.in-Permitted.is at c.in_ok-want.ensures.by_table in
-    let none : reverse c.self.inside.said.items ≡ [] = rw (← c.self.view_is) at c.requires in
-    may_already c.args.self.now _ c.args.page (rw (← c.self.view_is) w) (rw c.reserve.ensures.items none)
+    may_already c.args.self.now _ c.args.page (rw (← c.self.view_is) w) (rw (← c.self.view_is) at c.requires)
 
 pub returns-in-Asked-clause-still : goal.returns-in-Asked-clause-still
 returns-in-Asked-clause-still g c = rw (← c.self.view_is) (wants_still _ _ c.args.page c.want.result c.want.ensures.by_table refl)
@@ -21,5 +19,4 @@ returns-in-Asked-clause-still g c = rw (← c.self.view_is) (wants_still _ _ c.a
 pub returns-in-Asked-clause-asks : goal.returns-in-Asked-clause-asks
 returns-in-Asked-clause-asks g c =
     let w : Wants c.self.inside.client c.args.page (Ok (want.Asked c.in-Asked.ask)) c.want.new.self = rw c.in-Asked.is at c.in_ok-want.ensures.by_table in
-    let none : reverse c.self.inside.said.items ≡ [] = rw (← c.self.view_is) at c.requires in
-    asks_to_write c.args.self.now _ c.args.page c.reserve.new.self.items c.from.result c.in-Asked.ask (rw (← c.self.view_is) w) (ap message_of c.from.ensures) (rw c.reserve.ensures.items none) (rw c.push_reserved.ensures.items refl)
+    asks_to_write c.args.self.now _ c.args.page c.in-Asked.ask (rw (← c.self.view_is) w) c.keep.ensures

@@ -1,7 +1,8 @@
-use Rattle.std.proofs.Common.{◌≡◌, ◌∷◌, ◌-◌, Some, Ok, Err, Result, true, length, reverse, refl, rules, slice_get, subst, take}
+use Rattle.std.proofs.Common.{◌≡◌, ◌∙◌, ◌∷◌, Ok, Err, Result, true, ap, drop, refl, subst, sym}
+use Rattle.std.specs.Option.{option_copied}
 use Rattle.std.specs.Prelude.{⊤}
 use Rattle.cb_office.specs.declared.office_fault.OfficeFault.{OfficeFault}
-use Rattle.cb_worker.proofs.Kept.{oldest_first}
+use Rattle.cb_worker.proofs.Kept.{none_first, oldest_first}
 use Rattle.cb_worker.proofs.Turning.{hands_in}
 use Rattle.cb_worker.specs.Calls.{Took}
 use Rattle.cb_worker.specs.declared.worker_fault.WorkerFault.TheVariants as worker
@@ -21,9 +22,8 @@ returns-in-Err-clause-turns g c =
       stored = c.take.ensures.stored;
       history = c.take.ensures.history;
     }) in
-    let at : slice_get c.self.inside.said.items (length c.self.inside.said.items - 1) ≡ Some c.in-Some.frame.now = search rules in
-    let first : c.args.self.now.said ≡ c.in-Some.frame.now ∷ reverse (take (length c.self.inside.said.items - 1) c.self.inside.said.items) = rw (← c.self.view_is) (oldest_first c.self.inside.said.items c.in-Some.frame.now at) in
-    hands_in c.args.self.now _ c.args.station.now c.take.new.self c.in-Some.frame.now (reverse (take (length c.self.inside.said.items - 1) c.self.inside.said.items)) (Err (worker.Office c.in-Err.fault)) first (record {
+    let first : c.args.self.now.said ≡ c.in-Some.frame.now ∷ drop 1 c.args.self.now.said = rw (← c.self.view_is) (oldest_first c.self.inside.said c.in-Some.frame.now (ap option_copied (sym c.in-Some.is) ∙ c.oldest.ensures)) in
+    hands_in c.args.self.now _ c.args.station.now c.take.new.self c.in-Some.frame.now (drop 1 c.args.self.now.said) (Err (worker.Office c.in-Err.fault)) first (record {
       answer = Err c.in-Err.fault;
       answered = refl;
       took = subst (λ (r : Result ⊤ OfficeFault). Took c.args.station.now c.in-Some.frame.now c.args.self.now.hand r c.take.new.self c.take.new.hand) c.in-Err.is took;
@@ -44,12 +44,14 @@ returns-in-Ok-clause-turns g c =
       stored = c.take.ensures.stored;
       history = c.take.ensures.history;
     }) in
-    let at : slice_get c.self.inside.said.items (length c.self.inside.said.items - 1) ≡ Some c.in-Some.frame.now = search rules in
-    let fewer : c.truncate.new.self.items ≡ take (length c.self.inside.said.items - 1) c.self.inside.said.items = search rules in
-    let first : c.args.self.now.said ≡ c.in-Some.frame.now ∷ reverse c.truncate.new.self.items = rw (← c.self.view_is, fewer) (oldest_first c.self.inside.said.items c.in-Some.frame.now at) in
-    hands_in c.args.self.now _ c.args.station.now c.take.new.self c.in-Some.frame.now (reverse c.truncate.new.self.items) (Ok true) first (record {
+    let first : c.args.self.now.said ≡ c.in-Some.frame.now ∷ c.remove_oldest.new.self = rw (c.remove_oldest.ensures, ← c.self.view_is) (oldest_first c.self.inside.said c.in-Some.frame.now (ap option_copied (sym c.in-Some.is) ∙ c.oldest.ensures)) in
+    hands_in c.args.self.now _ c.args.station.now c.take.new.self c.in-Some.frame.now c.remove_oldest.new.self (Ok true) first (record {
       answer = Ok c.in-Ok.field-0;
       answered = refl;
       took = subst (λ (r : Result ⊤ OfficeFault). Took c.args.station.now c.in-Some.frame.now c.args.self.now.hand r c.take.new.self c.take.new.hand) c.in-Ok.is took;
       left = rw (← c.self.view_is) refl;
     })
+
+pub unreachable-requires : goal.unreachable-requires
+unreachable-requires g c =
+    c.requires (rw (← c.self.view_is) (none_first c.self.inside.said (ap option_copied (sym c.in_default.is) ∙ c.oldest.ensures)))

@@ -1,4 +1,4 @@
-use Rattle.std.proofs.Common.{refl}
+use Rattle.std.proofs.Common.{refl, sym, true≢false}
 use Rattle.cb_worker.proofs.Standing.{committing_so, says_committing}
 use Rattle.cb_worker.specs.Committing.{IsCommitting}
 use Rattle.cb_worker.proofs.worker.Worker.is_committing.Goals as goal
@@ -10,4 +10,4 @@ returns-in-Committing g c =
 
 pub returns-in_default : goal.returns-in_default
 returns-in_default g c =
-    (λ f. absurd cc, λ is. absurd (c.in_default.not-Committing (says_committing c.self.inside.client c.status.result c.status.ensures (rw (← c.self.view_is) at is))))
+    (λ f. absurd (true≢false (sym f)), λ is. absurd (c.in_default.not-Committing (says_committing c.self.inside.client c.status.result c.status.ensures (rw (← c.self.view_is) at is))))

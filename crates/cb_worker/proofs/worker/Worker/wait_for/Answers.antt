@@ -1,0 +1,34 @@
+use Rattle.std.proofs.Common.{◌∙◌, sym}
+use Rattle.cb_worker.proofs.Staying.{after}
+use Rattle.cb_worker.proofs.Steps.{came_so, refused_so, stops_so, where_ok}
+use Rattle.cb_worker.specs.Steps.{Comes, RefusesToBegin, StopsOr}
+use Rattle.cb_worker.proofs.worker.Worker.wait_for.Goals as goal
+
+pub loop-init : goal.loop-init
+loop-init g c =
+    (tt, tt, c.begin_to_wait-came.ensures.still, c.begin_to_wait-came.ensures.comes, c.begin_to_wait-came.ensures.served, c.begin_to_wait-came.ensures.refused)
+
+pub returns-in-Some-transpose-clause-comes : goal.returns-in-Some-transpose-clause-comes
+returns-in-Some-transpose-clause-comes g c =
+    came_so (Comes c.args.awaited.now c.loop.self) c.loop.came c.in-Some-transpose.answer (sym c.transpose.ensures ∙ c.in-Some-transpose.is) c.loop.invariant.3
+
+pub returns-in-Some-transpose-clause-served : goal.returns-in-Some-transpose-clause-served
+returns-in-Some-transpose-clause-served g c =
+    where_ok _ c.loop.came c.in-Some-transpose.answer (sym c.transpose.ensures ∙ c.in-Some-transpose.is) c.loop.invariant.4
+
+pub returns-in-Some-transpose-clause-still : goal.returns-in-Some-transpose-clause-still
+returns-in-Some-transpose-clause-still g c = c.loop.invariant.2
+
+pub returns-in-Some-transpose-clause-refused : goal.returns-in-Some-transpose-clause-refused
+returns-in-Some-transpose-clause-refused g c =
+    refused_so (StopsOr c.loop.self (RefusesToBegin c.args.awaited.now c.loop.self)) c.loop.came c.in-Some-transpose.answer (sym c.transpose.ensures ∙ c.in-Some-transpose.is) c.loop.invariant.5
+
+pub loop-preserved : goal.loop-preserved
+loop-preserved g c = (
+  tt,
+  tt,
+  after c.args.self.now c.loop.self c.go_on-came.new.self c.loop.invariant.2 c.go_on-came.ensures.still,
+  c.go_on-came.ensures.comes,
+  c.go_on-came.ensures.served,
+  stops_so c.go_on-came.new.self (RefusesToBegin c.args.awaited.now c.go_on-came.new.self) c.go_on-came.result c.go_on-came.ensures.refused,
+)
