@@ -5,3 +5,4 @@ pub mod Queues
 pub mod Indexed
 pub mod Places
 pub mod Runs
+pub mod PageHash

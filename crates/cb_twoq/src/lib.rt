@@ -3,6 +3,7 @@
 
 mod chooser;
 mod lists;
+mod page_hash;
 mod plain;
 mod runs;
 mod slot;
@@ -10,6 +11,7 @@ mod twoq;
 
 pub use chooser::{ChooseFault, Chooser};
 pub use lists::Lists;
+pub use page_hash::{PageCache, PageHash, PageHasher};
 pub use plain::{PlainTwoQ, is_on, oldest_unfixed, take_off};
 pub use runs::{Answer, run_refs};
 pub use twoq::{Parts, TwoQ};

@@ -14,13 +14,13 @@ ghost use Rattle.cb_twoq.specs.Indexed.{cached};
 
 use crate::chooser::{ChooseFault, Chooser};
 use crate::lists::Lists;
+use crate::page_hash::PageCache;
 use crate::twoq::newcomers::bring_in;
 use crate::twoq::places::{Place, place_of, put_place};
 use crate::twoq::queues::IndexedQueues;
 use crate::twoq::steps::{copied, reversed};
 use cb_page::{Limits, PageNo, PageSet};
 use indexmap::IndexSet;
-use lru::LruCache;
 use std::alloc::{AllocError, Global};
 use std::marker::Model;
 
@@ -29,7 +29,7 @@ pub struct Parts<'a> {
     /// Pages in slots, referred to once since they came in; the oldest is first.
     pub a1in: &'a IndexSet<PageNo>,
     /// Pages in slots that came back while they were remembered; the newest is first.
-    pub am: &'a LruCache<PageNo, ()>,
+    pub am: &'a PageCache,
     /// Pages remembered: let go from A1in, and in no slot; the oldest is first.
     pub a1out: &'a IndexSet<PageNo>,
 }

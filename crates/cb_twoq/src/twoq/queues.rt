@@ -9,6 +9,7 @@ ghost use Rattle.cb_twoq.specs.Queues.{enter, renew, forget, members_of};
 ghost use Rattle.cb_twoq.specs.Indexed.{queues_of, place, IsSlotOf, IsOff};
 ghost use Rattle.cb_twoq.specs.Places.{place_in, Out};
 
+use crate::page_hash::{PageCache, PageHash};
 use crate::slot::Slot;
 use crate::twoq::places::{Place, no_places};
 use crate::twoq::steps::{add, first_unfixed, last_unfixed, pop, put, remember, renew, take_off};
@@ -29,7 +30,7 @@ pub(crate) struct IndexedQueues {
     pub(crate) kin: usize,
     pub(crate) kout: usize,
     pub(crate) a1in: IndexSet<PageNo>,
-    pub(crate) am: LruCache<PageNo, ()>,
+    pub(crate) am: PageCache,
     pub(crate) a1out: IndexSet<PageNo>,
     pub(crate) places: Vec<Place>,
 }
@@ -54,7 +55,7 @@ impl IndexedQueues {
             kin,
             kout,
             a1in: IndexSet::with_capacity(alloc, cap.get())?,
-            am: LruCache::new(alloc, cap)?,
+            am: LruCache::with_hasher(alloc, cap, PageHash)?,
             a1out: IndexSet::with_capacity(alloc, kout.saturating_add(1))?,
             places: no_places(alloc)?,
         })

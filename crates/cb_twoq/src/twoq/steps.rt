@@ -8,9 +8,9 @@ ghost use Rattle.cb_twoq.specs.Pages.{has, without};
 ghost use Rattle.cb_twoq.specs.Queues.{oldest_unfixed};
 ghost use Rattle.cb_twoq.specs.Indexed.{newest_first, cached, renewed};
 
+use crate::page_hash::PageCache;
 use cb_page::{PageNo, PageSet};
 use indexmap::IndexSet;
-use lru::LruCache;
 use std::alloc::{AllocError, Global};
 
 /// Whether a page is in a set.
@@ -73,7 +73,7 @@ pub(crate) fn first_unfixed(pages: &[PageNo], fixed: &PageSet) -> Option<PageNo>
 ///
 /// It stays a call of its own, so that a reference to a page of A1in is short.
 #[inline(never)]
-pub(crate) fn renew(cache: &mut LruCache<PageNo, ()>, page: PageNo)
+pub(crate) fn renew(cache: &mut PageCache, page: PageNo)
     ensures pages { cached cache.new ≡ renewed page (cached cache.old) }
     ensures cap { cache.new.cap ≡ cache.old.cap }
 {
@@ -81,7 +81,7 @@ pub(crate) fn renew(cache: &mut LruCache<PageNo, ()>, page: PageNo)
 }
 
 /// Puts a page at the head of a cache that has room for it.
-pub(crate) fn put(cache: &mut LruCache<PageNo, ()>, page: PageNo) -> Result<(), AllocError>
+pub(crate) fn put(cache: &mut PageCache, page: PageNo) -> Result<(), AllocError>
     requires out { has (cached cache.old) page ≡ false }
     requires room { length (cached cache.old) < cache.old.cap }
     ensures ok { OnOk result (cached cache.new ≡ page ∷ cached cache.old) }
@@ -95,7 +95,7 @@ pub(crate) fn put(cache: &mut LruCache<PageNo, ()>, page: PageNo) -> Result<(), 
 }
 
 /// Takes a page out of a cache.
-pub(crate) fn pop(cache: &mut LruCache<PageNo, ()>, page: PageNo)
+pub(crate) fn pop(cache: &mut PageCache, page: PageNo)
     ensures pages { cached cache.new ≡ without page (cached cache.old) }
     ensures cap { cache.new.cap ≡ cache.old.cap }
 {
@@ -103,7 +103,7 @@ pub(crate) fn pop(cache: &mut LruCache<PageNo, ()>, page: PageNo)
 }
 
 /// The oldest page of a cache that isn't fixed.
-pub(crate) fn last_unfixed(cache: &LruCache<PageNo, ()>, fixed: &PageSet) -> Option<PageNo>
+pub(crate) fn last_unfixed(cache: &PageCache, fixed: &PageSet) -> Option<PageNo>
     ensures { result ≡ oldest_unfixed fixed.now (cached cache.now) }
 {
     let mut rest = cache.iter();
@@ -126,7 +126,7 @@ pub(crate) fn reversed(alloc: Global, pages: &[PageNo]) -> Result<Vec<PageNo>, A
 }
 
 /// A copy of a cache's pages, newest first.
-pub(crate) fn copied(alloc: Global, cache: &LruCache<PageNo, ()>) -> Result<Vec<PageNo>, AllocError>
+pub(crate) fn copied(alloc: Global, cache: &PageCache) -> Result<Vec<PageNo>, AllocError>
     ensures { IfOk result (λ copy. copy.items ≡ cached cache.now) }
 {
     let mut copy = Vec::with_capacity(alloc, cache.len())?;
