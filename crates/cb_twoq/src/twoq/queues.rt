@@ -50,14 +50,23 @@ impl IndexedQueues {
         let Some(cap) = slots.checked_add(1).and_then(NonZeroUsize::new) else {
             return Err(AllocError);
         };
+        // One exit for all four: at each it has to be proved that what was made is let go.
+        let (Ok(places), Ok(a1in), Ok(am), Ok(a1out)) = (
+            no_places(alloc),
+            IndexSet::with_capacity(alloc, cap.get()),
+            LruCache::with_hasher(alloc, cap, PageHash),
+            IndexSet::with_capacity(alloc, kout.saturating_add(1)),
+        ) else {
+            return Err(AllocError);
+        };
         Ok(IndexedQueues {
             slots,
             kin,
             kout,
-            a1in: IndexSet::with_capacity(alloc, cap.get())?,
-            am: LruCache::with_hasher(alloc, cap, PageHash)?,
-            a1out: IndexSet::with_capacity(alloc, kout.saturating_add(1))?,
-            places: no_places(alloc)?,
+            a1in,
+            am,
+            a1out,
+            places,
         })
     }
 
