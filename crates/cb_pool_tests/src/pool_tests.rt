@@ -8,7 +8,7 @@ use crate::draw::Draw;
 use crate::{Called, Recorder};
 use Seen::{Byte, Full, Gone, Memory, No, Nothing, Yes};
 use Step::{Fix, Hit, HitThenPeek, Peek, Put, Remove, Room, UnfixAll, Write};
-use cb_page::{Limits, Page, PageNo};
+use cb_page::{Limits, Page, PageNo, PageSet};
 use cb_pool::{Pool, PoolFault};
 use cb_twoq::{Chooser, TwoQ};
 use std::alloc::{AllocError, Global};
@@ -315,27 +315,54 @@ fn recorded<Q: Chooser>(alloc: Global, limits: &Limits) -> Result<Pool<Recorder<
     Pool::new(alloc, recorder, limits)
 }
 
-/// Whether drawn calls of such a pool call its chooser for those that have to, and for no other.
-fn are_recorded<Q: Chooser>(alloc: Global, pool: &mut Pool<Recorder<Q>>) -> Result<bool, AllocError>
+/// The same after a restart, over another such chooser with another call on its list. Page 0 is
+/// handed in, which isn't here.
+fn recorded_again<Q: Chooser>(
+    alloc: Global,
+    limits: &Limits,
+) -> Result<Pool<Recorder<Q>>, AllocError>
+    ensures { IfOk result (λ pool.
+        pool ≡ empty_pool limits.now.slots limits.now.pages limits.now.page_size) }
+{
+    let mut recorder = Recorder::<Q>::make(alloc, limits)?;
+    recorder.note(Called::Forget(PageNo::new(6)));
+    let mut pages = PageSet::new(alloc, limits.pages() as usize)?;
+    pages.insert(PageNo::new(0));
+    let mut pool = recorded(alloc, limits)?;
+    pool.restart(recorder, &pages);
+    Ok(pool)
+}
+
+/// Whether drawn calls of such a pool call its chooser for those that have to, and for no other,
+/// after the one on its list.
+fn are_recorded<Q: Chooser>(
+    alloc: Global,
+    pool: &mut Pool<Recorder<Q>>,
+    noted: u32,
+) -> Result<bool, AllocError>
     requires pages { 8 ≤ length pool.old.fixed }
     requires size { pool.old.page_size ≡ 16 }
+    requires noted { noted < 8 }
 {
     let mut wanted = Vec::new(alloc);
-    wanted.push(Called::Forget(PageNo::new(5)))?;
+    wanted.push(Called::Forget(PageNo::new(noted)))?;
     play_drawn(alloc, pool, &mut wanted)?;
     Ok(pool.chooser().calls() == wanted.as_slice())
 }
 
-/// The same from a new pool on.
+/// The same from a new pool on, and from a restart.
 fn calls_are_recorded<Q: Chooser>(alloc: Global) -> Result<bool, AllocError> {
     match Limits::new(1, 8, 16, 4, 1, 4) {
-        Ok(limits) => are_recorded(alloc, &mut recorded::<Q>(alloc, &limits)?),
+        Ok(limits) => Ok(
+            are_recorded(alloc, &mut recorded::<Q>(alloc, &limits)?, 5)?
+                && are_recorded(alloc, &mut recorded_again::<Q>(alloc, &limits)?, 6)?,
+        ),
         Err(_) => Ok(false),
     }
 }
 
-/// Three thousand drawn calls: the chooser that was handed in is called for those that have to, and
-/// for no other.
+/// Three thousand drawn calls: the chooser that was handed in, to a new pool or to a restart, is
+/// called for those that have to, and for no other.
 #[test]
 fn calls_of_the_chooser(rt: HostRuntime) -> Result<(), Fail> {
     assert!(rt; calls_are_recorded::<TwoQ>(rt.alloc())?);
