@@ -1,3 +1,4 @@
+use Rattle.std.proofs.Common.{rules}
 use Rattle.cb_worker.proofs.Staying.{after, commits_still}
 use Rattle.cb_worker.proofs.worker.Worker.begin_finish.Goals as goal
 
@@ -9,3 +10,6 @@ pub returns-clause-still : goal.returns-clause-still
 returns-clause-still g c =
     after c.args.self.now c.commit_at-committed.new.self c.go_on.new.self (after c.args.self.now c.serve_at.new.self c.commit_at-committed.new.self c.serve_at.ensures.still (commits_still c.serve_at.new.self c.commit_at-committed.new.self _ _ c.commit_at-committed.result c.commit_at-committed.ensures))
     c.go_on.ensures.still
+
+pub returns-clause-comes : goal.returns-clause-comes
+returns-clause-comes g c = search rules
