@@ -14,7 +14,7 @@ use std::hash::{BuildHasher, Hasher};
 /// which is for keys of any length.
 pub type PageCache = LruCache<PageNo, (), PageHash>;
 
-/// 2^64 divided by the golden ratio: its products with numbers at equal distances are spread evenly.
+/// 2^64 divided by the golden ratio: it spreads numbers at equal distances evenly.
 const MULTIPLIER: u64 = 0x9E37_79B9_7F4A_7C15;
 
 /// What was written: its bytes are the digits of a number, of which 64 bits are kept.
