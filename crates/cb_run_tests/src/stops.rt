@@ -32,13 +32,15 @@ enum Stopping {
     Database,
 }
 
-/// Counts the jobs that were answered as done. As the first job begins, writes are set to be
-/// refused.
+/// Counts the jobs that were answered as done. As the first job begins, or each, writes are set to
+/// be refused.
 #[derive(Drop)]
 pub(crate) struct Answered {
     pub(crate) count: AtomicU64,
     /// How many writes are to be refused from the first job on.
     refusals: u64,
+    /// Whether so many are to be refused from each job on.
+    at_each: bool,
     /// How often the gate was asked.
     asked: AtomicU64,
     /// How many writes are left to be refused.
@@ -51,6 +53,7 @@ impl Answered {
         Answered {
             count: AtomicU64::new(0),
             refusals,
+            at_each: false,
             asked: AtomicU64::new(0),
             left: AtomicU64::new(0),
         }
@@ -59,7 +62,8 @@ impl Answered {
 
 impl Gate for Answered {
     fn before_job(&self, _client: ClientNo, _job: u64) -> Turn {
-        if self.asked.fetch_add(1, Ordering::SeqCst) == 0 {
+        let is_first = self.asked.fetch_add(1, Ordering::SeqCst) == 0;
+        if is_first || self.at_each {
             self.left.store(self.refusals, Ordering::SeqCst);
         }
         Turn::Go
@@ -217,16 +221,19 @@ fn store_that_stops_at_each_call(rt: HostRuntime) -> Result<(), Fail> {
     Ok(())
 }
 
-/// What comes of a run of which so many writes of the log are refused, from the first job on.
+/// What comes of a run of which so many writes of the log are refused, from the first job on or
+/// from each.
 fn refused_so_often<R: Threads + Wait + Sync>(
     rt: &R,
     alloc: Global,
     config: &Config,
     refusals: u64,
+    at_each: bool,
 ) -> Came
     requires { config.now.limits.keep_write ≡ false }
 {
-    let answered = Answered::none(refusals);
+    let mut answered = Answered::none(refusals);
+    answered.at_each = at_each;
     let files = new_disks(alloc, u64::MAX, u64::MAX, Some(&answered.left));
     came_over(rt, alloc, config, &answered, files)
 }
@@ -235,9 +242,17 @@ fn refused_so_often<R: Threads + Wait + Sync>(
 fn third_refusal_is_the_last(rt: HostRuntime) -> Result<(), Fail> {
     let config = config_of(2, 16, JOBS / 2)?;
     for refusals in 0..3 {
-        assert!(rt; refused_so_often(&rt, rt.alloc(), &config, refusals) == Came::Whole);
+        assert!(rt; refused_so_often(&rt, rt.alloc(), &config, refusals, false) == Came::Whole);
     }
-    assert!(rt; refused_so_often(&rt, rt.alloc(), &config, 3) == Came::Stopped);
+    assert!(rt; refused_so_often(&rt, rt.alloc(), &config, 3, false) == Came::Stopped);
+    Ok(())
+}
+
+#[test]
+fn refusals_with_batches_between_do_not_add_up(rt: HostRuntime) -> Result<(), Fail> {
+    // One client waits for its batch before its next job, so that each batch has one job.
+    let config = config_of(1, 16, JOBS)?;
+    assert!(rt; refused_so_often(&rt, rt.alloc(), &config, 2, true) == Came::Whole);
     Ok(())
 }
 
