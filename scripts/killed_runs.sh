@@ -24,7 +24,7 @@ build_told() {
   cp -r --preserve=timestamps "$top/crates" "$copy/"
   mkdir -p "$copy/crates/killed_runs/src"
   cp "$top/crates.txt" "$copy/"
-  echo "killed_runs: cb_page cb_jobs cb_progress cb_run anyhow" >>"$copy/crates.txt"
+  echo "killed_runs: cb_page cb_jobs cb_run anyhow" >>"$copy/crates.txt"
   cp "$top/scripts/killed_runs/main.txt" "$copy/crates/killed_runs/src/main.rt"
   (cd "$copy/crates/killed_runs" && "${RT:-rt}" run -- none none >"$room/said" 2>&1)
   told=$copy/crates/killed_runs/out/killed_runs

@@ -5,7 +5,7 @@ and the lines that its play prints, which tell the lists' bounds Kin and Kout fr
     scripts/model_of_2q.py schedule KIN KOUT     the schedule
     scripts/model_of_2q.py lines KIN KOUT        the lines, but the two at the end
 
-cb_examples has both for 4 slots, Kin 2 and Kout 4 (two_clients_let_go_by_kin_and_kout)."""
+cb_play has both for 4 slots, Kin 2 and Kout 4 (two_clients_let_go_by_kin_and_kout)."""
 import sys
 
 SLOTS = 4

@@ -1,7 +1,6 @@
 """Refuses each growth of lists that are played to one side; `refused_calls.sh` says how it is called."""
 import gzip
 import os
-import re
 import subprocess
 import sys
 from collections import Counter
@@ -15,7 +14,7 @@ KINDS = {
     65: "Welcome", 66: "Granted", 67: "MayWrite", 68: "Callback", 69: "Done", 70: "AbortNow", 71: "Downgrade",
 }
 # How a list ends where the program was refused memory for itself.
-OWN_END = (1, "Error: Kind(OutOfMemory)")
+OWN_END = (4, "memory")
 # What came of a refused growth.
 WITHIN, PROGRAM_S, OTHER = "within the side", "the program's own", "ANOTHER END"
 
@@ -26,11 +25,8 @@ def played(lines, refused=0):
     with NamedTemporaryFile("w", suffix=".list") as it:
         it.write("\n".join(lines) + "\n")
         it.flush()
-        done = subprocess.run([PROGRAM, f"sides {it.name}"], env=with_it, capture_output=True, text=True, timeout=60)
+        done = subprocess.run([PROGRAM, "sides", it.name], env=with_it, capture_output=True, text=True, timeout=60)
     *said, growths, _ = done.stderr.split("\n")
-    ended = re.fullmatch(r"sides [^\n]*\n(.*?)(?:(Error: [^\n]*)\n)?status (\d+)\n", done.stdout, re.DOTALL)
-    if ended and not done.returncode and not said:
-        return int(ended[3]), ended[1], ended[2] or "", int(growths)
     return done.returncode, done.stdout, "\n".join(said), int(growths)
 
 

@@ -15,6 +15,6 @@ library=$(mktemp --suffix .so)
 trap 'rm -f "$library"' EXIT
 "${CC:-cc}" -shared -fPIC -O2 -o "$library" "$top/scripts/refused_calls/refuse.c" -ldl || exit 1
 if [ $# = 0 ]; then
-  set -- "$top/crates/cb_examples/data/short_00" "$top/crates/cb_examples/data/short_kept_03"
+  set -- "$top/crates/cb_play/data/short_00" "$top/crates/cb_play/data/short_kept_03"
 fi
 python3 "$top/scripts/refused_plays.py" "$program" "$library" "$@" draw

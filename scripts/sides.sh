@@ -8,9 +8,9 @@
 # those that its answers tell of, and 2 where the program isn't proved or built. RT is the command, `rt` if it isn't set.
 set -u
 top=$(cd "$(dirname "$0")/.." && pwd)
-program="$top/crates/cb_examples/out/cb_examples"
-(cd "$top/crates/cb_examples" && "${RT:-rt}" run -- --version </dev/null >/dev/null 2>&1)
-[ -x "$program" ] || { echo "cb_examples: not built" >&2; exit 2; }
+program="$top/crates/cb_play/out/cb_play"
+(cd "$top/crates/cb_play" && "${RT:-rt}" run -- --version </dev/null >/dev/null 2>&1)
+[ -x "$program" ] || { echo "cb_play: not built" >&2; exit 2; }
 list=$(mktemp) answers=$(mktemp)
 trap 'rm -f "$list" "$answers"' EXIT
 bad=0
@@ -19,9 +19,7 @@ for file in "$@"; do
     *.gz) gzip -dc "$file" >"$list" ;;
     *) cat "$file" >"$list" ;;
   esac || { bad=1; continue; }
-  # The first line is the word itself, the last one the status; what ended the list before its end is no answer.
-  "$program" "sides $list" | sed '1d;$d' >"$answers"
-  ! grep -o 'Error: .*' "$answers" >&2 || sed -i 's/Error: .*//' "$answers"
+  "$program" sides "$list" >"$answers" || bad=1
   ! grep '^references differ' "$answers" || bad=1
   # What is said of references stands in no list that is handed in.
   sed -i '/^references /d' "$answers"

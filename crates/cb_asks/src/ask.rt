@@ -8,7 +8,6 @@ use std::marker::Model;
 ///
 /// It can't be copied, and can't be let go unspent: it was granted, its client's transaction was
 /// doomed for it, or is gone.
-#[derive(Debug)]
 pub struct Ask {
     client: ClientNo,
     write_grant: Option<GrantNo>,

@@ -21,7 +21,6 @@ use crate::spare::Spare;
 use cb_clients::ClientSet;
 use cb_page::{ClientNo, GrantNo, Limits, PageNo, TxnNo};
 use std::alloc::{AllocError, Global};
-use std::fmt;
 use std::marker::Model;
 
 /// The queues of asks of all pages. A client has at most one ask over all of them.
@@ -41,12 +40,6 @@ impl Drop for Asks {
             places: _,
             spare: _,
         } = self;
-    }
-}
-
-impl fmt::Debug for Asks {
-    fn fmt<W: fmt::Write>(&self, f: &mut fmt::Formatter<W>) -> fmt::Result {
-        f.debug_struct("Asks").finish_non_exhaustive()
     }
 }
 

@@ -12,7 +12,6 @@ use std::marker::Model;
 /// Which client said, when it was called back for a page, that its transaction uses it.
 ///
 /// Only `new` takes memory.
-#[derive(Debug)]
 pub struct Marks {
     by_client: Vec<PageSet>,
     by_page: Vec<ClientSet>,

@@ -15,11 +15,10 @@ use crate::spare::Spare;
 use cb_page::{ClientNo, GrantNo, TxnNo};
 use indexmap::IndexMap;
 use std::alloc::AllocError;
-use std::fmt;
 use std::marker::Model;
 
 /// An ask that waits.
-#[derive(Clone, Copy, Debug, PartialEq, Eq)]
+#[derive(Clone, Copy)]
 pub struct Waiting {
     pub client: ClientNo,
     /// The grant of the copy that it asks to write; `None`: it asks to read.
@@ -59,14 +58,6 @@ impl Entry {
 pub struct Queue {
     /// By client. `None`: nobody waits.
     entries: Option<Box<IndexMap<Key, Entry>>>,
-}
-
-impl fmt::Debug for Queue {
-    fn fmt<W: fmt::Write>(&self, f: &mut fmt::Formatter<W>) -> fmt::Result {
-        f.debug_struct("Queue")
-            .field("len", &self.len())
-            .finish_non_exhaustive()
-    }
 }
 
 impl Model for Queue {

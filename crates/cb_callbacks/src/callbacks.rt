@@ -29,7 +29,6 @@ use std::alloc::{AllocError, Global};
 use std::marker::Model;
 
 /// A page server's tables, and who waits for whom.
-#[derive(Debug)]
 pub struct Callbacks {
     tables: Tables,
     view: View,

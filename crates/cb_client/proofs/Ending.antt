@@ -2,7 +2,7 @@
 use Rattle.std.proofs.Common.{◌≡◌, ℕ, true, List, ◌∷◌, [], ◌++◌, Option, Some, None, unwrap_or, refl, sym, ◌∙◌, ap}
 use Rattle.std.specs.Option.{option_map}
 use Rattle.cb_copies.specs.CopiesState.{CopiesState}
-use Rattle.cb_ending.specs.Ending.{pages_steps}
+use Rattle.cb_copies.specs.Ending.{pages_steps}
 use Rattle.cb_frame_types.specs.declared.frame.Frame.{Frame}
 use Rattle.cb_locks.specs.Locks.{LocksState}
 use Rattle.cb_outbox.specs.Messages.{messages_of}

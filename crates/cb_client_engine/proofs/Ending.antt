@@ -23,9 +23,9 @@ use Rattle.cb_copies.specs.CopiesState.{CopiesState, content_at, copy_at}
 use Rattle.cb_locks.specs.Dues.{called_by, is_due, nothing_due}
 use Rattle.cb_locks.specs.Locks.{LocksState, due_at, ended}
 use Rattle.cb_locks.specs.declared.dues.PageDue.{PageDue}
-use Rattle.cb_ending.specs.Ending.{Ends, all_sent_by, pages_steps}
-use Rattle.cb_ending.specs.Owing.{OwesLocked, holder}
-use Rattle.cb_ending.proofs.Walk.{pages_by_sight}
+use Rattle.cb_copies.specs.Ending.{Ends, all_sent_by, pages_steps}
+use Rattle.cb_copies.specs.Owing.{OwesLocked, holder}
+use Rattle.cb_copies.proofs.Walk.{pages_by_sight}
 use Rattle.cb_client_engine.specs.ClientState.{ClientState, IsClient, IsReached, base_of, client_of}
 use Rattle.cb_client_engine.specs.declared.standing.Ask.TheVariants as asks
 use Rattle.cb_client_engine.specs.declared.standing.Outcome.{Outcome}

@@ -23,8 +23,8 @@ use Rattle.cb_copies.proofs.Changing.{put_entry}
 use Rattle.cb_copies.proofs.Steps.{goes_before}
 use Rattle.cb_locks.specs.Dues.{called_by}
 use Rattle.cb_locks.specs.Locks.{due_at}
-use Rattle.cb_ending.specs.Ending.{all_sent_by}
-use Rattle.cb_ending.proofs.Walk.{does_then}
+use Rattle.cb_copies.specs.Ending.{all_sent_by}
+use Rattle.cb_copies.proofs.Walk.{does_then}
 use Rattle.cb_client_engine.specs.ClientState.{ClientState, IsClient, ask_of, base_of, client_of, locks_with}
 use Rattle.cb_client_engine.specs.GrantCases.{after_gone, case_at, case_held, gone_steps, said_of_gone}
 use Rattle.cb_client_engine.specs.declared.engine.granted.GrantCase.TheVariants as cases

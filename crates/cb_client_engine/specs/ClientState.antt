@@ -24,7 +24,7 @@ use Rattle.cb_client_engine.specs.declared.standing.Outcome.TheVariants as outco
 use Rattle.cb_client_engine.specs.declared.standing.Stage.{Stage}
 use Rattle.cb_client_engine.specs.declared.standing.Stage.TheVariants as stages
 -- the client with what its locks say, and a downgrade that is due
-pub use Rattle.cb_ending.specs.Owing.{downgrade_of, locks_with}
+pub use Rattle.cb_copies.specs.Owing.{downgrade_of, locks_with}
 
 -- One incarnation of a client: its number and its own, whether the Welcome came, the last
 -- transaction and where it is, the ask that is out, the last transaction dropped or aborted and how

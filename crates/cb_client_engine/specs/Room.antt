@@ -1,7 +1,7 @@
 -- How many frames a client makes room for at a message, and which messages may need memory of its
 -- pool beside.
 use Rattle.std.specs.Prelude.{if◌then◌else◌, ◌+◌, ℕ, Bool, true, false, not, ◌&&◌, []}
-use Rattle.cb_ending.specs.Room.{room_below}
+use Rattle.cb_copies.specs.Room.{room_below}
 use Rattle.cb_locks.specs.Dues.{bit}
 use Rattle.cb_pool.specs.PoolState.{has_free_slot}
 use Rattle.cb_protocol.specs.ClientMessages.{of_committing_txn, of_open_txn}

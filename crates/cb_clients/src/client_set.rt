@@ -7,7 +7,7 @@ use std::marker::Model;
 /// A set of clients. In contracts it is asked of each client whether it is in.
 ///
 /// No call costs more than a few machine steps, and none takes memory.
-#[derive(Clone, Copy, Debug, PartialEq, Eq)]
+#[derive(Clone, Copy, PartialEq, Eq)]
 pub struct ClientSet {
     /// Bit `client` is 1 where the client is in the set.
     bits: u32,

@@ -6,7 +6,7 @@ use cb_page::{CommitNo, Page, PageNo, Version};
 use std::marker::Model;
 
 /// A page as it is to be written.
-#[derive(Debug, Drop)]
+#[derive(Drop)]
 pub struct BatchPage {
     pub page: PageNo,
     pub version: Version,
@@ -17,7 +17,6 @@ pub struct BatchPage {
 /// it.
 ///
 /// The pages rise, and no version is above the number.
-#[derive(Debug)]
 pub struct Batch {
     number: CommitNo,
     pages: Vec<BatchPage>,

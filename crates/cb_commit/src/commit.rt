@@ -6,7 +6,7 @@ use cb_frame::{Frame, ShortBody, ShortFrame, Writes};
 use cb_page::{ClientNo, CommitNo, Incarnation, TxnNo};
 
 /// A transaction that was committed, with the pages that it wrote.
-#[derive(Debug, Drop)]
+#[derive(Drop)]
 pub struct Commit {
     pub client: ClientNo,
     pub incarnation: Incarnation,

@@ -20,7 +20,6 @@ use std::marker::Model;
 /// on disk.
 ///
 /// Commit numbers go on from the opening store's. The commits are kept for good.
-#[derive(Debug)]
 pub struct Commits {
     opening: Store,
     store: Store,

@@ -12,7 +12,7 @@ use std::alloc::{AllocError, Global};
 use std::marker::Model;
 
 /// A page and the number of the commit that wrote it last.
-#[derive(Debug, Drop)]
+#[derive(Drop)]
 pub struct StoredPage {
     /// 0 where no commit has written the page.
     pub version: Version,
@@ -22,7 +22,6 @@ pub struct StoredPage {
 /// A fixed number of pages of one size, each with its version.
 ///
 /// No version is above the number of the last commit in the store.
-#[derive(Debug)]
 pub struct Store {
     page_size: usize,
     pages: Vec<StoredPage>,

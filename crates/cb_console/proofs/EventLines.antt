@@ -12,7 +12,7 @@ use Rattle.std.specs.Str.{all_ascii_digits, bytes_eq}
 use Rattle.std.specs.Str.Parse.{digits_value}
 use Rattle.cb_page.specs.Bounds.{Bounds}
 use Rattle.cb_page.specs.Faults.{first_fault}
-use Rattle.cb_pieces.specs.Pieces.{is_blank, is_number, is_text, is_text_byte, number_of, words_of}
+use Rattle.cb_event.specs.Pieces.{is_blank, is_number, is_text, is_text_byte, number_of, words_of}
 use Rattle.cb_event.specs.Commands.{command_named}
 use Rattle.cb_event.specs.ScheduleText.{event_of_line, line_causes, words_causes}
 use Rattle.cb_event.specs.declared.event.Call.{Call}

@@ -12,9 +12,8 @@ use crate::statuses::{DONE, NO_MEMORY, NOT_SERIAL, WRONG_INPUT};
 use cb_commit::Store;
 use cb_event::{Event, ScheduleFault, read_schedule};
 use cb_page::Limits;
-use cb_serial::{Verdict, check_serial};
 use cb_settings::{ConfigFault, read_config};
-use cb_transcript::Transcript;
+use cb_transcript::{Transcript, Verdict, check_serial};
 use cb_twoq::TwoQ;
 use cb_world::World;
 use std::alloc::{AllocError, Global};
@@ -23,7 +22,7 @@ use std::io::Write;
 use std::{fmt, io};
 
 /// Why a schedule isn't played. The text is the program's line of it.
-#[derive(Debug, Drop)]
+#[derive(Drop)]
 pub enum ReadFault {
     Config(ConfigFault),
     Schedule(ScheduleFault),
@@ -75,7 +74,7 @@ impl From<AllocError> for ReadFault {
 }
 
 /// How far a schedule was played.
-#[derive(Debug, Drop)]
+#[derive(Drop)]
 pub enum Play {
     /// To its end.
     Whole(Transcript),

@@ -3,8 +3,9 @@
 use cb_commit::Store;
 use cb_event::{Call, Event};
 use cb_page::{ClientNo, Incarnation, Limits, Page, PageNo, TxnNo};
-use cb_serial::{Verdict, check_serial};
-use cb_transcript::{Answer, AnswerWord, TransactionName, Transcript, TranscriptEntry};
+use cb_transcript::{
+    Answer, AnswerWord, TransactionName, Transcript, TranscriptEntry, Verdict, check_serial,
+};
 use std::alloc::{AllocError, Global};
 
 /// So many transactions, of the clients in turn: each reads and writes sixteen pages, and all of

@@ -3,8 +3,9 @@
 use cb_commit::Store;
 use cb_event::{Call, Event};
 use cb_page::{ClientNo, Incarnation, Limits, Page, PageNo, TxnNo};
-use cb_serial::{Verdict, check_serial};
-use cb_transcript::{Answer, AnswerWord, TransactionName, Transcript, TranscriptEntry};
+use cb_transcript::{
+    Answer, AnswerWord, TransactionName, Transcript, TranscriptEntry, Verdict, check_serial,
+};
 use std::alloc::Global;
 
 /// What became of an event: by client, page, and the byte all over the page.

@@ -1,5 +1,9 @@
-pub mod Known
 pub mod Changing
-pub mod Steps
+pub mod Ends
 pub mod Keeping
+pub mod Known
+pub mod PageSteps
 pub mod PoolRoom
+pub mod Room
+pub mod Steps
+pub mod Walk

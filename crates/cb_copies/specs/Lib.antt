@@ -1,4 +1,7 @@
 pub use Rattle.cb_pool.specs.PoolState
-pub mod Rows
-pub mod CopiesState
 pub mod ByTable
+pub mod CopiesState
+pub mod Ending
+pub mod Owing
+pub mod Room
+pub mod Rows

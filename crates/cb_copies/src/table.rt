@@ -8,7 +8,7 @@ use std::alloc::{AllocError, Global};
 use std::marker::Model;
 
 /// What a client knows of a page beside its bytes.
-#[derive(Clone, Copy, Debug)]
+#[derive(Clone, Copy)]
 pub struct PageCopy {
     /// The greatest grant that ever came for the page.
     pub seen: Option<GrantNo>,
@@ -50,7 +50,7 @@ pub(crate) fn greatest_grant(seen: Option<GrantNo>, grant: GrantNo) -> GrantNo
 }
 
 /// What is known of each page. Only `new` takes memory.
-#[derive(Debug, Drop)]
+#[derive(Drop)]
 pub(crate) struct CopyTable {
     rows: Vec<PageCopy>,
     /// The pages of which anything is known.

@@ -10,7 +10,6 @@ use crate::tables::Tables;
 use cb_clients::ClientSet;
 use cb_page::{ClientNo, GrantNo, Limits, PageNo, TxnNo};
 use std::alloc::{AllocError, Global};
-use std::fmt;
 use std::marker::Model;
 
 /// The rows and the write holders of all pages, and the number of the next grant.
@@ -29,14 +28,6 @@ impl Drop for Directory {
             tables: _,
             next_grant: _,
         } = self;
-    }
-}
-
-impl fmt::Debug for Directory {
-    fn fmt<W: fmt::Write>(&self, f: &mut fmt::Formatter<W>) -> fmt::Result {
-        f.debug_struct("Directory")
-            .field("next_grant", &self.next_grant)
-            .finish_non_exhaustive()
     }
 }
 

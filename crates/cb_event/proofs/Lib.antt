@@ -1,1 +1,2 @@
+mod PiecesLemmas
 mod TextLemmas

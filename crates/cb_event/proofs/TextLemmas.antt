@@ -7,7 +7,7 @@ use Rattle.std.proofs.lemmas.List.Elements.{filter_map-append}
 use Rattle.std.proofs.Math.Seq.{take-suc, drop-cons}
 use Rattle.cb_page.specs.Bounds.{Bounds}
 use Rattle.cb_event.specs.ScheduleText.{causes_behind, event_of_line, spelled_of_line, events_of, fault_at, IsSchedule, HasFault, HasEvent, Refuses}
-use Rattle.cb_pieces.specs.Pieces.{lines_of}
+use Rattle.cb_event.specs.Pieces.{lines_of}
 use Rattle.std.specs.List.{cons_option}
 use Rattle.cb_event.specs.declared.text.ScheduleFault.TheVariants as fault
 use Rattle.cb_event.specs.declared.event.Event.{Event}

@@ -1,3 +1,4 @@
-pub mod Events
 pub mod Commands
+pub mod Events
+pub mod Pieces
 pub mod ScheduleText

@@ -37,7 +37,7 @@ use Rattle.cb_page.specs.Bounds.{Bounds}
 use Rattle.cb_page.specs.Faults.{first_fault}
 use Rattle.cb_event.specs.Commands.{Argument, command_of, arguments_of, spelled_by, event_of}
 use Rattle.cb_event.specs.Commands.{are_in_range}
-use Rattle.cb_pieces.specs.Pieces.{lines_of, words_of, is_text, is_number, number_of}
+use Rattle.cb_event.specs.Pieces.{lines_of, words_of, is_text, is_number, number_of}
 use Rattle.cb_event.specs.declared.command.Command.{Command}
 use Rattle.cb_event.specs.declared.command.SpelledEvent.{SpelledEvent}
 use Rattle.cb_event.specs.declared.event.Event.{Event}

@@ -4,11 +4,11 @@ ghost use Rattle.std.specs.Prelude.{nat_lt, IfOk, IfErr, OnOk};
 ghost use Rattle.cb_event.specs.Commands.{Byte, Client, Page};
 ghost use Rattle.cb_event.specs.ScheduleText.{Gives, argument_causes};
 ghost use Rattle.cb_page.specs.Faults.{first_fault};
-ghost use Rattle.cb_pieces.specs.Pieces.{is_number, number_of, words_of};
+ghost use Rattle.cb_event.specs.Pieces.{is_number, number_of, words_of};
 
+use crate::pieces::{number_of, split_word};
 use crate::text::ScheduleFault;
 use cb_page::{ClientNo, Limits, PageNo};
-use cb_pieces::{number_of, split_word};
 
 /// That there is no word.
 pub(crate) fn no_words(line: u64, words: &[u8]) -> Result<(), ScheduleFault>

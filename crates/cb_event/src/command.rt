@@ -2,11 +2,11 @@
 ghost use Rattle.std.specs.Prelude.{◌≡◌, Some, None, IfOk, OnErr, MatchOption};
 ghost use Rattle.cb_event.specs.Commands.{command_named, command_of, event_of, told_apart};
 ghost use Rattle.cb_event.specs.Events.{CallsWithBytes};
-ghost use Rattle.cb_pieces.specs.Pieces.{words_of};
+ghost use Rattle.cb_event.specs.Pieces.{words_of};
 
 use crate::event::{Call, Event};
+use crate::pieces::split_word;
 use cb_page::{ClientNo, Limits, Page, PageNo};
-use cb_pieces::split_word;
 use std::alloc::{AllocError, Global};
 
 /// What a line says, but for the numbers behind it.

@@ -1,4 +1,5 @@
-//! Events, and the schedules that are lists of them.
+//! Events, the schedules that are lists of them, and the pieces of a text: its lines, the words of
+//! a line, and the number that a word spells.
 //!
 //! An event is a call of a client, a packet that is taken by its addressee, a client's restart, or
 //! what is left to the server: to send again, and that commits are on the disk. [`read_schedule`]
@@ -8,7 +9,9 @@
 mod arguments;
 mod command;
 mod event;
+mod pieces;
 mod text;
 
 pub use event::{Call, Event};
+pub use pieces::{is_text, number_of, split_line, split_word};
 pub use text::{ScheduleFault, read_schedule};

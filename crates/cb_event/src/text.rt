@@ -4,7 +4,7 @@ ghost use Rattle.std.specs.Prelude.{OnOk, IsSome, MatchResult};
 ghost use Rattle.std.specs.Option.{option_to_list};
 ghost use Rattle.cb_page.specs.Faults.{first_fault};
 ghost use Rattle.cb_event.specs.Commands.{arguments_of, spelled_by};
-ghost use Rattle.cb_pieces.specs.Pieces.{number_of, words_of};
+ghost use Rattle.cb_event.specs.Pieces.{number_of, words_of};
 ghost use Rattle.cb_event.specs.ScheduleText.{Gives, is_comment, argument_causes, line_causes};
 ghost use Rattle.cb_event.specs.ScheduleText.{causes_behind, event_of_line, spelled_of_line};
 ghost use Rattle.cb_event.specs.ScheduleText.{IsSchedule, Refuses};
@@ -16,8 +16,8 @@ use crate::arguments::{
 };
 use crate::command::{Command, SpelledEvent, command_of};
 use crate::event::{Call, Event};
+use crate::pieces::{is_text, split_line, split_word};
 use cb_page::Limits;
-use cb_pieces::{is_text, split_line, split_word};
 use std::alloc::{AllocError, AllocFailed, Global};
 use thiserror::Error;
 

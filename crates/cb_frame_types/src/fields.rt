@@ -8,7 +8,7 @@ use std::alloc::AllocError;
 
 /// The numbers that a body without page bytes has, in the order of its frame. Fifteen kinds have
 /// these seven shapes.
-#[derive(Clone, Copy, Debug)]
+#[derive(Clone, Copy)]
 pub enum Fields {
     Nothing,
     Txn(TxnNo),

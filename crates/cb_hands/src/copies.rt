@@ -11,7 +11,7 @@ use std::alloc::{AllocError, Global};
 use std::marker::Model;
 
 /// What is held of each page. Only `new` takes memory.
-#[derive(Debug, Drop)]
+#[derive(Drop)]
 pub(crate) struct Copies {
     entries: Vec<Option<Held>>,
     /// Of which something is held.

@@ -5,7 +5,7 @@ use cb_page::{GrantNo, Version};
 use std::marker::Model;
 
 /// What a grant says: its number, and the version of the page.
-#[derive(Clone, Copy, Debug, PartialEq, Eq)]
+#[derive(Clone, Copy, PartialEq, Eq)]
 pub struct Held {
     pub grant: GrantNo,
     pub version: Version,
@@ -22,7 +22,6 @@ pub struct Shown {
 
 /// The permission to read one page. It can't be copied or let go: a hand gets it when the server's
 /// grant comes, and spends it when the copy goes.
-#[derive(Debug)]
 pub struct Grant {
     held: Held,
 }

@@ -12,7 +12,6 @@ use std::marker::Model;
 use std::mem;
 
 /// The grants that a client has, by page. Only `new` takes memory.
-#[derive(Debug)]
 pub(crate) struct Grants {
     entries: Vec<Option<Grant>>,
     /// Of which there is a grant.

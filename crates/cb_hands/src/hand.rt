@@ -14,7 +14,6 @@ use std::marker::Model;
 /// transaction was told that it may write.
 ///
 /// It can't be copied or let go; `abandon` ends it. Only `new` takes memory.
-#[derive(Debug)]
 pub struct Hand {
     client: ClientNo,
     incarnation: Incarnation,

@@ -12,7 +12,6 @@ use std::marker::Model;
 
 /// What is stored of a client's hand: it changes as the hand does, and tells whether a hand is that
 /// one. Only `new` takes memory.
-#[derive(Debug)]
 pub struct StoredHand {
     client: ClientNo,
     incarnation: Incarnation,

@@ -20,7 +20,6 @@ use std::marker::Model;
 /// Sessions, directory and commits of a server.
 ///
 /// `new`, `apply_commit`, `commit_later`, `batch` and `flushed` take memory; no other call does.
-#[derive(Debug)]
 pub struct Holdings {
     keep_write: bool,
     sessions: Sessions,

@@ -1,2 +1,4 @@
 pub mod Counters
+pub mod Outcomes
+pub mod Pauses
 pub mod Tallies

@@ -1,1 +1,5 @@
+pub mod Agreement
 pub mod Joined
+pub mod OwnHand
+pub mod OwnStays
+pub mod Running

@@ -14,7 +14,6 @@ use std::marker::Model;
 /// What is stored of each client's hand, by client. Only `new` takes memory.
 ///
 /// A change of a hand costs what it changes, and a comparison the pages that it holds.
-#[derive(Debug)]
 pub struct JoinedHands {
     entries: Vec<Option<StoredHand>>,
 }

@@ -34,7 +34,7 @@ pub enum Standing {
 }
 
 /// The last transaction of an incarnation that the server heard of.
-#[derive(Clone, Copy, Debug, PartialEq, Eq)]
+#[derive(Clone, Copy)]
 pub enum Transaction {
     NotBegun,
     /// It has begun and not ended. A doomed one is the victim of a deadlock: its client is told to
@@ -136,7 +136,7 @@ impl Transaction {
 }
 
 /// What the server knows of one client.
-#[derive(Clone, Copy, Debug, PartialEq, Eq)]
+#[derive(Clone, Copy)]
 pub struct Session {
     /// None before the client's first Hello.
     pub incarnation: Option<Incarnation>,
@@ -144,7 +144,6 @@ pub struct Session {
 }
 
 /// The session of each client. Only `new` takes memory.
-#[derive(Debug)]
 pub struct Sessions {
     sessions: Vec<Session>,
 }

@@ -8,7 +8,7 @@ use std::alloc::{AllocError, Global};
 use std::marker::Model;
 
 /// A Downgrade that was answered InUse.
-#[derive(Clone, Copy, Debug)]
+#[derive(Clone, Copy)]
 pub struct DueDowngrade {
     pub grant: GrantNo,
     /// The transaction that it named.
@@ -16,7 +16,7 @@ pub struct DueDowngrade {
 }
 
 /// What is due of a page at the transaction's end: its copy, its write permission, both or neither.
-#[derive(Clone, Copy, Debug)]
+#[derive(Clone, Copy)]
 pub struct PageDue {
     /// The grant of a Callback that was answered InUse.
     pub callback: Option<GrantNo>,
@@ -66,7 +66,7 @@ impl PageDue {
 }
 
 /// What is due of each page, and of which pages anything is. Only `new` takes memory.
-#[derive(Debug, Drop)]
+#[derive(Drop)]
 pub(crate) struct Dues {
     entries: Vec<PageDue>,
     pages: PageSet,

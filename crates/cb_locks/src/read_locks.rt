@@ -20,7 +20,6 @@ use std::marker::Model;
 /// Only `new` and `end` take memory. `end` and `restart` cost the pages that are due, and what
 /// [`PageSet`] says of a walk; a caller that has more to say of each page ends the transaction by a
 /// walk over `locked` and `unlock` of each page.
-#[derive(Debug)]
 pub struct ReadLocks {
     client: ClientNo,
     incarnation: Incarnation,

@@ -3,8 +3,8 @@ use Rattle.std.proofs.Common.{◌≡◌, ◌≢◌, true≢false, ◌<◌, ◌�
 use Rattle.std.proofs.lemmas.Bool.{cases_eq, cases_lt}
 use Rattle.std.proofs.lemmas.List.{get_or_past, get_or-replicate, get_or-set_other, get_or-set_same, length-replicate, length-set}
 use Rattle.std.specs.List.{AllByRecursion}
-use Rattle.cb_agreement.proofs.Agreeing.{hands_meet}
-use Rattle.cb_agreement.specs.Agreement.{Meet}
+use Rattle.cb_joined.proofs.Agreeing.{hands_meet}
+use Rattle.cb_joined.specs.Agreement.{Meet}
 use Rattle.cb_commit.specs.History.{CommitsState}
 use Rattle.cb_commit.specs.Stores.{StoreState}
 use Rattle.cb_frame_types.specs.declared.frame.Body.{Body}
@@ -14,9 +14,9 @@ use Rattle.cb_frame_types.specs.declared.frame.ShortBody.TheVariants as short
 use Rattle.cb_frame_types.specs.declared.writes.Write.{Write}
 use Rattle.cb_hands.specs.Hands.{HandState, empty_hand, held_at}
 use Rattle.cb_hands.specs.declared.grant.Held.{Held}
-use Rattle.cb_history.proofs.Noting.{new_server_is_noted}
-use Rattle.cb_history.specs.Running.{Replays}
-use Rattle.cb_history.specs.declared.entry.Entry.{Entry}
+use Rattle.cb_joined.proofs.Noting.{new_server_is_noted}
+use Rattle.cb_joined.specs.Running.{Replays}
+use Rattle.cb_joined.specs.declared.entry.Entry.{Entry}
 use Rattle.cb_holdings.specs.Holdings.{HoldingsState, limits_of, opening_of as opening_in, server_of as holdings_in}
 use Rattle.cb_joined.specs.Joined.{Follow, IsHeld, stored_at}
 use Rattle.cb_office.proofs.Following.{follow_length, has_place}

@@ -2,7 +2,7 @@
 use Rattle.std.proofs.Common.{◌≡◌, ◌<◌, ℕ, suc, ◌+◌, List, ◌∷◌, length, drop, drop-cons, sym, ◌∙◌, ap, arith, Option, Some, None, inl, inr, slice_set, get_or}
 use Rattle.std.proofs.lemmas.Bool.{cases_lt}
 use Rattle.std.proofs.lemmas.List.{get_or_past, length-set, set-get_or, set-set}
-use Rattle.cb_agreement.specs.OwnHand.{all_restamped, pages_written}
+use Rattle.cb_joined.specs.OwnHand.{all_restamped, pages_written}
 use Rattle.cb_frame_types.specs.declared.writes.Write.{Write}
 use Rattle.cb_hands.specs.Hands.{HandState, held_at, restamped}
 use Rattle.cb_hands.specs.declared.grant.Held.{Held}

@@ -3,16 +3,16 @@ use Rattle.std.proofs.Common.{◌≡◌, true≢false, ◌<◌, ◌≤◌, ◌&&
 use Rattle.std.proofs.lemmas.Bool.{cases_lt}
 use Rattle.std.proofs.lemmas.Bool.Decides.{nat_tests}
 use Rattle.std.proofs.lemmas.List.{get_or_past, reverse-append}
-use Rattle.cb_agreement.specs.Agreement.{HasRows}
+use Rattle.cb_joined.specs.Agreement.{HasRows}
 use Rattle.cb_commit.specs.Stores.{StoreState}
 use Rattle.cb_frame_types.specs.Grammar.{page_of}
 use Rattle.cb_frame_types.specs.declared.writes.Write.{Write}
 use Rattle.cb_hands.specs.Hands.{HandState, held_at}
 use Rattle.cb_hands.specs.declared.grant.Held.{Held}
-use Rattle.cb_history.proofs.Noting.{no_other_changes, noted_commit_follows}
-use Rattle.cb_history.specs.Running.{IsLegal, Replays, noted, pages_of}
-use Rattle.cb_history.specs.declared.entry.Entry.{Entry}
-use Rattle.cb_history.specs.declared.entry.Read.{Read}
+use Rattle.cb_joined.proofs.Noting.{no_other_changes, noted_commit_follows}
+use Rattle.cb_joined.specs.Running.{IsLegal, Replays, noted, pages_of}
+use Rattle.cb_joined.specs.declared.entry.Entry.{Entry}
+use Rattle.cb_joined.specs.declared.entry.Read.{Read}
 use Rattle.cb_holdings.specs.Holdings.{AreOf, HoldingsState, limits_of, opening_of as opening_in}
 use Rattle.cb_joined.specs.Joined.{stored_at}
 use Rattle.cb_office.proofs.Keeping.{Step, ledgers}

@@ -1,12 +1,12 @@
 -- A station as the owner of it sees it, and what holds of every station whenever nobody has it.
 use Rattle.std.specs.Prelude.{◌≡◌, ◌<◌, ℕ, true, false, List, length, reverse, Option, Some, IsSome}
-use Rattle.cb_agreement.specs.Agreement.{Agrees}
+use Rattle.cb_joined.specs.Agreement.{Agrees}
 use Rattle.cb_dispatch.specs.Dispatching as dispatching
 use Rattle.cb_dispatch.specs.Dispatching.{DispatcherState}
 use Rattle.cb_frame_types.specs.declared.frame.Frame.{Frame}
 use Rattle.cb_hands.specs.Hands.{HandState, IsHand}
-use Rattle.cb_history.specs.Running.{IsLegal, Replays}
-use Rattle.cb_history.specs.declared.entry.Entry.{Entry}
+use Rattle.cb_joined.specs.Running.{IsLegal, Replays}
+use Rattle.cb_joined.specs.declared.entry.Entry.{Entry}
 use Rattle.cb_joined.specs.Joined.{stored_at}
 use Rattle.cb_page.specs.Flags.{has}
 use Rattle.cb_protocol.specs.Server.{Server}

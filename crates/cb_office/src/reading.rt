@@ -6,7 +6,7 @@ ghost use Rattle.cb_office.specs.Moves.{reads_below};
 
 use cb_frame::Write;
 use cb_hands::Hand;
-use cb_history::Read;
+use cb_joined::Read;
 use cb_page::{PageNo, PageSet, TxnNo};
 use std::alloc::{AllocError, Global};
 

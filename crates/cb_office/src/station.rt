@@ -2,7 +2,7 @@
 ghost use Rattle.std.specs.Prelude.{◌≡◌, ◌≢◌, ◌↔◌, ◌<◌, ℕ, [], true, false, IfErr, IfOk, IfSome};
 ghost use Rattle.std.specs.Prelude.{IsTrue, None, OnOk, Ok, replicate};
 ghost use Rattle.std.specs.Option.{option_map};
-ghost use Rattle.cb_agreement.specs.Agreement.{Meet};
+ghost use Rattle.cb_joined.specs.Agreement.{Meet};
 ghost use Rattle.cb_commit.specs.History.{CatchesUp};
 ghost use Rattle.cb_commit.specs.Stores.{IsOf};
 ghost use Rattle.cb_holdings.specs.Commits.{batch_of};
@@ -23,8 +23,7 @@ use cb_commit::{Batch, Store};
 use cb_dispatch::Dispatcher;
 use cb_frame::Frame;
 use cb_hands::Hand;
-use cb_history::Entry;
-use cb_joined::JoinedHands;
+use cb_joined::{Entry, JoinedHands};
 use cb_page::{ClientNo, Limits};
 use std::alloc::{AllocError, Global};
 use std::marker::Model;

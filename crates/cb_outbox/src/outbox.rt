@@ -12,7 +12,6 @@ use std::mem;
 
 /// Frames in the order in which they are to be sent, and spare pages for the copies that they
 /// carry. Only `reserve` takes memory: it is called before a step, which then can't be refused.
-#[derive(Debug)]
 pub struct Outbox {
     frames: Vec<Frame>,
     spare: Vec<Page>,

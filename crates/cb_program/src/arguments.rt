@@ -6,7 +6,7 @@ use std::alloc::{AllocError, Global};
 use std::convert::AsStr;
 
 /// A schedule to be drawn: the path of the configuration, the seed, and how many events.
-#[derive(Clone, Copy, Debug, PartialEq, Eq)]
+#[derive(Clone, Copy)]
 pub struct DrawRequest<'a> {
     pub config: &'a str,
     pub seed: u64,
@@ -15,7 +15,7 @@ pub struct DrawRequest<'a> {
 
 /// Workers to be run: the paths of the configuration and of the store, and whether it is to be
 /// shown how far they are.
-#[derive(Clone, Copy, Debug, PartialEq, Eq)]
+#[derive(Clone, Copy)]
 pub struct RunRequest<'a> {
     pub config: &'a str,
     pub store: &'a str,
@@ -23,7 +23,7 @@ pub struct RunRequest<'a> {
 }
 
 /// What the command line asks for.
-#[derive(Clone, Copy, Debug, PartialEq, Eq)]
+#[derive(Clone, Copy)]
 pub enum Request<'a> {
     /// Play a schedule: the paths of the configuration and of the schedule.
     Play { config: &'a str, schedule: &'a str },
@@ -31,6 +31,10 @@ pub enum Request<'a> {
     Draw(DrawRequest<'a>),
     /// Run workers.
     Run(RunRequest<'a>),
+    /// Play the lists of frames and calls in the file of this path, each at one side alone.
+    Sides(&'a str),
+    /// Do the command lines in the file of this path.
+    Script(&'a str),
 }
 
 /// The program's version.
@@ -47,6 +51,12 @@ const DRAW_ABOUT: &str =
 
 const RUN_ABOUT: &str =
     "Runs each client on a thread of its own, over the store in a file, until its jobs are done";
+
+const SIDES_ABOUT: &str =
+    "Plays lists of frames and calls at a client or a server alone, and prints what it answers";
+
+const SCRIPT_ABOUT: &str =
+    "Does the command lines of a file one after another, and prints what comes of each";
 
 /// Every seed is below this.
 const SEEDS: i64 = 1 << 62;
@@ -139,6 +149,27 @@ Statuses:
   4  no memory
   5  cannot write";
 
+const SIDES_HELP: &str = "\
+A list of FILE begins with its side and its limits. Each line behind that is a frame that comes or a
+call, and is printed with all that the side answers.
+
+Statuses:
+  0  done
+  2  wrong words, or a line that is none of a list
+  4  no memory
+  5  cannot write";
+
+const SCRIPT_HELP: &str = "\
+A line of FILE has the words of one command with a space between them, without the program's name.
+For each there is the line itself, what the command prints on either stream, and the status that it
+would end with. None of the commands can be a script.
+
+Statuses:
+  0  every line was done, whatever its status
+  2  wrong words, or FILE is no text
+  4  no memory
+  5  cannot write";
+
 fn path<'a>(alloc: Global, name: &'a str, help: &'a str) -> Arg<'a> {
     Arg::new(alloc, name)
         .required(true)
@@ -199,6 +230,40 @@ fn run_command<'a>(alloc: Global) -> Result<Command<'a>, AllocError> {
         .arg(progress)
 }
 
+/// A command that reads one file.
+fn file_command<'a>(
+    alloc: Global,
+    name: &'a str,
+    about: &'a str,
+    after_help: &'a str,
+    help: &'a str,
+) -> Result<Command<'a>, AllocError> {
+    Command::new(alloc, name)
+        .about(about)
+        .after_help(after_help)
+        .arg(path(alloc, "FILE", help))
+}
+
+fn sides_command<'a>(alloc: Global) -> Result<Command<'a>, AllocError> {
+    file_command(
+        alloc,
+        "sides",
+        SIDES_ABOUT,
+        SIDES_HELP,
+        "File with the lists, one after another",
+    )
+}
+
+fn script_command<'a>(alloc: Global) -> Result<Command<'a>, AllocError> {
+    file_command(
+        alloc,
+        "script",
+        SCRIPT_ABOUT,
+        SCRIPT_HELP,
+        "File with the command lines",
+    )
+}
+
 fn command<'a>(alloc: Global) -> Result<Command<'a>, AllocError> {
     Command::new(alloc, "cb_play")
         .version(VERSION)
@@ -208,7 +273,9 @@ fn command<'a>(alloc: Global) -> Result<Command<'a>, AllocError> {
         .arg_required_else_help(true)
         .subcommand(play_command(alloc)?)?
         .subcommand(draw_command(alloc)?)?
-        .subcommand(run_command(alloc)?)
+        .subcommand(run_command(alloc)?)?
+        .subcommand(sides_command(alloc)?)?
+        .subcommand(script_command(alloc)?)
 }
 
 /// What a command line that was read asks for, if it asks for anything.
@@ -228,6 +295,8 @@ fn asked<'a>(matches: &ArgMatches<'a>) -> Option<Request<'a>> {
             store: matches.get_str("STORE")?,
             progress: matches.get_flag("progress"),
         })),
+        Some(("sides", matches)) => Some(Request::Sides(matches.get_str("FILE")?)),
+        Some(("script", matches)) => Some(Request::Script(matches.get_str("FILE")?)),
         _ => None,
     }
 }

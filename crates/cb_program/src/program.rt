@@ -1,20 +1,22 @@
 //! What the program does with the words of its command line.
-ghost use Rattle.std.specs.Prelude.{◌≡◌, ◌∷◌, ◌++◌, [], codes, IfOk, MatchOption};
-ghost use Rattle.std.specs.Io.KnownBytes.{Appends};
+ghost use Rattle.std.specs.Prelude.{◌≡◌, IfOk};
 ghost use Rattle.cb_program.specs.Endings.{IsAnswered, IsStatus};
-ghost use Rattle.cb_settings.specs.Escaped.{escaped};
 
 use crate::arguments::{DrawRequest, Request, RunRequest, request_of};
 use crate::endings::end_by;
+use crate::files::{read_file, read_text};
+use crate::script::do_script;
 use cb_console::{DONE, WRONG_INPUT, draw_to, play_to};
-use cb_progress::{Progress, Unwatched};
+use cb_jobs::{Progress, Unwatched};
 use cb_run::{AnyTime, run_store};
 use cb_settings::Escaped;
+use cb_sides::play_lists;
+use clap::Error;
 use clap::error::ErrorKind;
 use std::io::Write;
 use std::sync::Wait;
 use std::thread::Threads;
-use std::{env, fs, io};
+use std::{env, io};
 
 /// The words of the process's command line; the first is the program's name. `InvalidData` where
 /// one isn't text.
@@ -75,18 +77,53 @@ fn answer_words<R: Threads + Wait + Sync, O: Write, E: Write>(
     ensures { IfOk result IsAnswered }
 {
     match request_of(rt.alloc(), words) {
-        Ok(Request::Play { config, schedule }) => play_files(rt, config, schedule, out, err),
-        Ok(Request::Draw(request)) => draw_file(rt, &request, out, err),
-        Ok(Request::Run(request)) => run_workers(rt, threads, &request, out, err),
-        Err(error) if error.kind() == ErrorKind::OutOfMemory => {
-            Err(io::Error::from(io::ErrorKind::OutOfMemory))
-        }
-        Err(error) if error.use_stderr() => refuse_words(rt, words, err),
-        Err(help) => {
-            write!(out, "{help}")?;
-            Ok(DONE)
+        Ok(Request::Script(file)) => do_script(rt, threads, file, out, err),
+        Ok(request) => do_request(rt, threads, request, out, err),
+        Err(error) => tell_words(rt, words, &error, out, err),
+    }
+}
+
+/// Does one request that is no script.
+pub(crate) fn do_request<R: Threads + Wait + Sync, O: Write, E: Write>(
+    rt: &HostRuntime,
+    threads: &R,
+    request: Request<'_>,
+    out: &mut O,
+    err: &mut E,
+) -> io::Result<u8>
+    ensures { IfOk result IsAnswered }
+{
+    match request {
+        Request::Play { config, schedule } => play_files(rt, config, schedule, out, err),
+        Request::Draw(request) => draw_file(rt, &request, out, err),
+        Request::Run(request) => run_workers(rt, threads, &request, out, err),
+        Request::Sides(file) => play_sides(rt, file, out, err),
+        Request::Script(_) => {
+            writeln!(err, "script: a script in a script")?;
+            Ok(WRONG_INPUT)
         }
     }
+}
+
+/// Prints what there is to say of words that ask for nothing that is done: help, the version, or
+/// what is wrong with them.
+pub(crate) fn tell_words<O: Write, E: Write>(
+    rt: &HostRuntime,
+    words: &[String],
+    error: &Error,
+    out: &mut O,
+    err: &mut E,
+) -> io::Result<u8>
+    ensures { IfOk result IsAnswered }
+{
+    if error.kind() == ErrorKind::OutOfMemory {
+        return Err(io::Error::from(io::ErrorKind::OutOfMemory));
+    }
+    if error.use_stderr() {
+        return refuse_words(rt, words, err);
+    }
+    write!(out, "{error}")?;
+    Ok(DONE)
 }
 
 /// Says what is wrong with wrong words, their control characters escaped: such a word is no more
@@ -181,21 +218,24 @@ fn run_workers<R: Threads + Wait + Sync, O: Write, E: Write>(
     }
 }
 
-/// The bytes of a file. Where it can't be read that is said, and there are none; it fails where
-/// memory is refused.
-fn read_file<E: Write>(rt: &HostRuntime, path: &str, err: &mut E) -> io::Result<Option<Vec<u8>>>
-    ensures { IfOk result (λ read. MatchOption read
-        (Appends (E.contents err.old) (E.contents err.new)
-        (codes "cannot read " ++ (escaped path.now ++ 10 ∷ [])))
-        (λ _. E.contents err.new ≡ E.contents err.old)) }
+/// Plays the lists of a file, each at one side alone.
+fn play_sides<O: Write, E: Write>(
+    rt: &HostRuntime,
+    file: &str,
+    out: &mut O,
+    err: &mut E,
+) -> io::Result<u8>
+    ensures { IfOk result IsAnswered }
 {
-    match fs::read(rt, path) {
-        Ok(bytes) => Ok(Some(bytes)),
-        Err(error) if error.kind() == io::ErrorKind::OutOfMemory => Err(error),
-        Err(_) => {
-            let path = Escaped(path);
-            writeln!(err, "cannot read {path}")?;
-            Ok(None)
+    let Some(text) = read_text(rt, "sides", file, err)? else {
+        return Ok(WRONG_INPUT);
+    };
+    match play_lists(rt.alloc(), text.as_str(), out) {
+        Ok(()) => Ok(DONE),
+        Err(error) if error.kind() == io::ErrorKind::InvalidData => {
+            writeln!(err, "sides: no such line")?;
+            Ok(WRONG_INPUT)
         }
+        Err(error) => Err(error),
     }
 }

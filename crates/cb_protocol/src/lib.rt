@@ -11,6 +11,7 @@ pub mod client;
 pub mod deadlock;
 pub mod marks;
 pub mod numbers;
+pub mod passes;
 pub mod server;
 
 ghost use Rattle.cb_protocol.specs.Laws.{CommittedAlwaysSerial, CopiesAlwaysAgree};

@@ -8,8 +8,8 @@ use Rattle.std.proofs.lemmas.List.{get_or_past, length-set}
 use Rattle.std.proofs.lemmas.List.Elements.{All-set, All-weaker}
 use Rattle.std.proofs.lemmas.List.Sums.{count_by-le-length, sum_by-le}
 use Rattle.cb_jobs.specs.Tallies.{flags_set, jobs_done, jobs_of, with_done}
-use Rattle.cb_outcome.specs.declared.ending.Ending.{Ending}
-use Rattle.cb_outcome.specs.declared.printing.Counted.{Counted}
+use Rattle.cb_jobs.specs.declared.ending.Ending.{Ending}
+use Rattle.cb_jobs.specs.declared.printing.Counted.{Counted}
 use Rattle.cb_run.specs.Runs.{HasRows, IsCounted, KeepsRows}
 use Rattle.sqlite.specs.Held.{Held}
 use Rattle.sqlite.specs.Store.{Ghosts}

@@ -1,10 +1,10 @@
 -- What is printed of a run over a store's file. This project's rules.
 use Rattle.std.specs.Prelude.{◌≡◌, ◌≤◌, ◌*◌, ℕ, Option, Result, Ok, Err, List}
-use Rattle.cb_outcome.specs.Outcomes.{PrintsCounted}
-use Rattle.cb_outcome.specs.declared.printing.Counted.{Counted}
+use Rattle.cb_jobs.specs.Outcomes.{PrintsCounted}
+use Rattle.cb_jobs.specs.declared.printing.Counted.{Counted}
 use Rattle.cb_settings.specs.declared.config.Config.{Config}
-use Rattle.cb_run_settings.specs.RunSettings.{IsRunSettings, PrintsRefusal}
-use Rattle.cb_run_settings.specs.declared.settings.RunFault.{RunFault}
+use Rattle.cb_settings.specs.RunSettings.{IsRunSettings, PrintsRefusal}
+use Rattle.cb_settings.specs.declared.running.RunFault.{RunFault}
 
 -- how many jobs all clients have together
 abbrev pub all_jobs : Config → ℕ

@@ -5,8 +5,7 @@ ghost use Rattle.cb_run.specs.Runs.{HasRows, IsCounted, KeepsRows};
 
 use crate::faults::of_shelf;
 use crate::job::DoneJob;
-use cb_jobs::{JobDone, Tally, counter_sum};
-use cb_outcome::{Counted, Ending};
+use cb_jobs::{Counted, Ending, JobDone, Tally, counter_sum};
 use cb_page::Limits;
 use cb_shelf::Shelf;
 use crossbeam_channel::Receiver;

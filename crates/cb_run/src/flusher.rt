@@ -8,7 +8,7 @@ ghost use Rattle.cb_run.specs.Stopping.{Stops};
 ghost use Rattle.cb_statements.specs.Writing.{Fits, Wrote};
 
 use cb_commit::Batch;
-use cb_progress::Watch;
+use cb_jobs::Watch;
 use cb_shared::{Office, SharedStation};
 use cb_shelf::{Shelf, ShelfFault};
 use sqlite::Alter;

@@ -1,6 +1,6 @@
 //! Workers and the flusher, to their end.
 ghost use Rattle.std.specs.Prelude.{◌*◌, IfOk};
-ghost use Rattle.cb_outcome.specs.Outcomes.{PrintsCounted};
+ghost use Rattle.cb_jobs.specs.Outcomes.{PrintsCounted};
 ghost use Rattle.cb_run.specs.Runs.{IsCounted, KeepsRows};
 
 use crate::client::{give_up, job_list, run_client};
@@ -8,10 +8,8 @@ use crate::counting::{count_results, new_tally, sum_up};
 use crate::faults::of_run;
 use crate::job::DoneJob;
 use crate::tries::flush_in_tries;
-use cb_jobs::{Gate, Tally};
-use cb_outcome::{Counted, Ending, FirstEnding, print_run};
+use cb_jobs::{Counted, Ending, FirstEnding, Gate, Tally, Watch, print_run};
 use cb_page::Limits;
-use cb_progress::Watch;
 use cb_shared::Office;
 use cb_shelf::{Shelf, ShelfFault};
 use cb_twoq::TwoQ;

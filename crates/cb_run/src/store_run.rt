@@ -1,18 +1,15 @@
 //! Workers over a store in a file.
 ghost use Rattle.std.specs.Prelude.{◌≡◌, ◌*◌, false, IfOk};
-ghost use Rattle.cb_outcome.specs.Outcomes.{PrintsCounted};
+ghost use Rattle.cb_jobs.specs.Outcomes.{PrintsCounted};
 ghost use Rattle.cb_run.specs.Runs.{IsCounted};
 ghost use Rattle.cb_run.specs.StoreRuns.{HasFew, IsStoreRun, all_jobs};
 
 use crate::faults::of_shelf;
 use crate::running::run_on;
-use cb_jobs::{Gate, Turn};
+use cb_jobs::{Ending, Gate, Turn, Watch, print_run};
 use cb_office::Station;
-use cb_outcome::{Ending, print_run};
 use cb_page::{ClientNo, Limits};
-use cb_progress::Watch;
-use cb_run_settings::{print_refusal, run_settings};
-use cb_settings::Config;
+use cb_settings::{Config, print_refusal, run_settings};
 use cb_shared::Office;
 use cb_shelf::{Shelf, ShelfFault};
 use sqlite::{Alter, Connection};

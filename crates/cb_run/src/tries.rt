@@ -6,7 +6,7 @@ ghost use Rattle.cb_run.specs.Flushing.{MadeAtLast, Tries, WritesAtLast};
 ghost use Rattle.cb_run.specs.Stopping.{number_of, tries_left};
 
 use crate::flusher::{FlushStop, flush_again, flush_loop};
-use cb_progress::Watch;
+use cb_jobs::Watch;
 use cb_shared::Office;
 use cb_shelf::{Shelf, ShelfFault};
 use sqlite::Alter;

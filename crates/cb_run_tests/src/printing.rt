@@ -1,5 +1,5 @@
 //! What is printed of a run.
-use cb_outcome::{Counted, Ending, FirstEnding, print_run};
+use cb_jobs::{Counted, Ending, FirstEnding, print_run};
 use std::test::Fail;
 
 #[test]

@@ -2,9 +2,9 @@
 use crate::gates::Gates;
 use crate::stops::Answered;
 use crate::trials::{Trial, goes_well};
+use cb_jobs::Watch;
 use cb_office::Station;
 use cb_page::{CommitNo, Limits};
-use cb_progress::Watch;
 use cb_run::run_on;
 use cb_shared::Office;
 use cb_shelf::Shelf;

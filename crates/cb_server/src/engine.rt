@@ -31,7 +31,7 @@ use cb_page::{ClientNo, Incarnation, Limits};
 use std::alloc::{AllocError, Global};
 
 /// The tables, and what is said while a message is taken.
-#[derive(Debug, Drop)]
+#[derive(Drop)]
 pub(crate) struct Engine {
     pub(crate) callbacks: Callbacks,
     pub(crate) outbox: Outbox,

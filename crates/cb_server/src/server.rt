@@ -34,7 +34,6 @@ use std::marker::Model;
 /// A page server over its store.
 ///
 /// `new`, `take`, `take_bytes`, `again`, `batch` and `flushed` take memory; no other call does.
-#[derive(Debug)]
 pub struct Server {
     limits: Limits,
     /// Its outbox is empty between two calls.

@@ -1,2 +1,3 @@
 pub mod Escaped
+pub mod RunSettings
 pub mod Settings

@@ -24,7 +24,7 @@ use std::fmt;
 use toml::{Table, Value};
 
 /// A setting, in the order in which they are checked.
-#[derive(Clone, Copy, Debug, PartialEq, Eq)]
+#[derive(Clone, Copy, Debug)]
 pub enum Key {
     Clients,
     Pages,

@@ -6,7 +6,7 @@ use std::fmt;
 
 /// A text as a line shows it: each control character by its code, as `\u{1b}`, any other character
 /// as it is. So it stays one line, and nothing of it steers a terminal.
-#[derive(Clone, Copy, Debug)]
+#[derive(Clone, Copy)]
 pub struct Escaped<'a>(pub &'a str);
 
 impl<'a> fmt::Display for Escaped<'a> {
@@ -23,7 +23,7 @@ impl<'a> fmt::Display for Escaped<'a> {
 }
 
 /// One character of such a text.
-#[derive(Clone, Copy, Debug)]
+#[derive(Clone, Copy)]
 struct EscapedCharacter(char);
 
 impl fmt::Display for EscapedCharacter {

@@ -1,2 +1,3 @@
-pub mod Worlds
 pub mod Replying
+pub mod Sends
+pub mod Worlds

@@ -1,2 +1,4 @@
-pub mod SitesState
 pub mod ByWorld
+pub mod Packets
+pub mod SitesState
+pub mod Wire

@@ -11,7 +11,7 @@ use cb_transcript::{AnswerWord, Refusal};
 use std::alloc::{AllocError, Global};
 
 /// What a client answers to a call, and the frames that it says, in order.
-#[derive(Debug, Drop)]
+#[derive(Drop)]
 pub struct Reply {
     pub word: AnswerWord,
     pub said: Vec<Frame>,

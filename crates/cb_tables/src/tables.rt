@@ -28,7 +28,6 @@ use cb_page::{ClientNo, GrantNo, PageNo};
 
 /// What the server has of its clients and pages, who waits, and who uses a page that it was called
 /// back for.
-#[derive(Debug)]
 pub struct Tables {
     pub holdings: Holdings,
     pub asks: Asks,

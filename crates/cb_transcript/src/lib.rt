@@ -1,12 +1,20 @@
-//! What became of the events of a world.
+//! What became of the events of a world, and whether that is serial.
 //!
 //! A [`Transcript`] lists each event with its [`Answer`], and the transactions that were committed.
+//! [`check_serial`] tells whether those of a transcript, whoever made it, are a serial history on
+//! its opening store.
 #![tactic(auto)]
 
 mod answer;
+mod operation;
 mod refusal;
+mod replay;
+mod serial;
+mod standing;
+mod transactions;
 mod transcript;
 
 pub use answer::{Answer, AnswerWord, SentPacket, SentPackets, TranscriptEntry};
 pub use refusal::Refusal;
+pub use serial::{Verdict, check_serial};
 pub use transcript::{TransactionName, Transcript};

@@ -20,7 +20,6 @@ pub struct TransactionName {
 }
 
 /// What became of every event of a world, and the transactions that were committed.
-#[derive(Debug)]
 pub struct Transcript {
     opening: Store,
     entries: Vec<TranscriptEntry>,

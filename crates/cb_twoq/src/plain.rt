@@ -21,7 +21,6 @@ use std::marker::Model;
 ///
 /// In contracts a `PlainTwoQ` is its settings and its three lists, newest first. It takes all its
 /// memory in `new`: no later call needs a growth. Each reference passes over the lists.
-#[derive(Debug)]
 pub struct PlainTwoQ {
     queues: PlainQueues,
 }

@@ -39,7 +39,6 @@ pub struct Parts<'a> {
 /// In contracts a `TwoQ` is its settings and its three lists, newest first. A reference to a page
 /// in a slot passes over no list; any other shifts A1in and A1out once each at most, and takes the
 /// memory of one entry where the page goes to Am.
-#[derive(Debug)]
 pub struct TwoQ {
     queues: IndexedQueues,
 }

@@ -11,7 +11,7 @@ use cb_page::ClientNo;
 use std::marker::Model;
 
 /// For each client the set of those that it waits for. No call takes memory.
-#[derive(Clone, Debug, Drop)]
+#[derive(Clone, Drop)]
 pub struct View {
     rows: [ClientSet; 32],
 }

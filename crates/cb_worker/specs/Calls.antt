@@ -4,7 +4,7 @@ use Rattle.std.specs.Prelude.{Option, Result, Err, IfErr, IfOk, OnErr, OnOk, sli
 use Rattle.cb_dispatch.specs.Dispatching.{Everybody, Posts, without_oldest}
 use Rattle.cb_frame_types.specs.declared.frame.Frame.{Frame}
 use Rattle.cb_hands.specs.Hands.{HandState}
-use Rattle.cb_history.specs.declared.entry.Entry.{Entry}
+use Rattle.cb_joined.specs.declared.entry.Entry.{Entry}
 use Rattle.cb_joined.specs.Joined.{Follow, IsHeld}
 use Rattle.cb_office.specs.Commits.{IsLive, IsOwnCommit, IsPermitted, txn_of, writes_of}
 use Rattle.cb_office.specs.Moves.{IsEntryOf, IsOwn, collected, committed, ended_if_over}

@@ -14,8 +14,8 @@ use Rattle.cb_frame_types.specs.declared.frame.Body.TheVariants as body
 use Rattle.cb_frame_types.specs.declared.frame.ShortBody.TheVariants as short
 use Rattle.cb_frame_types.specs.declared.frame.Frame.{Frame}
 use Rattle.cb_outbox.specs.Messages.{body_of, message_of, messages_of}
-use Rattle.cb_packets.specs.Packets.{IsFrameAt, PacketsState}
-use Rattle.cb_packets.specs.Wire.{AllSpell, Spells}
+use Rattle.cb_sites.specs.Packets.{IsFrameAt, PacketsState}
+use Rattle.cb_sites.specs.Wire.{AllSpell, Spells}
 use Rattle.cb_page.specs.Bounds.{Bounds}
 use Rattle.cb_protocol.proofs.Cases.{call_accepted, call_refused, step_again, step_call, step_call_no_client, step_flush_all, step_flush_to, step_restart, step_take}
 use Rattle.cb_protocol.specs.AnyMessages.{Input, ReachesDisk, SendsAgain, input_steps}

@@ -1,7 +1,7 @@
 -- A net as its callers see it, and the part of the protocol's world that it is.
 use Rattle.std.specs.Prelude.{◌≡◌}
-use Rattle.cb_packets.specs.Packets.{PacketsState}
-use Rattle.cb_packets.specs.Wire.{AllSpell}
+use Rattle.cb_sites.specs.Packets.{PacketsState}
+use Rattle.cb_sites.specs.Wire.{AllSpell}
 use Rattle.cb_page.specs.Bounds.{Bounds}
 use Rattle.cb_protocol.specs.World as protocol
 use Rattle.cb_server.specs.ServerState.{ServerState, server_of}

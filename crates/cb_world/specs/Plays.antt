@@ -2,7 +2,7 @@
 use Rattle.std.specs.Prelude.{◌≡◌, ℕ, false, List, [], ◌∷◌, ◌++◌, length, map}
 use Rattle.std.specs.List.{AllByRecursion}
 use Rattle.cb_world.specs.NetState.{limits_in}
-use Rattle.cb_packets.specs.Packets.{IsSpelled}
+use Rattle.cb_sites.specs.Packets.{IsSpelled}
 use Rattle.cb_transcript.specs.ProtocolEvents.{event_of, answer_of}
 use Rattle.cb_copies.specs.CopiesState.{limits_of}
 use Rattle.cb_transcript.specs.Transcripts.{IsSerialOnOpening, TranscriptState}

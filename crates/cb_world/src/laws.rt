@@ -1,9 +1,9 @@
 //! The serial check of what a world tells.
 ghost use Rattle.std.specs.Prelude.{◌≡◌, IfOk};
-ghost use Rattle.cb_serial.specs.declared.serial.Verdict.TheVariants as verdict;
+ghost use Rattle.cb_transcript.specs.declared.serial.Verdict.TheVariants as verdict;
 
 use crate::world::World;
-use cb_serial::{Verdict, check_serial};
+use cb_transcript::{Verdict, check_serial};
 use cb_twoq::Chooser;
 use std::alloc::{AllocError, Global};
 

@@ -13,7 +13,7 @@ ghost use Rattle.cb_transcript.specs.ProtocolEvents.{event_of};
 ghost use Rattle.cb_transcript.specs.Transcripts.{IsSerialOnOpening, committed_name};
 ghost use Rattle.cb_copies.specs.CopiesState.{limits_of};
 ghost use Rattle.cb_holdings.specs.Holdings.{newest_first, opening_of};
-ghost use Rattle.cb_packets.specs.Packets.{IsSpelled};
+ghost use Rattle.cb_sites.specs.Packets.{IsSpelled};
 ghost use Rattle.cb_world.specs.WorldState.{IsTold, Represents, Tells, opened, told};
 ghost use Rattle.cb_transcript.specs.declared.answer.Answer.{Answer as AnswerState};
 ghost use Rattle.cb_transcript.specs.declared.answer.TranscriptEntry.{TranscriptEntry as EntryData};
@@ -29,7 +29,7 @@ use std::alloc::{AllocError, Global};
 use std::marker::Model;
 
 /// Want of memory in a play, and what became of the events before it.
-#[derive(Debug, Drop)]
+#[derive(Drop)]
 pub struct PlayFault {
     pub transcript: Transcript,
 }

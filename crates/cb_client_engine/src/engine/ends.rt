@@ -13,7 +13,7 @@ ghost use Rattle.cb_protocol.specs.Ranges.{BodyFits};
 
 use crate::engine::Engine;
 use crate::standing::{Ask, Outcome, Stage};
-use cb_ending::{commit_ends, drop_ends};
+use cb_copies::{commit_ends, drop_ends};
 use cb_frame::{Frame, ShortBody};
 use cb_page::{CommitNo, TxnNo};
 use cb_twoq::Chooser;

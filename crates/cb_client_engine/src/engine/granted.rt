@@ -12,7 +12,7 @@ ghost use Rattle.cb_client_engine.specs.GrantCases.{after_gone, case_at, said_of
 ghost use Rattle.cb_client_engine.specs.Room.{comes_in, room_of_grant};
 ghost use Rattle.cb_copies.specs.ByTable.{Does};
 ghost use Rattle.cb_copies.specs.CopiesState.{content_at, copy_at};
-ghost use Rattle.cb_ending.specs.Ending.{all_sent_by};
+ghost use Rattle.cb_copies.specs.Ending.{all_sent_by};
 ghost use Rattle.cb_outbox.specs.Messages.{messages_of};
 ghost use Rattle.cb_pool.specs.PoolState.{has_free_slot};
 ghost use Rattle.cb_pool.specs.declared.pool.PoolFault.TheVariants.{Full};
@@ -31,7 +31,7 @@ use cb_twoq::Chooser;
 use std::alloc::AllocError;
 
 /// What becomes of a grant that comes.
-#[derive(Clone, Copy, Debug, PartialEq, Eq)]
+#[derive(Clone, Copy)]
 pub(super) enum GrantCase {
     /// Nothing: its bytes are here, or were not asked for.
     Ignored,

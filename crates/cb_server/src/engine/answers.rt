@@ -17,7 +17,7 @@ use cb_page::{ClientNo, GrantNo, Incarnation, PageNo, TxnNo};
 use std::alloc::AllocError;
 
 /// How a message's transaction stands, once it has begun.
-#[derive(Clone, Copy, Debug, PartialEq, Eq)]
+#[derive(Clone, Copy)]
 pub(crate) enum Begun {
     /// It is the current one.
     Live,

@@ -13,7 +13,7 @@ use std::collections::VecDeque;
 use std::marker::Model;
 
 /// The settings of 2Q and its three lists, newest first, with room for all that may be on them.
-#[derive(Debug, Drop)]
+#[derive(Drop)]
 pub(crate) struct PlainQueues {
     pub(crate) slots: usize,
     pub(crate) kin: usize,

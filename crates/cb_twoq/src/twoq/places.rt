@@ -10,7 +10,7 @@ use std::alloc::{AllocError, Global};
 const PAGES: usize = 4096;
 
 /// The list that has a page, or none that stands for slots.
-#[derive(Clone, Copy, Debug)]
+#[derive(Clone, Copy)]
 pub(crate) enum Place {
     Out,
     A1in,

@@ -24,7 +24,7 @@ use std::num::NonZeroUsize;
 /// puts the places.
 ///
 /// The cache holds one page more than there are slots, so that it never drops one by itself.
-#[derive(Debug, Drop)]
+#[derive(Drop)]
 pub(crate) struct IndexedQueues {
     pub(crate) slots: usize,
     pub(crate) kin: usize,

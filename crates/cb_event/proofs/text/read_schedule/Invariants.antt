@@ -1,5 +1,5 @@
 use Rattle.std.proofs.Common.{◌≡◌, ◌≤◌, ◌+◌, length, drop}
-use Rattle.cb_pieces.specs.Pieces.{lines_of}
+use Rattle.cb_event.specs.Pieces.{lines_of}
 use Rattle.cb_event.proofs.TextLemmas.{IsRead}
 use Rattle.cb_event.proofs.text.read_schedule.Given as goal
 

@@ -1,12 +1,12 @@
 use Rattle.std.proofs.Common.{rules, ◌++◌, ◌∷◌, [], ◌≡◌, ◌+◌, ℕ, List, true, false, is_err, refl, sym, ap, ◌∙◌, subst}
 use Rattle.std.proofs.lemmas.List.Elements.{All-from_recursion}
-use Rattle.cb_agreement.specs.OwnHand.{all_restamped, pages_written}
+use Rattle.cb_joined.specs.OwnHand.{all_restamped, pages_written}
 use Rattle.cb_frame_types.specs.declared.frame.Body.{Body}
 use Rattle.cb_frame_types.specs.declared.frame.Body.TheVariants as body
 use Rattle.cb_frame_types.specs.Grammar.{BodyFits}
 use Rattle.cb_frame_types.specs.declared.writes.Write.{Write}
 use Rattle.cb_hands.specs.Hands.{without_permissions}
-use Rattle.cb_history.specs.declared.entry.Entry.{Entry}
+use Rattle.cb_joined.specs.declared.entry.Entry.{Entry}
 use Rattle.cb_holdings.specs.Holdings.{server_of as holdings_in}
 use Rattle.cb_office.proofs.Calls.{commits_by, err_fact, ok_fact, writes_within}
 use Rattle.cb_office.proofs.Keeping.{restamped_client}

@@ -1,5 +1,5 @@
 use Rattle.std.proofs.Common.{◌≡◌, drop, length}
-use Rattle.cb_agreement.specs.OwnHand.{all_restamped, pages_written}
+use Rattle.cb_joined.specs.OwnHand.{all_restamped, pages_written}
 use Rattle.cb_joined.specs.Joined.{Follow}
 use Rattle.cb_outbox.specs.Messages.{page_writes}
 use Rattle.cb_office.proofs.station.committing.restamp.Given as goal

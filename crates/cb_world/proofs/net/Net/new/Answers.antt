@@ -1,7 +1,7 @@
 use Rattle.std.proofs.Common.{[], subst, sym}
 use Rattle.cb_holdings.specs.Holdings.{opening_of}
-use Rattle.cb_packets.specs.Packets.{PacketsState}
-use Rattle.cb_packets.specs.Wire.{AllSpell}
+use Rattle.cb_sites.specs.Packets.{PacketsState}
+use Rattle.cb_sites.specs.Wire.{AllSpell}
 use Rattle.cb_world.proofs.net.Net.new.Goals as goal
 
 pub returns-clause-represents : goal.returns-clause-represents

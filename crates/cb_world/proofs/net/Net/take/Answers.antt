@@ -1,7 +1,7 @@
 use Rattle.std.proofs.Common.{subst, ap}
 use Rattle.std.specs.Prelude.{OnErr, Option}
 use Rattle.cb_frame_types.specs.declared.frame.Frame.{Frame}
-use Rattle.cb_packets.specs.Packets.{IsAt}
+use Rattle.cb_sites.specs.Packets.{IsAt}
 use Rattle.cb_protocol.specs.World.{TakePacket}
 use Rattle.cb_transcript.specs.ProtocolEvents.{word_of}
 use Rattle.cb_transcript.specs.declared.answer.Answer.{Answer}

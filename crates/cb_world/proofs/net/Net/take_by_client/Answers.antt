@@ -1,5 +1,5 @@
 use Rattle.std.proofs.Common.{subst, sym, ◌∙◌, IfOk}
-use Rattle.cb_packets.specs.Packets.{IsFrameAt}
+use Rattle.cb_sites.specs.Packets.{IsFrameAt}
 use Rattle.cb_protocol.specs.World.{TakePacket}
 use Rattle.cb_transcript.specs.declared.answer.AnswerWord.TheVariants as word
 use Rattle.cb_world.specs.NetMoves.{NetBecomes}

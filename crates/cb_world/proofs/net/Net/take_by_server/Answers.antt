@@ -2,7 +2,7 @@ use Rattle.std.proofs.Common.{subst, sym, ap, ◌∙◌, IfOk}
 use Rattle.std.specs.List.{AllByRecursion}
 use Rattle.cb_frame_types.specs.Grammar.{Fits}
 use Rattle.cb_page.specs.Bounds.{Bounds}
-use Rattle.cb_packets.specs.Packets.{IsFrameAt}
+use Rattle.cb_sites.specs.Packets.{IsFrameAt}
 use Rattle.cb_protocol.specs.World.{TakePacket}
 use Rattle.cb_transcript.specs.ProtocolEvents.{word_of}
 use Rattle.cb_transcript.specs.declared.answer.AnswerWord.TheVariants as word

@@ -1,5 +1,0 @@
-use Rattle.cb_agreement.proofs.OwnHand.{own_commit, own_message}
-use Rattle.cb_agreement.proofs.laws.own_hand_stays.Goals as goal
-
-pub returns : goal.returns
-returns c = record { message = own_message; commit = own_commit }

@@ -1,3 +1,0 @@
-pub mod Agreement
-pub mod OwnStays
-pub mod OwnHand

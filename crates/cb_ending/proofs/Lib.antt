@@ -1,4 +1,0 @@
-pub mod PageSteps
-pub mod Walk
-pub mod Ends
-pub mod Room

@@ -1,3 +1,0 @@
-pub mod Owing
-pub mod Ending
-pub mod Room

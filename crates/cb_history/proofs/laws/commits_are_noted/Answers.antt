@@ -1,5 +1,0 @@
-use Rattle.cb_history.proofs.Noting.{new_server_is_noted, no_other_changes, noted_commit_follows}
-use Rattle.cb_history.proofs.laws.commits_are_noted.Goals as goal
-
-pub returns : goal.returns
-returns c = record { opens = new_server_is_noted; commit = noted_commit_follows; others = no_other_changes }

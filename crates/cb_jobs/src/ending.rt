@@ -1,0 +1,81 @@
+//! Why a run ended before all was done.
+ghost use Rattle.std.specs.Prelude.{◌≡◌, Some, None};
+ghost use Rattle.cb_jobs.specs.Outcomes.{line_of, lower, status_of};
+
+use std::fmt;
+
+/// Why a run ended before all was done. The text is its line on the standard error.
+#[derive(Clone, Copy, Debug, PartialEq, Eq)]
+pub enum Ending {
+    /// The tables are of another shape.
+    Shape,
+    /// The database refused.
+    Store,
+    /// No number is left.
+    Exhausted,
+    /// A worker had another fault.
+    Worker,
+    /// Memory was refused, or no thread could be made.
+    Memory,
+}
+
+impl Ending {
+    /// The program's status.
+    pub fn status(self) -> u8
+        ensures { result ≡ status_of self }
+    {
+        match self {
+            Ending::Memory => 4,
+            Ending::Shape | Ending::Store | Ending::Exhausted | Ending::Worker => 3,
+        }
+    }
+}
+
+impl fmt::Display for Ending {
+    ghost output = { λ ending. Some (line_of ending) };
+
+    fn fmt<W: fmt::Write>(&self, f: &mut fmt::Formatter<W>) -> fmt::Result {
+        match self {
+            Ending::Shape => write!(f, "store: Shape"),
+            Ending::Store => write!(f, "store: Store"),
+            Ending::Exhausted => write!(f, "store: Exhausted"),
+            Ending::Worker => write!(f, "worker: Fault"),
+            Ending::Memory => write!(f, "memory"),
+        }
+    }
+}
+
+/// How a client's part of a run ended.
+#[derive(Clone, Copy)]
+pub struct ClientEnding {
+    pub client: u16,
+    pub ending: Ending,
+}
+
+/// The ending of the lowest client that has one.
+#[derive(Drop)]
+pub struct FirstEnding {
+    pub told: Option<ClientEnding>,
+}
+
+impl FirstEnding {
+    /// Nothing was told yet.
+    pub fn none() -> FirstEnding
+        ensures { result.told ≡ None }
+    {
+        FirstEnding { told: None }
+    }
+
+    /// Notes how a client's part ended, unless a lower client's is noted.
+    pub fn note(&mut self, client: u16, ending: Ending)
+        ensures { self.new.told
+            ≡ lower self.old.told (record { client = client; ending = ending }) }
+    {
+        if let Some(told) = self.told {
+            if told.client <= client {
+                return;
+            }
+        }
+        self.told = Some(ClientEnding { client, ending });
+    }
+}

@@ -1,0 +1,4 @@
+pub mod Agreeing
+pub mod Noting
+pub mod Own
+pub mod OwnHand

@@ -1,5 +1,0 @@
-use Rattle.std.proofs.Common.{rules}
-use Rattle.cb_outcome.proofs.ending.EndingDisplay.fmt.Goals as goal
-
-pub returns-in-Exhausted-clause-writes : goal.returns-in-Exhausted-clause-writes
-returns-in-Exhausted-clause-writes c = search rules

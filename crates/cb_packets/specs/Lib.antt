@@ -1,2 +1,0 @@
-pub mod Packets
-pub mod Wire

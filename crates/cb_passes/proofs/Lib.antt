@@ -1,5 +1,0 @@
-pub mod Backed
-pub mod Followed
-pub mod ReadVersions
-pub mod Committing
-pub mod LockedPages

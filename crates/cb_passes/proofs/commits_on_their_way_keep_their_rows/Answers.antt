@@ -1,5 +1,0 @@
-use Rattle.cb_passes.proofs.LockedPages.{commits_find_their_rows, commits_keep_their_rows}
-use Rattle.cb_passes.proofs.commits_on_their_way_keep_their_rows.Goals as goal
-
-pub returns : goal.returns
-returns c = record { law = commits_keep_their_rows; writes = commits_find_their_rows }

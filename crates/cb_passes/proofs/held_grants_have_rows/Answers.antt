@@ -1,5 +1,0 @@
-use Rattle.cb_passes.proofs.Backed.{held_grants_have_rows}
-use Rattle.cb_passes.proofs.held_grants_have_rows.Goals as goal
-
-pub returns : goal.returns
-returns c = record { law = held_grants_have_rows }
