@@ -22,7 +22,7 @@ use std::io::Write;
 use std::{fmt, io};
 
 /// Why a schedule isn't played. The text is the program's line of it.
-#[derive(Drop)]
+#[derive(Debug, Drop)]
 pub enum ReadFault {
     Config(ConfigFault),
     Schedule(ScheduleFault),
