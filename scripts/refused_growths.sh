@@ -1,36 +1,29 @@
 #!/usr/bin/env bash
 # Runs tests that accept want of memory and then compare the state, with the Nth growth refused, for N = 1 to MOST.
 #
-#   scripts/refused_growths.sh            all of them, N = 1 to 12
+#   scripts/refused_growths.sh            N = 1 to 12
 #   scripts/refused_growths.sh 30         N = 1 to 30
-#   scripts/refused_growths.sh 12 CRATE   those of one crate of tests
 #
-# The other tests of a crate want memory and fail in such a run; only the named ones count. A crate's tests are built and run
-# once for each N. Those of a client and of a server are in scripts/refused_calls.sh. Nothing of this is in the gate, since a
-# refusal can't be handed in by a test there. RT is the command, `rt` if it isn't set.
+# The other tests of cb_tests want memory and fail in such a run; only the named ones count. The tests are built and run once
+# for each N, which takes minutes. Those of a client and of a server are in scripts/refused_calls.sh. Nothing of this is in the
+# gate, since a refusal can't be handed in by a test there. RT is the command, `rt` if it isn't set.
 set -u
-cd "$(dirname "$0")/../crates"
+cd "$(dirname "$0")/../crates/cb_tests"
 most=${1:-12}
-only=${2:-}
 rt=${RT:-rt}
 bad=0
-while read -r crate tests; do
-  [ -z "$only" ] || [ "$only" = "$crate" ] || continue
-  for n in $(seq 1 "$most"); do
-    said=$(cd "$crate" && $rt try --test --fail-alloc "$n" 2>&1)
-    for test in $tests; do
-      if grep -q "^test $test \.\.\. ok" <<<"$said"; then
-        echo "$crate $test: growth $n refused: ok"
-      else
-        echo "$crate $test: growth $n refused: FAILED"
-        bad=1
-      fi
-    done
+tests="frame::refused::pages_with_growths_refused frame::refused::frames_with_growths_refused
+  pool::twoq::refused_growths_change_nothing pool::calls::calls_of_a_pool
+  event::refused::schedule_without_memory console::plays::play_without_memory"
+for n in $(seq 1 "$most"); do
+  said=$($rt try --test --fail-alloc "$n" 2>&1)
+  for test in $tests; do
+    if grep -q "^test $test \.\.\. ok" <<<"$said"; then
+      echo "$test: growth $n refused: ok"
+    else
+      echo "$test: growth $n refused: FAILED"
+      bad=1
+    fi
   done
-done <<'LIST'
-cb_frame_tests pages::refused_growths frames::refused_growths
-cb_pool_tests twoq_tests::refused_growths_change_nothing pool_tests::calls_of_a_pool
-cb_event_tests schedules::schedule_without_memory
-cb_console_tests play_tests::play_without_memory
-LIST
+done
 exit $bad

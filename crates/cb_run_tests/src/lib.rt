@@ -28,8 +28,6 @@ mod giving_up;
 #[cfg(test)]
 mod lines;
 #[cfg(test)]
-mod printing;
-#[cfg(test)]
 mod refusals;
 #[cfg(test)]
 mod run;

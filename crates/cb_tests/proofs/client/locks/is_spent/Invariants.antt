@@ -1,0 +1,6 @@
+use Rattle.std.specs.Vec.{vec_len}
+use Rattle.cb_tests.proofs.client.locks.is_spent.Given as goal
+
+-- one fewer is left each time
+abbrev pub decreases-loop-due : goal.decreases-loop-due
+decreases-loop-due l = vec_len l.dues

@@ -1,0 +1,5 @@
+//! A client and its parts.
+
+mod cases;
+mod laws;
+mod locks;

@@ -1,0 +1,77 @@
+//! How a caller has what holds of every client, whatever was called and came before: by `arose` of
+//! `Client::limits`, by the contract of the call that it made, and by the laws.
+
+ghost use Rattle.std.specs.Prelude.{◌≡◌, List, true, IfSome};
+ghost use Rattle.cb_client.specs.Laws.{SaysSo};
+ghost use Rattle.cb_client_engine.specs.ByTable.{limits_at};
+ghost use Rattle.cb_client_engine.specs.ClientState.{client_of};
+ghost use Rattle.cb_outbox.specs.Messages.{messages_of};
+ghost use Rattle.cb_protocol.specs.ClientAlone.{AnswersCallback, GivesBackOnce};
+ghost use Rattle.cb_protocol.specs.Serial.{Operation};
+
+use crate::client::cases::{are, frame, new_client, taken};
+use cb_client::{Client, callbacks_are_answered, in_use_is_given_back};
+use cb_frame::{Body, Frame, ShortBody};
+use cb_page::{GrantNo, Limits, PageNo};
+use cb_twoq::{Chooser, TwoQ};
+use std::alloc::Global;
+use std::test::Fail;
+
+/// What a client says to a Callback: one message, where the frame is for it and it is welcomed.
+/// None where there is no such page, or memory is refused.
+fn called<Q: Chooser>(
+    alloc: Global,
+    client: &mut Client<Q>,
+    page: PageNo,
+    grant: GrantNo,
+) -> Option<Vec<Frame>>
+    ensures { IfSome result (λ said. client.old.no ≡ 0 → client.old.incarnation ≡ 1
+        → client.old.welcomed ≡ true → (operations : List Operation)
+        → SaysSo (λ before after bodies. AnswersCallback before after bodies page grant)
+        client.old client.new (messages_of said.items) operations) }
+{
+    callbacks_are_answered();
+    let frame = frame(Body::Short(ShortBody::Callback { page, grant }));
+    if !frame.fits(client.limits()) {
+        return None;
+    }
+    match client.take(alloc, frame) {
+        Ok(said) => Some(said),
+        Err(_) => None,
+    }
+}
+
+/// What a client answers InUse it gives back once, as its transaction ends.
+fn gives_back_once<Q: Chooser>(client: &Client<Q>)
+    ensures { (operations : List Operation)
+        × GivesBackOnce (limits_at client.now) (client_of client.now operations) }
+{
+    in_use_is_given_back();
+    let _arose = client.limits();
+}
+
+/// Whether a client that holds nothing gives the page back that is called back.
+fn gives_back<Q: Chooser>(alloc: Global, client: &mut Client<Q>) -> bool {
+    let (page, grant) = (PageNo::new(0), GrantNo::new(1));
+    gives_back_once(client);
+    let welcomed = taken(alloc, client, Body::Short(ShortBody::Welcome)).is_empty();
+    match called(alloc, client, page, grant) {
+        Some(said) => welcomed && are(said.as_slice(), &[ShortBody::GiveBack { page, grant }]),
+        None => false,
+    }
+}
+
+/// The same of a new client.
+fn new_one_gives_back<Q: Chooser>(alloc: Global, limits: &Limits) -> bool {
+    match new_client::<Q>(alloc, limits) {
+        Some(mut client) => gives_back(alloc, &mut client),
+        None => false,
+    }
+}
+
+#[test]
+fn laws_of_a_client(rt: HostRuntime) -> Result<(), Fail> {
+    let limits = Limits::new(2, 8, 16, 4, 1, 2)?;
+    assert!(rt; new_one_gives_back::<TwoQ>(rt.alloc(), &limits));
+    Ok(())
+}

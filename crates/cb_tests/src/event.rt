@@ -1,0 +1,4 @@
+//! The text of schedules.
+
+mod greatest;
+mod refused;

@@ -1,0 +1,4 @@
+//! Pages and frames.
+
+mod greatest;
+mod refused;

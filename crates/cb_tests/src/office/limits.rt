@@ -1,0 +1,87 @@
+//! A station at the greatest limits.
+use crate::office::frames::{ask_read, ask_write, commit, insert, no_writes, write};
+use crate::office::stations::greatest;
+use cb_hands::Hand;
+use cb_office::{OfficeFault, Station};
+use cb_page::{ClientNo, PageNo, PageSet, TxnNo};
+use std::alloc::Global;
+
+/// How many pages are written: the last one of each 64.
+const WRITTEN: u32 = 64;
+
+/// Reads the pages, and may write each.
+fn is_permitted(
+    alloc: Global,
+    station: &mut Station,
+    hand: &mut Hand,
+    txn: TxnNo,
+) -> Result<bool, OfficeFault> {
+    for number in 0..WRITTEN {
+        let page = PageNo::new(number * 64 + 63);
+        let read = ask_read(hand, txn, page);
+        station.take(alloc, &read, hand)?;
+        let _granted = station.collect(hand)?;
+        let Some(held) = hand.held(page) else {
+            return Ok(false);
+        };
+        let ask = ask_write(hand, txn, page, held.grant);
+        station.take(alloc, &ask, hand)?;
+        let _permission = station.collect(hand)?;
+    }
+    Ok(true)
+}
+
+/// Commits all the pages; one batch has them.
+fn commits(
+    alloc: Global,
+    station: &mut Station,
+    hand: &mut Hand,
+    txn: TxnNo,
+) -> Result<bool, OfficeFault> {
+    let mut reads = PageSet::new(alloc, 4096)?;
+    let mut writes = no_writes(alloc);
+    for number in 0..WRITTEN {
+        let page = PageNo::new(number * 64 + 63);
+        if let Some(shown) = hand.shows(page) {
+            insert(&mut reads, page);
+            write(alloc, &mut writes, page, shown.grant)?;
+        }
+    }
+    let frame = commit(hand, txn, writes);
+    let number = station.commit(alloc, &frame, &reads, hand)?;
+    let written = match station.batch(alloc)? {
+        Some(batch) => batch.pages().len(),
+        None => 0,
+    };
+    station.flushed(alloc, number)?;
+    Ok(written == WRITTEN as usize && station.batch(alloc)?.is_none())
+}
+
+/// The last client works alone, after all others have joined.
+fn last_works(alloc: Global, station: &mut Station) -> Result<bool, OfficeFault> {
+    for client in 0..31u16 {
+        station.join(alloc, ClientNo::new(client))?.abandon();
+    }
+    let mut hand = station.join(alloc, ClientNo::new(31))?;
+    let worked = works(alloc, station, &mut hand);
+    hand.abandon();
+    worked
+}
+
+fn works(alloc: Global, station: &mut Station, hand: &mut Hand) -> Result<bool, OfficeFault> {
+    let txn = TxnNo::new(1);
+    let _welcome = station.collect(hand)?;
+    let permitted = is_permitted(alloc, station, hand, txn)?;
+    let committed = commits(alloc, station, hand, txn)?;
+    let _done = station.collect(hand)?;
+    Ok(permitted && committed && station.collect(hand)?.is_none())
+}
+
+#[test]
+fn greatest_limits(rt: HostRuntime) {
+    let worked = match greatest(rt.alloc()) {
+        Some(mut station) => last_works(rt.alloc(), &mut station).unwrap_or(false),
+        None => false,
+    };
+    assert!(rt; worked);
+}

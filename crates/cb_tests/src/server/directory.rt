@@ -1,0 +1,30 @@
+//! Who holds which copy, and may write it.
+
+use cb_directory::Directory;
+use cb_page::{ClientNo, Limits, PageNo, TxnNo};
+use std::test::Fail;
+
+/// A client writes a page, gives it back, and is forgotten.
+#[test]
+fn rows_and_permissions(rt: HostRuntime) -> Result<(), Fail> {
+    let limits = Limits::new(2, 8, 16, 4, 1, 2)?;
+    let mut directory = Directory::new(rt.alloc(), &limits)?;
+    let client = ClientNo::new(1);
+    let page = PageNo::new(5);
+    directory.grant(client, page);
+    directory.set_writer(client, page, TxnNo::new(7));
+    let writes = directory.holder(page) == Some(client)
+        && directory.tag(page) == Some(TxnNo::new(7));
+    directory.give_back(client, page);
+    let kept = directory.row(client, page).is_none() && directory.holder(page) == Some(client);
+    directory.clear_writers(client);
+    let released = directory.holder(page).is_none();
+    let next = directory.grant(client, page).get();
+    directory.clear_writer(page);
+    directory.forget_client(client);
+    assert!(rt; writes && kept && released);
+    assert!(rt; next == 2);
+    assert!(rt; directory.row(client, page).is_none());
+    assert!(rt; directory.rows_of_page(page).first().is_none());
+    Ok(())
+}

@@ -1,0 +1,94 @@
+//! The store's calls at great limits: one that gives up from some number of pages, of commits or of
+//! bytes on is refused here, which no clause can say.
+ghost use Rattle.std.specs.Prelude.{◌≡◌};
+ghost use Rattle.cb_commit.specs.Stores.{IsOf};
+
+use crate::server::commits::{apply, made};
+use crate::stores::page_of;
+use cb_commit::Commits;
+use cb_frame::{Body, Frame, Write, Writes};
+use cb_page::{ClientNo, GrantNo, Incarnation, Limits, PageNo, TxnNo};
+use std::alloc::{AllocError, Global};
+use std::test::Fail;
+
+/// A commit of the pages below a number, each of as many bytes as the limits say.
+fn commit_of(alloc: Global, limits: &Limits, txn: TxnNo, pages: u32) -> Result<Frame, AllocError> {
+    let mut writes = Vec::new(alloc);
+    for page in 0..pages.min(4096) {
+        writes.push(Write {
+            page: PageNo::new(page),
+            grant: GrantNo::new(1),
+            bytes: page_of(alloc, 7, limits.page_size())?,
+        })?;
+    }
+    Ok(Frame {
+        client: ClientNo::new(0),
+        incarnation: Incarnation::new(1),
+        body: Body::Commit {
+            txn,
+            writes: Writes::from_vec(writes),
+        },
+    })
+}
+
+/// Whether so many commits of one page are applied.
+fn are_applied(
+    alloc: Global,
+    limits: &Limits,
+    commits: &mut Commits,
+    count: u64,
+) -> Result<bool, AllocError>
+    requires { IsOf limits.now commits.old.store }
+    ensures { IsOf limits.now commits.new.store }
+{
+    for number in 1..count {
+        let Some(txn) = TxnNo::checked(number) else {
+            return Ok(false);
+        };
+        if !apply(limits, commits, commit_of(alloc, limits, txn, 1)?)? {
+            return Ok(false);
+        }
+    }
+    Ok(true)
+}
+
+/// Whether all commits are in one batch of so many pages, and then each is answered as done.
+fn is_flushed(alloc: Global, commits: &mut Commits, pages: usize) -> Result<bool, AllocError> {
+    let Some(batch) = commits.batch(alloc)? else {
+        return Ok(false);
+    };
+    let (number, written) = (batch.number(), batch.pages().len());
+    if !commits.can_flush(number) {
+        return Ok(false);
+    }
+    let made = commits.committed().len();
+    let dones = commits.flushed(alloc, number)?;
+    Ok(written == pages && dones.len() == made)
+}
+
+/// Whether a commit of all pages, and then 4,999 of one page, are applied and flushed.
+fn holds_all(alloc: Global, limits: &Limits, commits: &mut Commits) -> Result<bool, AllocError>
+    requires { IsOf limits.now commits.old.store }
+{
+    let all = commit_of(alloc, limits, TxnNo::new(1), 4096)?;
+    Ok(
+        apply(limits, commits, all)?
+            && are_applied(alloc, limits, commits, 5000)?
+            && is_flushed(alloc, commits, 4096)?,
+    )
+}
+
+/// Whether new commits over zeros do.
+fn new_ones_hold_all(alloc: Global, limits: &Limits) -> bool {
+    match made(alloc, limits) {
+        Ok(mut commits) => holds_all(alloc, limits, &mut commits) == Ok(true),
+        Err(_) => false,
+    }
+}
+
+#[test]
+fn commits_at_great_limits(rt: HostRuntime) -> Result<(), Fail> {
+    let limits = Limits::new(32, 4096, 4096, 1024, 1, 4096)?;
+    assert!(rt; new_ones_hold_all(rt.alloc(), &limits));
+    Ok(())
+}

@@ -1,0 +1,28 @@
+//! How each client's transaction stands.
+
+use cb_links::{Admission, Sessions, Standing};
+use cb_page::{ClientNo, CommitNo, Incarnation, Limits, TxnNo};
+use std::test::Fail;
+
+/// A transaction begins, is doomed and ends, as its client's frames tell.
+#[test]
+fn transaction_of_a_session(rt: HostRuntime) -> Result<(), Fail> {
+    let limits = Limits::new(2, 8, 16, 4, 1, 2)?;
+    let mut sessions = Sessions::new(rt.alloc(), &limits)?;
+    let client = ClientNo::new(1);
+    sessions.hello(client, Incarnation::new(3));
+    let stale = sessions.admit(client, Incarnation::new(2));
+    let unknown = sessions.admit(client, Incarnation::new(4));
+    let before = sessions.standing(client, TxnNo::new(1));
+    sessions.begin(client, TxnNo::new(2));
+    let earlier = sessions.standing(client, TxnNo::new(1));
+    let live = sessions.standing(client, TxnNo::new(2));
+    sessions.doom(client);
+    let doomed = sessions.standing(client, TxnNo::new(2));
+    sessions.end(client, Some(CommitNo::new(5)));
+    let ended = sessions.standing(client, TxnNo::new(2));
+    assert!(rt; stale == Admission::Stale && unknown == Admission::Unknown);
+    assert!(rt; before == Standing::Later && earlier == Standing::Ended);
+    assert!(rt; live == Standing::Live && doomed == Standing::Doomed && ended == Standing::Ended);
+    Ok(())
+}
