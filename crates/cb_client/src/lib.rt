@@ -6,8 +6,7 @@
 //! and each message is taken as its table of messages says.
 //!
 //! What holds whatever was called and came is said by the laws. An example that is run as a test is
-//! `references_of_a_client` in `cb_client_tests`; a chooser of a caller's own stands with its
-//! proof in `cb_pool_tests`.
+//! `references_of_a_client` in `cb_tests`, where a chooser of a caller's own stands with its proof.
 #![tactic(auto)]
 
 mod answers;
