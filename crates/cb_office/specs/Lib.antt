@@ -1,3 +1,5 @@
 pub mod Stations
 pub mod Moves
 pub mod Commits
+pub mod Shared
+pub mod Lending

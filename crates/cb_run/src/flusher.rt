@@ -9,7 +9,7 @@ ghost use Rattle.cb_statements.specs.Writing.{Fits, Wrote};
 
 use cb_commit::Batch;
 use cb_jobs::Watch;
-use cb_shared::{Office, SharedStation};
+use cb_office::{Office, SharedStation};
 use cb_shelf::{Shelf, ShelfFault};
 use sqlite::Alter;
 use std::alloc::Global;

@@ -1,7 +1,7 @@
 //! Closing, halting, and waiting for it.
+use cb_office::{Office, SharedStation};
 use crate::trials::{Trial, goes_well};
 use cb_page::ClientNo;
-use cb_shared::{Office, SharedStation};
 use std::alloc::Global;
 use std::sync::Wait;
 use std::sync::atomic::{AtomicU64, Ordering};

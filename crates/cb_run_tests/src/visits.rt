@@ -1,9 +1,8 @@
 //! Clients that commit by hand, and what is still to be written.
 use cb_frame::{Body, Frame, ShortBody, ShortFrame, Write, Writes};
 use cb_hands::Hand;
-use cb_office::{OfficeFault, Station};
+use cb_office::{Office, OfficeFault, Station};
 use cb_page::{ClientNo, GrantNo, Page, PageNo, PageSet, TxnNo};
-use cb_shared::Office;
 use std::alloc::{AllocError, Global};
 use std::sync::Wait;
 

@@ -10,7 +10,7 @@ use Rattle.cb_office.specs.Stations.{StationState}
 use Rattle.cb_office.specs.declared.office_fault.OfficeFault.TheVariants as office
 use Rattle.cb_page.specs.Numbers.{max_number}
 use Rattle.cb_protocol.specs.ClientCalls.{Call, CallDrop, CallRead, CallWant}
-use Rattle.cb_shared.specs.Shared.{SharedState}
+use Rattle.cb_office.specs.Shared.{SharedState}
 use Rattle.cb_worker.specs.Committing.{CommitsAt}
 use Rattle.cb_worker.specs.Turns.{Turns}
 use Rattle.cb_worker.specs.Waiting.{LacksTransaction}

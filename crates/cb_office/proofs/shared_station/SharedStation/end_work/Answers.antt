@@ -1,5 +1,5 @@
 use Rattle.std.proofs.Common.{rules}
-use Rattle.cb_shared.proofs.shared_station.SharedStation.halt.Goals as goal
+use Rattle.cb_office.proofs.shared_station.SharedStation.end_work.Goals as goal
 
 pub invariant_of-self : goal.invariant_of-self
 invariant_of-self c = search rules

@@ -2,10 +2,10 @@
 ghost use Rattle.std.specs.Prelude.{◌≡◌, ◌==◌, ◌-◌, ◌||◌, true, false, nat_le};
 ghost use Rattle.std.specs.Borrow.{sem};
 ghost use Rattle.cb_office.specs.Stations.{IsStation};
-ghost use Rattle.cb_shared.specs.Lending.{lends_station};
-ghost use Rattle.cb_shared.specs.Shared.{AreFlags};
+ghost use Rattle.cb_office.specs.Lending.{lends_station};
+ghost use Rattle.cb_office.specs.Shared.{AreFlags};
 
-use cb_office::Station;
+use crate::station::Station;
 use std::marker::Model;
 
 /// A station, with what the threads that share it tell each other: whether it is closed, whether it
@@ -33,7 +33,7 @@ impl Drop for SharedStation {
 }
 
 impl Model for SharedStation {
-    ghost use Rattle.cb_shared.specs.Shared.{AreFlags, SharedState};
+    ghost use Rattle.cb_office.specs.Shared.{AreFlags, SharedState};
 
     ghost Value = { SharedState };
 

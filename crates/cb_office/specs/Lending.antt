@@ -2,8 +2,8 @@
 use Rattle.std.specs.Borrow.{Lends, MutBor, Fml}
 use Rattle.cb_office.specs.Stations.{StationState}
 use Rattle.cb_office.specs.contracts.station.Station.{the_row as station_row}
-use Rattle.cb_shared.specs.Shared.{SharedState}
-use Rattle.cb_shared.specs.contracts.shared_station.SharedStation.{the_row}
+use Rattle.cb_office.specs.Shared.{SharedState}
+use Rattle.cb_office.specs.contracts.shared_station.SharedStation.{the_row}
 
 -- it has the station as it was left, and the same flags
 abbrev pub lends_station : MutBor SharedState → MutBor StationState → Fml

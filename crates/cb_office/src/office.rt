@@ -1,10 +1,10 @@
 //! The lock.
 ghost use Rattle.std.specs.Sync.Mutex.{mutex_guard_value};
 ghost use Rattle.cb_office.specs.Stations.{IsStation};
-ghost use Rattle.cb_shared.specs.Shared.{AreFlags};
+ghost use Rattle.cb_office.specs.Shared.{AreFlags};
 
 use crate::shared_station::SharedStation;
-use cb_office::Station;
+use crate::station::Station;
 use cb_page::ClientNo;
 use std::array;
 use std::sync::{Condvar, Mutex, MutexGuard, Wait};

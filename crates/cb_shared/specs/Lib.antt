@@ -1,2 +1,0 @@
-pub mod Shared
-pub mod Lending
