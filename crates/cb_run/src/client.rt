@@ -1,10 +1,10 @@
 //! One client's part of a run.
-use cb_office::{Office, OfficeFault};
 use crate::faults::of_worker;
 use crate::job::DoneJob;
 use crate::working::work;
 use cb_client::ClientFault;
 use cb_jobs::{Ending, FirstEnding, Gate};
+use cb_office::{Office, OfficeFault};
 use cb_page::{ClientNo, Limits};
 use cb_twoq::Chooser;
 use cb_worker::{Worker, WorkerFault};

@@ -3,13 +3,13 @@ ghost use Rattle.std.specs.Prelude.{◌*◌, IfOk};
 ghost use Rattle.cb_jobs.specs.Outcomes.{PrintsCounted};
 ghost use Rattle.cb_run.specs.Runs.{IsCounted, KeepsRows};
 
-use cb_office::Office;
 use crate::client::{give_up, job_list, run_client};
 use crate::counting::{count_results, new_tally, sum_up};
 use crate::faults::of_run;
 use crate::job::DoneJob;
 use crate::tries::flush_in_tries;
 use cb_jobs::{Counted, Ending, FirstEnding, Gate, Tally, Watch, print_run};
+use cb_office::Office;
 use cb_page::Limits;
 use cb_shelf::{Shelf, ShelfFault};
 use cb_twoq::TwoQ;

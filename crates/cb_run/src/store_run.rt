@@ -4,10 +4,10 @@ ghost use Rattle.cb_jobs.specs.Outcomes.{PrintsCounted};
 ghost use Rattle.cb_run.specs.Runs.{IsCounted};
 ghost use Rattle.cb_run.specs.StoreRuns.{HasFew, IsStoreRun, all_jobs};
 
-use cb_office::{Office, Station};
 use crate::faults::of_shelf;
 use crate::running::run_on;
 use cb_jobs::{Ending, Gate, Turn, Watch, print_run};
+use cb_office::{Office, Station};
 use cb_page::{ClientNo, Limits};
 use cb_settings::{Config, print_refusal, run_settings};
 use cb_shelf::{Shelf, ShelfFault};

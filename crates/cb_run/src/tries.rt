@@ -5,9 +5,9 @@ ghost use Rattle.sqlite.specs.State.{Survives};
 ghost use Rattle.cb_run.specs.Flushing.{MadeAtLast, Tries, WritesAtLast};
 ghost use Rattle.cb_run.specs.Stopping.{number_of, tries_left};
 
-use cb_office::Office;
 use crate::flusher::{FlushStop, flush_again, flush_loop};
 use cb_jobs::Watch;
+use cb_office::Office;
 use cb_shelf::{Shelf, ShelfFault};
 use sqlite::Alter;
 use std::alloc::Global;

@@ -1,10 +1,10 @@
 //! A worker's jobs, one after another, and its end.
 ghost use Rattle.std.specs.Prelude.{◌≡◌, OnErr};
 
-use cb_office::Office;
 use crate::job::{DoneJob, do_job};
 use cb_client::ClientFault;
 use cb_jobs::{Gate, Turn};
+use cb_office::Office;
 use cb_page::ClientNo;
 use cb_twoq::Chooser;
 use cb_worker::{Worker, WorkerFault};

@@ -1,7 +1,7 @@
 //! A client alone with the office, on one thread, which does the flusher's part too.
-use cb_office::{Office, OfficeFault, Station};
 use crate::trials::{Trial, goes_well};
 use cb_commit::Store;
+use cb_office::{Office, OfficeFault, Station};
 use cb_page::{ClientNo, CommitNo, Limits, PageNo};
 use cb_twoq::Chooser;
 use cb_worker::{Fetched, Finished, Wanted, Worker, WorkerFault};

@@ -1,11 +1,11 @@
 //! Runs that end before all is done: a worker that can't join while another works, and an office
 //! that is halted or closed at each moment in turn.
-use cb_office::Office;
 use crate::gates::Gates;
 use crate::run::Told;
 use crate::stops::Answered;
 use crate::trials::{Trial, goes_well};
 use cb_jobs::{Gate, Turn};
+use cb_office::Office;
 use cb_page::{ClientNo, Limits};
 use cb_run::run_on;
 use cb_shelf::Shelf;

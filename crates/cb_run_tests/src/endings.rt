@@ -1,9 +1,9 @@
 //! The flusher ends once the office is closed and everything is on disk.
-use cb_office::Office;
 use crate::commits::holds;
 use crate::run::Told;
 use crate::trials::{Trial, goes_well};
 use crate::visits::{is_reported, visit};
+use cb_office::Office;
 use cb_page::{ClientNo, Limits};
 use cb_run::flush_loop;
 use cb_shelf::Shelf;

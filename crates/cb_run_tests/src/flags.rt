@@ -1,6 +1,6 @@
 //! Closing, halting, and waiting for it.
-use cb_office::{Office, SharedStation};
 use crate::trials::{Trial, goes_well};
+use cb_office::{Office, SharedStation};
 use cb_page::ClientNo;
 use std::alloc::Global;
 use std::sync::Wait;

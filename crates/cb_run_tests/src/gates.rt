@@ -1,11 +1,11 @@
 //! Gates of runs: one type for all, so that a run is built once; and workers that wait for each
 //! other.
-use cb_office::Office;
 use crate::cut_off::Stopper;
 use crate::run::{Row, comes_at};
 use crate::stops::Answered;
 use crate::trials::{Trial, goes_well};
 use cb_jobs::{Gate, Turn};
+use cb_office::Office;
 use cb_page::{ClientNo, Limits};
 use cb_shelf::Shelf;
 use sqlite::Alter;

@@ -1,8 +1,8 @@
 //! Transactions that are dropped, restarts, and an office that was halted.
-use cb_office::{Office, OfficeFault};
 use crate::alone::is_all;
 use crate::trials::{Trial, goes_well};
 use cb_client::ClientFault;
+use cb_office::{Office, OfficeFault};
 use cb_page::{Incarnation, PageNo};
 use cb_twoq::Chooser;
 use cb_worker::{Fetched, Worker, WorkerFault};

@@ -1,11 +1,11 @@
 //! A store that refuses each write, and later none.
-use cb_office::{Office, Station};
 use crate::endings::holds_sevens;
 use crate::run::Told;
 use crate::trials::{Trial, goes_well};
 use crate::visits::{commit_page, is_reported, visit};
 use cb_frame::{Body, Frame, ShortBody};
 use cb_hands::Hand;
+use cb_office::{Office, Station};
 use cb_page::{ClientNo, Limits, TxnNo};
 use cb_run::{FlushStop, flush_again, flush_in_tries, flush_loop};
 use cb_shelf::{Shelf, ShelfFault};

@@ -1,9 +1,9 @@
 //! Whole runs, and what is told of them.
-use cb_office::{Office, Station};
 use crate::gates::Gates;
 use crate::stops::Answered;
 use crate::trials::{Trial, goes_well};
 use cb_jobs::Watch;
+use cb_office::{Office, Station};
 use cb_page::{CommitNo, Limits};
 use cb_run::run_on;
 use cb_shelf::Shelf;

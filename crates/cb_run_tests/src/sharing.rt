@@ -1,9 +1,9 @@
 //! Threads that share a station.
-use cb_office::{Office, OfficeFault, Station};
 use crate::trials::{Trial, goes_well};
 use crate::visits::{commit, first_page, said};
 use cb_frame::{ShortBody, Writes};
 use cb_hands::Hand;
+use cb_office::{Office, OfficeFault, Station};
 use cb_page::{ClientNo, PageNo, PageSet, TxnNo};
 use std::alloc::{AllocError, Global};
 use std::sync::Wait;

@@ -1,7 +1,6 @@
 //! What is tried over an office and a shelf, which one function makes and lends.
 ghost use Rattle.std.specs.Prelude.{◌≡◌, false};
 
-use cb_office::{Office, Station};
 use crate::alone::commits_and_leaves;
 use crate::cut_off::{ends_at_once, is_one_refused};
 use crate::disks::over_new;
@@ -13,6 +12,7 @@ use crate::refusals::{is_refused_after_a_commit, is_refused_at_first};
 use crate::run::{Row, comes_of};
 use crate::sharing::are_shared;
 use crate::work::{Deed, Outcome, config_of, opening};
+use cb_office::{Office, Station};
 use cb_page::{ClientNo, Limits};
 use cb_shelf::Shelf;
 use cb_twoq::{Chooser, TwoQ};

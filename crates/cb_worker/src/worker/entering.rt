@@ -6,13 +6,13 @@ ghost use Rattle.cb_worker.specs.Refusals.{StopsServing};
 ghost use Rattle.cb_worker.specs.Waiting.{IsServed};
 ghost use Rattle.cb_worker.specs.Workers.{IsOf, IsStill, last_txn};
 
-use cb_office::{Office, OfficeFault};
 use crate::awaited::Awaited;
 use crate::said::Said;
 use crate::worker::Worker;
 use crate::worker_fault::WorkerFault;
 use cb_client::{Client, ClientFault};
 use cb_hands::Hand;
+use cb_office::{Office, OfficeFault};
 use cb_page::{ClientNo, Incarnation, Limits};
 use cb_twoq::Chooser;
 use std::alloc::Global;

@@ -16,13 +16,13 @@ ghost use Rattle.cb_worker.specs.Waiting.{IsServed, Wants};
 ghost use Rattle.cb_worker.specs.Workers.{Ended, Ends, HasTransaction, IsStill};
 ghost use Rattle.cb_worker.specs.Workers.{after_hit, may_hit};
 
-use cb_office::{Office, OfficeFault, SharedStation};
 use crate::answers::{Fetched, Finished, Wanted};
 use crate::awaited::{Awaited, Came};
 use crate::said::Said;
 use crate::worker::Worker;
 use crate::worker_fault::WorkerFault;
 use cb_client::{ReadAnswer, WantAnswer};
+use cb_office::{Office, OfficeFault, SharedStation};
 use cb_page::PageNo;
 use cb_twoq::Chooser;
 use std::alloc::Global;
