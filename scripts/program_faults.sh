@@ -16,7 +16,8 @@ config=$PWD/crates/cb_play/data/first.toml
 schedule=$PWD/crates/cb_play/data/first.schedule
 room=$(mktemp -d)
 trap 'rm -rf "$room"' EXIT
-whole=$(cat crates/cb_play/stdout)
+# what the stored run has of that play, which comes first
+whole=$(sed -n '2,/^status /p' crates/cb_play/stdout | sed '$d')
 bad=0
 
 # says what a run came to: NAME STATUS-WANTED LINE-WANTED, with the status in $status and the lines in out and err
@@ -104,7 +105,7 @@ echo "limits of memory: $ended_before ended before an event, $ended_amid amid th
 [ $ended_amid -gt 0 ] && [ $ended_whole -gt 0 ] || { echo "the limits decide nothing: FAILED"; bad=1; }
 
 # Runs of workers: 100 jobs of four clients over a new store.
-counters=$PWD/crates/cb_play/data/counters.toml
+counters=$PWD/crates/cb_play/data/jobs.toml
 counted=$'committed 100\nsum 200'
 
 "$program" run --progress "$counters" "$room/shown.db" >"$room/out" 2>"$room/err"; status=$?
