@@ -11,6 +11,7 @@ mod laws;
 mod opening;
 mod reading;
 mod shelf;
+mod writing;
 
 pub use cb_statements::ShelfFault;
 pub use flush::flush_once;

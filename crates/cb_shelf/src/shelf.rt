@@ -13,9 +13,10 @@ ghost use Rattle.cb_statements.specs.Writing.{Fits, Wrote};
 
 use crate::opening::open_tables;
 use crate::reading::read_back;
+use crate::writing::write_batch;
 use cb_commit::{Batch, Store};
 use cb_page::Limits;
-use cb_statements::{ShelfFault, fits, write_batch};
+use cb_statements::{ShelfFault, fits};
 use sqlite::{Alter, Connection};
 use std::alloc::Global;
 

@@ -3,7 +3,7 @@
 //!
 //! [`run`], [`ask`] and [`is_there`] are single statements: in contracts each is a step
 //! (`Inside`), and what it makes of the database is what the statements make that ran (`MakesAll`).
-//! [`put_page`] and [`write_batch`] are lists of them.
+//! [`put_mark`], [`put_page`] and [`put_pages`] are made of them.
 #![tactic(auto)]
 
 mod fault;
@@ -12,4 +12,4 @@ mod writing;
 
 pub use fault::ShelfFault;
 pub use step::{ask, is_there, run};
-pub use writing::{PART, fits, part_count, put_page, write_batch};
+pub use writing::{PART, fits, part_count, put_mark, put_page, put_pages};

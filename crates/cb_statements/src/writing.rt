@@ -1,19 +1,16 @@
-//! The statements that write a batch or a whole store.
-ghost use Rattle.std.specs.Prelude.{◌≡◌, ◌≢◌, [], ◌∷◌, ◌<◌, ◌↔◌, length, Err, IsTrue, OnOk, OnErr};
-ghost use Rattle.sqlite.specs.State.{HasCleanDisk, Survives};
-ghost use Rattle.sqlite.specs.Held.{state};
+//! The statements that write pages and the number of the last commit.
+ghost use Rattle.std.specs.Prelude.{◌≡◌, ◌≢◌, [], ◌∷◌, ◌<◌, ◌↔◌, length, Err, IsTrue};
 ghost use Rattle.cb_statements.specs.Statements.{MakesAll, part_at, part_count, part_statement};
 ghost use Rattle.cb_statements.specs.Statements.{page_statement, page_statements, part_statements};
-ghost use Rattle.cb_statements.specs.Statements.{pages_statements, batch_statements};
-ghost use Rattle.cb_statements.specs.Statements.{mark_statement};
-ghost use Rattle.cb_statements.specs.Inside.{Inside, IsSame, IsSettled};
-ghost use Rattle.cb_statements.specs.Writing.{Fits, Wrote};
+ghost use Rattle.cb_statements.specs.Statements.{pages_statements, mark_statement};
+ghost use Rattle.cb_statements.specs.Inside.{Inside};
+ghost use Rattle.cb_statements.specs.Writing.{Fits};
 
 use crate::ShelfFault;
 use crate::step::run;
 use cb_commit::{Batch, BatchPage};
 use cb_page::{CommitNo, Limits, PageNo, Version};
-use sqlite::{Alter, Connection, Transaction, params};
+use sqlite::{Alter, Transaction, params};
 
 /// A page stands in parts of so many bytes; the last one may be shorter.
 pub const PART: usize = 4096;
@@ -114,7 +111,10 @@ pub fn put_page<S: Alter>(
 }
 
 /// Writes the pages of a batch.
-fn put_pages<S: Alter>(tx: &mut Transaction<'_, S>, pages: &[BatchPage]) -> Result<(), ShelfFault>
+pub fn put_pages<S: Alter>(
+    tx: &mut Transaction<'_, S>,
+    pages: &[BatchPage],
+) -> Result<(), ShelfFault>
     ensures same_reference { tx.new.conn.ghost_name ≡ tx.old.conn.ghost_name }
     ensures inside { Inside S.Store (MakesAll S.Store (pages_statements pages.now))
         tx.old.conn.now tx.new.conn.now result }
@@ -127,7 +127,7 @@ fn put_pages<S: Alter>(tx: &mut Transaction<'_, S>, pages: &[BatchPage]) -> Resu
 }
 
 /// Sets the number of the last commit.
-fn put_mark<S: Alter>(tx: &mut Transaction<'_, S>, number: CommitNo) -> Result<(), ShelfFault>
+pub fn put_mark<S: Alter>(tx: &mut Transaction<'_, S>, number: CommitNo) -> Result<(), ShelfFault>
     ensures same_reference { tx.new.conn.ghost_name ≡ tx.old.conn.ghost_name }
     ensures inside { Inside S.Store (MakesAll S.Store (mark_statement number ∷ []))
         tx.old.conn.now tx.new.conn.now result }
@@ -140,44 +140,10 @@ fn put_mark<S: Alter>(tx: &mut Transaction<'_, S>, number: CommitNo) -> Result<(
     )
 }
 
-/// Writes a batch: its pages, then its number.
-fn put_batch<S: Alter>(tx: &mut Transaction<'_, S>, batch: &Batch) -> Result<(), ShelfFault>
-    ensures same_reference { tx.new.conn.ghost_name ≡ tx.old.conn.ghost_name }
-    ensures inside { Inside S.Store (MakesAll S.Store (batch_statements batch.now))
-        tx.old.conn.now tx.new.conn.now result }
-    ensures fault { result ≢ Err ShelfFault.Shape }
-{
-    put_pages(tx, batch.pages())?;
-    put_mark(tx, batch.number())
-}
-
 /// Whether every page of a batch is one of the store's.
 pub fn fits(limits: &Limits, batch: &Batch) -> bool
     ensures { IsTrue result ↔ Fits limits.now batch.now }
 {
     batch.pages().iter().all(|page| page.page.get() < limits.pages()
         && page.bytes.len() == limits.page_size())
-}
-
-/// Writes a batch in one transaction.
-pub fn write_batch<S: Alter>(conn: &mut Connection<S>, batch: &Batch) -> Result<(), ShelfFault>
-    ensures both { HasCleanDisk (state S.Store conn.new)
-        → OnOk result (MakesAll S.Store (batch_statements batch.now) (state S.Store conn.old).now
-        (state S.Store conn.new).committed) }
-    ensures neither { HasCleanDisk (state S.Store conn.new)
-        → OnErr result (IsSame (state S.Store conn.old) (state S.Store conn.new)) }
-    ensures settled { HasCleanDisk (state S.Store conn.new)
-        → OnOk result (IsSettled (state S.Store conn.new)) }
-    ensures mode { conn.new.in_transaction ≡ conn.old.in_transaction }
-    ensures crash { Survives (state S.Store conn.old) (state S.Store conn.new)
-        (Wrote S.Store batch.now conn.old) }
-    ensures fault { result ≢ Err ShelfFault.Shape }
-{
-    if !conn.is_autocommit() {
-        return Err(ShelfFault::Store);
-    }
-    let mut tx = conn.transaction();
-    put_batch(&mut tx, batch)?;
-    tx.commit()?;
-    Ok(())
 }

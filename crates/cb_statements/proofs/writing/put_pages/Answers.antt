@@ -1,4 +1,4 @@
-use Rattle.std.proofs.Common.{◌≡◌, ◌+◌, ◌∙◌, refl, [], ◌∷◌, ◌++◌, take, rules}
+use Rattle.std.proofs.Common.{◌≡◌, ◌+◌, ◌∙◌, refl, [], ◌∷◌, ◌++◌, take, Ok, rules}
 use Rattle.std.proofs.lemmas.List.{take_more}
 use Rattle.cb_statements.specs.Statements.{page_statements, pages_statements, statements_of}
 use Rattle.cb_statements.proofs.Stepping.{makes_next, flat_more}
@@ -13,5 +13,5 @@ loop-page-preserved g c =
     rw c.as_slice.ensures (flat_more statements_of _ _ page more) in
     record {
       same_reference = search rules;
-      inside = makes_next g.S.Store _ (page_statements page.page page.version c.as_slice.result.now) _ _ _ _ _ _ all c.loop-page.invariant.inside c.in_ok-put_page.ensures.inside;
+      inside = makes_next g.S.Store _ (page_statements page.page page.version c.as_slice.result.now) _ _ _ _ tt (Ok tt) all c.loop-page.invariant.inside c.in_ok-put_page.ensures.inside;
     }

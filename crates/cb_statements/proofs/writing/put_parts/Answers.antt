@@ -1,4 +1,4 @@
-use Rattle.std.proofs.Common.{refl, arith, rules}
+use Rattle.std.proofs.Common.{refl, Ok, arith, rules}
 use Rattle.std.proofs.lemmas.List.FromFn.{map-range_with_len_more}
 use Rattle.cb_statements.specs.Statements.{part_statement}
 use Rattle.cb_statements.proofs.Stepping.{stays, makes_next, stops_then}
@@ -18,7 +18,7 @@ pub loop-place-preserved : goal.loop-place-preserved
 loop-place-preserved g c =
     record {
       same_reference = search rules;
-      inside = makes_next g.S.Store _ _ _ _ _ _ _ _
+      inside = makes_next g.S.Store _ _ _ _ _ _ tt (Ok tt)
           (map-range_with_len_more (part_statement c.args.page c.args.bytes.now) 0 c.loop-place.place c.loop-place.place (omega arith))
           c.loop-place.invariant.inside c.in_ok-put_part.ensures.inside;
     }

@@ -1,7 +1,7 @@
 use Rattle.std.proofs.Common.{[], ◌∷◌}
 use Rattle.cb_statements.specs.Statements.{pages_statements, mark_statement}
 use Rattle.cb_statements.proofs.Stepping.{makes_then}
-use Rattle.cb_statements.proofs.writing.put_batch.Goals as goal
+use Rattle.cb_shelf.proofs.writing.put_batch.Goals as goal
 
 pub returns-clause-inside : goal.returns-clause-inside
 returns-clause-inside g c =

@@ -1,0 +1,48 @@
+//! Writing a batch in one transaction.
+ghost use Rattle.std.specs.Prelude.{◌≡◌, ◌≢◌, Err, OnOk, OnErr};
+ghost use Rattle.sqlite.specs.State.{HasCleanDisk, Survives};
+ghost use Rattle.sqlite.specs.Held.{state};
+ghost use Rattle.cb_statements.specs.Statements.{MakesAll, batch_statements};
+ghost use Rattle.cb_statements.specs.Inside.{Inside, IsSame, IsSettled};
+ghost use Rattle.cb_statements.specs.Writing.{Wrote};
+
+use cb_commit::Batch;
+use cb_statements::{ShelfFault, put_mark, put_pages};
+use sqlite::{Alter, Connection, Transaction};
+
+/// Writes a batch: its pages, then its number.
+fn put_batch<S: Alter>(tx: &mut Transaction<'_, S>, batch: &Batch) -> Result<(), ShelfFault>
+    ensures same_reference { tx.new.conn.ghost_name ≡ tx.old.conn.ghost_name }
+    ensures inside { Inside S.Store (MakesAll S.Store (batch_statements batch.now))
+        tx.old.conn.now tx.new.conn.now result }
+    ensures fault { result ≢ Err ShelfFault.Shape }
+{
+    put_pages(tx, batch.pages())?;
+    put_mark(tx, batch.number())
+}
+
+/// Writes a batch in one transaction.
+pub(crate) fn write_batch<S: Alter>(
+    conn: &mut Connection<S>,
+    batch: &Batch,
+) -> Result<(), ShelfFault>
+    ensures both { HasCleanDisk (state S.Store conn.new)
+        → OnOk result (MakesAll S.Store (batch_statements batch.now) (state S.Store conn.old).now
+        (state S.Store conn.new).committed) }
+    ensures neither { HasCleanDisk (state S.Store conn.new)
+        → OnErr result (IsSame (state S.Store conn.old) (state S.Store conn.new)) }
+    ensures settled { HasCleanDisk (state S.Store conn.new)
+        → OnOk result (IsSettled (state S.Store conn.new)) }
+    ensures mode { conn.new.in_transaction ≡ conn.old.in_transaction }
+    ensures crash { Survives (state S.Store conn.old) (state S.Store conn.new)
+        (Wrote S.Store batch.now conn.old) }
+    ensures fault { result ≢ Err ShelfFault.Shape }
+{
+    if !conn.is_autocommit() {
+        return Err(ShelfFault::Store);
+    }
+    let mut tx = conn.transaction();
+    put_batch(&mut tx, batch)?;
+    tx.commit()?;
+    Ok(())
+}
