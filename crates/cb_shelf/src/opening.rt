@@ -210,9 +210,9 @@ fn look<S: Alter>(
         return Err(ShelfFault::Store);
     }
     let mut tx = conn.transaction();
-    let found = find(alloc, &mut tx, limits)?;
+    let found = find(alloc, &mut tx, limits);
     tx.rollback();
-    Ok(found)
+    found
 }
 
 /// Makes the three tables.

@@ -501,7 +501,7 @@ pub(crate) fn read_back<S: Alter>(
         return Err(ShelfFault::Store);
     }
     let mut tx = conn.transaction();
-    let store = read_store(alloc, &mut tx, limits, Generation::Newer)?;
+    let store = read_store(alloc, &mut tx, limits, Generation::Newer);
     tx.rollback();
-    Ok(store)
+    store
 }

@@ -1,4 +1,4 @@
-use Rattle.std.proofs.Common.{◌≡◌, ◌+◌, refl, ◌++◌, rules}
+use Rattle.std.proofs.Common.{◌≡◌, ◌+◌, Ok, refl, ◌++◌, rules}
 use Rattle.cb_statements.specs.Statements.{page_statements}
 use Rattle.cb_shelf.specs.Opening.{first_pages, stored_statements}
 use Rattle.cb_statements.proofs.Stepping.{stays, makes_next, flat_more, range_more}
@@ -15,5 +15,5 @@ loop-place-preserved g c =
     rw (c.version.ensures.value, c.bytes.ensures.value, c.new-page.ensures) (flat_more (stored_statements store) _ _ place (range_more place)) in
     record {
       same_reference = search rules;
-      inside = makes_next g.S.Store _ (page_statements c.new-page.result c.version.result c.bytes.result.now) _ _ _ _ _ _ all c.loop-place.invariant.inside c.in_ok-put_page.ensures.inside;
+      inside = makes_next g.S.Store _ (page_statements c.new-page.result c.version.result c.bytes.result.now) _ _ _ _ tt (Ok tt) all c.loop-place.invariant.inside c.in_ok-put_page.ensures.inside;
     }
