@@ -6,3 +6,4 @@ pub mod PagesRead
 pub mod Receiving
 pub mod Stations
 pub mod Calls
+pub mod Admitting

@@ -1,13 +1,14 @@
 //! A client commits.
 ghost use Rattle.std.specs.Prelude.{◌≡◌, ◌↔◌, ◌⊎◌, ◌+◌, ◌<◌, ◌≤◌, ◌++◌, ◌∷◌, [], true};
-ghost use Rattle.std.specs.Prelude.{false, Err, IfErr, IfOk, OnErr, OnOk, length};
+ghost use Rattle.std.specs.Prelude.{false, Err, IfErr, IfOk, OnErr, OnOk, length, vec_len};
+ghost use Rattle.std.specs.Prelude.{vec_capacity};
 ghost use Rattle.std.specs.List.{All};
 ghost use Rattle.cb_joined.specs.OwnHand.{all_restamped, pages_written};
 ghost use Rattle.cb_dispatch.specs.Dispatching.{Everybody, Posts};
 ghost use Rattle.cb_joined.specs.declared.entry.Entry.{Entry as Noted};
 ghost use Rattle.cb_joined.specs.Joined.{Follow, IsHeld};
-ghost use Rattle.cb_office.specs.Commits.{IsLive, IsOwnCommit, IsPermitted, is_live};
-ghost use Rattle.cb_office.specs.Commits.{txn_of, writes_of};
+ghost use Rattle.cb_office.specs.Commits.{AllowsCommit, IsLive, IsOwnCommit, IsPermitted};
+ghost use Rattle.cb_office.specs.Commits.{RefusesCommit, is_live, txn_of, writes_of};
 ghost use Rattle.cb_office.specs.Moves.{IsEntryOf, committed};
 ghost use Rattle.cb_office.specs.Stations.{IsUnchanged, outbox_of, server_of};
 ghost use Rattle.cb_office.specs.declared.office_fault.OfficeFault.TheVariants as office;
@@ -74,6 +75,39 @@ impl Station {
             hand.new ≡ committed hand.old (writes_of frame.now) number) }
         ensures stored { OnOk result (Follow self.old.hands self.new.hands hand.old hand.new) }
     {
+        let number = self.number_for(frame, reads, hand)?;
+        let Body::Commit { txn, writes } = &frame.body else {
+            unreachable!()
+        };
+        let entry = entry_of(
+            alloc,
+            &mut self.history,
+            hand,
+            *txn,
+            reads,
+            writes.as_slice(),
+        )?;
+        // A number is left: it is refused only where memory is.
+        if self.dispatcher.take(alloc, frame).is_err() {
+            return Err(OfficeFault::Memory);
+        }
+        let version = Version::new(number.get());
+        restamp(&mut self.hands, hand, writes.as_slice(), version);
+        self.hands.end_permissions(hand);
+        self.history.push_reserved(entry);
+        Ok(number)
+    }
+
+    /// The number that the commit gets, or why there is none: the first reason that stands.
+    fn number_for(
+        &self,
+        frame: &Frame,
+        reads: &PageSet,
+        hand: &Hand,
+    ) -> Result<CommitNo, OfficeFault>
+        ensures refused { IfErr result (RefusesCommit self.now frame.now hand.now reads.now) }
+        ensures allowed { IfOk result (AllowsCommit self.now frame.now hand.now reads.now) }
+    {
         let Body::Commit { txn, writes } = &frame.body else {
             return Err(OfficeFault::Foreign);
         };
@@ -89,16 +123,6 @@ impl Station {
         let Some(number) = self.dispatcher.holdings().next_commit() else {
             return Err(OfficeFault::Exhausted);
         };
-        let entry = entry_of(alloc, hand, *txn, reads, writes.as_slice())?;
-        self.history.reserve(1)?;
-        // A number is left: it is refused only where memory is.
-        if self.dispatcher.take(alloc, frame).is_err() {
-            return Err(OfficeFault::Memory);
-        }
-        let version = Version::new(number.get());
-        restamp(&mut self.hands, hand, writes.as_slice(), version);
-        self.hands.end_permissions(hand);
-        self.history.push_reserved(entry);
         Ok(number)
     }
 
@@ -114,16 +138,21 @@ impl Station {
     }
 }
 
-/// The entry of a transaction that read these pages and writes those.
+/// The entry of a transaction that read these pages and writes those, with room for it behind the
+/// history.
 fn entry_of(
     alloc: Global,
+    history: &mut Vec<Entry>,
     hand: &Hand,
     txn: TxnNo,
     reads: &PageSet,
     writes: &[Write],
 ) -> Result<Entry, AllocError>
-    ensures { IfOk result (IsEntryOf hand.now txn writes.now reads.now) }
+    ensures entry { IfOk result (IsEntryOf hand.now txn writes.now reads.now) }
+    ensures same { history.new.items ≡ history.old.items }
+    ensures room { OnOk result (vec_len history.new < vec_capacity history.new) }
 {
+    history.reserve(1)?;
     Ok(Entry {
         client: hand.client(),
         incarnation: hand.incarnation(),

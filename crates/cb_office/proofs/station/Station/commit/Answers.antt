@@ -1,13 +1,13 @@
-use Rattle.std.proofs.Common.{rules, ◌++◌, ◌∷◌, [], ◌≡◌, ◌+◌, ℕ, List, true, false, is_err, refl, sym, ap, ◌∙◌, subst}
+use Rattle.std.proofs.Common.{rules, Err, ◌++◌, ◌∷◌, [], ◌≡◌, ◌+◌, ℕ, List, true, false, is_err, refl, sym, ap, ◌∙◌, subst}
 use Rattle.std.proofs.lemmas.List.Elements.{All-from_recursion}
 use Rattle.cb_joined.specs.OwnHand.{all_restamped, pages_written}
 use Rattle.cb_frame_types.specs.declared.frame.Body.{Body}
 use Rattle.cb_frame_types.specs.declared.frame.Body.TheVariants as body
-use Rattle.cb_frame_types.specs.Grammar.{BodyFits}
+use Rattle.cb_frame_types.specs.Grammar.{BodyFits, Fits}
 use Rattle.cb_frame_types.specs.declared.writes.Write.{Write}
 use Rattle.cb_hands.specs.Hands.{without_permissions}
 use Rattle.cb_joined.specs.declared.entry.Entry.{Entry}
-use Rattle.cb_holdings.specs.Holdings.{server_of as holdings_in}
+use Rattle.cb_office.proofs.Admitting.{answered_refusal}
 use Rattle.cb_office.proofs.Calls.{commits_by, err_fact, ok_fact, writes_within}
 use Rattle.cb_office.proofs.Keeping.{restamped_client}
 use Rattle.cb_office.specs.Commits.{is_live, txn_in, txn_of, writes_in, writes_of}
@@ -16,8 +16,7 @@ use Rattle.cb_office.proofs.Following.{follow_then}
 use Rattle.cb_office.specs.Stations.{StationState, outbox_of, server_of}
 use Rattle.cb_dispatch.specs.Dispatching.{Everybody, Posts}
 use Rattle.cb_hands.specs.Hands.{HandState}
-use Rattle.cb_holdings.specs.Holdings.{HoldingsState}
-use Rattle.cb_joined.specs.Joined.{Follow}
+use Rattle.cb_joined.specs.Joined.{Follow, IsHeld}
 use Rattle.cb_outbox.specs.Messages.{messages_of}
 use Rattle.cb_protocol.specs.AnyMessages.{MessageComes}
 use Rattle.cb_office.specs.Moves.{IsEntryOf, IsOwn, MayWriteAll, committed}
@@ -26,35 +25,60 @@ use Rattle.cb_protocol.specs.CommitLaws.{IsApplied}
 use Rattle.cb_server.specs.Taking.{Does, input_of}
 use Rattle.cb_office.proofs.station.Station.commit.Goals as goal
 
+pub returns-in_err-number-clause-foreign : goal.returns-in_err-number-clause-foreign
+returns-in_err-number-clause-foreign c =
+    let is : c.from_residual.result ≡ Err c.in_err-number.field-0.0 = search rules in
+    rw is (answered_refusal c.args.self.now c.args.frame.now c.args.hand.now c.args.reads.now c.in_err-number.field-0.0 c.in_err-number.ensures.refused).foreign
+
+pub returns-in_err-number-clause-not_held : goal.returns-in_err-number-clause-not_held
+returns-in_err-number-clause-not_held c =
+    let is : c.from_residual.result ≡ Err c.in_err-number.field-0.0 = search rules in
+    rw is (answered_refusal c.args.self.now c.args.frame.now c.args.hand.now c.args.reads.now c.in_err-number.field-0.0 c.in_err-number.ensures.refused).not_held
+
+pub returns-in_err-number-clause-not_live : goal.returns-in_err-number-clause-not_live
+returns-in_err-number-clause-not_live c =
+    let is : c.from_residual.result ≡ Err c.in_err-number.field-0.0 = search rules in
+    rw is (answered_refusal c.args.self.now c.args.frame.now c.args.hand.now c.args.reads.now c.in_err-number.field-0.0 c.in_err-number.ensures.refused).not_live
+
+pub returns-in_err-number-clause-exhausted : goal.returns-in_err-number-clause-exhausted
+returns-in_err-number-clause-exhausted c =
+    let is : c.from_residual.result ≡ Err c.in_err-number.field-0.0 = search rules in
+    rw is (answered_refusal c.args.self.now c.args.frame.now c.args.hand.now c.args.reads.now c.in_err-number.field-0.0 c.in_err-number.ensures.refused).exhausted
+
+pub take-requires : goal.take-requires
+take-requires c = subst (λ (v : StationState). Fits v.dispatcher.server.limits c.args.frame.now) (sym c.self.view_is) c.in_ok-number.ensures.allowed.own.0.fits
+
+pub restamp-requires-clause-held : goal.restamp-requires-clause-held
+restamp-requires-clause-held c = subst (λ (v : StationState). IsHeld v.hands c.args.hand.now) (sym c.self.view_is) c.in_ok-number.ensures.allowed.own.0.held
+
 pub invariant_of-self-then-is_err : goal.invariant_of-self-then-is_err
 invariant_of-self-then-is_err c =
     let failed : is_err c.take.result ≡ true = sym c.is_err.ensures.value ∙ c.if-is_err.true in
-    unchanged_station (record { dispatcher = c.self.inside.dispatcher; hands = c.self.inside.hands; history = c.self.inside.history.items }) (record { dispatcher = c.take.new.self; hands = c.self.inside.hands; history = c.reserve.new.self.items }) c.self.invariant (record { dispatcher = err_fact c.take.result _ failed c.take.ensures.unchanged; hands = refl; history = c.reserve.ensures.items })
+    unchanged_station (record { dispatcher = c.self.inside.dispatcher; hands = c.self.inside.hands; history = c.self.inside.history.items }) (record { dispatcher = c.take.new.self; hands = c.self.inside.hands; history = c.entry_of.new.history.items }) c.self.invariant (record { dispatcher = err_fact c.take.result _ failed c.take.ensures.unchanged; hands = refl; history = c.entry_of.ensures.same })
 
 pub restamp-requires-clause-pages : goal.restamp-requires-clause-pages
 restamp-requires-clause-pages c =
-    let may_slice : MayWriteAll c.args.hand.now c.in-Commit.txn c.as_slice.result.now = search rules in
-    let may = subst (λ (ws : List Write). MayWriteAll c.args.hand.now c.in-Commit.txn ws) c.as_slice.ensures may_slice in
-    All-from_recursion _ c.as_slice-3.result.now (writes_within c.args.hand.now c.in-Commit.txn c.as_slice-3.result.now (subst (λ (ws : List Write). MayWriteAll c.args.hand.now c.in-Commit.txn ws) (sym c.as_slice-3.ensures) may))
+    let may = subst (λ (b : Body). MayWriteAll c.args.hand.now (txn_in b) (writes_in b)) c.in-Commit.is c.in_ok-number.ensures.allowed.permitted.1 in
+    All-from_recursion _ c.as_slice-2.result.now (writes_within c.args.hand.now c.in-Commit.txn c.as_slice-2.result.now (subst (λ (ws : List Write). MayWriteAll c.args.hand.now c.in-Commit.txn ws) (sym c.as_slice-2.ensures) may))
 
 pub invariant_of-self-2 : goal.invariant_of-self-2
 invariant_of-self-2 c =
     let done : is_err c.take.result ≡ false = sym c.is_err.ensures.value ∙ c.if-is_err.false in
     let posts = ok_fact c.take.result _ done c.take.ensures.ok in
     let is : c.args.frame.now.body ≡ body.Commit c.in-Commit.txn c.in-Commit.writes = c.in-Commit.is in
-    let may_slice : MayWriteAll c.args.hand.now c.in-Commit.txn c.as_slice.result.now = search rules in
-    let may = subst (λ (ws : List Write). MayWriteAll c.args.hand.now c.in-Commit.txn ws) c.as_slice.ensures may_slice in
-    let restamped = c.restamp.ensures.hand ∙ ap (λ (ws : List Write). all_restamped c.args.hand.now (pages_written (page_writes ws)) c.new-version.result) c.as_slice-3.ensures in
+    let may = subst (λ (b : Body). MayWriteAll c.args.hand.now (txn_in b) (writes_in b)) c.in-Commit.is c.in_ok-number.ensures.allowed.permitted.1 in
+    let restamped = c.restamp.ensures.hand ∙ ap (λ (ws : List Write). all_restamped c.args.hand.now (pages_written (page_writes ws)) c.new-version.result) c.as_slice-2.ensures in
     let follow = follow_then c.self.inside.hands c.restamp.new.hands c.end_permissions.new.self c.args.hand.now c.restamp.new.hand c.end_permissions.new.hand c.restamp.ensures.stored c.end_permissions.ensures.stored
     (ap (λ (h : HandState). h.client) restamped ∙ restamped_client c.args.hand.now (pages_written (page_writes c.in-Commit.writes)) c.new-version.result) in
-    let entered = subst (λ (ws : List Write). IsEntryOf c.args.hand.now c.in-Commit.txn ws c.args.reads.now c.in_ok-entry.entry) c.as_slice-2.ensures c.in_ok-entry.ensures in
+    let entered = subst (λ (ws : List Write). IsEntryOf c.args.hand.now c.in-Commit.txn ws c.args.reads.now c.in_ok-entry.entry) c.as_slice.ensures c.in_ok-entry.ensures.entry in
     let history : c.push_reserved.new.self.items ≡ c.self.inside.history.items ++ c.in_ok-entry.entry ∷ [] =
-    c.push_reserved.ensures.items ∙ ap (λ (h : List Entry). h ++ c.in_ok-entry.entry ∷ []) c.reserve.ensures.items in
-    let own : IsOwn (record { dispatcher = c.self.inside.dispatcher; hands = c.self.inside.hands; history = c.self.inside.history.items }) c.args.frame.now c.args.hand.now = subst (λ (v : StationState). IsOwn v c.args.frame.now c.args.hand.now) (sym c.self.view_is) (search rules) in
+    c.push_reserved.ensures.items ∙ ap (λ (h : List Entry). h ++ c.in_ok-entry.entry ∷ []) c.entry_of.ensures.same in
+    let own : IsOwn (record { dispatcher = c.self.inside.dispatcher; hands = c.self.inside.hands; history = c.self.inside.history.items }) c.args.frame.now c.args.hand.now = subst (λ (v : StationState). IsOwn v c.args.frame.now c.args.hand.now) (sym c.self.view_is) c.in_ok-number.ensures.allowed.own.0 in
     let fits : BodyFits c.self.inside.dispatcher.server.limits (body.Commit c.in-Commit.txn c.in-Commit.writes) = subst (λ (b : Body). BodyFits c.self.inside.dispatcher.server.limits b) is own.fits.body in
-    let alive : is_live (server_of c.args.self.now) c.args.hand.now.client c.in-Commit.txn ≡ true = search rules in
-    let live = subst (λ (v : StationState). is_live (server_of v) c.args.hand.now.client c.in-Commit.txn ≡ true) (sym c.self.view_is) alive in
-    let number : c.in-Some.number ≡ (server_of (record { dispatcher = c.self.inside.dispatcher; hands = c.self.inside.hands; history = c.self.inside.history.items })).store.last_commit + 1 = c.in-Some.ensures.value refl ∙ ap (λ (h : HoldingsState). (holdings_in h).store.last_commit + 1) c.holdings.ensures in
+    let alive = subst (λ (b : Body). is_live (server_of c.args.self.now) c.args.frame.now.client (txn_in b) ≡ true) is c.in_ok-number.ensures.allowed.live in
+    let alive_here = subst (λ (k : ℕ). is_live (server_of c.args.self.now) k c.in-Commit.txn ≡ true) c.in_ok-number.ensures.allowed.own.0.client alive in
+    let live = subst (λ (v : StationState). is_live (server_of v) c.args.hand.now.client c.in-Commit.txn ≡ true) (sym c.self.view_is) alive_here in
+    let number : c.in_ok-number.number ≡ (server_of (record { dispatcher = c.self.inside.dispatcher; hands = c.self.inside.hands; history = c.self.inside.history.items })).store.last_commit + 1 = c.in_ok-number.ensures.allowed.is_next ∙ ap (λ (v : StationState). (server_of v).store.last_commit + 1) (sym c.self.view_is) in
     let does = subst (λ (b : Body). Does c.self.inside.dispatcher.server (MessageComes c.args.frame.now.client c.args.frame.now.incarnation (body_of b)) (messages_of posts.said) c.take.new.self.server) is posts.does in
     let becomes : c.end_permissions.new.hand ≡ committed c.args.hand.now c.in-Commit.writes ((server_of (record { dispatcher = c.self.inside.dispatcher; hands = c.self.inside.hands; history = c.self.inside.history.items })).store.last_commit + 1) = c.end_permissions.ensures.hand ∙ ap (λ (h : HandState). without_permissions h)
     (restamped ∙ ap (λ (n : ℕ). all_restamped c.args.hand.now (pages_written (page_writes c.in-Commit.writes)) n) (c.new-version.ensures ∙ c.get.ensures.value ∙ number)) in
@@ -65,9 +89,9 @@ invariant_of-self-2 c =
 pub returns-clause-entry : goal.returns-clause-entry
 returns-clause-entry c =
     let is : c.args.frame.now.body ≡ body.Commit c.in-Commit.txn c.in-Commit.writes = c.in-Commit.is in
-    let entered = subst (λ (ws : List Write). IsEntryOf c.args.hand.now c.in-Commit.txn ws c.args.reads.now c.in_ok-entry.entry) c.as_slice-2.ensures c.in_ok-entry.ensures in
+    let entered = subst (λ (ws : List Write). IsEntryOf c.args.hand.now c.in-Commit.txn ws c.args.reads.now c.in_ok-entry.entry) c.as_slice.ensures c.in_ok-entry.ensures.entry in
     let history : c.push_reserved.new.self.items ≡ c.self.inside.history.items ++ c.in_ok-entry.entry ∷ [] =
-    c.push_reserved.ensures.items ∙ ap (λ (h : List Entry). h ++ c.in_ok-entry.entry ∷ []) c.reserve.ensures.items in (
+    c.push_reserved.ensures.items ∙ ap (λ (h : List Entry). h ++ c.in_ok-entry.entry ∷ []) c.entry_of.ensures.same in (
       c.in_ok-entry.entry,
       history ∙ ap (λ (v : StationState). v.history ++ c.in_ok-entry.entry ∷ []) c.self.view_is,
       subst (λ (b : Body). IsEntryOf c.args.hand.now (txn_in b) (writes_in b) c.args.reads.now c.in_ok-entry.entry) (sym is) entered,
@@ -85,19 +109,19 @@ returns-clause-applied c =
     let done : is_err c.take.result ≡ false = sym c.is_err.ensures.value ∙ c.if-is_err.false in
     let posts = ok_fact c.take.result _ done c.take.ensures.ok in
     let is : c.args.frame.now.body ≡ body.Commit c.in-Commit.txn c.in-Commit.writes = c.in-Commit.is in
-    let may_slice : MayWriteAll c.args.hand.now c.in-Commit.txn c.as_slice.result.now = search rules in
-    let may = subst (λ (ws : List Write). MayWriteAll c.args.hand.now c.in-Commit.txn ws) c.as_slice.ensures may_slice in
-    let restamped = c.restamp.ensures.hand ∙ ap (λ (ws : List Write). all_restamped c.args.hand.now (pages_written (page_writes ws)) c.new-version.result) c.as_slice-3.ensures in
+    let may = subst (λ (b : Body). MayWriteAll c.args.hand.now (txn_in b) (writes_in b)) c.in-Commit.is c.in_ok-number.ensures.allowed.permitted.1 in
+    let restamped = c.restamp.ensures.hand ∙ ap (λ (ws : List Write). all_restamped c.args.hand.now (pages_written (page_writes ws)) c.new-version.result) c.as_slice-2.ensures in
     let follow = follow_then c.self.inside.hands c.restamp.new.hands c.end_permissions.new.self c.args.hand.now c.restamp.new.hand c.end_permissions.new.hand c.restamp.ensures.stored c.end_permissions.ensures.stored
     (ap (λ (h : HandState). h.client) restamped ∙ restamped_client c.args.hand.now (pages_written (page_writes c.in-Commit.writes)) c.new-version.result) in
-    let entered = subst (λ (ws : List Write). IsEntryOf c.args.hand.now c.in-Commit.txn ws c.args.reads.now c.in_ok-entry.entry) c.as_slice-2.ensures c.in_ok-entry.ensures in
+    let entered = subst (λ (ws : List Write). IsEntryOf c.args.hand.now c.in-Commit.txn ws c.args.reads.now c.in_ok-entry.entry) c.as_slice.ensures c.in_ok-entry.ensures.entry in
     let history : c.push_reserved.new.self.items ≡ c.self.inside.history.items ++ c.in_ok-entry.entry ∷ [] =
-    c.push_reserved.ensures.items ∙ ap (λ (h : List Entry). h ++ c.in_ok-entry.entry ∷ []) c.reserve.ensures.items in
-    let own : IsOwn (record { dispatcher = c.self.inside.dispatcher; hands = c.self.inside.hands; history = c.self.inside.history.items }) c.args.frame.now c.args.hand.now = subst (λ (v : StationState). IsOwn v c.args.frame.now c.args.hand.now) (sym c.self.view_is) (search rules) in
+    c.push_reserved.ensures.items ∙ ap (λ (h : List Entry). h ++ c.in_ok-entry.entry ∷ []) c.entry_of.ensures.same in
+    let own : IsOwn (record { dispatcher = c.self.inside.dispatcher; hands = c.self.inside.hands; history = c.self.inside.history.items }) c.args.frame.now c.args.hand.now = subst (λ (v : StationState). IsOwn v c.args.frame.now c.args.hand.now) (sym c.self.view_is) c.in_ok-number.ensures.allowed.own.0 in
     let fits : BodyFits c.self.inside.dispatcher.server.limits (body.Commit c.in-Commit.txn c.in-Commit.writes) = subst (λ (b : Body). BodyFits c.self.inside.dispatcher.server.limits b) is own.fits.body in
-    let alive : is_live (server_of c.args.self.now) c.args.hand.now.client c.in-Commit.txn ≡ true = search rules in
-    let live = subst (λ (v : StationState). is_live (server_of v) c.args.hand.now.client c.in-Commit.txn ≡ true) (sym c.self.view_is) alive in
-    let number : c.in-Some.number ≡ (server_of (record { dispatcher = c.self.inside.dispatcher; hands = c.self.inside.hands; history = c.self.inside.history.items })).store.last_commit + 1 = c.in-Some.ensures.value refl ∙ ap (λ (h : HoldingsState). (holdings_in h).store.last_commit + 1) c.holdings.ensures in
+    let alive = subst (λ (b : Body). is_live (server_of c.args.self.now) c.args.frame.now.client (txn_in b) ≡ true) is c.in_ok-number.ensures.allowed.live in
+    let alive_here = subst (λ (k : ℕ). is_live (server_of c.args.self.now) k c.in-Commit.txn ≡ true) c.in_ok-number.ensures.allowed.own.0.client alive in
+    let live = subst (λ (v : StationState). is_live (server_of v) c.args.hand.now.client c.in-Commit.txn ≡ true) (sym c.self.view_is) alive_here in
+    let number : c.in_ok-number.number ≡ (server_of (record { dispatcher = c.self.inside.dispatcher; hands = c.self.inside.hands; history = c.self.inside.history.items })).store.last_commit + 1 = c.in_ok-number.ensures.allowed.is_next ∙ ap (λ (v : StationState). (server_of v).store.last_commit + 1) (sym c.self.view_is) in
     let does = subst (λ (b : Body). Does c.self.inside.dispatcher.server (MessageComes c.args.frame.now.client c.args.frame.now.incarnation (body_of b)) (messages_of posts.said) c.take.new.self.server) is posts.does in
     let becomes : c.end_permissions.new.hand ≡ committed c.args.hand.now c.in-Commit.writes ((server_of (record { dispatcher = c.self.inside.dispatcher; hands = c.self.inside.hands; history = c.self.inside.history.items })).store.last_commit + 1) = c.end_permissions.ensures.hand ∙ ap (λ (h : HandState). without_permissions h)
     (restamped ∙ ap (λ (n : ℕ). all_restamped c.args.hand.now (pages_written (page_writes c.in-Commit.writes)) n) (c.new-version.ensures ∙ c.get.ensures.value ∙ number)) in
@@ -108,7 +132,7 @@ returns-clause-applied c =
 
 pub returns-clause-stored : goal.returns-clause-stored
 returns-clause-stored c =
-    let restamped = c.restamp.ensures.hand ∙ ap (λ (ws : List Write). all_restamped c.args.hand.now (pages_written (page_writes ws)) c.new-version.result) c.as_slice-3.ensures in
+    let restamped = c.restamp.ensures.hand ∙ ap (λ (ws : List Write). all_restamped c.args.hand.now (pages_written (page_writes ws)) c.new-version.result) c.as_slice-2.ensures in
     let follow = follow_then c.self.inside.hands c.restamp.new.hands c.end_permissions.new.self c.args.hand.now c.restamp.new.hand c.end_permissions.new.hand c.restamp.ensures.stored c.end_permissions.ensures.stored
     (ap (λ (h : HandState). h.client) restamped ∙ restamped_client c.args.hand.now (pages_written (page_writes c.in-Commit.writes)) c.new-version.result) in
     subst (λ (v : StationState). Follow v.hands c.end_permissions.new.self c.args.hand.now c.end_permissions.new.hand) c.self.view_is follow

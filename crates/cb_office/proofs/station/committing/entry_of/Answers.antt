@@ -1,8 +1,8 @@
 use Rattle.std.proofs.Common.{refl}
 use Rattle.cb_office.proofs.station.committing.entry_of.Goals as goal
 
-pub returns : goal.returns
-returns c = record {
+pub returns-clause-entry : goal.returns-clause-entry
+returns-clause-entry c = record {
   client = c.client.ensures;
   incarnation = c.incarnation.ensures;
   txn = refl;
