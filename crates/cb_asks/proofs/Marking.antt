@@ -1,13 +1,14 @@
 -- Marks that are new, and a client's marks taken off one by one.
-use Rattle.std.proofs.Common.{◌≡◌, ◌≢◌, ◌⊎◌, ℕ, ◌+◌, ◌<◌, ◌≤◌, Bool, true, false, ◌==◌, ◌&&◌, if◌then◌else◌, List, [], length, replicate, slice_index_or, refl, sym, ◌∙◌, ap, arith, inl, inr}
+use Rattle.std.proofs.Common.{◌≡◌, ◌≢◌, ◌⊎◌, ℕ, ◌+◌, ◌<◌, ◌≤◌, Bool, true, false, ◌==◌, ◌&&◌, if◌then◌else◌, List, [], length, replicate, slice_index_or, slice_set, refl, sym, ◌∙◌, ap, arith, inl, inr}
 use Rattle.std.proofs.lemmas.Bool.{cases_eq, cases_lt}
-use Rattle.std.proofs.lemmas.List.{get_or-replicate, get_or_past, get_or_read, length-replicate}
+use Rattle.std.proofs.lemmas.Grind.{elements}
+use Rattle.std.proofs.lemmas.List.{get_or-replicate, get_or_past, get_or_read, length-replicate, length-set}
 use Rattle.cb_clients.specs.Clients.{Clients, has, set_of}
 use Rattle.cb_clients.proofs.Flags.{has_none}
 use Rattle.cb_clients.proofs.Lookups.{replicate_gives}
 use Rattle.cb_page.specs.Flags as flags
 use Rattle.cb_protocol.specs.Server.{set_in_use}
-use Rattle.cb_asks.specs.Marks.{IsMarks, MarksState, is_in_use}
+use Rattle.cb_asks.specs.Marks.{HasMarks, IsMarks, MarksState, is_in_use}
 use Rattle.cb_asks.proofs.Steps.{apart_is, same_is}
 
 pub new_none : (clients pages : ℕ) (set : Clients) → ((client : ℕ) → has set client ≡ false)
@@ -79,3 +80,40 @@ next_within marks client page line is known read here = let l = listed_within li
 pub next_unused : (marks : MarksState) (client page : ℕ) (line : List Bool) → IsMarks marks → line ≡ slice_index_or marks.by_client client []
     → flags.has line page ≡ false → is_in_use marks client page ≡ false
 next_unused marks client page line is read none = sym (is.agree client page) ∙ ap (λ (l : List Bool). flags.has l page) (sym read) ∙ none
+
+-- a client's list and a page's set once a mark was put there, or taken off
+pub record Put (marks : MarksState) (client page : ℕ) (is : Bool) (line : List Bool) (users : Clients) : Type 0 where
+  pub listed : line ≡ slice_set (slice_index_or marks.by_client client []) page is
+  pub has_users : (other : ℕ) → has users other ≡ (if other == client then is else has (slice_index_or marks.by_page page (set_of 0)) other)
+
+module _ (marks : MarksState) (client page : ℕ) (is : Bool) (line : List Bool) (users : Clients)
+    (known : client < length marks.by_client) (within : page < length marks.by_page) (put : Put marks client page is line users) where
+  abbrev pub after : MarksState
+  after = record { by_client = slice_set marks.by_client client line; by_page = slice_set marks.by_page page users }
+
+  pub marks_put : HasMarks marks after (set_in_use (is_in_use marks) client page is)
+  marks_put = record {
+    marks = λ other at. let here = put.has_users other in grind (arith, elements);
+    clients = length-set {A = List Bool} marks.by_client client line;
+    pages = length-set {A = Clients} marks.by_page page users;
+  }
+
+  pub put_is : IsMarks marks → IsMarks after
+  put_is was = record {
+    clients = let e = marks_put.clients in let l = was.clients in omega arith;
+    pages = let e = marks_put.pages in let l = was.pages in omega arith;
+    flags = λ at lt. let l = was.flags at in let e = put.listed in grind (arith, elements);
+    agree = λ other at. let here = put.has_users other in let agree = was.agree other at in let e = put.listed in grind (arith, elements);
+  }
+
+-- from what the two calls say of what they were lent
+pub put_read : (marks : MarksState) (client page at place : ℕ) (is : Bool) (line new_line : List Bool) (users new_users : Clients)
+    → client < length marks.by_client → page < length marks.by_page → at ≡ client → place ≡ page
+    → line ≡ slice_index_or marks.by_client at line → new_line ≡ slice_set line page is
+    → users ≡ slice_index_or marks.by_page place users → ((other : ℕ) → has new_users other ≡ (if other == client then is else has users other))
+    → Put marks client page is new_line new_users
+put_read marks client page at place is line new_line users new_users known within e f line_is new_is users_is set = record {
+  listed = new_is ∙ ap (λ (l : List Bool). slice_set l page is) (line_read marks.by_client marks at client line refl e known line_is);
+  has_users = λ other. set other ∙ ap (λ (s : Clients). if other == client then is else has s other)
+      (get_or_read marks.by_page place users (omega arith) users_is (set_of 0) ∙ ap (λ n. slice_index_or marks.by_page n (set_of 0)) f);
+}

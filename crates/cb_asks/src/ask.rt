@@ -49,10 +49,10 @@ impl Ask {
         ensures { result ≡ self.client }
     {
         let Ask {
-            client,
+            client: doomed,
             write_grant: _,
         } = self;
-        client
+        doomed
     }
 
     /// Its client's transaction ended.
@@ -60,9 +60,9 @@ impl Ask {
         ensures { result ≡ self.client }
     {
         let Ask {
-            client,
+            client: gone,
             write_grant: _,
         } = self;
-        client
+        gone
     }
 }

@@ -140,10 +140,10 @@ impl Queue {
         ensures err { OnErr result (self.old.asks ≢ []) }
         ensures full { OnErr result (self.old.room ≡ 0) }
     {
-        match &mut self.entries {
-            Some(entries) => entries.reserve(1),
-            None => Ok(()),
-        }
+        let Some(entries) = &mut self.entries else {
+            return Ok(());
+        };
+        entries.reserve(1)
     }
 
     /// An ask of a client goes to the end: of a spare map where nobody waits.

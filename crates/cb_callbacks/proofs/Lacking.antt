@@ -1,5 +1,6 @@
 -- Whether a number is lacking for a message once its transaction has begun.
-use Rattle.std.proofs.Common.{◌≡◌, ◌≢◌, ℕ, ◌+◌, ◌-◌, nat_lt, Bool, true, false, not, ◌&&◌, ◌||◌, if◌then◌else◌, List, [], ◌∷◌, zero, suc, refl, sym, ap, ◌∙◌}
+use Rattle.std.proofs.Common.{◌≡◌, ◌≢◌, ℕ, ◌+◌, ◌-◌, nat_lt, Bool, true, false, not, ◌&&◌, ◌||◌, if◌then◌else◌, List, [], ◌∷◌, Option, None, Some, zero, suc, refl, sym, ap, ◌∙◌}
+use Rattle.std.specs.Option.{is_some}
 use Rattle.cb_callbacks.proofs.Queues.{without_gone}
 use Rattle.cb_holdings.specs.Questions.{IsLast, standing_in}
 use Rattle.cb_links.specs.declared.sessions.Standing.TheVariants as standing
@@ -97,3 +98,11 @@ pub lacks_none_ended : (s : Server) (c t p : ℕ) → standing.Ended ≡ standin
 lacks_none_ended s c t p is =
     ap (λ (l : List ServerStep). lacks_number (server_after s l) c (AskRead t p)) (not_later_begins s c t standing.Ended not_ended is)
     ∙ rw (ended_stands s c t is) refl
+
+-- no copy was read
+pub none_read : (row kept : Option ℕ) (test : Bool) → test ≡ is_some row → test ≡ false → row ≡ kept → is_none kept ≡ true
+none_read row kept test is none same = ap is_none (sym same) ∙ of row (sym is ∙ none)
+  where
+    of : (read : Option ℕ) → is_some read ≡ false → is_none read ≡ true
+    of None e = refl
+    of (Some number) e = sym e

@@ -1,4 +1,4 @@
-use Rattle.std.proofs.Common.{◌≡◌, ◌+◌, arith}
+use Rattle.std.proofs.Common.{◌≡◌, ◌+◌, ◌∙◌, ℕ, ap, arith, rules}
 use Rattle.cb_commit.specs.declared.commit.Commit.{Commit}
 use Rattle.cb_commit.specs.History.{CommitsState}
 use Rattle.cb_commit.proofs.Changed.{marks}
@@ -14,3 +14,12 @@ invariant_of-self-2 c =
     let fit = rw (← c.self.view_is) at c.requires.fit in
     rw (c.push_reserved.ensures.items, c.reserve.ensures.items, c.write.ensures, c.as_slice.ensures, c.mark.ensures)
     (applied_are s one are number fit.rising, marks c.args.writes s.flushed s.store.pages c.self.inside.changed c.new-number.result c.self.invariant.1 (omega (arith, number, are.to_last)) (λ k d lt. (fit.pages k d lt).page))
+
+pub write-requires-clause-next : goal.write-requires-clause-next
+write-requires-clause-next c = omega (arith, c.new-number.ensures, c.number.ensures.value)
+
+pub returns-clause-number : goal.returns-clause-number
+returns-clause-number c = c.new-number.ensures ∙ ap (λ (n : ℕ). n + 1) (c.number.ensures.value ∙ ap (λ (s : CommitsState). s.store.number) c.self.view_is)
+
+pub returns-clause-ok : goal.returns-clause-ok
+returns-clause-ok c = search rules

@@ -1,4 +1,4 @@
-use Rattle.std.proofs.Common.{◌≡◌, ◌-◌, ◌∙◌, arith, sym}
+use Rattle.std.proofs.Common.{◌≡◌, ◌-◌, ◌∙◌, arith, rules, sym}
 use Rattle.cb_commit.proofs.Folding.{dones_part}
 use Rattle.cb_commit.proofs.commits.Commits.flushed.Goals as goal
 
@@ -13,3 +13,9 @@ returns-clause-dones c =
     let from : s.flushed - c.number-opening.result ≡ s.flushed - s.opening.number = omega (arith, opening) in
     c.in_ok-frames.ensures ∙ rw (count, from, c.deref.ensures.value, ← c.self.view_is)
     (sym (dones_part s.commits.items s.opening.number s.flushed c.args.number are.numbered are.from_opening (omega (arith, above))))
+
+pub invariant_of-self : goal.invariant_of-self
+invariant_of-self c = search rules
+
+pub returns-clause-ok : goal.returns-clause-ok
+returns-clause-ok c = search rules
