@@ -1,1 +1,2 @@
 pub mod ConfigLemmas
+pub mod RunLemmas

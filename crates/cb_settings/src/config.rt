@@ -136,7 +136,7 @@ impl<T: Drop> From<AllocFailed<T>> for ConfigFault {
 }
 
 /// The settings of a run.
-#[derive(Clone, Copy, Debug, PartialEq, Eq)]
+#[derive(Clone, Copy, PartialEq, Eq)]
 pub struct Config {
     /// The store and its clients' pools.
     pub limits: Limits,

@@ -11,7 +11,7 @@
 
 use crate::frames::{put_digits, put_frames};
 use crate::references::Noting;
-use crate::words::{bytes, is_opening, limits, not_a_line, page, page_at};
+use crate::words::{bytes, is_opening, limits, next_word, page, page_at};
 use cb_client::{Client, ClientFault, Outcome, ReadAnswer, WantAnswer};
 use cb_frame::{BytesFault, Frame, FrameFault};
 use cb_page::{ClientNo, Incarnation, Limits, PageNo};
@@ -97,7 +97,7 @@ fn play<Q: Chooser, O: Write>(
 ) -> io::Result<Option<PageNo>> {
     let mut words = line.split_whitespace();
     match words.next() {
-        Some(">") => take(alloc, client, words.next().ok_or(not_a_line())?, out),
+        Some(">") => take(alloc, client, next_word(&mut words)?, out),
         Some("read") => read(alloc, client, page(&mut words)?, out),
         Some(word) => {
             play_other(alloc, client, word, &mut words, out)?;
@@ -311,11 +311,11 @@ fn play_page<Q: Chooser, O: Write>(
 fn put_bytes<O: Write>(alloc: Global, bytes: Option<&[u8]>, out: &mut O) -> io::Result<()> {
     match bytes {
         Some(bytes) => {
-            write!(out, " = ")?;
+            out.write_all(b" = ")?;
             put_digits(alloc, bytes, out)?;
-            writeln!(out)
+            out.write_all(b"\n")
         }
-        None => writeln!(out, " = none"),
+        None => out.write_all(b" = none\n"),
     }
 }
 

@@ -5,7 +5,7 @@
 //! is.
 
 use crate::frames::{put_digits, put_frames};
-use crate::words::{bytes, is_opening, limits, not_a_line, number};
+use crate::words::{bytes, is_opening, limits, next_word, number};
 use cb_commit::{Batch, Store};
 use cb_frame::{BytesFault, Frame, FrameFault};
 use cb_page::{CommitNo, Limits};
@@ -13,6 +13,7 @@ use cb_server::{Server, ServerFault};
 use std::alloc::{AllocError, Global};
 use std::io;
 use std::io::Write;
+use std::str::SplitWhitespace;
 
 /// Plays the list that the line opens: what follows it, up to where another list begins.
 pub(crate) fn play_list<O: Write>(
@@ -60,13 +61,40 @@ fn play_lines<O: Write>(
 fn play<O: Write>(alloc: Global, server: &mut Server, line: &str, out: &mut O) -> io::Result<()> {
     let mut words = line.split_whitespace();
     match words.next() {
-        Some(">") => take(alloc, server, words.next().ok_or(not_a_line())?, out),
-        Some("again") => say_again(alloc, server, out),
-        Some("batch") => batch(alloc, server, out),
-        Some("flushed") => flush(alloc, server, number(&mut words)?, out),
-        Some("cannot") => {
-            words.next().ok_or(not_a_line())?;
-            flush(alloc, server, number(&mut words)?, out)
+        Some(word) => play_word(alloc, server, word, &mut words, out),
+        None => Ok(()),
+    }
+}
+
+/// Plays a line by its first word.
+fn play_word<O: Write>(
+    alloc: Global,
+    server: &mut Server,
+    word: &str,
+    words: &mut SplitWhitespace<'_>,
+    out: &mut O,
+) -> io::Result<()> {
+    match word {
+        ">" => take(alloc, server, next_word(words)?, out),
+        "again" => say_again(alloc, server, out),
+        "batch" => batch(alloc, server, out),
+        _ => play_flush(alloc, server, word, words, out),
+    }
+}
+
+/// Plays a line of a flush, which was done or couldn't be, by its first word.
+fn play_flush<O: Write>(
+    alloc: Global,
+    server: &mut Server,
+    word: &str,
+    words: &mut SplitWhitespace<'_>,
+    out: &mut O,
+) -> io::Result<()> {
+    match word {
+        "flushed" => flush(alloc, server, number(words)?, out),
+        "cannot" => {
+            next_word(words)?;
+            flush(alloc, server, number(words)?, out)
         }
         _ => Ok(()),
     }

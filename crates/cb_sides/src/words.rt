@@ -18,8 +18,16 @@ pub(crate) fn is_opening(line: &str) -> bool {
 }
 
 /// What a line that isn't of a list is answered.
-pub(crate) fn not_a_line() -> io::Error {
+fn not_a_line() -> io::Error {
     io::Error::from(io::ErrorKind::InvalidData)
+}
+
+/// The next word.
+pub(crate) fn next_word<'a>(words: &mut SplitWhitespace<'a>) -> io::Result<&'a str> {
+    match words.next() {
+        Some(word) => Ok(word),
+        None => Err(not_a_line()),
+    }
 }
 
 /// The number that the next word spells, if it spells one.

@@ -1,9 +1,22 @@
-use Rattle.std.proofs.Common.{rules, ◌≡◌, ◌∙◌, sym, map-id}
+use Rattle.std.proofs.Common.{rules, ◌≡◌, ℕ, List, [], ◌∷◌, ◌++◌, refl, ap, ◌∙◌, sym, append-nil, map-id}
+use Rattle.std.proofs.lemmas.Grind.{flat_map-append, put_two}
 use Rattle.std.proofs.lemmas.Iterator.{YieldsList-from_chars}
 use Rattle.std.proofs.lemmas.Iterator.Consumers.{YieldsList-end}
+use Rattle.std.specs.List.{flat_map}
 use Rattle.std.specs.Str.{IsUtf8, chars}
-use Rattle.cb_settings.specs.Escaped.{escaped}
+use Rattle.cb_settings.specs.Escaped.{escaped, escaped_character}
 use Rattle.cb_settings.proofs.escaped.EscapedDisplay.fmt.Goals as goal
+
+-- the text up to a character, and that one
+escaped_then : (characters : List ℕ) (character : ℕ)
+    → flat_map escaped_character characters ++ escaped_character character ≡ flat_map escaped_character (characters ++ character ∷ [])
+escaped_then characters character =
+    sym (flat_map-append escaped_character characters (character ∷ []) ∙ ap (λ (l : List ℕ). flat_map escaped_character characters ++ l) (append-nil (escaped_character character)))
+
+pub loop-character-preserved : goal.loop-character-preserved
+loop-character-preserved g c = λ plain.
+    let before = c.loop-character.invariant plain in
+    put_two g.W.Write.write_str_gives _ _ _ _ _ _ before (c.in_ok-write.ensures.writes before.plain refl) (escaped_then c.loop-character.yielded c.in-Some.character)
 
 pub returns-clause-writes : goal.returns-clause-writes
 unfolding escaped
