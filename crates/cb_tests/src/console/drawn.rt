@@ -47,5 +47,5 @@ fn first_not_serial(alloc: Global, config: &str) -> Option<u64> {
 fn drawn_schedules_are_serial(rt: HostRuntime) {
     assert!(rt; first_not_serial(rt.alloc(), CONFIG) == None);
     assert!(rt; first_not_serial(rt.alloc(), KEPT) == None);
-    assert!(rt; plays_serially(rt.alloc(), GREATEST, 1, 50_000) == Some(true));
+    assert!(rt; plays_serially(rt.alloc(), GREATEST, 1, 20_000) == Some(true));
 }
