@@ -2,10 +2,11 @@
 
 ghost use Rattle.std.specs.Prelude.{◌≡◌, ◌<◌, ◌≤◌, []};
 
+use crate::client::laws::{called, gives_back_once};
 use crate::pool::{Called, Fifo, Recorder};
 use crate::stores::page_of;
 use cb_client::{Client, ClientFault, ReadAnswer};
-use cb_frame::{Body, Frame, ShortBody, encode};
+use cb_frame::{Body, Frame, ShortBody};
 use cb_page::{ClientNo, CommitNo, GrantNo, Incarnation, Limits, PageNo, TxnNo, Version};
 use cb_twoq::{Chooser, PlainTwoQ, TwoQ};
 use std::alloc::Global;
@@ -42,7 +43,7 @@ fn client_over<Q: Chooser>(alloc: Global, limits: &Limits, chooser: Q) -> Option
 }
 
 /// The same over a new chooser.
-pub(crate) fn new_client<Q: Chooser>(alloc: Global, limits: &Limits) -> Option<Client<Q>> {
+fn new_client<Q: Chooser>(alloc: Global, limits: &Limits) -> Option<Client<Q>> {
     match Q::make(alloc, limits) {
         Ok(chooser) => client_over(alloc, limits, chooser),
         Err(_) => None,
@@ -61,7 +62,7 @@ fn recorded<Q: Chooser>(alloc: Global, limits: &Limits) -> Option<Client<Recorde
 }
 
 /// What the client says to that frame; nothing where it doesn't fit, or memory is refused.
-pub(crate) fn taken<Q: Chooser>(alloc: Global, client: &mut Client<Q>, body: Body) -> Vec<Frame> {
+fn taken<Q: Chooser>(alloc: Global, client: &mut Client<Q>, body: Body) -> Vec<Frame> {
     let frame = frame(body);
     if !frame.fits(client.limits()) {
         return Vec::new(alloc);
@@ -83,7 +84,7 @@ fn says<Q: Chooser>(
 }
 
 /// Whether the frames have these bodies, one after another.
-pub(crate) fn are(frames: &[Frame], bodies: &[ShortBody]) -> bool {
+fn are(frames: &[Frame], bodies: &[ShortBody]) -> bool {
     frames.len() == bodies.len()
         && frames
             .iter()
@@ -153,61 +154,32 @@ fn begins<Q: Chooser>(client: &mut Client<Q>, txn: TxnNo) -> bool {
     }
 }
 
-/// Whether refused reads, asks, hits and grants, one of them repeated, come as they should.
-fn reads_of_one_transaction<Q: Chooser>(alloc: Global, client: &mut Client<Q>) -> bool {
-    let (low, high, last) = (PageNo::new(0), PageNo::new(3), PageNo::new(2));
-    let (first, second, third) = (GrantNo::new(1), GrantNo::new(2), GrantNo::new(3));
-    let one = TxnNo::new(1);
-    refuses(client, low, ClientFault::NotWelcome)
-        && says(alloc, client, ShortBody::Welcome, &[])
-        && refuses(client, low, ClientFault::NoTransaction)
-        && begins(client, one)
-        && refuses(client, PageNo::new(9), ClientFault::PageRange)
-        && asks(client, one, low)
-        && refuses(client, high, ClientFault::Waiting)
-        && granted(alloc, client, (low, first), &[])
-        && granted(alloc, client, (low, first), &[])
-        && reads(client, low)
-        && reads(client, low)
-        && asks(client, one, high)
-        && granted(alloc, client, (high, second), &[])
-        && asks(client, one, last)
-        && refuses(client, low, ClientFault::Waiting)
-        && client.peek(low).is_some()
-        && granted(alloc, client, (last, third), &[])
-        && ends_with_a_page_in_use(alloc, client, (low, first))
-}
-
-/// Whether a page is read by the next transaction, and one that isn't is given back at once.
-fn reads_of_the_next<Q: Chooser>(alloc: Global, client: &mut Client<Q>) -> bool {
-    let (page, grant) = (PageNo::new(3), GrantNo::new(2));
-    let give_back = [ShortBody::GiveBack { page, grant }];
-    begins(client, TxnNo::new(2))
-        && reads(client, PageNo::new(2))
-        && says(
-            alloc,
-            client,
-            ShortBody::Callback { page, grant },
-            &give_back,
-        )
-}
-
-/// Whether the chooser that was handed in was called for these, in order.
+/// Whether the chooser that was handed in was called for these, in order: a transaction asks for a
+/// page and reads it, and the copy is called back after its end.
 fn refers_as_wanted<Q: Chooser>(alloc: Global, client: &mut Client<Recorder<Q>>) -> bool {
-    let (low, high, last) = (PageNo::new(0), PageNo::new(3), PageNo::new(2));
-    let played = reads_of_one_transaction(alloc, client) && reads_of_the_next(alloc, client);
+    let (page, grant, txn) = (PageNo::new(0), GrantNo::new(1), TxnNo::new(1));
+    gives_back_once(client);
+    let played = refuses(client, page, ClientFault::NotWelcome)
+        && says(alloc, client, ShortBody::Welcome, &[])
+        && begins(client, txn)
+        && asks(client, txn, page)
+        && refuses(client, page, ClientFault::Waiting)
+        && granted(alloc, client, (page, grant), &[])
+        && granted(alloc, client, (page, grant), &[])
+        && reads(client, page)
+        && client.peek(page).is_some()
+        && drops(alloc, client, txn);
+    let given = match called(alloc, client, page, grant) {
+        Some(said) => are(said.as_slice(), &[ShortBody::GiveBack { page, grant }]),
+        None => false,
+    };
     let calls = [
         Called::Reference(PageNo::new(7)),
-        Called::Reference(low),
-        Called::Reference(low),
-        Called::Reference(low),
-        Called::Reference(high),
-        Called::Reference(last),
-        Called::Forget(low),
-        Called::Reference(last),
-        Called::Forget(high),
+        Called::Reference(page),
+        Called::Reference(page),
+        Called::Forget(page),
     ];
-    played && client.chooser().calls() == calls.as_slice()
+    played && given && client.chooser().calls() == calls.as_slice()
 }
 
 /// The same of a new client.
@@ -346,29 +318,6 @@ fn client_over_any_chooser(rt: HostRuntime) -> Result<(), Fail> {
     Ok(())
 }
 
-/// Whether the first transaction commits, reads nothing meanwhile, and gives back the page that it
-/// was called back for.
-fn ends_with_a_page_in_use<Q: Chooser>(
-    alloc: Global,
-    client: &mut Client<Q>,
-    (page, grant): (PageNo, GrantNo),
-) -> bool {
-    let txn = TxnNo::new(1);
-    let in_use = ShortBody::InUse { txn, page, grant };
-    let called = says(
-        alloc,
-        client,
-        ShortBody::Callback { page, grant },
-        &[in_use],
-    );
-    let finished = client.finish(alloc).is_ok();
-    let refused = refuses(client, page, ClientFault::Committing);
-    let number = CommitNo::new(1);
-    let given = [ShortBody::GiveBack { page, grant }];
-    let done = says(alloc, client, ShortBody::Done { txn, number }, &given);
-    called && finished && refused && done
-}
-
 /// Whether the page, of the greatest size that comes here, is read, permitted and written.
 fn is_written<Q: Chooser>(alloc: Global, client: &mut Client<Q>, txn: TxnNo, number: u32) -> bool
     requires { number < 4096 }
@@ -412,17 +361,14 @@ fn are_written<Q: Chooser>(alloc: Global, client: &mut Client<Q>, txn: TxnNo, co
 }
 
 /// Whether 300 pages are written and committed, and the next transaction dropped.
-fn has_memory<Q: Chooser>(alloc: Global, client: &mut Client<Q>, limits: &Limits) -> bool {
+fn has_memory<Q: Chooser>(alloc: Global, client: &mut Client<Q>) -> bool {
     let txn = TxnNo::new(1);
     let number = CommitNo::new(1);
     let began = says(alloc, client, ShortBody::Welcome, &[]) && begins(client, txn);
     if !(began && are_written(alloc, client, txn, 300)) {
         return false;
     }
-    let length = match client.finish(alloc) {
-        Ok(commit) => encode_of(alloc, &commit, limits),
-        Err(_) => 0,
-    };
+    let finished = client.finish(alloc).is_ok();
     let again = match client.again(alloc) {
         Ok(frames) => frames.len(),
         Err(_) => 0,
@@ -430,11 +376,7 @@ fn has_memory<Q: Chooser>(alloc: Global, client: &mut Client<Q>, limits: &Limits
     let done = Body::Short(ShortBody::Done { txn, number });
     let given = taken(alloc, client, done).len();
     let next = TxnNo::new(2);
-    length == 16 + 10 + 300 * (16 + 4096)
-        && again == 1
-        && given == 300
-        && begins(client, next)
-        && drops(alloc, client, next)
+    finished && again == 1 && given == 300 && begins(client, next) && drops(alloc, client, next)
 }
 
 /// Whether the transaction is dropped, and no page is given back.
@@ -448,7 +390,7 @@ fn drops<Q: Chooser>(alloc: Global, client: &mut Client<Q>, txn: TxnNo) -> bool 
 /// The same of a new client over a new chooser.
 fn new_one_has_memory<Q: Chooser>(alloc: Global, limits: &Limits) -> bool {
     match new_client::<Q>(alloc, limits) {
-        Some(mut client) => has_memory(alloc, &mut client, limits),
+        Some(mut client) => has_memory(alloc, &mut client),
         None => false,
     }
 }
@@ -460,15 +402,4 @@ fn greatest_client(rt: HostRuntime) -> Result<(), Fail> {
     let limits = Limits::new(32, 4096, 4096, 1024, 256, 512)?;
     assert!(rt; new_one_has_memory::<TwoQ>(rt.alloc(), &limits));
     Ok(())
-}
-
-/// How many bytes the frame has; none where it doesn't fit, or memory is refused.
-fn encode_of(alloc: Global, frame: &Frame, limits: &Limits) -> usize {
-    if !frame.fits(limits) {
-        return 0;
-    }
-    match encode(alloc, frame) {
-        Ok(bytes) => bytes.len(),
-        Err(_) => 0,
-    }
 }

@@ -9,17 +9,16 @@ ghost use Rattle.cb_outbox.specs.Messages.{messages_of};
 ghost use Rattle.cb_protocol.specs.ClientAlone.{AnswersCallback, GivesBackOnce};
 ghost use Rattle.cb_protocol.specs.Serial.{Operation};
 
-use crate::client::cases::{are, frame, new_client, taken};
+use crate::client::cases::frame;
 use cb_client::{Client, callbacks_are_answered, in_use_is_given_back};
 use cb_frame::{Body, Frame, ShortBody};
-use cb_page::{GrantNo, Limits, PageNo};
-use cb_twoq::{Chooser, TwoQ};
+use cb_page::{GrantNo, PageNo};
+use cb_twoq::Chooser;
 use std::alloc::Global;
-use std::test::Fail;
 
 /// What a client says to a Callback: one message, where the frame is for it and it is welcomed.
 /// None where there is no such page, or memory is refused.
-fn called<Q: Chooser>(
+pub(crate) fn called<Q: Chooser>(
     alloc: Global,
     client: &mut Client<Q>,
     page: PageNo,
@@ -42,36 +41,10 @@ fn called<Q: Chooser>(
 }
 
 /// What a client answers InUse it gives back once, as its transaction ends.
-fn gives_back_once<Q: Chooser>(client: &Client<Q>)
+pub(crate) fn gives_back_once<Q: Chooser>(client: &Client<Q>)
     ensures { (operations : List Operation)
         × GivesBackOnce (limits_at client.now) (client_of client.now operations) }
 {
     in_use_is_given_back();
     let _arose = client.limits();
-}
-
-/// Whether a client that holds nothing gives the page back that is called back.
-fn gives_back<Q: Chooser>(alloc: Global, client: &mut Client<Q>) -> bool {
-    let (page, grant) = (PageNo::new(0), GrantNo::new(1));
-    gives_back_once(client);
-    let welcomed = taken(alloc, client, Body::Short(ShortBody::Welcome)).is_empty();
-    match called(alloc, client, page, grant) {
-        Some(said) => welcomed && are(said.as_slice(), &[ShortBody::GiveBack { page, grant }]),
-        None => false,
-    }
-}
-
-/// The same of a new client.
-fn new_one_gives_back<Q: Chooser>(alloc: Global, limits: &Limits) -> bool {
-    match new_client::<Q>(alloc, limits) {
-        Some(mut client) => gives_back(alloc, &mut client),
-        None => false,
-    }
-}
-
-#[test]
-fn laws_of_a_client(rt: HostRuntime) -> Result<(), Fail> {
-    let limits = Limits::new(2, 8, 16, 4, 1, 2)?;
-    assert!(rt; new_one_gives_back::<TwoQ>(rt.alloc(), &limits));
-    Ok(())
 }

@@ -6,6 +6,9 @@ const CONFIG: &str = "clients = 3\npages = 4\npage_size = 16\nslots = 2\n";
 
 const KEPT: &str = "clients = 3\npages = 4\npage_size = 16\nslots = 2\nkeep_write = 1\n";
 
+/// As many clients, pages and slots as there may be.
+const GREATEST: &str = "clients = 32\npages = 4096\npage_size = 4096\nslots = 1024\n";
+
 /// The schedule of a seed, of so many events; `None` where it isn't drawn.
 fn drawn(alloc: Global, config: &str, seed: u64, count: usize) -> Option<Vec<u8>> {
     let mut out = Vec::new(alloc);
@@ -19,8 +22,8 @@ fn drawn(alloc: Global, config: &str, seed: u64, count: usize) -> Option<Vec<u8>
 }
 
 /// Whether the schedule of a seed plays to its end, and is serial.
-fn plays_serially(alloc: Global, config: &str, seed: u64) -> Option<bool> {
-    let schedule = drawn(alloc, config, seed, 2_000)?;
+fn plays_serially(alloc: Global, config: &str, seed: u64, count: usize) -> Option<bool> {
+    let schedule = drawn(alloc, config, seed, count)?;
     let mut out = Vec::new(alloc);
     let mut err = Vec::new(alloc);
     let status = play_to(
@@ -35,12 +38,14 @@ fn plays_serially(alloc: Global, config: &str, seed: u64) -> Option<bool> {
 
 /// The first of a few seeds whose schedule doesn't.
 fn first_not_serial(alloc: Global, config: &str) -> Option<u64> {
-    (0..6u64).find(|seed| plays_serially(alloc, config, *seed) != Some(true))
+    (0..6u64).find(|seed| plays_serially(alloc, config, *seed, 2_000) != Some(true))
 }
 
-/// Drawn schedules play to their end and are serial, with kept permissions and without.
+/// Drawn schedules play to their end and are serial, with kept permissions and without, and at
+/// large sizes: none of the calls that can answer want of memory does.
 #[test]
 fn drawn_schedules_are_serial(rt: HostRuntime) {
     assert!(rt; first_not_serial(rt.alloc(), CONFIG) == None);
     assert!(rt; first_not_serial(rt.alloc(), KEPT) == None);
+    assert!(rt; plays_serially(rt.alloc(), GREATEST, 1, 20_000) == Some(true));
 }

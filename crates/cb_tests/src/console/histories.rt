@@ -1,143 +1,107 @@
-//! Histories, with the first operation of each that isn't legal.
+//! Histories, small and great, with the first operation that isn't legal.
 
-use crate::stores::{page_of, small_limits};
+use crate::stores::page_of;
 use cb_commit::Store;
 use cb_event::{Call, Event};
-use cb_page::{ClientNo, Incarnation, PageNo, TxnNo};
+use cb_page::{ClientNo, Incarnation, Limits, PageNo, TxnNo};
 use cb_transcript::{
     Answer, AnswerWord, TransactionName, Transcript, TranscriptEntry, Verdict, check_serial,
 };
-use std::alloc::Global;
+use std::alloc::{AllocError, Global};
+use std::test::Fail;
 
-/// What became of an event: by client, page, and the byte all over the page.
-#[derive(Clone, Copy)]
-enum Told {
-    Begun(u16),
-    Restarted(u16),
-    Saw(u16, u32, u8),
-    Put(u16, u32, u8),
-    AskedToRead(u16, u32),
+/// A call of the client of the transaction of that number, and the word that it was answered.
+fn tell(
+    alloc: Global,
+    entries: &mut Vec<TranscriptEntry>,
+    number: u16,
+    call: Call,
+    word: AnswerWord,
+) -> Result<(), AllocError> {
+    let client = ClientNo::new(number % 32);
+    let event = Event::Call { client, call };
+    let answer = Answer::silent(alloc, word);
+    entries.push(TranscriptEntry { event, answer })?;
+    Ok(())
 }
 
-fn call(client: u16, call: Call) -> Option<Event> {
-    let client = ClientNo::in_store(&small_limits(2)?, u64::from(client))?;
-    Some(Event::Call { client, call })
+/// The transaction of that number begins, and writes its sixteen pages.
+fn tell_writes(
+    alloc: Global,
+    entries: &mut Vec<TranscriptEntry>,
+    number: u16,
+) -> Result<(), AllocError> {
+    tell(alloc, entries, number, Call::Begin, AnswerWord::Ok)?;
+    for offset in 0..16 {
+        let page = PageNo::new((u32::from(number) * 16 + offset) % 4096);
+        let bytes = page_of(alloc, 7, 16)?;
+        let call = Call::Write { page, bytes };
+        tell(alloc, entries, number, call, AnswerWord::Ok)?;
+    }
+    Ok(())
 }
 
-fn page_no(page: u32) -> Option<PageNo> {
-    PageNo::in_store(&small_limits(2)?, u64::from(page))
+/// So many transactions of the clients in turn, behind which one more reads the first page, which
+/// one of them wrote, as it was.
+fn entries_of(alloc: Global, count: u16) -> Result<Vec<TranscriptEntry>, AllocError> {
+    let mut entries = Vec::new(alloc);
+    for number in 0..count {
+        tell_writes(alloc, &mut entries, number)?;
+    }
+    let page = PageNo::new(0);
+    let old = AnswerWord::Bytes(page_of(alloc, 0, 16)?);
+    tell(alloc, &mut entries, count, Call::Begin, AnswerWord::Ok)?;
+    tell(alloc, &mut entries, count, Call::Read { page }, old)?;
+    Ok(entries)
 }
 
-fn event_of(alloc: Global, told: Told) -> Option<Event> {
-    match told {
-        Told::Begun(client) => call(client, Call::Begin),
-        Told::Restarted(client) => Some(Event::Restart {
-            client: ClientNo::in_store(&small_limits(2)?, u64::from(client))?,
-        }),
-        Told::Saw(client, page, _) | Told::AskedToRead(client, page) => {
-            let page = page_no(page)?;
-            call(client, Call::Read { page })
-        }
-        Told::Put(client, page, byte) => {
-            let page = page_no(page)?;
-            let bytes = page_of(alloc, byte, 16).ok()?;
-            call(client, Call::Write { page, bytes })
-        }
+/// The name of the transaction of that number.
+fn name_of(number: u16) -> TransactionName {
+    TransactionName {
+        client: ClientNo::new(number % 32),
+        incarnation: Incarnation::new(1),
+        txn: TxnNo::new(u64::from(number / 32) + 1),
     }
 }
 
-fn word_of(alloc: Global, told: Told) -> Option<AnswerWord> {
-    Some(match told {
-        Told::Saw(_, _, byte) => AnswerWord::Bytes(page_of(alloc, byte, 16).ok()?),
-        Told::AskedToRead(..) => AnswerWord::Asked,
-        _ => AnswerWord::Ok,
-    })
-}
-
-fn entries_of(alloc: Global, told: &[Told]) -> Option<Vec<TranscriptEntry>> {
-    let mut entries = Vec::with_capacity(alloc, told.len()).ok()?;
-    for told in told {
-        let event = event_of(alloc, *told)?;
-        let answer = Answer::silent(alloc, word_of(alloc, *told)?);
-        entries.push(TranscriptEntry { event, answer }).ok()?;
+/// The names of all of them, that of the last one first or last.
+fn names_of(alloc: Global, count: u16, first: bool) -> Result<Vec<TransactionName>, AllocError> {
+    let mut names = Vec::new(alloc);
+    if first {
+        names.push(name_of(count))?;
     }
-    Some(entries)
-}
-
-fn names_of(alloc: Global, names: &[(u16, u64, u64)]) -> Option<Vec<TransactionName>> {
-    let mut commits = Vec::with_capacity(alloc, names.len()).ok()?;
-    for (client, incarnation, txn) in names {
-        let name = TransactionName {
-            client: ClientNo::in_store(&small_limits(2)?, u64::from(*client))?,
-            incarnation: Incarnation::checked(*incarnation)?,
-            txn: TxnNo::checked(*txn)?,
-        };
-        commits.push(name).ok()?;
+    for number in 0..count {
+        names.push(name_of(number))?;
     }
-    Some(commits)
+    if !first {
+        names.push(name_of(count))?;
+    }
+    Ok(names)
 }
 
-fn verdict_of(alloc: Global, told: &[Told], names: &[(u16, u64, u64)]) -> Option<Verdict> {
-    let store = Store::zeros(alloc, &small_limits(2)?).ok()?;
-    let entries = entries_of(alloc, told)?;
-    let commits = names_of(alloc, names)?;
-    check_serial(alloc, &Transcript::from_parts(store, entries, commits)).ok()
+/// The verdict where they committed in that order.
+fn verdict_of(
+    alloc: Global,
+    limits: &Limits,
+    count: u16,
+    first: bool,
+) -> Result<Verdict, AllocError> {
+    let names = names_of(alloc, count, first)?;
+    let entries = entries_of(alloc, count)?;
+    let store = Store::zeros(alloc, limits)?;
+    check_serial(alloc, &Transcript::from_parts(store, entries, names))
 }
 
-/// One client writes a page, and the other reads it as it was.
-static READ_OF_THE_OLD: [Told; 4] = [
-    Told::Begun(0),
-    Told::Put(0, 0, 7),
-    Told::Begun(1),
-    Told::Saw(1, 0, 0),
-];
-
-/// A client restarts and begins anew; its second transaction reads what it wrote itself.
-static AFTER_A_RESTART: [Told; 8] = [
-    Told::Begun(0),
-    Told::Put(0, 3, 1),
-    Told::Restarted(0),
-    Told::Begun(0),
-    Told::AskedToRead(0, 3),
-    Told::Saw(0, 3, 0),
-    Told::Put(0, 3, 2),
-    Told::Saw(0, 3, 2),
-];
-
-/// Committed transactions in commit order, with the verdict.
-type Row = (&'static [(u16, u64, u64)], Verdict);
-
-static ROWS_OF_THE_OLD: [Row; 4] = [
-    (&[], Verdict::Serial),
-    (&[(0, 1, 1), (1, 1, 1)], Verdict::Not { commit: 2, op: 1 }),
-    (&[(1, 1, 1), (0, 1, 1)], Verdict::Serial),
-    (&[(1, 1, 1)], Verdict::Serial),
-];
-
-static ROWS_AFTER_A_RESTART: [Row; 4] = [
-    (&[(0, 2, 1)], Verdict::Serial),
-    (&[(0, 1, 1), (0, 2, 1)], Verdict::Not { commit: 2, op: 1 }),
-    (
-        &[(0, 2, 1), (1, 1, 1), (0, 2, 1)],
-        Verdict::Not { commit: 3, op: 1 },
-    ),
-    (&[(0, 2, 1), (0, 1, 1)], Verdict::Serial),
-];
-
-fn has_verdict(alloc: Global, told: &[Told], names: &[(u16, u64, u64)], verdict: Verdict) -> bool {
-    verdict_of(alloc, told, names) == Some(verdict)
-}
-
+/// After one transaction, and after many at the greatest limits: what was read as it was before is
+/// legal if it committed before them.
 #[test]
-fn not_serial(rt: HostRuntime) {
-    for (names, verdict) in &ROWS_OF_THE_OLD {
-        assert!(rt; has_verdict(rt.alloc(), &READ_OF_THE_OLD, names, *verdict));
+fn not_serial(rt: HostRuntime) -> Result<(), Fail> {
+    let limits = Limits::new(32, 4096, 16, 1024, 1023, 4096)?;
+    for count in [1u16, 2047] {
+        assert!(rt; verdict_of(rt.alloc(), &limits, count, true)? == Verdict::Serial);
+        let commit = u64::from(count) + 1;
+        let not = Verdict::Not { commit, op: 1 };
+        assert!(rt; verdict_of(rt.alloc(), &limits, count, false)? == not);
     }
-}
-
-#[test]
-fn not_serial_after_a_restart(rt: HostRuntime) {
-    for (names, verdict) in &ROWS_AFTER_A_RESTART {
-        assert!(rt; has_verdict(rt.alloc(), &AFTER_A_RESTART, names, *verdict));
-    }
+    Ok(())
 }

@@ -1,12 +1,9 @@
 //! What plays print.
 use cb_commit::Store;
-use cb_console::{Play, ReadFault, play_to, print_outcome, put_entries};
-use cb_event::{Event, read_schedule};
-use cb_frame::Kind;
-use cb_page::{ClientNo, CommitNo, Limits, Page};
-use cb_transcript::{
-    Answer, AnswerWord, Refusal, SentPacket, SentPackets, Transcript, TranscriptEntry,
-};
+use cb_console::{Play, ReadFault, play_to, print_outcome};
+use cb_event::read_schedule;
+use cb_page::Limits;
+use cb_transcript::Transcript;
 use cb_twoq::TwoQ;
 use cb_world::World;
 use std::alloc::Global;
@@ -14,90 +11,16 @@ use std::alloc::Global;
 /// One client, eight pages, four slots.
 const FIRST: &str = "clients = 1\npages = 8\npage_size = 16\nslots = 4\n";
 
-/// The word that shows a page of these bytes.
-fn page_word(alloc: Global, bytes: &[u8]) -> Option<AnswerWord> {
-    Some(AnswerWord::Bytes(Page::copy_of(alloc, bytes).ok()?))
-}
-
-/// Every word of an answer, and pages of unlike and of like bytes, by place.
-fn word_at(alloc: Global, place: usize) -> Option<AnswerWord> {
-    match place {
-        0 => Some(AnswerWord::Ok),
-        1 => page_word(alloc, b"\x00\x0f\x10\xff"),
-        2 => page_word(alloc, b"\x0a\x0a\x0a"),
-        3 => page_word(alloc, b"\x0a\x0a\x0b"),
-        4 => Some(AnswerWord::Asked),
-        5 => Some(AnswerWord::Permitted),
-        6 => Some(AnswerWord::Nothing),
-        7 => Some(AnswerWord::Flushed(CommitNo::new(4_611_686_018_427_387_903))),
-        8 => Some(AnswerWord::Taken),
-        9 => Some(AnswerWord::NoPacket),
-        10 => Some(AnswerWord::Refused(Refusal::WrongLength)),
-        11 => Some(AnswerWord::ServerExhausted),
-        12 => Some(AnswerWord::NoClient),
-        _ => None,
-    }
-}
-
-/// The entry of the answer with such a word that sends one packet.
-fn entry_at(alloc: Global, place: usize) -> Option<TranscriptEntry> {
-    let sent = SentPacket {
-        number: 1000,
-        kind: Kind::Granted,
-        client: ClientNo::new(2),
-    };
-    let sent = SentPackets::one(alloc, sent).ok()?;
-    let word = word_at(alloc, place)?;
-    Some(TranscriptEntry {
-        event: Event::Flush,
-        answer: Answer { word, sent },
-    })
-}
-
-fn entries_of_all_words(alloc: Global) -> Option<Vec<TranscriptEntry>> {
-    let mut entries = Vec::new(alloc);
-    for place in 0..13usize {
-        entries.push(entry_at(alloc, place)?).ok()?;
-    }
-    Some(entries)
-}
-
-const WORDS: &str =
-    "1 ok 1000:Granted:2\n2 bytes 000f10ff 1000:Granted:2\n3 bytes all 0a 1000:Granted:2\n\
-    4 bytes 0a0a0b 1000:Granted:2\n5 asked 1000:Granted:2\n6 permitted 1000:Granted:2\n\
-    7 none 1000:Granted:2\n8 flushed 4611686018427387903 1000:Granted:2\n\
-    9 taken 1000:Granted:2\n10 nopacket 1000:Granted:2\n\
-    11 refused 10 WrongLength 1000:Granted:2\n12 refused 1 Exhausted 1000:Granted:2\n\
-    13 noclient 1000:Granted:2\n";
-
-fn prints_all_words(alloc: Global) -> Option<bool> {
-    let entries = entries_of_all_words(alloc)?;
-    let mut out = Vec::new(alloc);
-    put_entries(&mut out, entries.as_slice()).ok()?;
-    Some(out.as_slice() == WORDS.as_bytes())
-}
-
-/// Every word of an answer has its text; a page of unlike bytes has two digits a byte, also below
-/// 16.
-#[test]
-fn words_of_answers(rt: HostRuntime) {
-    assert!(rt; prints_all_words(rt.alloc()) == Some(true));
-}
-
-/// A world over a store of zeros; `None` where memory is refused.
-fn world_of(alloc: Global, limits: &Limits) -> Option<World<TwoQ>> {
+/// What two events tell.
+fn two_told(alloc: Global, limits: &Limits) -> Option<Transcript> {
+    let events = read_schedule(alloc, limits, b"hello 0\ntake 0\n").ok()?;
     let Ok(store) = Store::zeros(alloc, limits) else {
         return None;
     };
-    World::new(alloc, limits, store).ok()
-}
-
-/// What two events tell.
-fn two_told(alloc: Global, limits: &Limits) -> Option<Transcript> {
-    let Ok(events) = read_schedule(alloc, limits, b"hello 0\ntake 0\n") else {
+    let Ok(world) = World::<TwoQ>::new(alloc, limits, store) else {
         return None;
     };
-    world_of(alloc, limits)?.play(events.as_slice()).ok()
+    world.play(events.as_slice()).ok()
 }
 
 /// Whether a play that memory ended after two events is printed so far.

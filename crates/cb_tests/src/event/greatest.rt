@@ -18,35 +18,21 @@ fn repeated(alloc: Global, line: &str, count: usize) -> Result<String, AllocErro
     Ok(text)
 }
 
-/// How many events a text has at the greatest limits, or its fault.
-fn count_of(alloc: Global, text: &str) -> Option<Result<usize, ScheduleFault>> {
-    let limits = greatest_limits(16)?;
-    Some(read_schedule(alloc, &limits, text.as_bytes()).map(|events| events.len()))
-}
-
-/// What is counted of the most events there may be, with this text behind them.
+/// How many events there are at the greatest limits with this text behind the most there may be,
+/// or the fault.
 fn count_behind(alloc: Global, text: &str) -> Option<Result<usize, ScheduleFault>> {
+    let limits = greatest_limits(16)?;
     let mut all = repeated(alloc, "flush\n", 1_000_000).ok()?;
     all.push_str(text).ok()?;
-    count_of(alloc, all.as_str())
+    Some(read_schedule(alloc, &limits, all.as_bytes()).map(|events| events.len()))
 }
 
 #[test]
 fn most_events(rt: HostRuntime) {
     let count = count_behind(rt.alloc(), "# no event\n\n");
     assert!(rt; count == Some(Ok(1_000_000)));
-}
-
-#[test]
-fn one_event_too_many(rt: HostRuntime) {
     let count = count_behind(rt.alloc(), "\nwrite 31 4095 255\n");
     assert!(rt; count == Some(Err(ScheduleFault::Long { line: 1_000_002 })));
-}
-
-#[test]
-fn lower_faults_come_first(rt: HostRuntime) {
-    let count = count_behind(rt.alloc(), "write 31 4095 256\n");
-    assert!(rt; count == Some(Err(ScheduleFault::Range { line: 1_000_001 })));
 }
 
 /// Whether an event is a write of a page of that many bytes, all of them 255.

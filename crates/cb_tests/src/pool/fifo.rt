@@ -1,8 +1,6 @@
 //! A chooser that isn't 2Q, and promises the law alone: the unfixed page that came in first is let
 //! go.
 
-ghost use Rattle.std.specs.Prelude.{◌≡◌, length};
-
 use cb_page::{Limits, PageNo, PageSet};
 use cb_twoq::{ChooseFault, Chooser, is_on, oldest_unfixed, take_off};
 use std::alloc::{AllocError, Global};
@@ -25,15 +23,6 @@ impl Model for Fifo {
     ghost view = { λ fifo. (fifo.slots, fifo.pages.items) };
 
     ghost invariant = { λ fifo. AreOnce fifo.slots fifo.pages.items };
-}
-
-impl Fifo {
-    /// How many pages are in slots.
-    pub fn count(&self) -> usize
-        ensures { result ≡ length self.now.1 }
-    {
-        self.pages.len()
-    }
 }
 
 impl Chooser for Fifo {

@@ -1,9 +1,6 @@
 //! 2Q in both forms: worked cases, the same drawn references, the greatest limits, refused growths.
 
-ghost use Rattle.std.specs.Prelude.{◌≡◌, true, IfOk};
-
 use crate::draw::Draw;
-use crate::pool::{Fifo, Recorder};
 use Step::{Fix, Forget, Full, Gone, Refer, Stand};
 use cb_page::{Limits, PageNo, PageSet};
 use cb_twoq::{ChooseFault, Chooser, Lists, PlainTwoQ, TwoQ, run_refs};
@@ -202,17 +199,6 @@ fn alike<L: TwoForms, R: TwoForms>(alloc: Global, left: &L, right: &R) -> Result
     Ok(are_alike(&left.copied(alloc)?, &right.copied(alloc)?))
 }
 
-/// Whether both forms answer a reference alike, with no want of memory.
-fn answer_alike<L: TwoForms, R: TwoForms>(
-    left: &mut L,
-    right: &mut R,
-    page: PageNo,
-    fixed: &PageSet,
-) -> bool {
-    let answer = left.reference(page, fixed);
-    answer == right.reference(page, fixed) && answer != Err(ChooseFault::Memory)
-}
-
 /// Fixes or lets loose a drawn page, one in four of all being fixed.
 fn draw_fixed(draw: &mut Draw, fixed: &mut PageSet, page: PageNo) {
     if page.index() < fixed.pages() {
@@ -238,7 +224,9 @@ fn go_on_alike<L: TwoForms, R: TwoForms>(
         left.forget(page);
         right.forget(page);
     }
-    answer_alike(left, right, PageNo::new(draw.below(48)), fixed)
+    let page = PageNo::new(draw.below(48));
+    let answer = left.reference(page, fixed);
+    answer == right.reference(page, fixed) && answer != Err(ChooseFault::Memory)
 }
 
 /// Whether both forms are alike after each of ten thousand drawn references.
@@ -277,47 +265,6 @@ fn both_forms_alike(rt: HostRuntime) -> Result<(), Fail> {
     Ok(())
 }
 
-/// Refers to a page twice, and says whether the second reference let nothing go: by the law,
-/// whatever the type.
-fn second_lets_none_go<Q: Chooser>(chooser: &mut Q, page: PageNo, fixed: &PageSet) -> bool
-    ensures { result ≡ true }
-{
-    match chooser.reference(page, fixed) {
-        Ok(_) => matches!(chooser.reference(page, fixed), Ok(None)),
-        Err(_) => true,
-    }
-}
-
-/// Whether a chooser of two slots keeps the law in a few calls.
-fn keeps_law<Q: Chooser>(alloc: Global, limits: &Limits) -> Result<bool, AllocError> {
-    let mut chooser = Q::make(alloc, limits)?;
-    let fixed = PageSet::new(alloc, 16)?;
-    let mut kept = true;
-    for page in [1, 2, 3] {
-        if !second_lets_none_go(&mut chooser, PageNo::new(page), &fixed) {
-            kept = false;
-        }
-    }
-    chooser.forget(PageNo::new(2));
-    for (page, goes) in [(4, false), (3, false), (4, false), (5, true)] {
-        match chooser.reference(PageNo::new(page), &fixed) {
-            Ok(gone) if gone.is_some() == goes => {}
-            _ => kept = false,
-        }
-    }
-    Ok(kept)
-}
-
-#[test]
-fn law_at_each_chooser(rt: HostRuntime) -> Result<(), Fail> {
-    let limits = Limits::new(1, 16, 16, 2, 1, 1)?;
-    assert!(rt; keeps_law::<TwoQ>(rt.alloc(), &limits)?);
-    assert!(rt; keeps_law::<PlainTwoQ>(rt.alloc(), &limits)?);
-    assert!(rt; keeps_law::<Fifo>(rt.alloc(), &limits)?);
-    assert!(rt; keeps_law::<Recorder<Fifo>>(rt.alloc(), &limits)?);
-    Ok(())
-}
-
 /// Each page of the greatest store twice, with no page fixed.
 fn all_twice(alloc: Global) -> Result<Vec<(PageNo, PageSet)>, AllocError> {
     let mut references = Vec::new(alloc);
@@ -328,29 +275,16 @@ fn all_twice(alloc: Global) -> Result<Vec<(PageNo, PageSet)>, AllocError> {
     Ok(references)
 }
 
-/// How many references are answered.
-fn answered<Q: TwoForms>(
-    alloc: Global,
-    chooser: &mut Q,
-    references: &[(PageNo, PageSet)],
-) -> Result<usize, AllocError> {
-    let answers = run_refs(alloc, chooser, references)?;
-    Ok(answers.iter().filter(|answer| answer.is_ok()).count())
-}
-
-/// How many pages are in slots.
-fn in_slots<Q: TwoForms>(alloc: Global, chooser: &Q) -> Result<usize, AllocError> {
-    let lists = chooser.copied(alloc)?;
-    Ok(lists.a1in.len().saturating_add(lists.am.len()))
-}
-
 /// Whether all references are answered, and no slot is free after.
 fn are_all_answered<Q: TwoForms>(
     alloc: Global,
     chooser: &mut Q,
     references: &[(PageNo, PageSet)],
 ) -> Result<bool, AllocError> {
-    Ok(answered(alloc, chooser, references)? == 8192 && in_slots(alloc, chooser)? == 1024)
+    let answers = run_refs(alloc, chooser, references)?;
+    let lists = chooser.copied(alloc)?;
+    let in_slots = lists.a1in.len().saturating_add(lists.am.len());
+    Ok(in_slots == 1024 && answers.iter().filter(|answer| answer.is_ok()).count() == 8192)
 }
 
 /// The same of a new chooser, by each page of the greatest store twice.

@@ -1,5 +1,5 @@
 use Rattle.std.specs.Vec.{vec_len}
-use Rattle.cb_tests.proofs.client.locks.is_spent.Given as goal
+use Rattle.cb_tests.proofs.client.locks.rise.Given as goal
 
 -- one fewer is left each time
 abbrev pub decreases-loop-due : goal.decreases-loop-due

@@ -1,5 +1,5 @@
 use Rattle.cb_commit.specs.Stores.{IsOf}
-use Rattle.cb_tests.proofs.server.great_commits.are_applied.Given as goal
+use Rattle.cb_tests.proofs.server.commits.are_applied.Given as goal
 
 abbrev pub invariant-loop-number : goal.invariant-loop-number
 invariant-loop-number l = IsOf l.limits l.commits.store
