@@ -1,20 +1,13 @@
 //! Stops at each call of the disk in turn, and a crash.
-ghost use Rattle.std.specs.Prelude.{◌≡◌, false};
-
 use crate::commits::holds;
-use crate::disks::{new_disks, over};
-use crate::stops::Answered;
-use crate::work::{Deed, Outcome, Task, Work, config_of, opening};
+use crate::disks::{Faults, both};
+use crate::work::{Deed, Outcome, Work, opening};
 use crate::writes::Writing;
 use cb_page::Limits;
-use cb_settings::Config;
 use cb_shelf::Shelf;
-use sqlite::{Alter, Files};
-use sqlite_disk::Crash;
+use sqlite::Alter;
 use std::alloc::Global;
 use std::sync::Wait;
-use std::sync::atomic::Ordering;
-use std::test::Fail;
 use std::thread::Threads;
 
 /// The store before the batch: its number, and the version and byte of page 0. Page 1 is zeros.
@@ -28,110 +21,80 @@ pub(crate) static OLD: &'static str =
      x'07070707070707070707070707070707'), (1, 0, x'00000000000000000000000000000000'); \
      INSERT INTO mark VALUES (1, 3, 16); COMMIT";
 
-/// How a sequence of runs ended.
+/// Which store a shelf holds.
 #[derive(Clone, Copy, PartialEq, Eq)]
-enum Ended {
-    /// A run had no stop, and every store before it was whole.
-    Whole,
-    /// After a stop the tables held another store.
-    Torn,
-    /// Every run had a stop.
-    Unfinished,
+pub(crate) enum Found {
+    /// With the batch.
+    Written,
+    /// The one before it.
+    Before,
+    Zeros,
+    Other,
 }
 
-/// Whether the last store or the one before it is there.
-pub(crate) fn is_either<S: Alter>(
+/// Which store is there.
+pub(crate) fn find<S: Alter>(
     alloc: Global,
     limits: &Limits,
     shelf: &mut Shelf<S>,
-    reached: Outcome,
     old: Old,
-) -> bool {
-    let written = holds(alloc, limits, shelf, 1, &[(1, 9), (1, 9)]);
-    let before = holds(alloc, limits, shelf, old.0, &[(old.1, old.2), (0, 0)]);
-    let zeros = holds(alloc, limits, shelf, 0, &[(0, 0), (0, 0)]);
+) -> Found {
+    if holds(alloc, limits, shelf, 1, &[(1, 9), (1, 9)]) {
+        return Found::Written;
+    }
+    if holds(alloc, limits, shelf, old.0, &[(old.1, old.2), (0, 0)]) {
+        return Found::Before;
+    }
+    if holds(alloc, limits, shelf, 0, &[(0, 0), (0, 0)]) {
+        return Found::Zeros;
+    }
+    Found::Other
+}
+
+/// Whether that may be there after a crash, where the disk stopped amid the work before.
+fn may_be_left(reached: Outcome, found: Found) -> bool {
+    let before = found == Found::Before;
     match reached {
-        Outcome::Nothing | Outcome::Database => before || zeros,
+        Outcome::Nothing | Outcome::Database => before || found == Found::Zeros,
         Outcome::Refused(_) => before,
-        Outcome::Well(false) => before || written,
-        Outcome::Well(true) => written,
-        Outcome::Ran(_) => false,
+        Outcome::Well(false) => before || found == Found::Written,
+        _ => false,
     }
 }
 
-/// What has to be there after a crash.
-#[derive(Clone, Copy)]
-pub(crate) enum Left<'a> {
-    /// The last store or the one before it.
-    Either(Old),
-    /// What was answered as done.
-    Answered(&'a Answered),
-}
-
-/// The look at it, after that outcome.
-fn look_of(left: Left<'_>, reached: Outcome) -> Deed<'static> {
-    match left {
-        Left::Either(old) => Deed::Look(reached, old),
-        Left::Answered(answered) => Deed::Begin(answered.count.load(Ordering::SeqCst)),
-    }
-}
-
-/// What comes of some work over these files, if after a crash is there what has to be.
-pub(crate) fn survived<R: Threads + Wait + Sync, D: Crash + Drop>(
+/// Stops the log at each call in turn until a run ends without a stop. Whether every store that was
+/// there after a stop was whole, and the last one has the batch.
+fn survives_each_stop<R: Threads + Wait + Sync>(
     rt: &R,
     alloc: Global,
-    config: &Config,
-    files: Files<D>,
-    work: Work<'_>,
-    left: Left<'_>,
-) -> Option<Outcome>
-    requires { config.now.limits.keep_write ≡ false }
-{
-    let (reached, mut files) = over(rt, alloc, config, files, work);
-    files.log.crash();
-    files.db.crash();
-    let look = opening(look_of(left, reached));
-    match over(rt, alloc, config, files, look).0 {
-        Outcome::Well(true) => Some(reached),
-        _ => None,
-    }
-}
-
-/// Stops the log at each call in turn until a run ends without a stop.
-fn stop_at_each_call<R: Threads + Wait + Sync>(
-    rt: &R,
-    alloc: Global,
-    config: &Config,
     tables: &str,
     old: Old,
-) -> Ended
-    requires { config.now.limits.keep_write ≡ false }
-{
+) -> bool {
     let work = Work {
-        text: tables,
-        task: Task::Open(Deed::Write(Writing::Once)),
+        texts: [tables, ""],
+        deed: Deed::Write(Writing::Once),
     };
     for calls in 0..100 {
-        let files = new_disks(alloc, calls, u64::MAX, None);
-        match survived(rt, alloc, config, files, work, Left::Either(old)) {
-            Some(Outcome::Well(true)) => return Ended::Whole,
-            Some(_) => {}
-            None => return Ended::Torn,
+        let faults = Faults {
+            log: calls,
+            db: u64::MAX,
+            left: None,
+        };
+        match both(rt, alloc, (1, 16), faults, [work, opening(Deed::Find(old))]) {
+            (Outcome::Well(true), left) => return left == Outcome::Found(Found::Written),
+            (reached, Outcome::Found(found)) if may_be_left(reached, found) => {}
+            _ => return false,
         }
     }
-    Ended::Unfinished
+    false
 }
 
 #[test]
-fn a_stop_leaves_the_batch_whole_or_not_there(rt: HostRuntime) -> Result<(), Fail> {
-    let config = config_of(1, 16, 0)?;
-    assert!(rt; stop_at_each_call(&rt, rt.alloc(), &config, "", (0, 0, 0)) == Ended::Whole);
-    Ok(())
+fn a_stop_leaves_the_batch_whole_or_not_there(rt: HostRuntime) {
+    assert!(rt; survives_each_stop(&rt, rt.alloc(), "", (0, 0, 0)));
 }
 
 #[test]
-fn a_stop_leaves_the_old_tables_or_the_copy(rt: HostRuntime) -> Result<(), Fail> {
-    let config = config_of(1, 16, 0)?;
-    assert!(rt; stop_at_each_call(&rt, rt.alloc(), &config, OLD, (3, 3, 7)) == Ended::Whole);
-    Ok(())
+fn a_stop_leaves_the_old_tables_or_the_copy(rt: HostRuntime) {
+    assert!(rt; survives_each_stop(&rt, rt.alloc(), OLD, (3, 3, 7)));
 }

@@ -9,111 +9,29 @@ use std::thread;
 use std::thread::Threads;
 
 /// Whether the office is closed, and whether it is halted.
-fn flags<R: Wait>(rt: &R, office: &Office) -> (bool, bool) {
-    let shared = office.lock(rt);
-    (shared.is_closed(), shared.is_halted())
-}
+pub(crate) type Flags = (bool, bool);
 
-/// Whether the office is closed by the last of two calls of `work` that end, and stays so.
-pub(crate) fn is_closed_by_the_last<R: Wait>(rt: &R, office: &Office) -> bool {
-    let new = flags(rt, office);
-    office.lock(rt).end_work();
-    let first = flags(rt, office);
-    office.lock(rt).end_work();
-    let last = flags(rt, office);
-    office.lock(rt).end_work();
-    let past = flags(rt, office);
-    let open = (false, false);
-    let closed = (true, false);
-    new == open && first == open && last == closed && past == closed
-}
+const OPEN: Flags = (false, false);
 
-#[test]
-fn last_work_closes(rt: HostRuntime) {
-    assert!(rt; goes_well(Trial::LastWork, &rt, rt.alloc()));
-}
+const CLOSED: Flags = (true, false);
 
-/// Whether it is closed.
-pub(crate) fn closes<R: Wait>(rt: &R, office: &Office) -> bool {
-    office.close(rt);
-    flags(rt, office) == (true, false)
-}
+const HALTED: Flags = (true, true);
 
-/// Whether it is closed and halted.
-pub(crate) fn halts<R: Wait>(rt: &R, office: &Office) -> bool {
-    office.halt(rt);
-    flags(rt, office) == (true, true)
-}
-
-/// Whether it is closed from the start.
-pub(crate) fn is_unused<R: Wait>(rt: &R, office: &Office) -> bool {
-    flags(rt, office) == (true, false)
-}
-
-#[test]
-fn closed_and_halted(rt: HostRuntime) {
-    assert!(rt; goes_well(Trial::Closed, &rt, rt.alloc()));
-    assert!(rt; goes_well(Trial::Halted, &rt, rt.alloc()));
-    assert!(rt; goes_well(Trial::Unused, &rt, rt.alloc()));
-}
-
-/// What those that wait are woken by.
+/// What happens in an office.
 #[derive(Clone, Copy)]
-pub(crate) enum Waking {
+pub(crate) enum Moment {
+    Nothing,
+    /// A call of `work` ends.
+    EndOfWork,
     Closing,
     Halting,
     /// Client 1 has a frame.
     Greeting,
 }
 
-/// How many wait.
-fn waiting(waking: Waking) -> u64 {
-    match waking {
-        Waking::Closing | Waking::Halting => 2,
-        Waking::Greeting => 1,
-    }
-}
-
-/// Whether it has come.
-fn has_come(shared: &SharedStation, waking: Waking) -> bool {
-    match waking {
-        Waking::Closing | Waking::Halting => shared.is_closed(),
-        Waking::Greeting => shared.station().has_frame_for(ClientNo::new(1)),
-    }
-}
-
-/// Waits for it, or until the office is halted. `counted` counts who holds the lock or waits, and
-/// once more who was woken by what it waits for.
-fn wait_for<R: Wait>(rt: &R, office: &Office, counted: &AtomicU64, waking: Waking) {
-    let mut shared = office.lock(rt);
-    counted.fetch_add(1, Ordering::SeqCst);
-    for _ in rt.forever() {
-        let come = has_come(&shared, waking);
-        if come || shared.is_halted() {
-            counted.fetch_add(u64::from(come), Ordering::SeqCst);
-            return;
-        }
-        shared = match waking {
-            Waking::Closing | Waking::Halting => office.wait(rt, shared),
-            Waking::Greeting => office.wait_for_frame(rt, shared, ClientNo::new(1)),
-        };
-    }
-    unreachable!()
-}
-
-/// Until so many are counted.
-fn spin_until<R: Wait>(rt: &R, counted: &AtomicU64, count: u64) {
-    for _ in rt.forever() {
-        if counted.load(Ordering::SeqCst) >= count {
-            return;
-        }
-        thread::yield_now();
-    }
-}
-
-/// The client joins, so that there is a Welcome to it, and is told; where it can't join the office
-/// is halted.
-fn greet<R: Wait>(rt: &R, alloc: Global, office: &Office, client: ClientNo) {
+/// The client joins, so that there is a Welcome to it, and is told; its number stays joined. Where
+/// it can't join the office is halted.
+pub(crate) fn greet<R: Wait>(rt: &R, alloc: Global, office: &Office, client: ClientNo) {
     let mut shared = office.lock(rt);
     let joined = shared.station_mut().join(alloc, client);
     office.tell_clients(&shared);
@@ -124,35 +42,131 @@ fn greet<R: Wait>(rt: &R, alloc: Global, office: &Office, client: ClientNo) {
     }
 }
 
-/// Wakes them once all wait: each counts itself under the lock, which it lets go only by waiting.
-fn wake_when<R: Wait>(rt: &R, alloc: Global, office: &Office, counted: &AtomicU64, waking: Waking) {
-    spin_until(rt, counted, waiting(waking));
-    match waking {
-        Waking::Closing => office.close(rt),
-        Waking::Halting => office.halt(rt),
-        Waking::Greeting => greet(rt, alloc, office, ClientNo::new(1)),
+/// It happens.
+fn happens<R: Wait>(rt: &R, alloc: Global, office: &Office, moment: Moment) {
+    match moment {
+        Moment::Nothing => {}
+        Moment::EndOfWork => office.lock(rt).end_work(),
+        Moment::Closing => office.close(rt),
+        Moment::Halting => office.halt(rt),
+        Moment::Greeting => greet(rt, alloc, office, ClientNo::new(1)),
     }
 }
 
-/// Threads wait, and this one wakes them; what they counted.
+/// Whether the office has these flags.
+fn has_flags<R: Wait>(rt: &R, office: &Office, flags: Flags) -> bool {
+    let shared = office.lock(rt);
+    (shared.is_closed(), shared.is_halted()) == flags
+}
+
+/// Whether each of these moments leaves its flags.
+pub(crate) fn follows<R: Wait>(
+    rt: &R,
+    alloc: Global,
+    office: &Office,
+    moments: &[(Moment, Flags)],
+) -> bool {
+    for (moment, flags) in moments {
+        happens(rt, alloc, office, *moment);
+        if !has_flags(rt, office, *flags) {
+            return false;
+        }
+    }
+    true
+}
+
+#[test]
+fn last_work_closes(rt: HostRuntime) {
+    let moments = [
+        (Moment::Nothing, OPEN),
+        (Moment::EndOfWork, OPEN),
+        (Moment::EndOfWork, CLOSED),
+        (Moment::EndOfWork, CLOSED),
+    ];
+    assert!(rt; goes_well(Trial::Flagged(2, &moments), &rt, rt.alloc()));
+}
+
+#[test]
+fn closed_and_halted(rt: HostRuntime) {
+    let closing = [(Moment::Closing, CLOSED), (Moment::Halting, HALTED)];
+    assert!(rt; goes_well(Trial::Flagged(1, &closing), &rt, rt.alloc()));
+    assert!(rt;
+        goes_well(
+            Trial::Flagged(1, &[(Moment::Halting, HALTED)]),
+            &rt,
+            rt.alloc()
+        )
+    );
+    assert!(rt;
+        goes_well(
+            Trial::Flagged(0, &[(Moment::Nothing, CLOSED)]),
+            &rt,
+            rt.alloc()
+        )
+    );
+}
+
+/// How many wait.
+const WAITING: u64 = 2;
+
+/// Whether what is waited for has come.
+fn has_come(shared: &SharedStation, moment: Moment) -> bool {
+    match moment {
+        Moment::Greeting => shared.station().has_frame_for(ClientNo::new(1)),
+        _ => shared.is_closed(),
+    }
+}
+
+/// Waits for it, or until the office is halted. `counted` counts who holds the lock or waits, and
+/// once more who was woken by what it waits for.
+fn wait_for<R: Wait>(rt: &R, office: &Office, counted: &AtomicU64, moment: Moment) {
+    let mut shared = office.lock(rt);
+    counted.fetch_add(1, Ordering::SeqCst);
+    for _ in rt.forever() {
+        let come = has_come(&shared, moment);
+        if come || shared.is_halted() {
+            counted.fetch_add(u64::from(come), Ordering::SeqCst);
+            return;
+        }
+        shared = match moment {
+            Moment::Greeting => office.wait_for_frame(rt, shared, ClientNo::new(1)),
+            _ => office.wait(rt, shared),
+        };
+    }
+    unreachable!()
+}
+
+/// Until all that wait are counted.
+fn spin_until_all<R: Wait>(rt: &R, counted: &AtomicU64) {
+    for _ in rt.forever() {
+        if counted.load(Ordering::SeqCst) >= WAITING {
+            return;
+        }
+        thread::yield_now();
+    }
+}
+
+/// Threads wait, and this one wakes them once all do: each counts itself under the lock, which it
+/// lets go only by waiting. What they counted.
 fn count_woken<R: Wait + Threads + Sync>(
     rt: &R,
     alloc: Global,
     office: &Office,
-    waking: Waking,
+    moment: Moment,
 ) -> u64 {
     let counter = AtomicU64::new(0);
     let counted = &counter;
     thread::scope(thread::scope_env(), rt, |scope| {
-        for _waiter in 0..waiting(waking) {
+        for _waiter in 0..WAITING {
             if scope
-                .spawn(move || wait_for(rt, office, counted, waking))
+                .spawn(move || wait_for(rt, office, counted, moment))
                 .is_err()
             {
                 counted.fetch_add(1, Ordering::SeqCst);
             }
         }
-        wake_when(rt, alloc, office, counted, waking);
+        spin_until_all(rt, counted);
+        happens(rt, alloc, office, moment);
     });
     counter.load(Ordering::SeqCst)
 }
@@ -162,19 +176,15 @@ pub(crate) fn wakes<R: Wait + Threads + Sync>(
     rt: &R,
     alloc: Global,
     office: &Office,
-    waking: Waking,
+    moment: Moment,
+    flags: Flags,
 ) -> bool {
-    let (count, wanted) = match waking {
-        Waking::Closing => (4, (true, false)),
-        Waking::Halting => (4, (true, true)),
-        Waking::Greeting => (2, (false, false)),
-    };
-    count_woken(rt, alloc, office, waking) == count && flags(rt, office) == wanted
+    count_woken(rt, alloc, office, moment) == 2 * WAITING && has_flags(rt, office, flags)
 }
 
 #[test]
 fn those_that_wait_are_woken(rt: HostRuntime) {
-    assert!(rt; goes_well(Trial::Woken(Waking::Closing), &rt, rt.alloc()));
-    assert!(rt; goes_well(Trial::Woken(Waking::Halting), &rt, rt.alloc()));
-    assert!(rt; goes_well(Trial::Woken(Waking::Greeting), &rt, rt.alloc()));
+    assert!(rt; goes_well(Trial::Woken(Moment::Closing, CLOSED), &rt, rt.alloc()));
+    assert!(rt; goes_well(Trial::Woken(Moment::Halting, HALTED), &rt, rt.alloc()));
+    assert!(rt; goes_well(Trial::Woken(Moment::Greeting, OPEN), &rt, rt.alloc()));
 }

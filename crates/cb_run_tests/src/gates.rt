@@ -1,42 +1,114 @@
-//! Gates of runs: one type for all, so that a run is built once; and workers that wait for each
+//! The gate of all runs: one type, so that a run is built once; and workers that wait for each
 //! other.
-use crate::cut_off::Stopper;
-use crate::run::{Row, comes_at};
-use crate::stops::Answered;
-use crate::trials::{Trial, goes_well};
+use crate::run::{Came, run_to_end};
 use cb_jobs::{Gate, Turn};
 use cb_office::Office;
-use cb_page::{ClientNo, Limits};
-use cb_shelf::Shelf;
-use sqlite::Alter;
-use std::alloc::Global;
+use cb_page::ClientNo;
 use std::sync::Wait;
 use std::sync::atomic::{AtomicU64, Ordering};
 use std::thread;
-use std::thread::Threads;
 
-/// The gate of a run.
-#[derive(Drop)]
-pub(crate) enum Gates<'a, R> {
-    Answered(&'a Answered),
-    Stopper(&'a Stopper<'a, R>),
-    Mutual(&'a Mutual),
+/// What happens at a gate.
+#[derive(Clone, Copy)]
+pub(crate) enum Act {
+    /// Every job may begin at once.
+    Open,
+    /// The same; client 1 has joined before.
+    Joined,
+    /// As the first job begins, or each, so many writes are set to be refused.
+    Refuse { writes: u64, at_each: bool },
+    /// The office is closed or halted at this call; the first is 0.
+    CutOff { at: u64, halts: bool },
+    /// Two clients wait for each other.
+    Mutual,
 }
 
-impl<R: Wait> Gate for Gates<'_, R> {
+/// A run of so many clients with so many jobs each.
+#[derive(Clone, Copy)]
+pub(crate) struct Plan {
+    pub(crate) clients: u16,
+    pub(crate) jobs: u64,
+    /// How many steps each statement may take; 0 is no limit.
+    pub(crate) steps: u64,
+    pub(crate) act: Act,
+}
+
+/// What is counted at a gate.
+#[derive(Drop)]
+pub(crate) struct Counts {
+    pub(crate) plan: Plan,
+    /// How often it was called.
+    calls: AtomicU64,
+    /// How many jobs were answered as done.
+    pub(crate) answered: AtomicU64,
+    /// How many writes are left to be refused.
+    pub(crate) left: AtomicU64,
+    pub(crate) turns: Mutual,
+}
+
+impl Counts {
+    /// Nothing happened yet.
+    pub(crate) fn new(plan: Plan) -> Counts {
+        Counts {
+            plan,
+            calls: AtomicU64::new(0),
+            answered: AtomicU64::new(0),
+            left: AtomicU64::new(0),
+            turns: Mutual {
+                asked: [AtomicU64::new(0), AtomicU64::new(0)],
+                let_go: [AtomicU64::new(0), AtomicU64::new(0)],
+                first: [AtomicU64::new(0), AtomicU64::new(0)],
+                ungated: AtomicU64::new(0),
+                spent: AtomicU64::new(0),
+            },
+        }
+    }
+}
+
+/// A gate of workers in an office.
+#[derive(Drop)]
+pub(crate) struct Guarded<'a, R> {
+    pub(crate) rt: &'a R,
+    pub(crate) office: &'a Office,
+    pub(crate) counts: &'a Counts,
+}
+
+impl<R: Wait> Guarded<'_, R> {
+    /// Notes a call, and answers how many were before.
+    fn is_called(&self) -> u64 {
+        let call = self.counts.calls.fetch_add(1, Ordering::SeqCst);
+        if let Act::CutOff { at, halts } = self.counts.plan.act {
+            if call == at && halts {
+                self.office.halt(self.rt);
+            }
+            if call == at && !halts {
+                self.office.close(self.rt);
+            }
+        }
+        call
+    }
+}
+
+impl<R: Wait> Gate for Guarded<'_, R> {
     fn before_job(&self, client: ClientNo, job: u64) -> Turn {
-        match self {
-            Gates::Answered(gate) => gate.before_job(client, job),
-            Gates::Stopper(gate) => gate.before_job(client, job),
-            Gates::Mutual(gate) => gate.before_job(client, job),
+        let call = self.is_called();
+        match self.counts.plan.act {
+            Act::Mutual => self.counts.turns.turn_of(client.index(), job),
+            Act::Refuse { writes, at_each } => {
+                if at_each || call == 0 {
+                    self.counts.left.store(writes, Ordering::SeqCst);
+                }
+                Turn::Go
+            }
+            _ => Turn::Go,
         }
     }
 
     fn after_commit(&self, client: ClientNo, job: u64) {
-        match self {
-            Gates::Answered(gate) => gate.after_commit(client, job),
-            Gates::Stopper(gate) => gate.after_commit(client, job),
-            Gates::Mutual(gate) => gate.after_commit(client, job),
+        self.counts.answered.fetch_add(1, Ordering::SeqCst);
+        self.is_called();
+        if let Act::Mutual = self.counts.plan.act {
+            self.counts.turns.note(client.index() % 2, job);
         }
     }
 }
@@ -67,11 +139,9 @@ impl Mutual {
         let is_second = job > 0 && self.first[1 - client % 2].load(Ordering::SeqCst) == 0;
         !is_new && !is_second
     }
-}
 
-impl Gate for Mutual {
-    fn before_job(&self, client: ClientNo, job: u64) -> Turn {
-        let client = client.index();
+    /// Whether it begins now.
+    fn turn_of(&self, client: usize, job: u64) -> Turn {
         if self.may_go(client, job) || self.spent.fetch_add(1, Ordering::SeqCst) >= TURNS {
             self.let_go[client % 2].store(job.saturating_add(1), Ordering::SeqCst);
             return Turn::Go;
@@ -80,49 +150,30 @@ impl Gate for Mutual {
         Turn::Later
     }
 
-    fn after_commit(&self, client: ClientNo, job: u64) {
-        let client = client.index() % 2;
-        if self.let_go[client].load(Ordering::SeqCst) != job.saturating_add(1) {
+    /// Notes a commit.
+    fn note(&self, client: usize, job: u64) {
+        if self.let_go[client % 2].load(Ordering::SeqCst) != job.saturating_add(1) {
             self.ungated.fetch_add(1, Ordering::SeqCst);
         }
         if job == 0 {
-            self.first[client].fetch_add(1, Ordering::SeqCst);
+            self.first[client % 2].fetch_add(1, Ordering::SeqCst);
         }
     }
-}
 
-static TWO: Row<'static> = Row {
-    clients: 2,
-    jobs: 2,
-    steps: 0,
-    entries: Some(4),
-    status: 0,
-    out: "committed 4\nsum 8\n",
-    err: "",
-};
-
-/// Whether a run of two workers that wait for each other ends well, each job let go by the gate.
-pub(crate) fn two_take_turns<R: Threads + Wait + Sync, S: Alter>(
-    rt: &R,
-    alloc: Global,
-    limits: &Limits,
-    office: &Office,
-    shelf: &mut Shelf<S>,
-) -> bool {
-    let gate = Mutual {
-        asked: [AtomicU64::new(0), AtomicU64::new(0)],
-        let_go: [AtomicU64::new(0), AtomicU64::new(0)],
-        first: [AtomicU64::new(0), AtomicU64::new(0)],
-        ungated: AtomicU64::new(0),
-        spent: AtomicU64::new(0),
-    };
-    let mutual = Gates::Mutual(&gate);
-    let came = comes_at(rt, alloc, limits, office, shelf, &TWO, &mutual);
-    let gated = gate.ungated.load(Ordering::SeqCst) == 0;
-    came && gated && gate.spent.load(Ordering::SeqCst) < TURNS
+    /// Whether every job was let go before its commit, as it should be.
+    pub(crate) fn is_well(&self) -> bool {
+        let ungated = self.ungated.load(Ordering::SeqCst);
+        ungated == 0 && self.spent.load(Ordering::SeqCst) < TURNS
+    }
 }
 
 #[test]
 fn two_at_once(rt: HostRuntime) {
-    assert!(rt; goes_well(Trial::TurnByTurn, &rt, rt.alloc()));
+    let plan = Plan {
+        clients: 2,
+        jobs: 2,
+        steps: 0,
+        act: Act::Mutual,
+    };
+    assert!(rt; run_to_end(&rt, rt.alloc(), plan) == Came::Done(4));
 }

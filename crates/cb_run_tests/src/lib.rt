@@ -18,8 +18,6 @@ mod cut_off;
 #[cfg(test)]
 mod disks;
 #[cfg(test)]
-mod endings;
-#[cfg(test)]
 mod flags;
 #[cfg(test)]
 mod gates;

@@ -1,62 +1,19 @@
 //! Whole runs, and what is told of them.
-use crate::gates::Gates;
-use crate::stops::Answered;
-use crate::trials::{Trial, goes_well};
+use crate::disks::{Faults, both};
+use crate::flags::greet;
+use crate::gates::{Act, Counts, Guarded, Plan};
+use crate::trials::Trial;
+use crate::work::{Deed, Outcome, Work, opening};
 use cb_jobs::Watch;
-use cb_office::{Office, Station};
-use cb_page::{CommitNo, Limits};
+use cb_office::{Office, SharedStation};
+use cb_page::{ClientNo, CommitNo, Limits};
 use cb_run::run_on;
-use cb_shelf::Shelf;
+use cb_shelf::{Shelf, ShelfFault};
 use sqlite::Alter;
 use std::alloc::Global;
 use std::sync::Wait;
+use std::sync::atomic::Ordering;
 use std::thread::Threads;
-
-/// A run of so many clients with so many jobs each, and what is to come of it.
-#[derive(Drop)]
-pub(crate) struct Row<'a> {
-    pub(crate) clients: u16,
-    pub(crate) jobs: u64,
-    /// How many steps each statement may take; 0 is no limit.
-    pub(crate) steps: u64,
-    /// How many entries the history is to have, where that can be told.
-    pub(crate) entries: Option<u16>,
-    pub(crate) status: u8,
-    pub(crate) out: &'a str,
-    pub(crate) err: &'a str,
-}
-
-static COUNTERS: [Row<'static>; 2] = [
-    Row {
-        clients: 4,
-        jobs: 100,
-        steps: 0,
-        entries: Some(400),
-        status: 0,
-        out: "committed 400\nsum 800\n",
-        err: "",
-    },
-    Row {
-        clients: 1,
-        jobs: 0,
-        steps: 0,
-        entries: Some(0),
-        status: 0,
-        out: "committed 0\nsum 0\n",
-        err: "",
-    },
-];
-
-/// No write gets through: three tries, then the office is halted.
-static REFUSED: Row<'static> = Row {
-    clients: 2,
-    jobs: 3,
-    steps: 1,
-    entries: None,
-    status: 3,
-    out: "",
-    err: "store: Store\n",
-};
 
 /// Which batches were told of as on disk.
 #[derive(Clone, Copy, PartialEq, Eq)]
@@ -92,65 +49,150 @@ impl Watch for Told {
     }
 }
 
-/// Whether each entry of the history has both pages read and written, and they are so many, of
-/// which the last was told of.
-fn are_whole(station: &Station, entries: Option<u16>, last: u64) -> bool {
-    let history = station.history();
+/// What came of a run.
+#[derive(Clone, Copy, PartialEq, Eq)]
+pub(crate) enum Came {
+    /// It said that so many jobs were done, as many as the gate had answered for.
+    Done(u64),
+    /// The disk stopped, or refused each write.
+    Stopped,
+    /// No number was left.
+    Exhausted,
+    /// A worker couldn't join.
+    Fault,
+    /// Something else.
+    Wrong,
+}
+
+/// What ended a run, by what it said of it.
+fn ended_by(err: &[u8]) -> Came {
+    if err == b"store: Store\n".as_slice() {
+        return Came::Stopped;
+    }
+    if err == b"store: Exhausted\n".as_slice() {
+        return Came::Exhausted;
+    }
+    if err == b"worker: Fault\n".as_slice() {
+        return Came::Fault;
+    }
+    Came::Wrong
+}
+
+/// Whether the office is halted, each entry of the history has both pages read and written, and the
+/// last of them was told of.
+fn is_whole(shared: &SharedStation, last: u64) -> bool {
+    let history = shared.station().history();
     for entry in history {
         if entry.reads.len() != 2 || entry.writes.len() != 2 {
             return false;
         }
     }
-    match entries {
-        Some(entries) => history.len() == usize::from(entries) && last == u64::from(entries),
-        None => true,
+    shared.is_halted() && history.len() as u64 == last
+}
+
+/// What came of a run that said this: it is to say that so many jobs were done, and the sum that the
+/// tables have. Where these can't be looked at any more, the disk stopped.
+fn came_of<S: Alter>(alloc: Global, shelf: &mut Shelf<S>, answered: u64, out: &[u8]) -> Came {
+    let Ok(store) = shelf.load(alloc) else {
+        return Came::Stopped;
+    };
+    let sum = store.number().wrapping_mul(2);
+    match format!(in alloc; "committed {answered}\nsum {sum}\n") {
+        Ok(lines) if lines.as_bytes() == out => Came::Done(answered),
+        _ => Came::Wrong,
     }
 }
 
-/// Whether that comes of the run with this gate.
-pub(crate) fn comes_at<R: Threads + Wait + Sync, S: Alter>(
+/// What comes of a run in an office.
+pub(crate) fn came_in<R: Threads + Wait + Sync, S: Alter>(
     rt: &R,
     alloc: Global,
     limits: &Limits,
     office: &Office,
     shelf: &mut Shelf<S>,
-    row: &Row<'_>,
-    gate: &Gates<'_, R>,
-) -> bool {
+    counts: &Counts,
+) -> Came {
+    if let Act::Joined = counts.plan.act {
+        greet(rt, alloc, office, ClientNo::new(1));
+    }
     let mut told = Told::none();
     let mut out = Vec::new(alloc);
     let mut err = Vec::new(alloc);
-    shelf.limit_steps(row.steps);
+    let gate = Guarded { rt, office, counts };
+    let jobs = counts.plan.jobs;
+    shelf.limit_steps(counts.plan.steps);
     let ran = run_on(
-        rt, alloc, limits, office, shelf, row.jobs, gate, &mut told, &mut out, &mut err,
+        rt, alloc, limits, office, shelf, jobs, &gate, &mut told, &mut out, &mut err,
     );
-    let said = out.as_slice() == row.out.as_bytes() && err.as_slice() == row.err.as_bytes();
-    let whole = are_whole(office.lock(rt).station(), row.entries, told.last);
-    said && whole && ran.ok() == Some(row.status)
+    let answered = counts.answered.load(Ordering::SeqCst);
+    let whole = is_whole(&office.lock(rt), told.last) && counts.turns.is_well();
+    match ran.ok() {
+        Some(0) if whole && err.is_empty() => came_of(alloc, shelf, answered, out.as_slice()),
+        Some(3) if out.is_empty() => ended_by(err.as_slice()),
+        _ => Came::Wrong,
+    }
 }
 
-/// Whether that comes of the run where every job may begin at once.
-pub(crate) fn comes_of<R: Threads + Wait + Sync, S: Alter>(
+/// Workers run after a text.
+fn running<'a>(text: &'a str, counts: &'a Counts) -> Work<'a> {
+    let trial = Trial::Run(counts);
+    let deed = Deed::Try(trial);
+    Work {
+        texts: [text, ""],
+        deed,
+    }
+}
+
+/// What comes of a run over new disks, after a text, where after a crash the database holds what
+/// the first commits left, at least as many as were answered as done. A disk that stops before there
+/// is a database counts as stopped; where no number was left nothing is looked at.
+pub(crate) fn came_over<R: Threads + Wait + Sync>(
     rt: &R,
     alloc: Global,
-    limits: &Limits,
-    office: &Office,
-    shelf: &mut Shelf<S>,
-    row: &Row<'_>,
-) -> bool {
-    let answered = Answered::none(0);
-    let gate = Gates::Answered(&answered);
-    comes_at(rt, alloc, limits, office, shelf, row, &gate)
+    plan: Plan,
+    calls: (u64, u64),
+    text: &str,
+) -> Came {
+    let counts = Counts::new(plan);
+    let faults = Faults {
+        log: calls.0,
+        db: calls.1,
+        left: Some(&counts.left),
+    };
+    let works = [running(text, &counts), opening(Deed::Begin(&counts))];
+    match both(rt, alloc, (plan.clients, 16), faults, works) {
+        (Outcome::Ran(Came::Exhausted), _) => Came::Exhausted,
+        (Outcome::Ran(came), Outcome::Well(true)) => came,
+        (Outcome::Nothing, Outcome::Well(true)) => Came::Stopped,
+        (Outcome::Refused(ShelfFault::Store), Outcome::Well(true)) => Came::Stopped,
+        _ => Came::Wrong,
+    }
+}
+
+/// What comes of a run over new disks that don't stop.
+pub(crate) fn run_to_end<R: Threads + Wait + Sync>(rt: &R, alloc: Global, plan: Plan) -> Came {
+    came_over(rt, alloc, plan, (u64::MAX, u64::MAX), "")
+}
+
+/// A run where every job may begin at once.
+pub(crate) fn open_plan(clients: u16, jobs: u64, steps: u64) -> Plan {
+    let act = Act::Open;
+    Plan {
+        clients,
+        jobs,
+        steps,
+        act,
+    }
 }
 
 #[test]
 fn counters(rt: HostRuntime) {
-    for row in &COUNTERS {
-        assert!(rt; goes_well(Trial::Run(row), &rt, rt.alloc()));
-    }
+    assert!(rt; run_to_end(&rt, rt.alloc(), open_plan(4, 100, 0)) == Came::Done(400));
+    assert!(rt; run_to_end(&rt, rt.alloc(), open_plan(1, 0, 0)) == Came::Done(0));
 }
 
+/// No write gets through: three tries, then the office is halted.
 #[test]
 fn store_that_refuses_each_write(rt: HostRuntime) {
-    assert!(rt; goes_well(Trial::Run(&REFUSED), &rt, rt.alloc()));
+    assert!(rt; run_to_end(&rt, rt.alloc(), open_plan(2, 3, 1)) == Came::Stopped);
 }

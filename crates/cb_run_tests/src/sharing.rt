@@ -1,127 +1,85 @@
 //! Threads that share a station.
 use crate::trials::{Trial, goes_well};
-use crate::visits::{commit, first_page, said};
+use crate::visits::{commit, first_page, says};
 use cb_frame::{ShortBody, Writes};
 use cb_hands::Hand;
-use cb_office::{Office, OfficeFault, Station};
+use cb_office::{Office, Station};
 use cb_page::{ClientNo, PageNo, PageSet, TxnNo};
-use std::alloc::{AllocError, Global};
+use std::alloc::Global;
 use std::sync::Wait;
+use std::sync::atomic::{AtomicU64, Ordering};
 use std::thread;
 use std::thread::Threads;
 
 /// How many transactions each client commits.
 const COUNT: u64 = 200;
 
-/// It asks to read page 0.
-fn ask_once<R: Wait>(
-    rt: &R,
-    alloc: Global,
-    office: &Office,
-    hand: &mut Hand,
-    txn: TxnNo,
-) -> Result<(), OfficeFault> {
-    let page = PageNo::new(0);
-    let ask = said(hand, ShortBody::AskRead { txn, page });
-    office.lock(rt).station_mut().take(alloc, &ask, hand)
-}
-
-/// It takes what is sent next; whether nothing was.
-fn is_sent_nothing<R: Wait>(rt: &R, office: &Office, hand: &mut Hand) -> Result<bool, OfficeFault> {
-    let sent = office.lock(rt).station_mut().collect(hand);
-    match sent {
-        Ok(frame) => Ok(frame.is_none()),
-        Err(fault) => Err(fault),
-    }
-}
-
-/// It commits, having written nothing.
-fn commit_once<R: Wait>(
+/// Whether a transaction reads page 0 and commits, with a lock for each.
+fn reads_once<R: Wait>(
     rt: &R,
     alloc: Global,
     office: &Office,
     hand: &mut Hand,
     txn: TxnNo,
     pages: &PageSet,
-) -> Result<(), OfficeFault> {
-    let commit = commit(hand, txn, Writes::from_vec(Vec::new(alloc)));
-    let committed = office
+) -> bool {
+    let page = PageNo::new(0);
+    let ask = ShortBody::AskRead { txn, page };
+    let asked = says(alloc, office.lock(rt).station_mut(), hand, ask);
+    let nothing = Writes::from_vec(Vec::new(alloc));
+    asked
+        && commit(
+            alloc,
+            office.lock(rt).station_mut(),
+            hand,
+            txn,
+            pages,
+            nothing,
+        )
+}
+
+/// Whether all its transactions are committed.
+fn reads_often<R: Wait>(rt: &R, alloc: Global, office: &Office, hand: &mut Hand) -> bool {
+    let Ok(pages) = first_page(alloc) else {
+        return false;
+    };
+    for txn in 0..COUNT {
+        if !reads_once(rt, alloc, office, hand, TxnNo::new(txn + 1), &pages) {
+            return false;
+        }
+    }
+    true
+}
+
+/// Whether a client joins and commits its transactions.
+fn visits<R: Wait>(rt: &R, alloc: Global, office: &Office, number: u16) -> bool {
+    let joined = office
         .lock(rt)
         .station_mut()
-        .commit(alloc, &commit, pages, hand);
-    match committed {
-        Ok(_) => Ok(()),
-        Err(fault) => Err(fault),
-    }
-}
-
-/// A transaction reads page 0 and commits, with a lock for each call.
-fn read_once<R: Wait>(
-    rt: &R,
-    alloc: Global,
-    office: &Office,
-    hand: &mut Hand,
-    txn: TxnNo,
-    pages: &PageSet,
-) -> Result<(), OfficeFault> {
-    ask_once(rt, alloc, office, hand, txn)?;
-    for _frame in 0..4 {
-        if is_sent_nothing(rt, office, hand)? {
-            break;
-        }
-    }
-    commit_once(rt, alloc, office, hand, txn, pages)
-}
-
-fn read_often<R: Wait>(
-    rt: &R,
-    alloc: Global,
-    office: &Office,
-    hand: &mut Hand,
-) -> Result<(), OfficeFault> {
-    let pages = first_page(alloc)?;
-    for txn in 0..COUNT {
-        read_once(rt, alloc, office, hand, TxnNo::new(txn + 1), &pages)?;
-    }
-    Ok(())
-}
-
-/// A client joins, commits its transactions, and leaves.
-fn visit<R: Wait>(rt: &R, alloc: Global, office: &Office, number: u16) -> Result<(), OfficeFault> {
-    let client = ClientNo::new(number % 4);
-    let mut hand = office.lock(rt).station_mut().join(alloc, client)?;
-    let read = read_often(rt, alloc, office, &mut hand);
-    match office.lock(rt).station_mut().leave(alloc, hand) {
-        Ok(()) => read,
-        Err((fault, hand)) => {
+        .join(alloc, ClientNo::new(number % 4));
+    match joined {
+        Ok(mut hand) => {
+            let read = reads_often(rt, alloc, office, &mut hand);
             hand.abandon();
-            Err(fault)
+            read
         }
+        Err(_) => false,
     }
 }
 
 /// How many visits of four at once went well.
-fn four_visits<R: Wait + Threads + Sync>(
-    rt: &R,
-    alloc: Global,
-    office: &Office,
-) -> Result<u64, AllocError> {
+fn four_visits<R: Wait + Threads + Sync>(rt: &R, alloc: Global, office: &Office) -> u64 {
+    let counter = AtomicU64::new(0);
+    let counted = &counter;
     thread::scope(thread::scope_env(), rt, |scope| {
-        let mut visits = Vec::new(alloc);
         for number in 0..4u16 {
-            match scope.spawn(move || visit(rt, alloc, office, number)) {
-                Ok(started) => visits.push(started)?,
-                Err(_) => return Err(AllocError),
-            }
+            let _started = scope.spawn(move || {
+                let well = visits(rt, alloc, office, number);
+                counted.fetch_add(u64::from(well), Ordering::SeqCst);
+            });
         }
-        let mut well = 0;
-        for started in visits {
-            if started.join(rt).is_ok() && well < 4 {
-                well += 1;
-            }
-        }
-        Ok(well)
-    })
+    });
+    counter.load(Ordering::SeqCst)
 }
 
 /// Whether the client's transactions stand in the history, each once and in their order.
@@ -140,15 +98,11 @@ fn has_all(station: &Station, client: ClientNo) -> bool {
 
 /// Whether four visits at once go well, and each client's transactions stand in the history.
 pub(crate) fn are_shared<R: Wait + Threads + Sync>(rt: &R, alloc: Global, office: &Office) -> bool {
-    if four_visits(rt, alloc, office) != Ok(4) {
-        return false;
-    }
+    let mut well = four_visits(rt, alloc, office) == 4;
     for client in 0..4u16 {
-        if !has_all(office.lock(rt).station(), ClientNo::new(client)) {
-            return false;
-        }
+        well = well && has_all(office.lock(rt).station(), ClientNo::new(client));
     }
-    true
+    well
 }
 
 #[test]

@@ -1,28 +1,10 @@
-//! Clients that commit by hand, and what is still to be written.
+//! What clients say by hand, and what is still to be written.
 use cb_frame::{Body, Frame, ShortBody, ShortFrame, Write, Writes};
 use cb_hands::Hand;
-use cb_office::{Office, OfficeFault, Station};
-use cb_page::{ClientNo, GrantNo, Page, PageNo, PageSet, TxnNo};
+use cb_office::{Office, Station};
+use cb_page::{GrantNo, Page, PageNo, PageSet, TxnNo};
 use std::alloc::{AllocError, Global};
 use std::sync::Wait;
-
-/// What a client says.
-pub(crate) fn said(hand: &Hand, body: ShortBody) -> Frame {
-    Frame::from(ShortFrame {
-        client: hand.client(),
-        incarnation: hand.incarnation(),
-        body,
-    })
-}
-
-/// Its Commit.
-pub(crate) fn commit(hand: &Hand, txn: TxnNo, writes: Writes) -> Frame {
-    Frame {
-        client: hand.client(),
-        incarnation: hand.incarnation(),
-        body: Body::Commit { txn, writes },
-    }
-}
 
 /// Page 0 alone, of two.
 pub(crate) fn first_page(alloc: Global) -> Result<PageSet, AllocError> {
@@ -43,80 +25,66 @@ fn sevens(alloc: Global, grant: GrantNo) -> Result<Writes, AllocError> {
     Ok(writes)
 }
 
-/// Says something, and takes what is sent for it.
-fn say(
+/// Says something, and takes what is sent for it; whether it was taken.
+pub(crate) fn says(alloc: Global, station: &mut Station, hand: &mut Hand, body: ShortBody) -> bool {
+    let frame = Frame::from(ShortFrame {
+        client: hand.client(),
+        incarnation: hand.incarnation(),
+        body,
+    });
+    let taken = station.take(alloc, &frame, hand).is_ok();
+    for _frame in 0..4 {
+        let _sent = station.collect(hand).is_ok();
+    }
+    taken
+}
+
+/// Whether it commits these writes, having read these pages.
+pub(crate) fn commit(
     alloc: Global,
     station: &mut Station,
     hand: &mut Hand,
-    body: ShortBody,
-) -> Result<(), OfficeFault> {
-    let frame = said(hand, body);
-    station.take(alloc, &frame, hand)?;
-    for _frame in 0..4 {
-        if station.collect(hand)?.is_none() {
-            break;
-        }
-    }
-    Ok(())
+    txn: TxnNo,
+    reads: &PageSet,
+    writes: Writes,
+) -> bool {
+    let frame = Frame {
+        client: hand.client(),
+        incarnation: hand.incarnation(),
+        body: Body::Commit { txn, writes },
+    };
+    station.commit(alloc, &frame, reads, hand).is_ok()
 }
 
-/// It commits page 0 of sevens, having read it.
+/// Whether it commits page 0 of sevens, having read it.
 fn commit_sevens(
     alloc: Global,
     station: &mut Station,
     hand: &mut Hand,
     txn: TxnNo,
     grant: GrantNo,
-) -> Result<(), OfficeFault> {
-    let reads = first_page(alloc)?;
-    let frame = commit(hand, txn, sevens(alloc, grant)?);
-    match station.commit(alloc, &frame, &reads, hand) {
-        Ok(_) => Ok(()),
-        Err(fault) => Err(fault),
+) -> bool {
+    match (first_page(alloc), sevens(alloc, grant)) {
+        (Ok(reads), Ok(writes)) => commit(alloc, station, hand, txn, &reads, writes),
+        _ => false,
     }
 }
 
-/// A transaction reads page 0, writes it, and commits.
+/// Whether a transaction reads page 0, writes it, and commits.
 pub(crate) fn commit_page(
     alloc: Global,
     station: &mut Station,
     hand: &mut Hand,
     txn: TxnNo,
-) -> Result<(), OfficeFault> {
+) -> bool {
     let page = PageNo::new(0);
-    say(alloc, station, hand, ShortBody::AskRead { txn, page })?;
+    let asked = says(alloc, station, hand, ShortBody::AskRead { txn, page });
     let Some(shown) = hand.shows(page) else {
-        return Err(OfficeFault::NotHeld);
+        return false;
     };
     let grant = shown.grant;
     let body = ShortBody::AskWrite { txn, page, grant };
-    say(alloc, station, hand, body)?;
-    commit_sevens(alloc, station, hand, txn, grant)
-}
-
-/// Transactions of the client commit, so many.
-fn commit_pages(
-    alloc: Global,
-    station: &mut Station,
-    hand: &mut Hand,
-    count: u16,
-) -> Result<(), OfficeFault> {
-    for txn in 0..count {
-        commit_page(alloc, station, hand, TxnNo::new(u64::from(txn) + 1))?;
-    }
-    Ok(())
-}
-
-/// A client joins, commits so many transactions, and is gone; its number stays joined.
-pub(crate) fn visit(alloc: Global, station: &mut Station, client: ClientNo, count: u16) -> bool {
-    match station.join(alloc, client) {
-        Ok(mut hand) => {
-            let committed = commit_pages(alloc, station, &mut hand, count);
-            hand.abandon();
-            committed.is_ok()
-        }
-        Err(_) => false,
-    }
+    asked && says(alloc, station, hand, body) && commit_sevens(alloc, station, hand, txn, grant)
 }
 
 /// Whether every commit is on disk.
