@@ -129,7 +129,7 @@ fn is_written_at_last<R: Wait, S: Alter>(
     shelf.limit_steps(0);
     let zeros = holds_sevens(alloc, limits, shelf, 0);
     let last = match refusal {
-        Refusal::Again => 1 + u64::from(commits(rt, alloc, office, hand, 2)),
+        Refusal::Again => 1 + u64::from(commits(rt, alloc, office, hand, TxnNo::new(2))),
         _ => 1,
     };
     let written = match stopped {
@@ -140,13 +140,8 @@ fn is_written_at_last<R: Wait, S: Alter>(
 }
 
 /// Whether the client commits.
-fn commits<R: Wait>(rt: &R, alloc: Global, office: &Office, hand: &mut Hand, txn: u64) -> bool {
-    commit_page(
-        alloc,
-        office.lock(rt).station_mut(),
-        hand,
-        TxnNo::new(txn % 4096),
-    )
+fn commits<R: Wait>(rt: &R, alloc: Global, office: &Office, hand: &mut Hand, txn: TxnNo) -> bool {
+    commit_page(alloc, office.lock(rt).station_mut(), hand, txn)
 }
 
 /// A client commits, the office is closed, and the batch is refused at first.
@@ -162,7 +157,7 @@ pub(crate) fn is_refused_at_first<R: Wait, S: Alter>(
     let Ok(mut hand) = joined else {
         return false;
     };
-    let committed = commits(rt, alloc, office, &mut hand, 1);
+    let committed = commits(rt, alloc, office, &mut hand, TxnNo::new(1));
     office.close(rt);
     let written = is_written_at_last(rt, alloc, limits, office, shelf, &mut hand, refusal);
     hand.abandon();
