@@ -1,8 +1,19 @@
 //! The program: plays a page server with callback locking and its clients from a schedule of
 //! events, or runs them on threads over a store on disk.
+//!
+//! `cb_console` plays and draws, `cb_run` runs workers, `cb_sides` plays at one side alone,
+//! `cb_settings` reads configurations; here are the words of the command line, which files are read
+//! for them, a script of such words, and how the program ends.
 #![tactic(auto)]
 
-use cb_program::{command_line, end_by, run};
+mod arguments;
+mod endings;
+mod files;
+mod program;
+mod script;
+
+use crate::endings::end_by;
+use crate::program::{command_line, run};
 use std::io;
 use std::io::BufWriter;
 use std::process::ExitCode;

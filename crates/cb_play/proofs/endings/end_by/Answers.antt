@@ -1,5 +1,5 @@
 use Rattle.std.proofs.Common.{rules}
-use Rattle.cb_program.proofs.endings.end_by.Goals as goal
+use Rattle.cb_play.proofs.endings.end_by.Goals as goal
 
 pub returns-in-BrokenPipe : goal.returns-in-BrokenPipe
 returns-in-BrokenPipe g c = search rules

@@ -7,24 +7,24 @@ use std::convert::AsStr;
 
 /// A schedule to be drawn: the path of the configuration, the seed, and how many events.
 #[derive(Clone, Copy)]
-pub struct DrawRequest<'a> {
-    pub config: &'a str,
-    pub seed: u64,
-    pub count: usize,
+pub(crate) struct DrawRequest<'a> {
+    pub(crate) config: &'a str,
+    pub(crate) seed: u64,
+    pub(crate) count: usize,
 }
 
 /// Workers to be run: the paths of the configuration and of the store, and whether it is to be
 /// shown how far they are.
 #[derive(Clone, Copy)]
-pub struct RunRequest<'a> {
-    pub config: &'a str,
-    pub store: &'a str,
-    pub progress: bool,
+pub(crate) struct RunRequest<'a> {
+    pub(crate) config: &'a str,
+    pub(crate) store: &'a str,
+    pub(crate) progress: bool,
 }
 
 /// What the command line asks for.
 #[derive(Clone, Copy)]
-pub enum Request<'a> {
+pub(crate) enum Request<'a> {
     /// Play a schedule: the paths of the configuration and of the schedule.
     Play { config: &'a str, schedule: &'a str },
     /// Draw a schedule.
@@ -308,7 +308,10 @@ fn nothing_to_do(alloc: Global) -> Result<Error, AllocError> {
 
 /// What these words ask for; the first is the program's name. Else what to print, as clap has it:
 /// help or the version, where it was asked for, or what is wrong with the words.
-pub fn request_of<'a, S: AsStr>(alloc: Global, words: &'a [S]) -> Result<Request<'a>, Error> {
+pub(crate) fn request_of<'a, S: AsStr>(
+    alloc: Global,
+    words: &'a [S],
+) -> Result<Request<'a>, Error> {
     let matches = command(alloc)?.try_get_matches_from(words)?;
     match asked(&matches) {
         Some(request) => Ok(request),

@@ -1,6 +1,6 @@
 //! Command lines from a file.
 ghost use Rattle.std.specs.Prelude.{IfOk};
-ghost use Rattle.cb_program.specs.Endings.{IsAnswered};
+ghost use Rattle.cb_play.specs.Endings.{IsAnswered};
 
 use crate::arguments::request_of;
 use crate::endings::end_by;

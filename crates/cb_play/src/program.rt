@@ -1,6 +1,6 @@
 //! What the program does with the words of its command line.
 ghost use Rattle.std.specs.Prelude.{◌≡◌, IfOk};
-ghost use Rattle.cb_program.specs.Endings.{IsAnswered, IsStatus};
+ghost use Rattle.cb_play.specs.Endings.{IsAnswered, IsStatus};
 
 use crate::arguments::{DrawRequest, Request, RunRequest, request_of};
 use crate::endings::end_by;
@@ -20,7 +20,7 @@ use std::{env, io};
 
 /// The words of the process's command line; the first is the program's name. `InvalidData` where
 /// one isn't text.
-pub fn command_line(rt: &HostRuntime) -> io::Result<Vec<String>> {
+pub(crate) fn command_line(rt: &HostRuntime) -> io::Result<Vec<String>> {
     Ok(env::args(rt)?.collect(rt.alloc())?)
 }
 
@@ -29,7 +29,7 @@ pub fn command_line(rt: &HostRuntime) -> io::Result<Vec<String>> {
 ///
 /// Help and the version, where asked for, go to `out`; what is wrong with the words, or with a
 /// file, goes to `err`, as does the line of a writer that failed. Only workers use `threads`.
-pub fn run<R: Threads + Wait + Sync, O: Write, E: Write>(
+pub(crate) fn run<R: Threads + Wait + Sync, O: Write, E: Write>(
     rt: &HostRuntime,
     threads: &R,
     words: io::Result<Vec<String>>,

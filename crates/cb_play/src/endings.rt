@@ -1,6 +1,6 @@
 //! How the program ends where a writer fails, or memory is wanted.
 ghost use Rattle.std.specs.IoError.{error_kind};
-ghost use Rattle.cb_program.specs.Endings.{IsFailed};
+ghost use Rattle.cb_play.specs.Endings.{IsFailed};
 
 use cb_console::NO_MEMORY;
 use std::io;
@@ -11,7 +11,7 @@ const CANNOT_WRITE: u8 = 5;
 
 /// The status of a run that failed, which is said on `err`: `memory`, or `cannot write`. Of a
 /// closed pipe nothing is said.
-pub fn end_by<E: Write>(error: &io::Error, err: &mut E) -> u8
+pub(crate) fn end_by<E: Write>(error: &io::Error, err: &mut E) -> u8
     ensures { IsFailed (error_kind error.now) result }
 {
     match error.kind() {
