@@ -2,11 +2,12 @@
 //! caller that hits and peeks.
 
 ghost use Rattle.std.specs.Prelude.{◌≡◌, ◌<◌, ◌≤◌, length, true, IfOk, []};
+ghost use Rattle.cb_pool.specs.PoolState.{empty_pool};
 
 use crate::draw::Draw;
 use crate::pool::{Called, Recorder};
 use crate::stores::page_of;
-use cb_page::{Limits, PageNo, PageSet};
+use cb_page::{Limits, Page, PageNo, PageSet};
 use cb_pool::{Pool, PoolFault};
 use cb_twoq::{Chooser, TwoQ};
 use std::alloc::{AllocError, Global};
@@ -200,5 +201,61 @@ fn calls_are_recorded<Q: Chooser>(alloc: Global, limits: &Limits) -> Result<bool
 fn calls_of_the_chooser(rt: HostRuntime) -> Result<(), Fail> {
     let limits = Limits::new(1, 8, 16, 4, 1, 4)?;
     assert!(rt; calls_are_recorded::<TwoQ>(rt.alloc(), &limits)?);
+    Ok(())
+}
+
+/// A new pool over a new chooser, whatever the chooser.
+fn pool_of<Q: Chooser>(alloc: Global, limits: &Limits) -> Result<Pool<Q>, AllocError>
+    ensures { IfOk result (λ pool.
+        pool ≡ empty_pool limits.now.slots limits.now.pages limits.now.page_size) }
+{
+    Pool::new(alloc, Q::make(alloc, limits)?, limits)
+}
+
+/// Whether a page of the greatest size is taken in.
+fn takes_in<Q: Chooser>(pool: &mut Pool<Q>, page: PageNo, bytes: Page) -> bool
+    requires pages { length pool.old.fixed ≡ 4096 }
+    requires size { pool.old.page_size ≡ 4096 }
+    requires bytes { length bytes ≡ 4096 }
+    ensures pages { length pool.new.fixed ≡ 4096 }
+    ensures size { pool.new.page_size ≡ 4096 }
+{
+    match pool.install(page, bytes) {
+        Ok(_) => true,
+        Err(_) => false,
+    }
+}
+
+/// Whether each page of the greatest store, of the greatest size, is taken in.
+fn takes_all<Q: Chooser>(alloc: Global, pool: &mut Pool<Q>) -> Result<bool, AllocError>
+    requires pages { length pool.old.fixed ≡ 4096 }
+    requires size { pool.old.page_size ≡ 4096 }
+    ensures pages { length pool.new.fixed ≡ 4096 }
+    ensures size { pool.new.page_size ≡ 4096 }
+{
+    for page in 0..4096u32 {
+        let bytes = page_of(alloc, 1, 4096)?;
+        if !takes_in(pool, PageNo::new(page), bytes) {
+            return Ok(false);
+        }
+    }
+    Ok(true)
+}
+
+/// Whether a pool of the greatest limits takes in each page twice.
+fn takes_all_twice<Q: Chooser>(alloc: Global) -> Result<bool, AllocError> {
+    match Limits::new(32, 4096, 4096, 1024, 1023, 4096) {
+        Ok(limits) => {
+            let mut pool = pool_of::<Q>(alloc, &limits)?;
+            Ok(takes_all(alloc, &mut pool)? && takes_all(alloc, &mut pool)?)
+        }
+        Err(_) => Ok(false),
+    }
+}
+
+/// At the greatest limits no call wants memory.
+#[test]
+fn greatest_pool(rt: HostRuntime) -> Result<(), Fail> {
+    assert!(rt; takes_all_twice::<TwoQ>(rt.alloc())?);
     Ok(())
 }
