@@ -197,37 +197,36 @@ fn number<'a>(alloc: Global, name: &'a str, most: i64, help: &'a str) -> Arg<'a>
 }
 
 fn draw_command<'a>(alloc: Global) -> Result<Command<'a>, AllocError> {
-    let seed = number(
-        alloc,
-        "seed",
-        SEEDS - 1,
-        "Where the generator starts, below 2^62",
-    );
-    let events = number(
-        alloc,
-        "events",
-        MOST_EVENTS,
-        "How many events, up to 1,000,000",
-    );
     Command::new(alloc, "draw")
         .about(DRAW_ABOUT)
         .after_help(DRAW_HELP)
         .arg(path(alloc, "CONFIG", "File with the settings, as TOML"))?
-        .arg(seed)?
-        .arg(events)
+        .arg(number(
+            alloc,
+            "seed",
+            SEEDS - 1,
+            "Where the generator starts, below 2^62",
+        ))?
+        .arg(number(
+            alloc,
+            "events",
+            MOST_EVENTS,
+            "How many events, up to 1,000,000",
+        ))
 }
 
 fn run_command<'a>(alloc: Global) -> Result<Command<'a>, AllocError> {
-    let progress = Arg::new(alloc, "progress")
-        .long("progress")
-        .action(ArgAction::SetTrue)
-        .help("Show how far it is, on the standard error");
     Command::new(alloc, "run")
         .about(RUN_ABOUT)
         .after_help(RUN_HELP)
         .arg(path(alloc, "CONFIG", "File with the settings, as TOML"))?
         .arg(path(alloc, "STORE", "File with the store's tables"))?
-        .arg(progress)
+        .arg(
+            Arg::new(alloc, "progress")
+                .long("progress")
+                .action(ArgAction::SetTrue)
+                .help("Show how far it is, on the standard error"),
+        )
 }
 
 /// A command that reads one file.
@@ -264,18 +263,26 @@ fn script_command<'a>(alloc: Global) -> Result<Command<'a>, AllocError> {
     )
 }
 
+/// The command with one more below it.
+fn with<'a>(
+    command: Command<'a>,
+    below: Result<Command<'a>, AllocError>,
+) -> Result<Command<'a>, AllocError> {
+    command.subcommand(below?)
+}
+
 fn command<'a>(alloc: Global) -> Result<Command<'a>, AllocError> {
-    Command::new(alloc, "cb_play")
+    let command = Command::new(alloc, "cb_play")
         .version(VERSION)
         .about(ABOUT)
         .after_help(EXAMPLE)
         .subcommand_required(true)
-        .arg_required_else_help(true)
-        .subcommand(play_command(alloc)?)?
-        .subcommand(draw_command(alloc)?)?
-        .subcommand(run_command(alloc)?)?
-        .subcommand(sides_command(alloc)?)?
-        .subcommand(script_command(alloc)?)
+        .arg_required_else_help(true);
+    let command = with(command, play_command(alloc))?;
+    let command = with(command, draw_command(alloc))?;
+    let command = with(command, run_command(alloc))?;
+    let command = with(command, sides_command(alloc))?;
+    with(command, script_command(alloc))
 }
 
 /// What a command line that was read asks for, if it asks for anything.

@@ -11,6 +11,7 @@ mod endings;
 mod files;
 mod program;
 mod script;
+mod store_run;
 
 use crate::endings::end_by;
 use crate::program::{command_line, run};

@@ -9,7 +9,7 @@ use cb_shelf::ShelfFault;
 use cb_worker::WorkerFault;
 
 /// By a fault of the flusher or of the tables.
-pub(crate) fn of_shelf(fault: ShelfFault) -> Ending
+pub fn of_shelf(fault: ShelfFault) -> Ending
     ensures { result ≡ ending_of_shelf fault }
 {
     match fault {

@@ -6,9 +6,7 @@
 //!   is refused comes with the stop, and [`flush_again`] writes it before any other;
 //!   [`flush_in_tries`] tries it three times in all.
 //! - [`run_on`] is the body of `run`: workers on threads of their own, the flusher on the calling
-//!   one.
-//! - [`run_store`] does it all, over the bytes of a configuration and the path of a database;
-//!   [`run_over`] runs the workers over a database that is open.
+//!   one. [`of_shelf`] says how a fault of the store ends a run.
 #![tactic(auto)]
 
 mod client;
@@ -17,13 +15,12 @@ mod faults;
 mod flusher;
 mod job;
 mod running;
-mod store_run;
 mod tries;
 mod working;
 
+pub use faults::of_shelf;
 pub use flusher::{FlushStop, flush_again, flush_loop};
 pub use job::DoneJob;
 pub use running::run_on;
-pub use store_run::{AnyTime, run_over, run_store};
 pub use tries::flush_in_tries;
 pub use working::work;

@@ -1,5 +1,5 @@
 //! Tests by public calls, a module for each layer, and a chooser of a caller's own with its proof.
-//! They stand in one crate, since each crate of tests reads all that it stands on.
+//! They stand in one crate, since each crate of tests reads and links all that it stands on.
 #![tactic(auto)]
 
 mod pool;
@@ -18,6 +18,8 @@ mod event;
 mod frame;
 #[cfg(test)]
 mod office;
+#[cfg(test)]
+mod running;
 #[cfg(test)]
 mod server;
 #[cfg(test)]

@@ -1,5 +1,0 @@
-use Rattle.cb_run.proofs.Told.{told_ending}
-use Rattle.cb_run.proofs.store_run.run_over.Goals as goal
-
-pub returns-in-Err : goal.returns-in-Err
-returns-in-Err g c = told_ending _ c.of_shelf.result _ _ _ _ _ c.print_run.ensures

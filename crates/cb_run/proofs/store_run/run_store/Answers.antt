@@ -1,5 +1,0 @@
-use Rattle.std.proofs.Common.{rules}
-use Rattle.cb_run.proofs.store_run.run_store.Goals as goal
-
-pub returns-in-Err : goal.returns-in-Err
-returns-in-Err g c = search rules

@@ -1,0 +1,23 @@
+//! The shelf and the running program's parts, the office, workers, jobs and the flusher, and whole
+//! runs.
+
+mod alone;
+mod balky;
+mod commits;
+mod counting;
+mod crashes;
+mod cut_off;
+mod disks;
+mod flags;
+mod gates;
+mod giving_up;
+mod lines;
+mod refusals;
+mod run;
+mod shapes;
+mod sharing;
+mod stops;
+mod trials;
+mod visits;
+mod work;
+mod writes;

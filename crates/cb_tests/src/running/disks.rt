@@ -1,0 +1,111 @@
+//! Work over a database whose files lie on disks in memory: the one place that owns a connection.
+//!
+//! All connections are of one kind, since the library of the database is built once for each, and
+//! one function alone opens them.
+ghost use Rattle.std.specs.Prelude.{◌≡◌, false};
+
+use crate::running::balky::Balky;
+use crate::running::work::{Deed, Outcome, Work, opening, work_on};
+use cb_page::Limits;
+use sqlite::{Connection, FileStore, Files, Options};
+use sqlite_disk::{Crash, Disk, Fuse, Memory};
+use std::alloc::Global;
+use std::sync::Wait;
+use std::sync::atomic::AtomicU64;
+use std::thread::Threads;
+
+/// After how many calls the disks of the log and of the database stop, and how many writes the log
+/// refuses before.
+#[derive(Clone, Copy)]
+pub(crate) struct Faults<'a> {
+    pub(crate) log: u64,
+    pub(crate) db: u64,
+    pub(crate) left: Option<&'a AtomicU64>,
+}
+
+/// Disks that don't stop, and refuse nothing.
+pub(crate) const NONE: Faults<'static> = Faults {
+    log: u64::MAX,
+    db: u64::MAX,
+    left: None,
+};
+
+/// Opens the database, or gives the files back.
+fn connect<D: Disk + Drop>(
+    alloc: Global,
+    files: Files<D>,
+) -> Result<Connection<FileStore<D>>, Files<D>> {
+    if !files.may_be_used() {
+        return Err(files);
+    }
+    match Connection::open_files(alloc, files, Options::new(1)) {
+        Ok(conn) => Ok(conn),
+        Err((_, left)) => Err(left.into_files()),
+    }
+}
+
+/// Does this over a new connection to these files.
+fn over<R: Threads + Wait + Sync, D: Disk + Drop>(
+    rt: &R,
+    alloc: Global,
+    limits: &Limits,
+    files: Files<D>,
+    work: Work<'_>,
+) -> (Outcome, Files<D>)
+    requires { limits.now.keep_write ≡ false }
+{
+    match connect(alloc, files) {
+        Ok(conn) => {
+            let (outcome, conn) = work_on(rt, alloc, limits, conn, work);
+            (outcome, conn.into_store().close())
+        }
+        Err(files) => (Outcome::Nothing, files),
+    }
+}
+
+/// Does both, with a crash between them.
+fn both_over<R: Threads + Wait + Sync, D: Crash + Drop>(
+    rt: &R,
+    alloc: Global,
+    limits: &Limits,
+    files: Files<D>,
+    works: [Work<'_>; 2],
+) -> (Outcome, Outcome)
+    requires { limits.now.keep_write ≡ false }
+{
+    let (reached, mut files) = over(rt, alloc, limits, files, works[0]);
+    files.log.crash();
+    files.db.crash();
+    let (left, _) = over(rt, alloc, limits, files, works[1]);
+    (reached, left)
+}
+
+/// Does both over new disks, with two pages of this size, and a crash between them.
+pub(crate) fn both<R: Threads + Wait + Sync>(
+    rt: &R,
+    alloc: Global,
+    sizes: (u16, u64),
+    faults: Faults<'_>,
+    works: [Work<'_>; 2],
+) -> (Outcome, Outcome) {
+    let Ok(limits) = Limits::new(u64::from(sizes.0), 2, sizes.1, 2, 1, 1) else {
+        return (Outcome::Nothing, Outcome::Nothing);
+    };
+    let files = Files {
+        log: Balky::new(Fuse::new(Memory::new(alloc), faults.log), faults.left),
+        db: Balky::new(Fuse::new(Memory::new(alloc), faults.db), None),
+    };
+    both_over(rt, alloc, &limits, files, works)
+}
+
+/// What comes of a shelf that is opened after these texts over new disks, of four clients and two
+/// pages of sixteen bytes.
+pub(crate) fn opened<'a, R: Threads + Wait + Sync>(
+    rt: &R,
+    alloc: Global,
+    texts: [&'a str; 2],
+    deed: Deed<'a>,
+) -> Outcome {
+    let works = [Work { texts, deed }, opening(Deed::Nothing)];
+    both(rt, alloc, (4, 16), NONE, works).0
+}

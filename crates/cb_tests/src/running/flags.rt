@@ -1,0 +1,190 @@
+//! Closing, halting, and waiting for it.
+use crate::running::trials::{Trial, goes_well};
+use cb_office::{Office, SharedStation};
+use cb_page::ClientNo;
+use std::alloc::Global;
+use std::sync::Wait;
+use std::sync::atomic::{AtomicU64, Ordering};
+use std::thread;
+use std::thread::Threads;
+
+/// Whether the office is closed, and whether it is halted.
+pub(crate) type Flags = (bool, bool);
+
+const OPEN: Flags = (false, false);
+
+const CLOSED: Flags = (true, false);
+
+const HALTED: Flags = (true, true);
+
+/// What happens in an office.
+#[derive(Clone, Copy)]
+pub(crate) enum Moment {
+    Nothing,
+    /// A call of `work` ends.
+    EndOfWork,
+    Closing,
+    Halting,
+    /// Client 1 has a frame.
+    Greeting,
+}
+
+/// The client joins, so that there is a Welcome to it, and is told; its number stays joined. Where
+/// it can't join the office is halted.
+pub(crate) fn greet<R: Wait>(rt: &R, alloc: Global, office: &Office, client: ClientNo) {
+    let mut shared = office.lock(rt);
+    let joined = shared.station_mut().join(alloc, client);
+    office.tell_clients(&shared);
+    drop(shared);
+    match joined {
+        Ok(hand) => hand.abandon(),
+        Err(_) => office.halt(rt),
+    }
+}
+
+/// It happens.
+fn happens<R: Wait>(rt: &R, alloc: Global, office: &Office, moment: Moment) {
+    match moment {
+        Moment::Nothing => {}
+        Moment::EndOfWork => office.lock(rt).end_work(),
+        Moment::Closing => office.close(rt),
+        Moment::Halting => office.halt(rt),
+        Moment::Greeting => greet(rt, alloc, office, ClientNo::new(1)),
+    }
+}
+
+/// Whether the office has these flags.
+fn has_flags<R: Wait>(rt: &R, office: &Office, flags: Flags) -> bool {
+    let shared = office.lock(rt);
+    (shared.is_closed(), shared.is_halted()) == flags
+}
+
+/// Whether each of these moments leaves its flags.
+pub(crate) fn follows<R: Wait>(
+    rt: &R,
+    alloc: Global,
+    office: &Office,
+    moments: &[(Moment, Flags)],
+) -> bool {
+    for (moment, flags) in moments {
+        happens(rt, alloc, office, *moment);
+        if !has_flags(rt, office, *flags) {
+            return false;
+        }
+    }
+    true
+}
+
+#[test]
+fn last_work_closes(rt: HostRuntime) {
+    let moments = [
+        (Moment::Nothing, OPEN),
+        (Moment::EndOfWork, OPEN),
+        (Moment::EndOfWork, CLOSED),
+        (Moment::EndOfWork, CLOSED),
+    ];
+    assert!(rt; goes_well(Trial::Flagged(2, &moments), &rt, rt.alloc()));
+}
+
+#[test]
+fn closed_and_halted(rt: HostRuntime) {
+    let closing = [(Moment::Closing, CLOSED), (Moment::Halting, HALTED)];
+    assert!(rt; goes_well(Trial::Flagged(1, &closing), &rt, rt.alloc()));
+    assert!(rt;
+        goes_well(
+            Trial::Flagged(1, &[(Moment::Halting, HALTED)]),
+            &rt,
+            rt.alloc()
+        )
+    );
+    assert!(rt;
+        goes_well(
+            Trial::Flagged(0, &[(Moment::Nothing, CLOSED)]),
+            &rt,
+            rt.alloc()
+        )
+    );
+}
+
+/// How many wait.
+const WAITING: u64 = 2;
+
+/// Whether what is waited for has come.
+fn has_come(shared: &SharedStation, moment: Moment) -> bool {
+    match moment {
+        Moment::Greeting => shared.station().has_frame_for(ClientNo::new(1)),
+        _ => shared.is_closed(),
+    }
+}
+
+/// Waits for it, or until the office is halted. `counted` counts who holds the lock or waits, and
+/// once more who was woken by what it waits for.
+fn wait_for<R: Wait>(rt: &R, office: &Office, counted: &AtomicU64, moment: Moment) {
+    let mut shared = office.lock(rt);
+    counted.fetch_add(1, Ordering::SeqCst);
+    for _ in rt.forever() {
+        let come = has_come(&shared, moment);
+        if come || shared.is_halted() {
+            counted.fetch_add(u64::from(come), Ordering::SeqCst);
+            return;
+        }
+        shared = match moment {
+            Moment::Greeting => office.wait_for_frame(rt, shared, ClientNo::new(1)),
+            _ => office.wait(rt, shared),
+        };
+    }
+    unreachable!()
+}
+
+/// Until all that wait are counted.
+fn spin_until_all<R: Wait>(rt: &R, counted: &AtomicU64) {
+    for _ in rt.forever() {
+        if counted.load(Ordering::SeqCst) >= WAITING {
+            return;
+        }
+        thread::yield_now();
+    }
+}
+
+/// Threads wait, and this one wakes them once all do: each counts itself under the lock, which it
+/// lets go only by waiting. What they counted.
+fn count_woken<R: Wait + Threads + Sync>(
+    rt: &R,
+    alloc: Global,
+    office: &Office,
+    moment: Moment,
+) -> u64 {
+    let counter = AtomicU64::new(0);
+    let counted = &counter;
+    thread::scope(thread::scope_env(), rt, |scope| {
+        for _waiter in 0..WAITING {
+            if scope
+                .spawn(move || wait_for(rt, office, counted, moment))
+                .is_err()
+            {
+                counted.fetch_add(1, Ordering::SeqCst);
+            }
+        }
+        spin_until_all(rt, counted);
+        happens(rt, alloc, office, moment);
+    });
+    counter.load(Ordering::SeqCst)
+}
+
+/// Whether all that wait are woken by it, and the flags are what it makes of them.
+pub(crate) fn wakes<R: Wait + Threads + Sync>(
+    rt: &R,
+    alloc: Global,
+    office: &Office,
+    moment: Moment,
+    flags: Flags,
+) -> bool {
+    count_woken(rt, alloc, office, moment) == 2 * WAITING && has_flags(rt, office, flags)
+}
+
+#[test]
+fn those_that_wait_are_woken(rt: HostRuntime) {
+    assert!(rt; goes_well(Trial::Woken(Moment::Closing, CLOSED), &rt, rt.alloc()));
+    assert!(rt; goes_well(Trial::Woken(Moment::Halting, HALTED), &rt, rt.alloc()));
+    assert!(rt; goes_well(Trial::Woken(Moment::Greeting, OPEN), &rt, rt.alloc()));
+}

@@ -1,0 +1,179 @@
+//! The gate of all runs: one type, so that a run is built once; and workers that wait for each
+//! other.
+use crate::running::run::{Came, run_to_end};
+use cb_jobs::{Gate, Turn};
+use cb_office::Office;
+use cb_page::ClientNo;
+use std::sync::Wait;
+use std::sync::atomic::{AtomicU64, Ordering};
+use std::thread;
+
+/// What happens at a gate.
+#[derive(Clone, Copy)]
+pub(crate) enum Act {
+    /// Every job may begin at once.
+    Open,
+    /// The same; client 1 has joined before.
+    Joined,
+    /// As the first job begins, or each, so many writes are set to be refused.
+    Refuse { writes: u64, at_each: bool },
+    /// The office is closed or halted at this call; the first is 0.
+    CutOff { at: u64, halts: bool },
+    /// Two clients wait for each other.
+    Mutual,
+}
+
+/// A run of so many clients with so many jobs each.
+#[derive(Clone, Copy)]
+pub(crate) struct Plan {
+    pub(crate) clients: u16,
+    pub(crate) jobs: u64,
+    /// How many steps each statement may take; 0 is no limit.
+    pub(crate) steps: u64,
+    pub(crate) act: Act,
+}
+
+/// What is counted at a gate.
+#[derive(Drop)]
+pub(crate) struct Counts {
+    pub(crate) plan: Plan,
+    /// How often it was called.
+    calls: AtomicU64,
+    /// How many jobs were answered as done.
+    pub(crate) answered: AtomicU64,
+    /// How many writes are left to be refused.
+    pub(crate) left: AtomicU64,
+    pub(crate) turns: Mutual,
+}
+
+impl Counts {
+    /// Nothing happened yet.
+    pub(crate) fn new(plan: Plan) -> Counts {
+        Counts {
+            plan,
+            calls: AtomicU64::new(0),
+            answered: AtomicU64::new(0),
+            left: AtomicU64::new(0),
+            turns: Mutual {
+                asked: [AtomicU64::new(0), AtomicU64::new(0)],
+                let_go: [AtomicU64::new(0), AtomicU64::new(0)],
+                first: [AtomicU64::new(0), AtomicU64::new(0)],
+                ungated: AtomicU64::new(0),
+                spent: AtomicU64::new(0),
+            },
+        }
+    }
+}
+
+/// A gate of workers in an office.
+#[derive(Drop)]
+pub(crate) struct Guarded<'a, R> {
+    pub(crate) rt: &'a R,
+    pub(crate) office: &'a Office,
+    pub(crate) counts: &'a Counts,
+}
+
+impl<R: Wait> Guarded<'_, R> {
+    /// Notes a call, and answers how many were before.
+    fn is_called(&self) -> u64 {
+        let call = self.counts.calls.fetch_add(1, Ordering::SeqCst);
+        if let Act::CutOff { at, halts } = self.counts.plan.act {
+            if call == at && halts {
+                self.office.halt(self.rt);
+            }
+            if call == at && !halts {
+                self.office.close(self.rt);
+            }
+        }
+        call
+    }
+}
+
+impl<R: Wait> Gate for Guarded<'_, R> {
+    fn before_job(&self, client: ClientNo, job: u64) -> Turn {
+        let call = self.is_called();
+        match self.counts.plan.act {
+            Act::Mutual => self.counts.turns.turn_of(client.index(), job),
+            Act::Refuse { writes, at_each } => {
+                if at_each || call == 0 {
+                    self.counts.left.store(writes, Ordering::SeqCst);
+                }
+                Turn::Go
+            }
+            _ => Turn::Go,
+        }
+    }
+
+    fn after_commit(&self, client: ClientNo, job: u64) {
+        self.counts.answered.fetch_add(1, Ordering::SeqCst);
+        self.is_called();
+        if let Act::Mutual = self.counts.plan.act {
+            self.counts.turns.note(client.index() % 2, job);
+        }
+    }
+}
+
+/// How often a gate says `Later` in all.
+const TURNS: u64 = 10_000_000;
+
+/// Each job is let go at its second asking at the earliest, and a client's second one only after
+/// the other client's first commit.
+#[derive(Drop)]
+pub(crate) struct Mutual {
+    /// How many jobs of each client were asked for: by client.
+    asked: [AtomicU64; 2],
+    /// How many were let go: by client.
+    let_go: [AtomicU64; 2],
+    /// How often each client's first job was committed: by client.
+    first: [AtomicU64; 2],
+    /// How many commits came of jobs that had not been let go.
+    ungated: AtomicU64,
+    spent: AtomicU64,
+}
+
+impl Mutual {
+    /// Whether a job may begin that is asked for once more.
+    fn may_go(&self, client: usize, job: u64) -> bool {
+        let number = job.saturating_add(1);
+        let is_new = self.asked[client % 2].fetch_max(number, Ordering::SeqCst) < number;
+        let is_second = job > 0 && self.first[1 - client % 2].load(Ordering::SeqCst) == 0;
+        !is_new && !is_second
+    }
+
+    /// Whether it begins now.
+    fn turn_of(&self, client: usize, job: u64) -> Turn {
+        if self.may_go(client, job) || self.spent.fetch_add(1, Ordering::SeqCst) >= TURNS {
+            self.let_go[client % 2].store(job.saturating_add(1), Ordering::SeqCst);
+            return Turn::Go;
+        }
+        thread::yield_now();
+        Turn::Later
+    }
+
+    /// Notes a commit.
+    fn note(&self, client: usize, job: u64) {
+        if self.let_go[client % 2].load(Ordering::SeqCst) != job.saturating_add(1) {
+            self.ungated.fetch_add(1, Ordering::SeqCst);
+        }
+        if job == 0 {
+            self.first[client % 2].fetch_add(1, Ordering::SeqCst);
+        }
+    }
+
+    /// Whether every job was let go before its commit, as it should be.
+    pub(crate) fn is_well(&self) -> bool {
+        let ungated = self.ungated.load(Ordering::SeqCst);
+        ungated == 0 && self.spent.load(Ordering::SeqCst) < TURNS
+    }
+}
+
+#[test]
+fn two_at_once(rt: HostRuntime) {
+    let plan = Plan {
+        clients: 2,
+        jobs: 2,
+        steps: 0,
+        act: Act::Mutual,
+    };
+    assert!(rt; run_to_end(&rt, rt.alloc(), plan) == Came::Done(4));
+}

@@ -1,0 +1,198 @@
+//! Whole runs, and what is told of them.
+use crate::running::disks::{Faults, both};
+use crate::running::flags::greet;
+use crate::running::gates::{Act, Counts, Guarded, Plan};
+use crate::running::trials::Trial;
+use crate::running::work::{Deed, Outcome, Work, opening};
+use cb_jobs::Watch;
+use cb_office::{Office, SharedStation};
+use cb_page::{ClientNo, CommitNo, Limits};
+use cb_run::run_on;
+use cb_shelf::{Shelf, ShelfFault};
+use sqlite::Alter;
+use std::alloc::Global;
+use std::sync::Wait;
+use std::sync::atomic::Ordering;
+use std::thread::Threads;
+
+/// Which batches were told of as on disk.
+#[derive(Clone, Copy, PartialEq, Eq)]
+pub(crate) struct Told {
+    /// How many.
+    pub(crate) batches: u64,
+    /// The number of the first one's last commit; 0 before there is one.
+    pub(crate) first: u64,
+    /// The number of the last one's.
+    pub(crate) last: u64,
+}
+
+impl Told {
+    /// None was told of yet.
+    pub(crate) fn none() -> Told {
+        Told {
+            batches: 0,
+            first: 0,
+            last: 0,
+        }
+    }
+}
+
+impl Watch for Told {
+    fn begins(&mut self, _jobs: u64, _number: u64) {}
+
+    fn flushed(&mut self, number: CommitNo) {
+        if self.batches == 0 {
+            self.first = number.get();
+        }
+        self.batches = self.batches.saturating_add(1);
+        self.last = number.get();
+    }
+}
+
+/// What came of a run.
+#[derive(Clone, Copy, PartialEq, Eq)]
+pub(crate) enum Came {
+    /// It said that so many jobs were done, as many as the gate had answered for.
+    Done(u64),
+    /// The disk stopped, or refused each write.
+    Stopped,
+    /// No number was left.
+    Exhausted,
+    /// A worker couldn't join.
+    Fault,
+    /// Something else.
+    Wrong,
+}
+
+/// What ended a run, by what it said of it.
+fn ended_by(err: &[u8]) -> Came {
+    if err == b"store: Store\n".as_slice() {
+        return Came::Stopped;
+    }
+    if err == b"store: Exhausted\n".as_slice() {
+        return Came::Exhausted;
+    }
+    if err == b"worker: Fault\n".as_slice() {
+        return Came::Fault;
+    }
+    Came::Wrong
+}
+
+/// Whether the office is halted, each entry of the history has both pages read and written, and the
+/// last of them was told of.
+fn is_whole(shared: &SharedStation, last: u64) -> bool {
+    let history = shared.station().history();
+    for entry in history {
+        if entry.reads.len() != 2 || entry.writes.len() != 2 {
+            return false;
+        }
+    }
+    shared.is_halted() && history.len() as u64 == last
+}
+
+/// What came of a run that said this: it is to say that so many jobs were done, and the sum that the
+/// tables have. Where these can't be looked at any more, the disk stopped.
+fn came_of<S: Alter>(alloc: Global, shelf: &mut Shelf<S>, answered: u64, out: &[u8]) -> Came {
+    let Ok(store) = shelf.load(alloc) else {
+        return Came::Stopped;
+    };
+    let sum = store.number().wrapping_mul(2);
+    match format!(in alloc; "committed {answered}\nsum {sum}\n") {
+        Ok(lines) if lines.as_bytes() == out => Came::Done(answered),
+        _ => Came::Wrong,
+    }
+}
+
+/// What comes of a run in an office.
+pub(crate) fn came_in<R: Threads + Wait + Sync, S: Alter>(
+    rt: &R,
+    alloc: Global,
+    limits: &Limits,
+    office: &Office,
+    shelf: &mut Shelf<S>,
+    counts: &Counts,
+) -> Came {
+    if let Act::Joined = counts.plan.act {
+        greet(rt, alloc, office, ClientNo::new(1));
+    }
+    let mut told = Told::none();
+    let mut out = Vec::new(alloc);
+    let mut err = Vec::new(alloc);
+    let gate = Guarded { rt, office, counts };
+    let jobs = counts.plan.jobs;
+    shelf.limit_steps(counts.plan.steps);
+    let ran = run_on(
+        rt, alloc, limits, office, shelf, jobs, &gate, &mut told, &mut out, &mut err,
+    );
+    let answered = counts.answered.load(Ordering::SeqCst);
+    let whole = is_whole(&office.lock(rt), told.last) && counts.turns.is_well();
+    match ran.ok() {
+        Some(0) if whole && err.is_empty() => came_of(alloc, shelf, answered, out.as_slice()),
+        Some(3) if out.is_empty() => ended_by(err.as_slice()),
+        _ => Came::Wrong,
+    }
+}
+
+/// Workers run after a text.
+fn running<'a>(text: &'a str, counts: &'a Counts) -> Work<'a> {
+    let trial = Trial::Run(counts);
+    let deed = Deed::Try(trial);
+    Work {
+        texts: [text, ""],
+        deed,
+    }
+}
+
+/// What comes of a run over new disks, after a text, where after a crash the database holds what
+/// the first commits left, at least as many as were answered as done. A disk that stops before there
+/// is a database counts as stopped; where no number was left nothing is looked at.
+pub(crate) fn came_over<R: Threads + Wait + Sync>(
+    rt: &R,
+    alloc: Global,
+    plan: Plan,
+    calls: (u64, u64),
+    text: &str,
+) -> Came {
+    let counts = Counts::new(plan);
+    let faults = Faults {
+        log: calls.0,
+        db: calls.1,
+        left: Some(&counts.left),
+    };
+    let works = [running(text, &counts), opening(Deed::Begin(&counts))];
+    match both(rt, alloc, (plan.clients, 16), faults, works) {
+        (Outcome::Ran(Came::Exhausted), _) => Came::Exhausted,
+        (Outcome::Ran(came), Outcome::Well(true)) => came,
+        (Outcome::Nothing, Outcome::Well(true)) => Came::Stopped,
+        (Outcome::Refused(ShelfFault::Store), Outcome::Well(true)) => Came::Stopped,
+        _ => Came::Wrong,
+    }
+}
+
+/// What comes of a run over new disks that don't stop.
+pub(crate) fn run_to_end<R: Threads + Wait + Sync>(rt: &R, alloc: Global, plan: Plan) -> Came {
+    came_over(rt, alloc, plan, (u64::MAX, u64::MAX), "")
+}
+
+/// A run where every job may begin at once.
+pub(crate) fn open_plan(clients: u16, jobs: u64, steps: u64) -> Plan {
+    let act = Act::Open;
+    Plan {
+        clients,
+        jobs,
+        steps,
+        act,
+    }
+}
+
+#[test]
+fn counters(rt: HostRuntime) {
+    assert!(rt; run_to_end(&rt, rt.alloc(), open_plan(4, 100, 0)) == Came::Done(400));
+    assert!(rt; run_to_end(&rt, rt.alloc(), open_plan(1, 0, 0)) == Came::Done(0));
+}
+
+/// No write gets through: three tries, then the office is halted.
+#[test]
+fn store_that_refuses_each_write(rt: HostRuntime) {
+    assert!(rt; run_to_end(&rt, rt.alloc(), open_plan(2, 3, 1)) == Came::Stopped);
+}

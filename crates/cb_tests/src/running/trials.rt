@@ -1,0 +1,120 @@
+//! What is tried over an office and a shelf, which one function makes and lends.
+ghost use Rattle.std.specs.Prelude.{◌≡◌, false};
+
+use crate::running::alone::commits_and_leaves;
+use crate::running::disks::opened;
+use crate::running::flags::{Flags, Moment, follows, wakes};
+use crate::running::gates::Counts;
+use crate::running::giving_up::drops_and_gives_up;
+use crate::running::refusals::{Refusal, is_refused_at_first};
+use crate::running::run::came_in;
+use crate::running::sharing::are_shared;
+use crate::running::work::{Deed, Outcome};
+use cb_office::{Office, Station};
+use cb_page::{ClientNo, Limits};
+use cb_shelf::Shelf;
+use cb_twoq::{Chooser, TwoQ};
+use cb_worker::Worker;
+use sqlite::Alter;
+use std::alloc::Global;
+use std::sync::Wait;
+use std::thread::Threads;
+
+/// What is tried over an office and a shelf, both of zeros.
+#[derive(Clone, Copy)]
+pub(crate) enum Trial<'a> {
+    /// So many calls of `work` are left to use the office, and these moments come one after
+    /// another, each with the flags that it leaves.
+    Flagged(usize, &'a [(Moment, Flags)]),
+    /// Threads wait until this moment, which leaves these flags.
+    Woken(Moment, Flags),
+    /// Four threads commit at once.
+    Shared,
+    /// A client reads, writes, commits and leaves.
+    Alone,
+    /// A client drops its transaction, restarts, and gives up.
+    GivingUp,
+    /// A batch is refused at first.
+    Refused(Refusal),
+    /// Workers run.
+    Run(&'a Counts),
+}
+
+/// How many calls of `work` the office is for.
+fn calls_of(trial: Trial<'_>) -> usize {
+    match trial {
+        Trial::Flagged(calls, _) => calls,
+        Trial::Run(counts) => usize::from(counts.plan.clients),
+        _ => 1,
+    }
+}
+
+/// Whether a worker of client 0, the only one, does as it should.
+fn works<Q: Chooser, R: Wait>(
+    rt: &R,
+    alloc: Global,
+    limits: &Limits,
+    office: &Office,
+    leaves: bool,
+) -> bool {
+    let Ok(chooser) = Q::make(alloc, limits) else {
+        return false;
+    };
+    match Worker::join(rt, alloc, office, limits, ClientNo::new(0), chooser) {
+        Ok(worker) if leaves => commits_and_leaves(rt, alloc, office, worker),
+        Ok(worker) => drops_and_gives_up(rt, alloc, office, worker),
+        Err(_) => false,
+    }
+}
+
+/// What comes of it in an office over a shelf.
+fn comes_with<R: Wait + Threads + Sync, S: Alter>(
+    trial: Trial<'_>,
+    rt: &R,
+    alloc: Global,
+    limits: &Limits,
+    office: &Office,
+    shelf: &mut Shelf<S>,
+) -> Outcome {
+    let well = match trial {
+        Trial::Flagged(_, moments) => follows(rt, alloc, office, moments),
+        Trial::Woken(moment, flags) => wakes(rt, alloc, office, moment, flags),
+        Trial::Shared => are_shared(rt, alloc, office),
+        Trial::Alone => works::<TwoQ, R>(rt, alloc, limits, office, true),
+        Trial::GivingUp => works::<TwoQ, R>(rt, alloc, limits, office, false),
+        Trial::Refused(refusal) => is_refused_at_first(rt, alloc, limits, office, shelf, refusal),
+        Trial::Run(counts) => {
+            return Outcome::Ran(came_in(rt, alloc, limits, office, shelf, counts));
+        }
+    };
+    Outcome::Well(well)
+}
+
+/// What comes of it over a shelf: the office is over what that holds.
+pub(crate) fn comes_over<R: Wait + Threads + Sync, S: Alter>(
+    trial: Trial<'_>,
+    rt: &R,
+    alloc: Global,
+    limits: &Limits,
+    shelf: &mut Shelf<S>,
+) -> Outcome
+    requires plain { limits.now.keep_write ≡ false }
+    requires shelf { shelf.old.limits ≡ limits.now }
+{
+    let store = match shelf.load(alloc) {
+        Ok(store) => store,
+        Err(fault) => return Outcome::Refused(fault),
+    };
+    match Station::new(alloc, limits, store) {
+        Ok(station) => {
+            let office = Office::new(station, calls_of(trial));
+            comes_with(trial, rt, alloc, limits, &office, shelf)
+        }
+        Err(_) => Outcome::Well(false),
+    }
+}
+
+/// Whether it goes well over a new database.
+pub(crate) fn goes_well<R: Wait + Threads + Sync>(trial: Trial<'_>, rt: &R, alloc: Global) -> bool {
+    opened(rt, alloc, ["", ""], Deed::Try(trial)) == Outcome::Well(true)
+}

@@ -1,0 +1,111 @@
+//! What is done over a database.
+ghost use Rattle.std.specs.Prelude.{◌≡◌, false};
+
+use crate::running::commits::{Row, holds};
+use crate::running::crashes::{Found, Old, find};
+use crate::running::gates::Counts;
+use crate::running::run::Came;
+use crate::running::stops::is_beginning;
+use crate::running::trials::{Trial, comes_over};
+use crate::running::writes::{Writing, writes_well};
+use cb_page::Limits;
+use cb_shelf::{Shelf, ShelfFault};
+use sqlite::{Alter, Connection};
+use std::alloc::Global;
+use std::sync::Wait;
+use std::thread::Threads;
+
+/// Texts that run over a connection, and what is done to the shelf that is opened then.
+#[derive(Clone, Copy)]
+pub(crate) struct Work<'a> {
+    pub(crate) texts: [&'a str; 2],
+    pub(crate) deed: Deed<'a>,
+}
+
+/// What is done to a shelf that was opened.
+#[derive(Clone, Copy)]
+pub(crate) enum Deed<'a> {
+    Nothing,
+    /// It holds a store of this number and these pages.
+    Hold(u64, &'a [Row]),
+    /// A commit is written.
+    Write(Writing),
+    /// Which store it holds.
+    Find(Old),
+    /// It holds what the first commits of a run left, at least those that were answered as done.
+    Begin(&'a Counts),
+    /// This is tried over it and an office.
+    Try(Trial<'a>),
+}
+
+/// What came of it.
+#[derive(Clone, Copy, PartialEq, Eq)]
+pub(crate) enum Outcome {
+    /// No database was opened.
+    Nothing,
+    /// The database was opened, and a text didn't run.
+    Database,
+    /// The shelf was refused.
+    Refused(ShelfFault),
+    /// Whether what was to be done went well.
+    Well(bool),
+    Found(Found),
+    /// How a run ended.
+    Ran(Came),
+}
+
+/// A shelf is opened, and this is done to it.
+pub(crate) fn opening(deed: Deed<'_>) -> Work<'_> {
+    Work {
+        texts: ["", ""],
+        deed,
+    }
+}
+
+/// Whether the texts run.
+fn run_texts<S: Alter>(conn: &mut Connection<S>, texts: [&str; 2]) -> bool {
+    conn.execute_batch(texts[0]).is_ok() && conn.execute_batch(texts[1]).is_ok()
+}
+
+/// Does this over a connection, which comes back.
+pub(crate) fn work_on<R: Threads + Wait + Sync, S: Alter>(
+    rt: &R,
+    alloc: Global,
+    limits: &Limits,
+    mut conn: Connection<S>,
+    work: Work<'_>,
+) -> (Outcome, Connection<S>)
+    requires { limits.now.keep_write ≡ false }
+{
+    if !run_texts(&mut conn, work.texts) {
+        return (Outcome::Database, conn);
+    }
+    match Shelf::open(alloc, conn, limits) {
+        Ok(mut shelf) => {
+            let outcome = done(rt, alloc, limits, &mut shelf, work.deed);
+            (outcome, shelf.close())
+        }
+        Err((fault, conn)) => (Outcome::Refused(fault), conn),
+    }
+}
+
+/// What comes of it.
+fn done<R: Threads + Wait + Sync, S: Alter>(
+    rt: &R,
+    alloc: Global,
+    limits: &Limits,
+    shelf: &mut Shelf<S>,
+    deed: Deed<'_>,
+) -> Outcome
+    requires plain { limits.now.keep_write ≡ false }
+    requires shelf { shelf.old.limits ≡ limits.now }
+{
+    match deed {
+        Deed::Nothing => Outcome::Well(true),
+        Deed::Hold(number, rows) => Outcome::Well(holds(alloc, limits, shelf, number, rows)),
+        Deed::Write(writing) => Outcome::Well(writes_well(alloc, limits, shelf, writing)),
+        Deed::Find(old) => Outcome::Found(find(alloc, limits, shelf, old)),
+        Deed::Begin(counts) => Outcome::Well(is_beginning(alloc, limits, shelf, counts)),
+        Deed::Try(trial) => comes_over(trial, rt, alloc, limits, shelf),
+    }
+}
