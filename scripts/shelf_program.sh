@@ -16,9 +16,9 @@ for crate in cb_page cb_frame_types cb_frame cb_commit cb_statements cb_shelf; d
   grep "^$crate:" "$top/crates.txt" >>"$room/crates.txt"
 done
 echo "shelf_files: cb_page cb_frame_types cb_frame cb_commit cb_shelf sqlite sqlite_disk sqlite_store anyhow" >>"$room/crates.txt"
-cp "$top/crates/cb_run_tests/src/commits.rt" "$program/src/bench.rt"
+cp "$top/crates/cb_tests/src/running/commits.rt" "$program/src/bench.rt"
 for part in main refused rows; do cp "$top/scripts/shelf_files/$part.txt" "$program/src/$part.rt"; done
-cp -r "$top/crates/cb_run_tests/proofs/commits/apply" "$program/proofs/bench/"
-sed -i "s/cb_run_tests/shelf_files/g; s/proofs\.commits\./proofs.bench./g" "$program"/proofs/bench/apply/*
+cp -r "$top/crates/cb_tests/proofs/running/commits/apply" "$program/proofs/bench/"
+sed -i "s/cb_tests/shelf_files/g; s/proofs\.running\.commits\./proofs.bench./g" "$program"/proofs/bench/apply/*
 (cd "$program" && "${RT:-rt}" run -- none none >"$room/said" 2>&1)
 [ -x "$program/out/shelf_files" ] || { tail -n 20 "$room/said"; echo "the program isn't built"; exit 2; }
