@@ -1,5 +1,5 @@
 //! Workers join, begin another incarnation, and end.
-ghost use Rattle.std.specs.Prelude.{◌≡◌, ◌≤◌, ◌⊎◌, [], true, Err, IfErr, IfOk, None};
+ghost use Rattle.std.specs.Prelude.{◌≡◌, ◌≤◌, ◌<◌, ◌⊎◌, [], true, Err, IfErr, IfOk, None, OnOk};
 ghost use Rattle.cb_client_engine.specs.ClientState.{new_state};
 ghost use Rattle.cb_worker.specs.Refusals.{RefusesLeave, RefusesRestart, RefusesStart};
 ghost use Rattle.cb_worker.specs.Refusals.{StopsServing};
@@ -75,6 +75,7 @@ impl<Q: Chooser> Worker<Q> {
             worker.client.copies.limits ≡ self.client.copies.limits) }
         ensures unbegun { IfOk result (λ worker. last_txn worker.client ≡ 0) }
         ensures served { IfOk result IsServed }
+        ensures later { OnOk result (self.hand.incarnation < incarnation) }
         ensures refused { IfErr result (λ refused.
             (refused.1 ≡ self) ⊎ IsOf refused.1 self.hand.client incarnation) }
         ensures why { IfErr result (λ refused.
