@@ -5,10 +5,18 @@
 #   scripts/refused_growths.sh 30         N = 1 to 30
 #
 # The other tests of cb_tests want memory and fail in such a run; only the named ones count. The tests are built and run once
-# for each N, which takes minutes. Those of a client and of a server are in scripts/refused_calls.sh. Nothing of this is in the
-# gate, since a refusal can't be handed in by a test there. RT is the command, `rt` if it isn't set.
+# for each N, which takes minutes, in a copy without those of runs, which such a run ends by its limits of time. Those of a
+# client and of a server are in scripts/refused_calls.sh. Nothing of this is in the gate, since a refusal can't be handed in by
+# a test there. RT is the command, `rt` if it isn't set.
 set -u
-cd "$(dirname "$0")/../crates/cb_tests"
+top=$(cd "$(dirname "$0")/.." && pwd)
+room=$(mktemp -d)
+trap 'rm -rf "$room"' EXIT
+git init -q "$room"
+tar -C "$top" --exclude=out -c HANDLES crates.txt crates | tar -C "$room" -x
+rm -rf "$room"/crates/cb_tests/{src,proofs}/running "$room/crates/cb_tests/src/running.rt"
+sed -i '/^#\[cfg(test)\]$/{N;/\nmod running;$/d}' "$room/crates/cb_tests/src/lib.rt"
+cd "$room/crates/cb_tests"
 most=${1:-12}
 rt=${RT:-rt}
 bad=0
