@@ -15,19 +15,26 @@ top=$(cd "$(dirname "$0")/.." && pwd)
 room=$(mktemp -d)
 trap 'rm -rf "$room"' EXIT
 
-# builds scripts/killed_runs in a copy of the crates
+# builds scripts/killed_runs in a copy of the crates, with cb_play's runs over a file and what is said of them
 build_told() {
   local copy=$room/copy
+  local crate=$copy/crates/killed_runs
   mkdir -p "$copy"
   git init -q "$copy"
   cp "$top/HANDLES" "$copy/"
   cp -r --preserve=timestamps "$top/crates" "$copy/"
-  mkdir -p "$copy/crates/killed_runs/src"
+  mkdir -p "$crate"/{src,specs,proofs}
   cp "$top/crates.txt" "$copy/"
-  echo "killed_runs: cb_page cb_jobs cb_run anyhow" >>"$copy/crates.txt"
-  cp "$top/scripts/killed_runs/main.txt" "$copy/crates/killed_runs/src/main.rt"
-  (cd "$copy/crates/killed_runs" && "${RT:-rt}" run -- none none >"$room/said" 2>&1)
-  told=$copy/crates/killed_runs/out/killed_runs
+  echo "killed_runs: cb_page cb_settings cb_shelf cb_office cb_jobs cb_run sqlite anyhow" >>"$copy/crates.txt"
+  cp "$top/scripts/killed_runs/main.txt" "$crate/src/main.rt"
+  cp "$top/crates/cb_play/src/store_run.rt" "$crate/src/"
+  cp "$top/crates/cb_play/specs/StoreRuns.antt" "$crate/specs/"
+  cp -r "$top"/crates/cb_play/proofs/{Told.antt,store_run} "$crate/proofs/"
+  echo "pub mod StoreRuns" >"$crate/specs/Lib.antt"
+  echo "mod Told" >"$crate/proofs/Lib.antt"
+  find "$crate" -type f -exec sed -i 's/cb_play/killed_runs/g' {} +
+  (cd "$crate" && "${RT:-rt}" run -- none none >"$room/said" 2>&1)
+  told=$crate/out/killed_runs
   [ -x "$told" ] || { tail -n 20 "$room/said"; echo "the program isn't built"; exit 2; }
 }
 
