@@ -100,4 +100,6 @@ impl<C: Clock, W: Write> Watch for Progress<'_, C, W> {
             self.show_at(now, number);
         }
     }
+
+    fn waits(&mut self) {}
 }

@@ -8,6 +8,10 @@ pub trait Watch {
 
     /// A batch was written: the commits up to this number are on disk.
     fn flushed(&mut self, number: CommitNo);
+
+    /// Nothing is left to write, and the flusher waits for more. It has the office's lock, which it
+    /// lets go only by waiting: so this call may not take it.
+    fn waits(&mut self);
 }
 
 /// Nobody looks on.
@@ -18,4 +22,6 @@ impl Watch for Unwatched {
     fn begins(&mut self, _jobs: u64, _number: u64) {}
 
     fn flushed(&mut self, _number: CommitNo) {}
+
+    fn waits(&mut self) {}
 }

@@ -44,8 +44,8 @@ impl Office {
         sound(self.shared.lock(rt))
     }
 
-    /// Lets the lock go until somebody tells of a commit, closes or halts the office, and takes it
-    /// again. It may return for no reason.
+    /// Lets the lock go until somebody tells of a commit or of the end of a call of `work`, closes
+    /// or halts the office, and takes it again. It may return for no reason.
     pub fn wait<'a, R: Wait>(
         &'a self,
         rt: &R,
@@ -82,7 +82,7 @@ impl Office {
         }
     }
 
-    /// Tells who waits for commits, closing or halting.
+    /// Tells who waits for commits, the end of a call of `work`, closing or halting.
     pub fn tell(&self) {
         self.changed.notify_all();
     }
@@ -95,13 +95,19 @@ impl Office {
         }
     }
 
-    /// No more jobs come: the flusher ends when all is written.
+    /// No call of `work` begins any more: one that would takes no job. Those that are going on do all
+    /// their jobs, and the flusher ends when none is left and all is written; at once, where nobody
+    /// works and all is.
+    ///
+    /// Whoever commits without `work`, and isn't counted by `begin_work`, isn't waited for: what he
+    /// commits after the flusher has ended is in memory alone.
     pub fn close<R: Wait>(&self, rt: &R) {
         self.lock(rt).close();
         self.tell();
     }
 
-    /// Closes the office, and every call that waits for it gives up.
+    /// Closes the office, and every call that waits for it gives up. No call of `work` commits any
+    /// more, so the flusher ends when all is written.
     pub fn halt<R: Wait>(&self, rt: &R) {
         self.lock(rt).halt();
         self.tell_all();

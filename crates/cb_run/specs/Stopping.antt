@@ -1,7 +1,10 @@
--- Why a flusher stops.
+-- Why a flusher stops, and where it has nothing to write.
 use Rattle.std.specs.Prelude.{◌≡◌, ◌==◌, ◌-◌, ◌&&◌, ◌↔◌, if◌then◌else◌, not, ℕ, Option, Some, None, IfSome}
 use Rattle.cb_commit.specs.Batches.{BatchState}
+use Rattle.cb_office.specs.Shared.{SharedState}
+use Rattle.cb_office.specs.Stations.{server_of}
 use Rattle.cb_page.specs.Bounds.{Bounds}
+use Rattle.cb_protocol.specs.Flush.{next_batch}
 use Rattle.cb_statements.specs.declared.fault.ShelfFault.TheVariants.{Shape, Memory}
 use Rattle.cb_statements.specs.Writing.{Fits}
 use Rattle.cb_run.specs.declared.flusher.FlushStop.{FlushStop}
@@ -23,3 +26,7 @@ number_of None = 0
 abbrev pub tries_left : FlushStop → (last : ℕ) → (left : ℕ) → ℕ
 tries_left stop last left =
     if (number_of stop.batch == last) && not stop.wrote then left - 1 else 2
+
+-- Nothing is left to write: every commit is on disk.
+abbrev pub IsWritten : SharedState → Type 0
+IsWritten shared = next_batch (server_of shared.station) ≡ None

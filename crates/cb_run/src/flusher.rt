@@ -1,10 +1,12 @@
 //! The loop, and its stops.
-ghost use Rattle.std.specs.Prelude.{◌≡◌, ◌↔◌, Err, IfErr, IfSome, OnErr, OnOk};
+ghost use Rattle.std.specs.Prelude.{◌≡◌, ◌↔◌, true, false, Err, IfErr, IfSome, None, Ok, OnErr, OnOk};
+ghost use Rattle.std.specs.Prelude.{Some};
 ghost use Rattle.sqlite.specs.Held.{state};
 ghost use Rattle.sqlite.specs.State.{Survives};
 ghost use Rattle.cb_run.specs.Flushing.{LeavesFirst, LeavesSome, MadeFirst, MadeSome, WritesFirst};
 ghost use Rattle.cb_run.specs.Flushing.{WritesOne, WritesOrStays, WritesSome};
-ghost use Rattle.cb_run.specs.Stopping.{Stops};
+ghost use Rattle.cb_office.specs.Shared.{is_over};
+ghost use Rattle.cb_run.specs.Stopping.{IsWritten, Stops};
 ghost use Rattle.cb_statements.specs.Writing.{Fits, Wrote};
 
 use cb_commit::Batch;
@@ -24,22 +26,30 @@ pub struct FlushStop {
     pub wrote: bool,
 }
 
-/// The next batch, or `None` once the office is closed and nothing is left; nothing where that is
-/// to be waited for.
+/// The next batch, or `None` once nothing is left and no call of `work` commits any more; nothing
+/// where that is to be waited for.
 fn batch_at(alloc: Global, shared: &SharedStation) -> Option<Result<Option<Batch>, ShelfFault>>
-    ensures { IfSome result (λ next. IfErr next (λ fault. fault ≡ ShelfFault.Memory)) }
+    ensures fault { IfSome result (λ next. IfErr next (λ fault. fault ≡ ShelfFault.Memory)) }
+    ensures ends { result ≡ Some (Ok None) → (is_over shared.now ≡ true) × IsWritten shared.now }
+    ensures waits { result ≡ None → (is_over shared.now ≡ false) × IsWritten shared.now }
 {
     let Ok(batch) = shared.station().batch(alloc) else {
         return Some(Err(ShelfFault::Memory));
     };
-    if batch.is_some() || shared.is_closed() {
+    if batch.is_some() || shared.is_over() {
         return Some(Ok(batch));
     }
     None
 }
 
-/// The next batch; `None` once the office is closed and nothing is left.
-fn next_batch<R: Wait>(rt: &R, alloc: Global, office: &Office) -> Result<Option<Batch>, ShelfFault>
+/// The next batch; `None` once nothing is left and no call of `work` commits any more. The watch is
+/// told each time that it is waited for.
+fn next_batch<R: Wait, W: Watch>(
+    rt: &R,
+    alloc: Global,
+    office: &Office,
+    watch: &mut W,
+) -> Result<Option<Batch>, ShelfFault>
     ensures { IfErr result (λ fault. fault ≡ ShelfFault.Memory) }
 {
     let mut shared = office.lock(rt);
@@ -47,6 +57,7 @@ fn next_batch<R: Wait>(rt: &R, alloc: Global, office: &Office) -> Result<Option<
         if let Some(next) = batch_at(alloc, &shared) {
             return next;
         }
+        watch.waits();
         shared = office.wait(rt, shared);
     }
     unreachable!()
@@ -86,7 +97,9 @@ fn write_and_report<R: Wait, S: Alter, W: Watch>(
     }
 }
 
-/// Writes what is committed, a batch at a time, until the office is closed and nothing is left.
+/// Writes what is committed, a batch at a time, until nothing is left and no call of `work` commits
+/// any more: the office is halted, or it is closed and none is going on. So what a call of `work`
+/// commits in a closed office is written too. Where nobody works, an office that is closed is enough.
 ///
 /// It holds no lock while it writes. Which batches those are no contract says, since it takes the
 /// lock itself.
@@ -108,7 +121,7 @@ pub fn flush_loop<R: Wait, S: Alter, W: Watch>(
 {
     let mut wrote = false;
     for _ in rt.forever() {
-        let batch = match next_batch(rt, alloc, office) {
+        let batch = match next_batch(rt, alloc, office, watch) {
             Ok(Some(batch)) => batch,
             Ok(None) => return Ok(()),
             Err(fault) => {

@@ -15,6 +15,9 @@ use std::sync::Wait;
 /// Takes each job from the channel, and sends a result for each once it is on disk. Where no job is
 /// left the worker leaves; after a fault it is abandoned. Whatever happened, the office is told
 /// that one call of `work` has ended.
+///
+/// In an office that is closed already it takes no job, and the worker leaves. One that is closed
+/// meanwhile waits for it: it does all its jobs, and the flusher writes them.
 pub fn work<R: Wait, Q: Chooser, G: Gate>(
     rt: &R,
     alloc: Global,
@@ -24,6 +27,9 @@ pub fn work<R: Wait, Q: Chooser, G: Gate>(
     results: &Sender<DoneJob>,
     gate: &G,
 ) -> Result<(), WorkerFault> {
+    if !office.lock(rt).begin_work() {
+        return end(rt, alloc, office, worker, Ok(()));
+    }
     let worked = run_jobs(rt, alloc, office, &mut worker, jobs, results, gate);
     let ended = end(rt, alloc, office, worker, worked);
     office.lock(rt).end_work();

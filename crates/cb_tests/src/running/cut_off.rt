@@ -17,35 +17,67 @@ fn worker_that_faults_while_another_runs(rt: HostRuntime) {
     assert!(rt; run_to_end(&rt, rt.alloc(), plan) == Came::Fault);
 }
 
-/// How many jobs each of two clients has, in a run that is cut off.
+/// How many jobs each client has, in a run that is cut off or closed.
 const JOBS: u64 = 2;
 
-/// How often the gate is called where nothing cuts the run off.
-const CALLS: u64 = 4 * JOBS;
+/// How often the gate is called by one client that nothing cuts off.
+const CALLS: u64 = 2 * JOBS;
 
-/// Whether a run that is cut off there ends well. Halted before its first job none is done, and not
-/// cut off all are.
-fn ends_at_once<R: Threads + Wait + Sync>(rt: &R, alloc: Global, at: u64, halts: bool) -> bool {
+/// How many of two clients' jobs may be done in an office that is halted at a call: none before the
+/// first one, and all where that was the last call or none.
+fn may_halt(at: u64, answered: u64) -> bool {
+    let none = at == 0;
+    let all = at >= 2 * CALLS - 1;
+    (!none || answered == 0) && (!all || answered == 2 * JOBS)
+}
+
+/// The same in one that is closed. Who calls the gate works, and does all its jobs; who begins to
+/// work later does none. One client alone can't have called so often that the other didn't.
+fn may_close(at: u64, answered: u64) -> bool {
+    let both = at >= CALLS;
+    answered == 2 * JOBS || (!both && answered == JOBS)
+}
+
+/// What comes of two clients that are cut off there.
+fn cut_off<R: Threads + Wait + Sync>(rt: &R, alloc: Global, at: u64, halts: bool) -> Came {
     let plan = Plan {
         clients: 2,
         jobs: JOBS,
         steps: 0,
         act: Act::CutOff { at, halts },
     };
-    match run_to_end(rt, alloc, plan) {
-        Came::Done(answered) => {
-            let none = at == 0 && halts;
-            let all = at >= CALLS - 1;
-            (!none || answered == 0) && (!all || answered == 2 * JOBS)
-        }
+    run_to_end(rt, alloc, plan)
+}
+
+/// Whether a run that is halted or closed there ends well.
+fn ends_at_once<R: Threads + Wait + Sync>(rt: &R, alloc: Global, at: u64, halts: bool) -> bool {
+    match cut_off(rt, alloc, at, halts) {
+        Came::Done(answered) if halts => may_halt(at, answered),
+        Came::Done(answered) => may_close(at, answered),
         _ => false,
     }
 }
 
 #[test]
 fn halted_or_closed_at_each_call(rt: HostRuntime) {
-    for at in 0..CALLS + 1 {
+    for at in 0..2 * CALLS + 1 {
         assert!(rt; ends_at_once(&rt, rt.alloc(), at, true));
         assert!(rt; ends_at_once(&rt, rt.alloc(), at, false));
+    }
+}
+
+/// All at work do all their jobs in an office that was closed before the first one, and all is on
+/// disk at the end, though the flusher found nothing to write in between.
+#[test]
+fn closed_while_all_work(rt: HostRuntime) {
+    for clients in 1..3u16 {
+        let plan = Plan {
+            clients,
+            jobs: JOBS,
+            steps: 0,
+            act: Act::Closed,
+        };
+        let all = u64::from(clients) * JOBS;
+        assert!(rt; run_to_end(&rt, rt.alloc(), plan) == Came::Done(all));
     }
 }

@@ -4,8 +4,8 @@ use crate::running::run::{Came, run_to_end};
 use cb_jobs::{Gate, Turn};
 use cb_office::Office;
 use cb_page::ClientNo;
-use std::sync::Wait;
 use std::sync::atomic::{AtomicU64, Ordering};
+use std::sync::{Mutex, Wait};
 use std::thread;
 
 /// What happens at a gate.
@@ -19,6 +19,9 @@ pub(crate) enum Act {
     Refuse { writes: u64, at_each: bool },
     /// The office is closed or halted at this call; the first is 0.
     CutOff { at: u64, halts: bool },
+    /// The office is closed once every client has asked for its first job, which none begins before.
+    /// Each later one begins once all commits are on disk and the flusher waits, or has ended.
+    Closed,
     /// Two clients wait for each other.
     Mutual,
 }
@@ -38,11 +41,13 @@ pub(crate) struct Plan {
 pub(crate) struct Counts {
     pub(crate) plan: Plan,
     /// How often it was called.
-    calls: AtomicU64,
+    calls: Mutex<u64>,
     /// How many jobs were answered as done.
     pub(crate) answered: AtomicU64,
     /// How many writes are left to be refused.
     pub(crate) left: AtomicU64,
+    /// How many commits were on disk when the flusher last waited.
+    pub(crate) waited: AtomicU64,
     pub(crate) turns: Mutual,
 }
 
@@ -51,9 +56,10 @@ impl Counts {
     pub(crate) fn new(plan: Plan) -> Counts {
         Counts {
             plan,
-            calls: AtomicU64::new(0),
+            calls: Mutex::new(0),
             answered: AtomicU64::new(0),
             left: AtomicU64::new(0),
+            waited: AtomicU64::new(0),
             turns: Mutual {
                 asked: [AtomicU64::new(0), AtomicU64::new(0)],
                 let_go: [AtomicU64::new(0), AtomicU64::new(0)],
@@ -74,31 +80,61 @@ pub(crate) struct Guarded<'a, R> {
 }
 
 impl<R: Wait> Guarded<'_, R> {
-    /// Notes a call, and answers how many were before.
-    fn is_called(&self) -> u64 {
-        let call = self.counts.calls.fetch_add(1, Ordering::SeqCst);
-        if let Act::CutOff { at, halts } = self.counts.plan.act {
-            if call == at && halts {
-                self.office.halt(self.rt);
+    /// Notes a call, and does what is due at it before another can be noted: so no job begins in
+    /// between.
+    fn note_call(&self, begins: bool) {
+        let mut calls = self.counts.calls.lock(self.rt);
+        let call = *calls;
+        *calls = call.saturating_add(1);
+        match self.counts.plan.act {
+            Act::CutOff { at, halts } => self.cut_off(call == at, halts),
+            Act::Refuse { writes, at_each } => {
+                if begins && (at_each || call == 0) {
+                    self.counts.left.store(writes, Ordering::SeqCst);
+                }
             }
-            if call == at && !halts {
+            _ => {}
+        }
+    }
+
+    /// Halts or closes the office, if that is due.
+    fn cut_off(&self, is_due: bool, halts: bool) {
+        if is_due && halts {
+            self.office.halt(self.rt);
+        }
+        if is_due && !halts {
+            self.office.close(self.rt);
+        }
+    }
+
+    /// Closes the office once all have asked for their first job. Whether a job may begin: the first
+    /// one then, and each later one once the flusher waits after as many commits as all have made by
+    /// then. A flusher that ended is one whose office is halted.
+    fn is_closed_for(&self, client: ClientNo, job: u64) -> bool {
+        let clients = self.counts.plan.clients;
+        if job == 0 {
+            let all = self.counts.turns.have_asked(client.index(), clients);
+            if all {
                 self.office.close(self.rt);
             }
+            return all;
         }
-        call
+        let made = job.saturating_mul(u64::from(clients));
+        self.counts.waited.load(Ordering::SeqCst) >= made || self.office.lock(self.rt).is_halted()
     }
 }
 
 impl<R: Wait> Gate for Guarded<'_, R> {
     fn before_job(&self, client: ClientNo, job: u64) -> Turn {
-        let call = self.is_called();
+        self.note_call(true);
         match self.counts.plan.act {
             Act::Mutual => self.counts.turns.turn_of(client.index(), job),
-            Act::Refuse { writes, at_each } => {
-                if at_each || call == 0 {
-                    self.counts.left.store(writes, Ordering::SeqCst);
+            Act::Closed => {
+                if self.is_closed_for(client, job) {
+                    return Turn::Go;
                 }
-                Turn::Go
+                thread::yield_now();
+                Turn::Later
             }
             _ => Turn::Go,
         }
@@ -106,7 +142,7 @@ impl<R: Wait> Gate for Guarded<'_, R> {
 
     fn after_commit(&self, client: ClientNo, job: u64) {
         self.counts.answered.fetch_add(1, Ordering::SeqCst);
-        self.is_called();
+        self.note_call(false);
         if let Act::Mutual = self.counts.plan.act {
             self.counts.turns.note(client.index() % 2, job);
         }
@@ -138,6 +174,15 @@ impl Mutual {
         let is_new = self.asked[client % 2].fetch_max(number, Ordering::SeqCst) < number;
         let is_second = job > 0 && self.first[1 - client % 2].load(Ordering::SeqCst) == 0;
         !is_new && !is_second
+    }
+
+    /// Notes that a client asked for its first job; whether each of so many has.
+    fn have_asked(&self, client: usize, clients: u16) -> bool {
+        self.asked[client % 2].fetch_max(1, Ordering::SeqCst);
+        self.asked
+            .iter()
+            .take(usize::from(clients))
+            .all(|asked| asked.load(Ordering::SeqCst) > 0)
     }
 
     /// Whether it begins now.

@@ -47,6 +47,27 @@ impl Watch for Told {
         self.batches = self.batches.saturating_add(1);
         self.last = number.get();
     }
+
+    fn waits(&mut self) {}
+}
+
+/// Notes which batches were told of, and after how many commits the flusher waits.
+#[derive(Drop)]
+struct Waited<'a> {
+    told: Told,
+    counts: &'a Counts,
+}
+
+impl Watch for Waited<'_> {
+    fn begins(&mut self, _jobs: u64, _number: u64) {}
+
+    fn flushed(&mut self, number: CommitNo) {
+        self.told.flushed(number);
+    }
+
+    fn waits(&mut self) {
+        self.counts.waited.store(self.told.last, Ordering::SeqCst);
+    }
 }
 
 /// What came of a run.
@@ -115,17 +136,20 @@ pub(crate) fn came_in<R: Threads + Wait + Sync, S: Alter>(
     if let Act::Joined = counts.plan.act {
         greet(rt, alloc, office, ClientNo::new(1));
     }
-    let mut told = Told::none();
+    let mut watch = Waited {
+        told: Told::none(),
+        counts,
+    };
     let mut out = Vec::new(alloc);
     let mut err = Vec::new(alloc);
     let gate = Guarded { rt, office, counts };
     let jobs = counts.plan.jobs;
     shelf.limit_steps(counts.plan.steps);
     let ran = run_on(
-        rt, alloc, limits, office, shelf, jobs, &gate, &mut told, &mut out, &mut err,
+        rt, alloc, limits, office, shelf, jobs, &gate, &mut watch, &mut out, &mut err,
     );
     let answered = counts.answered.load(Ordering::SeqCst);
-    let whole = is_whole(&office.lock(rt), told.last) && counts.turns.is_well();
+    let whole = is_whole(&office.lock(rt), watch.told.last) && counts.turns.is_well();
     match ran.ok() {
         Some(0) if whole && err.is_empty() => came_of(alloc, shelf, answered, out.as_slice()),
         Some(3) if out.is_empty() => ended_by(err.as_slice()),
