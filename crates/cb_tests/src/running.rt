@@ -11,6 +11,7 @@ mod disks;
 mod flags;
 mod gates;
 mod giving_up;
+mod late;
 mod lines;
 mod refusals;
 mod run;

@@ -44,7 +44,7 @@ fn writes<Q: Chooser, R: Wait>(
 }
 
 /// Whether the client can join again.
-fn may_come_back<R: Wait>(rt: &R, alloc: Global, office: &Office) -> bool {
+pub(crate) fn may_come_back<R: Wait>(rt: &R, alloc: Global, office: &Office) -> bool {
     let joined = office.lock(rt).station_mut().join(alloc, ClientNo::new(0));
     match joined {
         Ok(hand) => {

@@ -6,6 +6,7 @@ use crate::running::disks::opened;
 use crate::running::flags::{Flags, Moment, follows, wakes};
 use crate::running::gates::Counts;
 use crate::running::giving_up::drops_and_gives_up;
+use crate::running::late::comes_too_late;
 use crate::running::refusals::{Refusal, is_refused_at_first};
 use crate::running::run::came_in;
 use crate::running::sharing::are_shared;
@@ -34,6 +35,8 @@ pub(crate) enum Trial<'a> {
     Alone,
     /// A client drops its transaction, restarts, and gives up.
     GivingUp,
+    /// A call of `work` comes to a closed office, in which another is going on.
+    Late,
     /// A batch is refused at first.
     Refused(Refusal),
     /// Workers run.
@@ -82,6 +85,7 @@ fn comes_with<R: Wait + Threads + Sync, S: Alter>(
         Trial::Shared => are_shared(rt, alloc, office),
         Trial::Alone => works::<TwoQ, R>(rt, alloc, limits, office, true),
         Trial::GivingUp => works::<TwoQ, R>(rt, alloc, limits, office, false),
+        Trial::Late => comes_too_late::<TwoQ, R>(rt, alloc, limits, office),
         Trial::Refused(refusal) => is_refused_at_first(rt, alloc, limits, office, shelf, refusal),
         Trial::Run(counts) => {
             return Outcome::Ran(came_in(rt, alloc, limits, office, shelf, counts));

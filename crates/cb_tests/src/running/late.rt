@@ -1,0 +1,67 @@
+//! A call of `work` that would begin in an office that was closed before.
+use crate::running::alone::may_come_back;
+use crate::running::gates::{Counts, Guarded};
+use crate::running::run::open_plan;
+use crate::running::trials::{Trial, goes_well};
+use cb_office::Office;
+use cb_page::{ClientNo, Limits};
+use cb_run::work;
+use cb_twoq::Chooser;
+use cb_worker::Worker;
+use std::alloc::Global;
+use std::sync::Wait;
+
+/// Whether a worker with one job leaves it in its channel, commits nothing, and leaves.
+fn leaves_its_job<Q: Chooser, R: Wait>(
+    rt: &R,
+    alloc: Global,
+    office: &Office,
+    worker: Worker<Q>,
+) -> bool {
+    let (Ok((to, jobs)), Ok((results, _told))) = (
+        crossbeam_channel::unbounded(alloc),
+        crossbeam_channel::unbounded(alloc),
+    ) else {
+        worker.abandon();
+        return false;
+    };
+    let sent = to.send(rt, 0).is_ok();
+    drop(to);
+    let counts = Counts::new(open_plan(1, 1, 0));
+    let gate = Guarded {
+        rt,
+        office,
+        counts: &counts,
+    };
+    let worked = work(rt, alloc, office, worker, &jobs, &results, &gate) == Ok(());
+    let unasked = jobs.iter(rt).count() == 1;
+    let unwritten = office.lock(rt).station().history().is_empty();
+    sent && worked && unasked && unwritten && may_come_back(rt, alloc, office)
+}
+
+/// Whether a call of `work` that comes too late takes no job, and isn't counted: the office waits
+/// for the one that is going on, and for no other.
+pub(crate) fn comes_too_late<Q: Chooser, R: Wait>(
+    rt: &R,
+    alloc: Global,
+    limits: &Limits,
+    office: &Office,
+) -> bool {
+    let Ok(chooser) = Q::make(alloc, limits) else {
+        return false;
+    };
+    let begun = office.lock(rt).begin_work();
+    office.close(rt);
+    let left = match Worker::join(rt, alloc, office, limits, ClientNo::new(0), chooser) {
+        Ok(worker) => leaves_its_job(rt, alloc, office, worker),
+        Err(_) => false,
+    };
+    let early = office.lock(rt).is_over();
+    office.lock(rt).end_work();
+    begun && left && !early && office.lock(rt).is_over()
+}
+
+#[test]
+fn no_job_in_a_closed_office(rt: HostRuntime) {
+    assert!(rt; goes_well(Trial::Late, &rt, rt.alloc()));
+}
