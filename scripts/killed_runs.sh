@@ -25,7 +25,7 @@ build_told() {
   cp -r --preserve=timestamps "$top/crates" "$copy/"
   mkdir -p "$crate"/{src,specs,proofs}
   cp "$top/crates.txt" "$copy/"
-  echo "killed_runs: cb_page cb_settings cb_shelf cb_office cb_jobs cb_run sqlite anyhow" >>"$copy/crates.txt"
+  echo "killed_runs: cb_page cb_console cb_shelf cb_station cb_jobs cb_run sqlite anyhow" >>"$copy/crates.txt"
   cp "$top/scripts/killed_runs/main.txt" "$crate/src/main.rt"
   cp "$top/crates/cb_play/src/store_run.rt" "$crate/src/"
   cp "$top/crates/cb_play/specs/StoreRuns.antt" "$crate/specs/"

@@ -28,8 +28,8 @@ copy() {
   echo "$line" >>"$room/crates.txt"
 }
 
-for below in cb_page cb_frame cb_commit cb_hands cb_office; do copy "$below"; done
-echo "station_growths: cb_page cb_frame cb_commit cb_hands cb_office" >>"$room/crates.txt"
+for below in cb_page cb_frame cb_commit cb_hands cb_station; do copy "$below"; done
+echo "station_growths: cb_page cb_frame cb_commit cb_hands cb_station" >>"$room/crates.txt"
 cp "$top/crates/cb_tests/src/stores.rt" "$tests/src/"
 cp "$top/crates/cb_tests/src/office/frames.rt" "$tests/src/office/"
 cp "$top/scripts/station_growths/growths.txt" "$tests/src/office/growths.rt"

@@ -38,7 +38,7 @@ build() {
 
 own=${OWN:-}
 if [ -z "$own" ]; then
-  build own_pages "cb_page cb_twoq cb_commit cb_office cb_shelf cb_worker cb_jobs cb_run sqlite anyhow" \
+  build own_pages "cb_page cb_twoq cb_commit cb_station cb_shelf cb_worker cb_jobs cb_run sqlite anyhow" \
     "$room/first.db" 1 1
   own=$built
 fi

@@ -11,7 +11,7 @@ program=$room/crates/shelf_files
 mkdir -p "$program/src" "$program/proofs/bench"
 git init -q "$room"
 cp "$top/HANDLES" "$room/"
-for crate in cb_page cb_frame_types cb_frame cb_commit cb_statements cb_shelf; do
+for crate in cb_page cb_frame_types cb_frame cb_commit cb_sql cb_shelf; do
   cp -r --preserve=timestamps "$top/crates/$crate" "$room/crates/"
   grep "^$crate:" "$top/crates.txt" >>"$room/crates.txt"
 done

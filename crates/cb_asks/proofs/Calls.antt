@@ -3,7 +3,7 @@ use Rattle.std.proofs.Common.{◌≡◌, ◌≢◌, ℕ, ◌+◌, ◌<◌, ◌�
 use Rattle.std.proofs.lemmas.Bool.{cases_eq, cases_lt}
 use Rattle.std.proofs.lemmas.List.{get_or_past, get_or_read}
 use Rattle.std.specs.Option.{is_some}
-use Rattle.cb_clients.specs.Clients.{has}
+use Rattle.cb_page.specs.Clients.{has}
 use Rattle.cb_protocol.specs.Basics.{is_exactly, is_none, update}
 use Rattle.cb_protocol.specs.Deadlock.{ask_count}
 use Rattle.cb_protocol.specs.Server.{WaitingAsk, without_client}

@@ -5,7 +5,7 @@ use Rattle.std.specs.Global.{Box}
 use Rattle.std.specs.Map.{values_of}
 use Rattle.std.specs.Option.{is_some}
 use Rattle.indexmap.specs.IndexMap.{IndexMap, insert_entry, set_value_at, spare}
-use Rattle.cb_clients.specs.Clients.{has}
+use Rattle.cb_page.specs.Clients.{has}
 use Rattle.cb_protocol.specs.Server.{WaitingAsk, set_called_back, set_downgrade_sent}
 use Rattle.cb_asks.specs.Asks.{AsksState, IsAsks, queue_at}
 use Rattle.cb_asks.specs.Entries.{asks_of}

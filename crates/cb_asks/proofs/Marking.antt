@@ -3,9 +3,9 @@ use Rattle.std.proofs.Common.{◌≡◌, ◌≢◌, ◌⊎◌, ℕ, ◌+◌, ◌
 use Rattle.std.proofs.lemmas.Bool.{cases_eq, cases_lt}
 use Rattle.std.proofs.lemmas.Grind.{elements}
 use Rattle.std.proofs.lemmas.List.{get_or-replicate, get_or_past, get_or_read, length-replicate, length-set}
-use Rattle.cb_clients.specs.Clients.{Clients, has, set_of}
-use Rattle.cb_clients.proofs.Flags.{has_none}
-use Rattle.cb_clients.proofs.Lookups.{replicate_gives}
+use Rattle.cb_page.specs.Clients.{Clients, has, set_of}
+use Rattle.cb_page.proofs.ClientBits.{has_none}
+use Rattle.cb_page.proofs.Lookups.{replicate_gives}
 use Rattle.cb_page.specs.Flags as flags
 use Rattle.cb_protocol.specs.Server.{set_in_use}
 use Rattle.cb_asks.specs.Marks.{HasMarks, IsMarks, MarksState, is_in_use}

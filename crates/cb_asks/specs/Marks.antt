@@ -1,6 +1,6 @@
 -- The in-use marks as their callers see them.
 use Rattle.std.specs.Prelude.{◌≡◌, ◌<◌, ◌≤◌, ℕ, Bool, List, [], length, slice_index_or}
-use Rattle.cb_clients.specs.Clients.{Clients, has, set_of}
+use Rattle.cb_page.specs.Clients.{Clients, has, set_of}
 use Rattle.cb_page.specs.Flags as flags
 
 -- the pages that each client uses, and the clients that use each page

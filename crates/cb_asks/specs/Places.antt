@@ -1,7 +1,7 @@
 -- Where each client's ask waits.
 use Rattle.std.specs.Prelude.{◌≡◌, ◌≤◌, ℕ, false, List, length, Option, None, Some, slice_index_or}
 use Rattle.std.specs.Option.{is_some}
-use Rattle.cb_clients.specs.Clients.{Clients, has}
+use Rattle.cb_page.specs.Clients.{Clients, has}
 use Rattle.cb_protocol.specs.Basics.{update}
 
 -- of each client the page at which its ask waits; the clients whose asks wait; how many asks to

@@ -18,8 +18,7 @@ use crate::ask::Ask;
 use crate::places::Places;
 use crate::queue::Queue;
 use crate::spare::Spare;
-use cb_clients::ClientSet;
-use cb_page::{ClientNo, GrantNo, Limits, PageNo, TxnNo};
+use cb_page::{ClientNo, ClientSet, GrantNo, Limits, PageNo, TxnNo};
 use std::alloc::{AllocError, Global};
 use std::marker::Model;
 

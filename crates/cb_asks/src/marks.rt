@@ -1,11 +1,10 @@
 //! In-use marks.
 ghost use Rattle.std.specs.Prelude.{◌≡◌, ℕ, ◌≤◌, false, true, length, replicate, IfOk};
-ghost use Rattle.cb_clients.specs.Clients.{has};
+ghost use Rattle.cb_page.specs.Clients.{has};
 ghost use Rattle.cb_protocol.specs.Server.{set_in_use, without_marks};
 ghost use Rattle.cb_asks.specs.Marks.{HasClient, HasMarks, HasPage, is_in_use};
 
-use cb_clients::ClientSet;
-use cb_page::{ClientNo, Limits, PageNo, PageSet};
+use cb_page::{ClientNo, ClientSet, Limits, PageNo, PageSet};
 use std::alloc::{AllocError, Global};
 use std::marker::Model;
 

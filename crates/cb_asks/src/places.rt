@@ -3,8 +3,7 @@ ghost use Rattle.std.specs.Prelude.{◌≡◌, ◌≤◌, ◌<◌, ◌+◌, true
 ghost use Rattle.cb_asks.specs.Places.{IsNew, Puts, place_of};
 ghost use Rattle.cb_asks.specs.Sums.{one_if};
 
-use cb_clients::ClientSet;
-use cb_page::{ClientNo, PageNo};
+use cb_page::{ClientNo, ClientSet, PageNo};
 use std::marker::Model;
 
 /// Where each client's ask waits, and how many asks are to read.

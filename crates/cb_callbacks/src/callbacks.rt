@@ -65,7 +65,7 @@ impl Callbacks {
             callbacks.tables.holdings.commits ≡ begun store) }
     {
         // At most 32 clients, by its type.
-        let _few = limits.clients();
+        let _known = limits.clients();
         let asks = Asks::new(alloc, limits)?;
         let marks = Marks::new(alloc, limits)?;
         Ok(Callbacks {

@@ -8,7 +8,7 @@ use Rattle.cb_protocol.specs.ClientMessages.{client_take}
 use Rattle.cb_protocol.specs.Messages.{Body, Callback, Downgrade, Message}
 use Rattle.cb_protocol.specs.Ranges.{InputFits}
 use Rattle.cb_protocol.specs.Serial.{Operation}
-use Rattle.cb_client_engine.specs.ClientState.{ClientState, IsClient, client_of}
+use Rattle.cb_client_core.specs.ClientState.{ClientState, IsClient, client_of}
 use Rattle.cb_client.specs.ByTable.{Takes, limits_at}
 use Rattle.cb_client.specs.Laws.{AnswersByKeeping, SaysSo}
 

@@ -10,12 +10,12 @@ use Rattle.cb_protocol.specs.ClientCalls.{Call, CallBegin, CallHello, CallPeek, 
 use Rattle.cb_protocol.specs.Messages.{Hello, Message}
 use Rattle.cb_protocol.specs.Ranges.{InputFits}
 use Rattle.cb_protocol.specs.Serial.{Operation}
-use Rattle.cb_copies.specs.CopiesState.{content_at}
-use Rattle.cb_client_engine.specs.ClientState.{ClientState, IsClient, client_of, stage_of}
-use Rattle.cb_client_engine.specs.declared.standing.Stage.{Stage}
-use Rattle.cb_client_engine.specs.declared.standing.Stage.TheVariants as stages
-use Rattle.cb_client_engine.proofs.Reaching.{calls_reach}
-use Rattle.cb_client_engine.proofs.Keeping.{keeps}
+use Rattle.cb_cache.specs.CacheState.{content_at}
+use Rattle.cb_client_core.specs.ClientState.{ClientState, IsClient, client_of, stage_of}
+use Rattle.cb_client_core.specs.declared.stage.Stage.{Stage}
+use Rattle.cb_client_core.specs.declared.stage.Stage.TheVariants as stages
+use Rattle.cb_client_core.proofs.Reaching.{calls_reach}
+use Rattle.cb_client_core.proofs.Keeping.{keeps}
 use Rattle.cb_protocol.proofs.ClientInvariant.{tidy}
 use Rattle.cb_client.specs.ByTable.{Calls, IsRefusal, IsRefused, as_before, limits_at, messages_from, refusal}
 use Rattle.cb_client.specs.declared.client_fault.ClientFault.{ClientFault}

@@ -11,19 +11,19 @@ use Rattle.cb_protocol.specs.Client.{ChangeCache, Client, MarkWanted, ReadAsk, S
 use Rattle.cb_protocol.specs.ClientCalls.{Call, CallRead, CallWant, CallWrite, Reply, call_fault, client_call, read_page, reply_with}
 use Rattle.cb_protocol.specs.Messages.{AskRead, AskWrite}
 use Rattle.cb_protocol.specs.Serial.{Operation, Saw}
-use Rattle.cb_copies.specs.CopiesState.{CopiesState, client_with, content_at, copy_at}
-use Rattle.cb_copies.specs.ByTable.{Does}
-use Rattle.cb_copies.proofs.Changing.{put_entry}
-use Rattle.cb_client_engine.specs.ClientState.{ClientState, HasRoomLeft, IsClient, base_of, client_of, locks_with}
+use Rattle.cb_cache.specs.CacheState.{CacheState, client_with, content_at, copy_at}
+use Rattle.cb_cache.specs.ByTable.{Does}
+use Rattle.cb_cache.proofs.Changing.{put_entry}
+use Rattle.cb_client_core.specs.ClientState.{ClientState, HasRoomLeft, IsClient, base_of, client_of, locks_with}
 use Rattle.cb_client.specs.ByTable.{Called, Calls, IsRefusal, IsRefused, as_before, limits_at, messages_from, refusal}
 use Rattle.cb_client.specs.CallAnswers.{Answers, after_read, bytes_at, page_asked, page_read, puts, read_ask, sees}
-use Rattle.cb_client_engine.specs.declared.standing.Ask.TheVariants as asks
+use Rattle.cb_client_core.specs.declared.stage.PendingAsk.TheVariants as asks
 use Rattle.cb_client.specs.declared.client_fault.ClientFault.{ClientFault}
 use Rattle.cb_client.specs.declared.client_fault.ClientFault.TheVariants as fault
 use Rattle.cb_client.proofs.CallSteps.{FindsNone, accepted, accepts, refused}
 use Rattle.cb_client.proofs.Refusals.{FirstIs, fetch_full, fetch_here, fetch_is, fetch_room, fetch_shut, of_page}
-use Rattle.cb_client_engine.proofs.Keeping.{keeps}
-use Rattle.cb_client_engine.proofs.Reaching.{calls_reach}
+use Rattle.cb_client_core.proofs.Keeping.{keeps}
+use Rattle.cb_client_core.proofs.Reaching.{calls_reach}
 
 -- a refused call answers so, and changes nothing
 pub refuses : (v : ClientState) (call : Call) (reason : table.ClientFault) → IsRefusal v call (Some reason) → Calls v call (table.Refused reason) [] as_before v
@@ -158,7 +158,7 @@ answers_ask v page h e =
     record { word = asked.word; said = asked.makes.said }
 
 -- the copies with a page that is wanted
-module _ (v : ClientState) (page : ℕ) (copies : CopiesState) (does : Does v.copies (MarkWanted page ∷ []) copies) where
+module _ (v : ClientState) (page : ℕ) (copies : CacheState) (does : Does v.copies (MarkWanted page ∷ []) copies) where
   -- wanted, and permitted
   pub wants : FindsNone v (CallWant page) → has v.copies.may_write page ≡ true → Calls v (CallWant page) table.Permitted [] as_before (record v { copies = copies })
   wants h may = accepted v (record v { copies = copies }) (CallWant page) table.Permitted (λ ops. MarkWanted page ∷ []) [] as_before (record {
@@ -203,7 +203,7 @@ module _ (v : ClientState) (page : ℕ) (copies : CopiesState) (does : Does v.co
       (calls_reach v (record v { copies = copies; ask = asks.Write page }) (CallWant page) (asks_want grant txn h may held begun) is.reached)
 
 -- the copies with a page that is written
-module _ (v : ClientState) (page : ℕ) (bytes : Bytes) (copies : CopiesState) (does : Does v.copies (ChangeCache (WriteBytes page bytes) ∷ []) copies) where
+module _ (v : ClientState) (page : ℕ) (bytes : Bytes) (copies : CacheState) (does : Does v.copies (ChangeCache (WriteBytes page bytes) ∷ []) copies) where
   pub writes : FindsNone v (CallWrite page bytes) → Calls v (CallWrite page bytes) table.AnsweredOk [] (puts page bytes) (record v { copies = copies })
   writes h = accepted v (record v { copies = copies }) (CallWrite page bytes) table.AnsweredOk (λ ops. ChangeCache (WriteBytes page bytes) ∷ []) [] (puts page bytes) (record {
     accepts = accepts v (CallWrite page bytes) h;

@@ -1,8 +1,8 @@
 -- What the protocol's table says of a drop.
 use Rattle.std.proofs.Common.{◌≡◌, ℕ, true, List, ◌∷◌, [], ◌++◌, Option, Some, None, unwrap_or, refl, sym, ◌∙◌, ap}
 use Rattle.std.specs.Option.{option_map}
-use Rattle.cb_copies.specs.CopiesState.{CopiesState}
-use Rattle.cb_copies.specs.Ending.{pages_steps}
+use Rattle.cb_cache.specs.CacheState.{CacheState}
+use Rattle.cb_cache.specs.Ending.{pages_steps}
 use Rattle.cb_frame_types.specs.declared.frame.Frame.{Frame}
 use Rattle.cb_locks.specs.Locks.{LocksState}
 use Rattle.cb_outbox.specs.Messages.{messages_of}
@@ -13,16 +13,16 @@ use Rattle.cb_protocol.specs.Client as protocol
 use Rattle.cb_protocol.specs.ClientCalls.{Call, CallDrop, call_fault, first_refusal, open_causes, reply_with}
 use Rattle.cb_protocol.specs.Messages.{Drop}
 use Rattle.cb_protocol.specs.Serial.{Operation}
-use Rattle.cb_client_engine.proofs.Ending.{EndsSo, after_drop, drop_steps, drop_whole, ended_keeps, same_pages, same_sender}
-use Rattle.cb_client_engine.specs.ClientState.{ClientState, IsClient, base_of, client_of}
-use Rattle.cb_client_engine.specs.declared.standing.Ask.TheVariants as asks
-use Rattle.cb_client_engine.specs.declared.standing.Outcome.TheVariants as outcomes
-use Rattle.cb_client_engine.specs.declared.standing.Stage.TheVariants as stages
+use Rattle.cb_client_core.proofs.Ending.{EndsSo, after_drop, drop_steps, drop_whole, ended_keeps, same_pages, same_sender}
+use Rattle.cb_client_core.specs.ClientState.{ClientState, IsClient, base_of, client_of}
+use Rattle.cb_client_core.specs.declared.stage.PendingAsk.TheVariants as asks
+use Rattle.cb_client_core.specs.declared.stage.Outcome.TheVariants as outcomes
+use Rattle.cb_client_core.specs.declared.stage.Stage.TheVariants as stages
 use Rattle.cb_client.specs.declared.client_fault.ClientFault.{ClientFault}
 use Rattle.cb_client.specs.declared.client_fault.ClientFault.TheVariants as faults
 use Rattle.cb_client.specs.ByTable.{Calls, IsRefused, RefusesOrLacks, limits_at, over}
 use Rattle.cb_client.proofs.CallSteps.{FindsNone, accepted, accepts}
-use Rattle.cb_client_engine.proofs.Reaching.{calls_reach}
+use Rattle.cb_client_core.proofs.Reaching.{calls_reach}
 
 -- a drop is refused as any call that needs an open transaction
 pub drop_is : (v : ClientState) (r : Option (Option table.ClientFault)) → ((ops : List Operation) → r ≡ option_map Some (first_refusal (open_causes (client_of v ops))))
@@ -34,7 +34,7 @@ pub refuses_or_lacks : (v : ClientState) (call : Call) (f : ClientFault) → IsR
 refuses_or_lacks v call faults.Memory r = absurd (let z : None ≡ Some r.reason = r.named in cc)
 refuses_or_lacks v call _ r = (r, refl)
 
-pub drops : (v : ClientState) (txn : ℕ) (frames : List Frame) (copies : CopiesState) (locks : LocksState) → IsClient v → FindsNone v CallDrop → v.txn ≡ Some txn
+pub drops : (v : ClientState) (txn : ℕ) (frames : List Frame) (copies : CacheState) (locks : LocksState) → IsClient v → FindsNone v CallDrop → v.txn ≡ Some txn
     → EndsSo v (drop_steps protocol.Dropped txn) true frames copies locks → Calls v CallDrop table.AnsweredOk (messages_of frames) over (after_drop v txn outcomes.Dropped copies locks)
 drops v txn frames copies locks is h begun ends = accepted v (after_drop v txn outcomes.Dropped copies locks) CallDrop table.AnsweredOk (λ ops. drop_steps protocol.Dropped txn ++ pages_steps v.copies v.locks true v.copies.limits.pages) (messages_of frames) over (record {
   accepts = accepts v CallDrop h;
@@ -49,7 +49,7 @@ drops v txn frames copies locks is h begun ends = accepted v (after_drop v txn o
     number : unwrap_or v.txn 0 ≡ txn
     number = ap (λ (t : Option ℕ). unwrap_or t 0) begun
 
-pub drop_keeps : (v : ClientState) (txn : ℕ) (frames : List Frame) (copies : CopiesState) (locks : LocksState) → IsClient v → FindsNone v CallDrop → v.txn ≡ Some txn
+pub drop_keeps : (v : ClientState) (txn : ℕ) (frames : List Frame) (copies : CacheState) (locks : LocksState) → IsClient v → FindsNone v CallDrop → v.txn ≡ Some txn
     → EndsSo v (drop_steps protocol.Dropped txn) true frames copies locks → IsClient (after_drop v txn outcomes.Dropped copies locks)
 drop_keeps v txn frames copies locks is h begun ends =
     ended_keeps v (after_drop v txn outcomes.Dropped copies locks) is ends.limits refl refl refl refl ends.unlocked (drop_whole v protocol.Dropped txn frames copies locks is ends)

@@ -4,7 +4,7 @@ use Rattle.std.proofs.Common.{◌==◌, ◌<◌, true, Option, None, IfSome, opt
 use Rattle.std.specs.List.{AllByRecursion}
 use Rattle.cb_page.specs.Bounds.{Bounds}
 use Rattle.cb_page.specs.Rising.{RisesFrom}
-use Rattle.cb_copies.specs.CopiesState.{copy_at, limits_of}
+use Rattle.cb_cache.specs.CacheState.{copy_at, limits_of}
 use Rattle.cb_frame_types.specs.Grammar as grammar
 use Rattle.cb_frame_types.specs.declared.frame.Body.{Body}
 use Rattle.cb_frame_types.specs.declared.frame.Body.TheVariants as body
@@ -22,15 +22,15 @@ use Rattle.std.specs.Option.{option_map}
 use Rattle.cb_page.specs.Numbers.{IsNumber}
 use Rattle.cb_frame_types.specs.declared.frame.ShortFrame.{ShortFrame}
 use Rattle.cb_client.specs.CallAnswers.{ShortFrameFits, short_message}
-use Rattle.cb_client_engine.specs.declared.standing.Ask.{Ask}
-use Rattle.cb_client_engine.specs.declared.standing.Ask.TheVariants as asks
+use Rattle.cb_client_core.specs.declared.stage.PendingAsk.{PendingAsk}
+use Rattle.cb_client_core.specs.declared.stage.PendingAsk.TheVariants as asks
 use Rattle.cb_protocol.specs.Client.{bodies_said, is_asking}
 use Rattle.cb_protocol.specs.ClientAlone.{ReceivesCall, ReceivesMessage}
 use Rattle.cb_protocol.specs.ClientCalls.{Call, CallWant, client_call, say_ask, say_ask_write}
 use Rattle.cb_protocol.specs.ClientMessages.{client_take}
 use Rattle.cb_protocol.specs.Messages as protocol
 use Rattle.cb_protocol.specs.Ranges.{Above, AllBodiesFit, AllMessagesFit, BodyFits, InputFits, MessageFits, WritesFit}
-use Rattle.cb_client_engine.specs.ClientState.{ClientState, IsClient, ask_of, client_of}
+use Rattle.cb_client_core.specs.ClientState.{ClientState, IsClient, ask_of, client_of}
 use Rattle.cb_client.specs.ByTable.{Calls, Takes, as_before, limits_at, messages_from}
 
 -- a body without page bytes
@@ -150,7 +150,7 @@ same : (q : ℕ) → (q == q) ≡ true
 same q = grind (arith, nat_tests)
 
 -- the ask that is out
-asks_fit : (v : ClientState) (ops : List Operation) → IsClient v → (a : Ask) → v.ask ≡ a → AllBodiesFit (limits_at v) (bodies_said (say_ask (client_of v ops) (ask_of a)))
+asks_fit : (v : ClientState) (ops : List Operation) → IsClient v → (a : PendingAsk) → v.ask ≡ a → AllBodiesFit (limits_at v) (bodies_said (say_ask (client_of v ops) (ask_of a)))
 asks_fit v ops is asks.Nothing e = tt
 asks_fit v ops is (asks.Read page) e = ((number v is (rw e refl), tidied.read_within page (rw e (same page))), tt)
   where

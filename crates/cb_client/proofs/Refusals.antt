@@ -8,13 +8,13 @@ use Rattle.cb_protocol.specs.Basics.{Bytes, is_none}
 use Rattle.cb_protocol.specs.Client.{Client, has_room, is_asking}
 use Rattle.cb_protocol.specs.Serial.{Operation}
 use Rattle.cb_page.specs.Flags.{has}
-use Rattle.cb_copies.specs.CopiesState.{client_with, content_at}
+use Rattle.cb_cache.specs.CacheState.{client_with, content_at}
 use Rattle.cb_protocol.proofs.ClientInvariant.{tidy}
 use Rattle.cb_protocol.specs.Cache.{Idle}
 use Rattle.cb_protocol.specs.Ranges.{InputFits}
-use Rattle.cb_client_engine.specs.ClientState.{ClientState, IsClient, ask_of, base_of, client_of, locks_with, stage_of}
-use Rattle.cb_client_engine.specs.declared.standing.Stage.{Stage}
-use Rattle.cb_client_engine.specs.declared.standing.Stage.TheVariants as stages
+use Rattle.cb_client_core.specs.ClientState.{ClientState, IsClient, ask_of, base_of, client_of, locks_with, stage_of}
+use Rattle.cb_client_core.specs.declared.stage.Stage.{Stage}
+use Rattle.cb_client_core.specs.declared.stage.Stage.TheVariants as stages
 use Rattle.cb_client.specs.ByTable.{limits_at}
 use Rattle.cb_protocol.specs.ClientCalls.{CallFinish, CallRead, CallWant, CallWrite, Cause, call_fault, cause_of, first_refusal, open_causes, page_causes, read_causes}
 

@@ -7,9 +7,9 @@ use Rattle.cb_protocol.proofs.Cases.{said_append}
 use Rattle.cb_protocol.specs.Client.{bodies_said}
 use Rattle.cb_protocol.specs.ClientCalls.{Call, client_again, commit_again, say_ask, say_drop}
 use Rattle.cb_protocol.specs.Messages.{Body, Message}
-use Rattle.cb_client_engine.specs.ClientState.{ClientState, client_of}
-use Rattle.cb_client_engine.specs.Room.{brings_in, room_at}
-use Rattle.cb_client_engine.specs.declared.standing.Stage.TheVariants as stages
+use Rattle.cb_client_core.specs.ClientState.{ClientState, client_of}
+use Rattle.cb_client_core.specs.Room.{brings_in, room_at}
+use Rattle.cb_client_core.specs.declared.stage.Stage.TheVariants as stages
 use Rattle.cb_client.specs.ByTable.{IsRefused, limits_at, messages_from, refusal}
 use Rattle.cb_client.specs.declared.client_fault.ClientFault.{ClientFault}
 use Rattle.cb_client.specs.declared.client_fault.ClientFault.TheVariants as faults

@@ -16,9 +16,9 @@ use Rattle.cb_protocol.specs.ClientCalls.{CallAgain, CallHello, Reply, client_ag
 use Rattle.cb_protocol.specs.Messages.{Body, Hello, Message}
 use Rattle.cb_protocol.specs.Ranges.{AllMessagesFit, InputFits, MessageFits}
 use Rattle.cb_protocol.specs.Serial.{Operation}
-use Rattle.cb_client_engine.specs.ClientState.{ClientState, IsClient, client_of, is_gone, outcome_of, stage_of}
-use Rattle.cb_client_engine.specs.declared.standing.Outcome.{Outcome}
-use Rattle.cb_client_engine.specs.declared.standing.Outcome.TheVariants as outcomes
+use Rattle.cb_client_core.specs.ClientState.{ClientState, IsClient, client_of, is_gone, outcome_of, stage_of}
+use Rattle.cb_client_core.specs.declared.stage.Outcome.{Outcome}
+use Rattle.cb_client_core.specs.declared.stage.Outcome.TheVariants as outcomes
 use Rattle.cb_client.specs.ByTable.{Calls, as_before, limits_at, messages_from}
 use Rattle.cb_client.proofs.CallSteps.{accepted}
 use Rattle.cb_client.proofs.FramesFit.{calls_fit, frame_fits}

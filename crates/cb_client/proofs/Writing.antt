@@ -12,16 +12,16 @@ use Rattle.cb_protocol.specs.Messages.{Commit, Message}
 use Rattle.cb_protocol.specs.Ranges.{InputFits}
 use Rattle.cb_protocol.specs.Serial.{Operation}
 use Rattle.cb_protocol.proofs.ClientInvariant.{tidy}
-use Rattle.cb_client_engine.specs.ClientState.{ClientState, IsClient, ask_of, base_of, client_of, locks_with, stage_of}
+use Rattle.cb_client_core.specs.ClientState.{ClientState, IsClient, ask_of, base_of, client_of, locks_with, stage_of}
 use Rattle.cb_client.specs.ByTable.{Calls, IsRefused, RefusesOrLacks, as_before, limits_at, messages_from}
-use Rattle.cb_copies.specs.CopiesState.{client_with}
+use Rattle.cb_cache.specs.CacheState.{client_with}
 use Rattle.cb_client.specs.declared.client_fault.ClientFault.{ClientFault}
 use Rattle.cb_client.specs.declared.client_fault.ClientFault.TheVariants as fault
-use Rattle.cb_client_engine.specs.declared.standing.Ask.TheVariants as asks
-use Rattle.cb_client_engine.specs.declared.standing.Stage.TheVariants as stages
+use Rattle.cb_client_core.specs.declared.stage.PendingAsk.TheVariants as asks
+use Rattle.cb_client_core.specs.declared.stage.Stage.TheVariants as stages
 use Rattle.cb_client.proofs.CallSteps.{FindsNone, accepted, accepts}
-use Rattle.cb_client_engine.proofs.Keeping.{keeps}
-use Rattle.cb_client_engine.proofs.Reaching.{calls_reach}
+use Rattle.cb_client_core.proofs.Keeping.{keeps}
+use Rattle.cb_client_core.proofs.Reaching.{calls_reach}
 
 -- an ask is out only while a transaction is open, for a page that there is
 pub asking_open : (v : ClientState) → IsClient v → is_asking (ask_of v.ask) ≡ true → v.stage ≡ stages.Idle → ⊥

@@ -7,10 +7,10 @@ use Rattle.cb_protocol.specs.ClientCalls.{Call, Cause, call_fault, first_refusal
 use Rattle.cb_protocol.specs.Serial.{Operation}
 use Rattle.cb_client.specs.declared.client_fault.ClientFault.{ClientFault}
 use Rattle.cb_client.specs.declared.client_fault.ClientFault.TheVariants as fault
-use Rattle.cb_client_engine.specs.ClientState.{ClientState, client_of}
+use Rattle.cb_client_core.specs.ClientState.{ClientState, client_of}
 -- what a client does for calls and messages
-pub use Rattle.cb_client_engine.specs.ByTable.{Called, Calls, Makes, Takes}
-pub use Rattle.cb_client_engine.specs.ByTable.{as_before, limits_at, messages_from, over}
+pub use Rattle.cb_client_core.specs.ByTable.{Called, Calls, Makes, Takes}
+pub use Rattle.cb_client_core.specs.ByTable.{as_before, limits_at, messages_from, over}
 
 -- the protocol's refusal that a fault is; the protocol has no want of memory
 abbrev pub refusal : ClientFault → Option table.ClientFault

@@ -2,7 +2,7 @@
 use Rattle.std.specs.Prelude.{if◌then◌else◌, ◌≡◌, ℕ, List, [], ◌∷◌, Option, Some, None, Result}
 use Rattle.std.specs.Prelude.{Ok, Err, ⊤, true, slice_set, unwrap_or}
 use Rattle.std.specs.Option.{is_some}
-use Rattle.cb_copies.specs.CopiesState.{content_at, copy_at}
+use Rattle.cb_cache.specs.CacheState.{content_at, copy_at}
 use Rattle.cb_frame_types.specs.Grammar.{Fits}
 use Rattle.cb_frame_types.specs.declared.frame.Body.TheVariants.{Short}
 use Rattle.cb_frame_types.specs.declared.frame.Frame.{Frame}
@@ -16,10 +16,10 @@ use Rattle.cb_protocol.specs.ClientCalls.{Call, CallBegin, CallFinish, CallRead,
 use Rattle.cb_protocol.specs.ClientCalls.{CallWrite, call_fault, client_call}
 use Rattle.cb_protocol.specs.Messages.{AskRead, Message}
 use Rattle.cb_protocol.specs.Serial.{Operation, Put, Saw}
-use Rattle.cb_client_engine.specs.ClientState.{ClientState, client_of}
+use Rattle.cb_client_core.specs.ClientState.{ClientState, client_of}
 use Rattle.cb_client.specs.ByTable.{Calls, IsRefused, Refuses, RefusesOrLacks}
 use Rattle.cb_client.specs.ByTable.{as_before, limits_at, messages_from}
-use Rattle.cb_client_engine.specs.declared.standing.Ask.TheVariants as asks
+use Rattle.cb_client_core.specs.declared.stage.PendingAsk.TheVariants as asks
 use Rattle.cb_client.specs.declared.answers.ReadAnswer.{ReadAnswer}
 use Rattle.cb_client.specs.declared.answers.ReadAnswer.TheVariants as read
 use Rattle.cb_client.specs.declared.answers.WantAnswer.{WantAnswer}

@@ -11,8 +11,8 @@ use Rattle.cb_frame_types.specs.declared.frame.Frame.{Frame}
 use Rattle.cb_outbox.specs.Messages.{body_of}
 use Rattle.cb_protocol.specs.Messages.{Message}
 use Rattle.cb_client.specs.ByTable.{Takes}
-use Rattle.cb_client_engine.specs.ClientState.{ClientState}
-use Rattle.cb_client_engine.specs.Room.{brings_in, room_at}
+use Rattle.cb_client_core.specs.ClientState.{ClientState}
+use Rattle.cb_client_core.specs.Room.{brings_in, room_at}
 use Rattle.cb_client.specs.declared.client_fault.ClientFault.{ClientFault}
 use Rattle.cb_client.specs.declared.client_fault.ClientFault.TheVariants as faults
 

@@ -4,7 +4,7 @@ use Rattle.cb_protocol.specs.Client.{Client}
 use Rattle.cb_protocol.specs.ClientAlone.{AnswersCallback, AnswersDowngrade, GivesBackOnce}
 use Rattle.cb_protocol.specs.Messages.{Body, Callback, Downgrade, Message}
 use Rattle.cb_protocol.specs.Serial.{Operation}
-use Rattle.cb_client_engine.specs.ClientState.{ClientState, IsClient, client_of}
+use Rattle.cb_client_core.specs.ClientState.{ClientState, IsClient, client_of}
 use Rattle.cb_client.specs.ByTable.{Takes, limits_at, messages_from}
 
 -- These messages say this, and the protocol's client before and after is so related by it,

@@ -2,7 +2,7 @@
 use Rattle.std.specs.Prelude.{◌≡◌, ⊤}
 use Rattle.std.specs.Borrow.{MutBor, Fml, RattleType, follows_so}
 use mathlib.Core.Option.{none}
-use Rattle.cb_client_engine.specs.ClientState.{ClientState}
+use Rattle.cb_client_core.specs.ClientState.{ClientState}
 use Rattle.cb_client.specs.contracts.client.Client.{the_row}
 use Rattle.cb_twoq.specs.declared.chooser.Chooser as chooser
 

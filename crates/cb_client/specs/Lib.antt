@@ -1,6 +1,6 @@
 pub use Rattle.cb_outbox.specs.Messages
-pub use Rattle.cb_client_engine.specs.ClientState
-pub use Rattle.cb_client_engine.specs.Parts
+pub use Rattle.cb_client_core.specs.ClientState
+pub use Rattle.cb_client_core.specs.Parts
 pub mod ByTable
 pub mod CallAnswers
 pub mod Lending

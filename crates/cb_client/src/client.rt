@@ -4,12 +4,12 @@ ghost use Rattle.std.specs.Option.{is_some};
 ghost use Rattle.cb_page.specs.Flags.{has};
 ghost use Rattle.cb_protocol.specs.Cache.{is_open};
 ghost use Rattle.cb_protocol.specs.Client.{client_status, new_client};
-ghost use Rattle.cb_copies.specs.CopiesState.{content_at, copy_at};
+ghost use Rattle.cb_cache.specs.CacheState.{content_at, copy_at};
 ghost use Rattle.cb_client.specs.CallAnswers.{held_copy};
 ghost use Rattle.cb_twoq.specs.Pages.{has as on};
 ghost use Rattle.cb_protocol.specs.Serial.{Operation};
-ghost use Rattle.cb_client_engine.specs.ClientState.{IsClient, client_of, new_state, outcome_of};
-ghost use Rattle.cb_client_engine.specs.ClientState.{status_of};
+ghost use Rattle.cb_client_core.specs.ClientState.{IsClient, client_of, new_state, outcome_of};
+ghost use Rattle.cb_client_core.specs.ClientState.{status_of};
 
 mod again;
 mod calls;
@@ -17,8 +17,8 @@ mod ends;
 mod finish;
 mod taking;
 
-use cb_client_engine::{Ask, ClientStatus, Engine, Outcome, Stage};
-use cb_copies::Copies;
+use cb_cache::Cache;
+use cb_client_core::{ClientCore, ClientStatus, Outcome, PendingAsk, Stage};
 use cb_locks::ReadLocks;
 use cb_page::{ClientNo, GrantNo, Incarnation, Limits, PageNo, PageSet, Version};
 use cb_twoq::Chooser;
@@ -30,25 +30,25 @@ use std::marker::Model;
 /// `new`, `finish`, `commit_again`, `drop_txn`, `take`, `take_bytes` and `again` take memory; no
 /// other call does.
 pub struct Client<Q: Chooser> {
-    engine: Engine<Q>,
+    core: ClientCore<Q>,
 }
 
 // By hand, so that who owns a client proves this drop alone, and not those of all its parts.
 impl<Q: Chooser> Drop for Client<Q> {
     fn drop(self) {
-        let Client { engine: _ } = self;
+        let Client { core: _ } = self;
     }
 }
 
 impl<Q: Chooser> Model for Client<Q> {
-    ghost use Rattle.cb_client_engine.specs.ClientState.{ClientState, IsClient};
-    ghost use Rattle.cb_client_engine.specs.Parts.{client_in};
+    ghost use Rattle.cb_client_core.specs.ClientState.{ClientState, IsClient};
+    ghost use Rattle.cb_client_core.specs.Parts.{client_in};
 
     ghost Value = { ClientState };
 
-    ghost view = { λ client. client_in client.engine };
+    ghost view = { λ client. client_in client.core };
 
-    ghost invariant = { λ client. IsClient (client_in client.engine) };
+    ghost invariant = { λ client. IsClient (client_in client.core) };
 }
 
 impl<Q: Chooser> Client<Q> {
@@ -68,17 +68,17 @@ impl<Q: Chooser> Client<Q> {
         ensures by_table { IfOk result (λ client. client_of client [] ≡ new_client) }
     {
         // In range by its type: `get` says so.
-        let _in_range = incarnation.get();
+        let _known = incarnation.get();
         let locks = ReadLocks::new(alloc, no, incarnation, limits)?;
-        let copies = Copies::new(alloc, chooser, limits)?;
+        let copies = Cache::new(alloc, chooser, limits)?;
         Ok(Client {
-            engine: Engine {
+            core: ClientCore {
                 no,
                 incarnation,
                 welcomed: false,
                 txn: None,
                 stage: Stage::Idle,
-                ask: Ask::Nothing,
+                ask: PendingAsk::Nothing,
                 dropped: None,
                 last: None,
                 copies,
@@ -90,7 +90,7 @@ impl<Q: Chooser> Client<Q> {
     /// The client at the start of another incarnation, over an empty chooser of as many slots as
     /// before. Nothing is left of the one that ended.
     ///
-    /// It takes no memory, and costs what that one touched: what [`Copies::restart`] says of its
+    /// It takes no memory, and costs what that one touched: what [`Cache::restart`] says of its
     /// copies, and [`ReadLocks`] of the pages due.
     pub fn restart(&mut self, incarnation: Incarnation, chooser: Q)
         requires members { Q.members chooser ≡ [] }
@@ -99,23 +99,23 @@ impl<Q: Chooser> Client<Q> {
         ensures by_table { client_of self.new [] ≡ new_client }
     {
         // In range by its type: `get` says so.
-        let _in_range = incarnation.get();
-        self.engine.incarnation = incarnation;
-        self.engine.welcomed = false;
-        self.engine.txn = None;
-        self.engine.stage = Stage::Idle;
-        self.engine.ask = Ask::Nothing;
-        self.engine.dropped = None;
-        self.engine.last = None;
-        self.engine.copies.restart(chooser);
-        self.engine.locks.restart(incarnation);
+        let _known = incarnation.get();
+        self.core.incarnation = incarnation;
+        self.core.welcomed = false;
+        self.core.txn = None;
+        self.core.stage = Stage::Idle;
+        self.core.ask = PendingAsk::Nothing;
+        self.core.dropped = None;
+        self.core.last = None;
+        self.core.copies.restart(chooser);
+        self.core.locks.restart(incarnation);
     }
 
     /// Its incarnation.
     pub fn incarnation(&self) -> Incarnation
         ensures { result ≡ self.now.incarnation }
     {
-        self.engine.incarnation
+        self.core.incarnation
     }
 
     /// The limits of its store and its pool. The client arose by the protocol's steps, whatever was
@@ -124,7 +124,7 @@ impl<Q: Chooser> Client<Q> {
         ensures value { result.now ≡ self.now.copies.limits }
         ensures arose { IsClient self.now }
     {
-        self.engine.copies.limits()
+        self.core.copies.limits()
     }
 
     /// Lends the pool's chooser, whose members are the pages of which `peek` has the bytes.
@@ -132,7 +132,7 @@ impl<Q: Chooser> Client<Q> {
         ensures { (page : ℕ) → on (Q.members result.now) page
             ≡ is_some (content_at self.now.copies page) }
     {
-        self.engine.copies.chooser()
+        self.core.copies.chooser()
     }
 
     /// Whether the client may write the page in the transaction that is open.
@@ -143,8 +143,8 @@ impl<Q: Chooser> Client<Q> {
         ensures held { IsTrue result → IsTrue (is_some (copy_at self.now.copies page).held) }
     {
         // What holds of all copies, `limits` says: a permission is of a copy that is held.
-        let _limits = self.engine.copies.limits();
-        self.engine.stage.is_open() && self.engine.copies.may_write(page)
+        let _known = self.core.copies.limits();
+        self.core.stage.is_open() && self.core.copies.may_write(page)
     }
 
     /// The grant of the client's copy of a page and the copy's version. `None` where it holds none,
@@ -153,10 +153,10 @@ impl<Q: Chooser> Client<Q> {
         ensures { result ≡ held_copy self.now page }
     {
         // What is kept of each page, `limits` says.
-        if !self.engine.copies.limits().has_page(page.get()) {
+        if !self.core.copies.limits().has_page(page.get()) {
             return None;
         }
-        let copy = self.engine.copies.at(page);
+        let copy = self.core.copies.at(page);
         match copy.held {
             Some(grant) => Some((grant, copy.version)),
             None => None,
@@ -168,13 +168,13 @@ impl<Q: Chooser> Client<Q> {
         ensures { (operations : List Operation)
             → status_of result ≡ client_status (client_of self.now operations) }
     {
-        if !self.engine.welcomed {
+        if !self.core.welcomed {
             return ClientStatus::NotWelcome;
         }
-        match (self.engine.stage, self.engine.ask) {
+        match (self.core.stage, self.core.ask) {
             (Stage::Idle, _) => ClientStatus::Idle,
             (Stage::Committing, _) => ClientStatus::Committing,
-            (Stage::Open, Ask::Nothing) => ClientStatus::Open,
+            (Stage::Open, PendingAsk::Nothing) => ClientStatus::Open,
             (Stage::Open, _) => ClientStatus::Waiting,
         }
     }
@@ -184,7 +184,7 @@ impl<Q: Chooser> Client<Q> {
         ensures { (operations : List Operation)
             → outcome_of result ≡ (client_of self.now operations).last_outcome }
     {
-        self.engine.last
+        self.core.last
     }
 
     /// The pages that the open or committing transaction has read.
@@ -192,6 +192,6 @@ impl<Q: Chooser> Client<Q> {
         ensures { (operations : List Operation) (page : ℕ)
             → has result.now page ≡ (client_of self.now operations).cache.locked page }
     {
-        self.engine.locks.locked()
+        self.core.locks.locked()
     }
 }

@@ -15,7 +15,7 @@ mod client_fault;
 mod laws;
 
 pub use answers::{ReadAnswer, WantAnswer};
-pub use cb_client_engine::{Ask, ClientStatus, Outcome, Stage};
+pub use cb_client_core::{ClientStatus, Outcome, PendingAsk, Stage};
 pub use client::Client;
 pub use client_fault::ClientFault;
 pub use laws::{callbacks_are_answered, downgrades_are_answered, in_use_is_given_back};

@@ -5,8 +5,8 @@ use Rattle.cb_event.specs.declared.event.Event.{Event}
 use Rattle.cb_console.specs.Runs.{IsPlay, IsPlayOf}
 use Rattle.cb_console.specs.declared.play.Play.{Play}
 use Rattle.cb_console.specs.declared.play.Play.TheVariants as play
-use Rattle.cb_settings.specs.Settings.{IsConfig}
-use Rattle.cb_settings.specs.declared.config.Config.{Config}
+use Rattle.cb_console.specs.Settings.{IsConfig}
+use Rattle.cb_console.specs.declared.config.Config.{Config}
 
 -- the texts are read, and so many of their events are played
 pub told_of : (config_bytes schedule_bytes : List ℕ) (settings : Config) (events : List Event) (played : Play) → IsConfig config_bytes settings

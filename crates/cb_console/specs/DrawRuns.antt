@@ -5,9 +5,9 @@ use Rattle.std.specs.List.{flat_map}
 use Rattle.std.specs.Io.KnownBytes.{Appends}
 use Rattle.cb_world.specs.Draws.{AreDrawn}
 use Rattle.cb_event.specs.declared.event.Event.{Event}
-use Rattle.cb_settings.specs.Settings.{IsConfig, IsWrong, config_text}
-use Rattle.cb_settings.specs.declared.config.Config.{Config}
-use Rattle.cb_settings.specs.declared.config.ConfigFault.{ConfigFault}
+use Rattle.cb_console.specs.Settings.{IsConfig, IsWrong, config_text}
+use Rattle.cb_console.specs.declared.config.Config.{Config}
+use Rattle.cb_console.specs.declared.config.ConfigFault.{ConfigFault}
 use Rattle.cb_console.specs.DrawnText.{event_text}
 use Rattle.cb_console.specs.Runs.{PrintsFault}
 use Rattle.cb_console.specs.declared.play.ReadFault.{ReadFault}

@@ -3,7 +3,7 @@ use Rattle.std.specs.Prelude.{ℕ, ◌+◌, ◌==◌, Bool, true, false, List, [
 use Rattle.std.specs.Prelude.{Option, Some, None, if◌then◌else◌}
 use Rattle.std.specs.List.{list_all, flat_map}
 use Rattle.std.specs.Fmt.{decimal}
-use Rattle.cb_settings.specs.Escaped.{two_digits}
+use Rattle.cb_console.specs.Escaped.{two_digits}
 use Rattle.cb_frame.specs.Kinds.{name_of}
 use Rattle.cb_transcript.specs.RefusalTexts.{refusal_text}
 use Rattle.cb_transcript.specs.declared.answer.AnswerWord.{AnswerWord}

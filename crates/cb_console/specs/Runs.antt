@@ -14,10 +14,10 @@ use Rattle.cb_event.specs.declared.event.Event.{Event}
 use Rattle.cb_event.specs.declared.text.ScheduleFault.{ScheduleFault}
 use Rattle.cb_event.specs.declared.text.ScheduleFault.TheVariants as schedule
 use Rattle.cb_console.specs.Output.{last_lines, lines_from}
-use Rattle.cb_settings.specs.Settings.{IsConfig, IsWrong, config_line, config_text}
-use Rattle.cb_settings.specs.declared.config.Config.{Config}
-use Rattle.cb_settings.specs.declared.config.ConfigFault.{ConfigFault}
-use Rattle.cb_settings.specs.declared.config.ConfigFault.TheVariants as config
+use Rattle.cb_console.specs.Settings.{IsConfig, IsWrong, config_line, config_text}
+use Rattle.cb_console.specs.declared.config.Config.{Config}
+use Rattle.cb_console.specs.declared.config.ConfigFault.{ConfigFault}
+use Rattle.cb_console.specs.declared.config.ConfigFault.TheVariants as config
 use Rattle.cb_console.specs.declared.play.Play.{Play}
 use Rattle.cb_console.specs.declared.play.Play.TheVariants as play
 use Rattle.cb_console.specs.declared.play.ReadFault.{ReadFault}

@@ -8,10 +8,10 @@ ghost use Rattle.cb_console.specs.DrawRuns.{IsDrawn, IsDrawRun, IsConfigRefusal}
 ghost use Rattle.cb_console.specs.declared.play.ReadFault.TheVariants as fault;
 ghost use Rattle.cb_event.specs.declared.event.Event.TheVariants as event;
 
+use crate::config::read_config;
 use crate::play::{ReadFault, print_fault};
 use crate::statuses::DONE;
 use cb_event::{Call, Event};
-use cb_settings::read_config;
 use cb_world::draw;
 use std::alloc::Global;
 use std::io;

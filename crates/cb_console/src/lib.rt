@@ -1,19 +1,28 @@
-//! What the program prints of a play and of a draw, and the statuses with which they end.
+//! The settings of a play and of a run, what the program prints of a play and of a draw, and the
+//! statuses with which they end.
+//!
+//! [`read_config`] reads the settings, which are TOML; [`ConfigFault`] is what is wrong with a text
+//! of them. A [`Key`] is a setting's name. [`run_settings`] reads those that workers can run under,
+//! and [`print_refusal`] prints the line of any other. [`Escaped`] shows a text so that it stays
+//! one line.
 //!
 //! [`play_to`] plays a schedule's text under a configuration's text and prints what became of each
 //! event, in two steps: [`read_and_play`], then [`print_outcome`]. [`draw_to`] prints a drawn
-//! schedule. The settings are those of `cb_settings`.
+//! schedule.
 #![tactic(auto)]
 
-/// The settings, where the console's callers look for them.
-pub use cb_settings::{Config, ConfigFault, Escaped, Key, read_config};
-
+mod config;
 mod drawn;
+mod escaped;
 mod output;
 mod play;
+mod running;
 mod statuses;
 
+pub use config::{Config, ConfigFault, Key, read_config};
 pub use drawn::{draw_to, put_events};
+pub use escaped::Escaped;
 pub use output::{put_entries, put_verdict};
 pub use play::{Play, ReadFault, play_to, print_outcome, read_and_play};
+pub use running::{RunFault, print_refusal, run_settings};
 pub use statuses::{DONE, NO_MEMORY, NOT_SERIAL, WRONG_INPUT};

@@ -4,7 +4,7 @@ ghost use Rattle.std.specs.List.{flat_map, list_all};
 ghost use Rattle.std.specs.Io.KnownBytes.{Appends};
 ghost use Rattle.cb_console.specs.Output.{bytes_text, last_lines, line, lines_from, only_byte};
 ghost use Rattle.cb_console.specs.Output.{packet_text, word_text};
-ghost use Rattle.cb_settings.specs.Escaped.{two_digits};
+ghost use Rattle.cb_console.specs.Escaped.{two_digits};
 
 use cb_page::Page;
 use cb_transcript::{Answer, AnswerWord, SentPackets, TranscriptEntry};
@@ -123,7 +123,7 @@ fn put_each_byte<O: Write>(out: &mut O, bytes: &[u8]) -> io::Result<()>
     Ok(())
 }
 
-#[tactic(auto, using(std::proofs::lemmas::Fmt::hex_byte), unfolding(cb_settings::specs::Escaped::two_digits))]
+#[tactic(auto, using(std::proofs::lemmas::Fmt::hex_byte), unfolding(cb_console::specs::Escaped::two_digits))]
 fn put_byte<O: Write>(out: &mut O, byte: u8) -> io::Result<()>
     ensures { OnOk result (Appends (O.contents out.old) (O.contents out.new) (two_digits byte)) }
 {

@@ -7,12 +7,12 @@ ghost use Rattle.cb_console.specs.Runs.{IsRefusal, IsRun, PrintsAll, PrintsFault
 ghost use Rattle.cb_console.specs.Runs.{read_fault_line};
 ghost use Rattle.cb_console.specs.declared.play.ReadFault.TheVariants as fault;
 
+use crate::config::{ConfigFault, read_config};
 use crate::output::{put_entries, put_verdict};
 use crate::statuses::{DONE, NO_MEMORY, NOT_SERIAL, WRONG_INPUT};
 use cb_commit::Store;
 use cb_event::{Event, ScheduleFault, read_schedule};
 use cb_page::Limits;
-use cb_settings::{ConfigFault, read_config};
 use cb_transcript::{Transcript, Verdict, check_serial};
 use cb_twoq::TwoQ;
 use cb_world::World;

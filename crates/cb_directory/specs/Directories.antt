@@ -3,13 +3,13 @@ use Rattle.std.specs.Prelude.{◌≡◌, ◌<◌, ◌≤◌, ◌+◌, ℕ, ◌==
 use Rattle.std.specs.Prelude.{Option, Some, None}
 use Rattle.cb_page.specs.Bounds.{Bounds}
 use Rattle.cb_page.specs.Numbers.{max_number}
-use Rattle.cb_directory.specs.Tables as tables
-use Rattle.cb_directory.specs.Tables.{TablesState, at_place, at_page, is_copied, is_marked}
-use Rattle.cb_directory.specs.Tables.{is_writable}
+use Rattle.cb_directory.specs.RowTables as tables
+use Rattle.cb_directory.specs.RowTables.{RowTablesState, at_place, at_page, is_copied, is_marked}
+use Rattle.cb_directory.specs.RowTables.{is_writable}
 
 -- the tables of rows and write holders, and the number of the next grant
 pub record DirectoryState : Type 0 where
-  pub tables : TablesState
+  pub tables : RowTablesState
   pub next_grant : ℕ
 
 -- the grant of a client's copy of a page (TODS 1997: the row of the directory)

@@ -1,3 +1,3 @@
 pub mod Rows
-pub mod Tables
+pub mod RowTables
 pub mod Directories

@@ -1,14 +1,13 @@
 ghost use Rattle.std.specs.Prelude.{◌≡◌, ◌^◌, ◌↔◌, ℕ, ◌<◌, None, Some, IfOk, IfSome, IsSome};
 ghost use Rattle.std.specs.Option.{is_some};
-ghost use Rattle.cb_clients.specs.Clients.{has};
+ghost use Rattle.cb_page.specs.Clients.{has};
 ghost use Rattle.cb_directory.specs.Directories.{Forgets, GivesBack, Grants, HasClient};
 ghost use Rattle.cb_directory.specs.Directories.{HasGrantLeft, HasPage, IsNew, IsSoleRow};
 ghost use Rattle.cb_directory.specs.Directories.{NoOtherHolder, Permits, Releases, ReleasesAll};
 ghost use Rattle.cb_directory.specs.Directories.{ReleasesIf, Rule, row, holder, tag};
 
-use crate::tables::Tables;
-use cb_clients::ClientSet;
-use cb_page::{ClientNo, GrantNo, Limits, PageNo, TxnNo};
+use crate::row_tables::RowTables;
+use cb_page::{ClientNo, ClientSet, GrantNo, Limits, PageNo, TxnNo};
 use std::alloc::{AllocError, Global};
 use std::marker::Model;
 
@@ -17,7 +16,7 @@ use std::marker::Model;
 /// A page with a write holder has rows of no other client, and no two rows have the same grant.
 /// Only `new` takes memory.
 pub struct Directory {
-    tables: Tables,
+    tables: RowTables,
     next_grant: u64,
 }
 
@@ -50,7 +49,7 @@ impl Directory {
         ensures { IfOk result (IsNew limits.now) }
     {
         Ok(Directory {
-            tables: Tables::new(alloc, limits)?,
+            tables: RowTables::new(alloc, limits)?,
             next_grant: 1,
         })
     }

@@ -13,6 +13,6 @@
 
 mod directory;
 mod lines;
-mod tables;
+mod row_tables;
 
 pub use directory::Directory;

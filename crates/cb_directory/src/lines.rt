@@ -4,8 +4,7 @@ ghost use Rattle.std.specs.Option.{is_some};
 ghost use Rattle.cb_page.specs.Flags.{has};
 ghost use Rattle.cb_directory.specs.Rows.{IsLeastFrom, grant_of, no_rows};
 
-use cb_clients::ClientSet;
-use cb_page::{ClientNo, GrantNo, PageNo, PageSet, TxnNo};
+use cb_page::{ClientNo, ClientSet, GrantNo, PageNo, PageSet, TxnNo};
 use std::alloc::{AllocError, Global};
 use std::marker::Model;
 

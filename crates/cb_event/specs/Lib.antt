@@ -2,3 +2,5 @@ pub mod Commands
 pub mod Events
 pub mod Pieces
 pub mod ScheduleText
+pub mod Drawn
+pub mod RandomWords

@@ -29,27 +29,27 @@ impl Fields {
             Fields::Nothing => true,
             Fields::Txn(txn) => {
                 // In range by its type: `get` says so.
-                let _in_range = txn.get();
+                let _known = txn.get();
                 true
             }
             Fields::TxnPage(txn, page) => {
                 // In range by its type: `get` says so.
-                let _in_range = txn.get();
+                let _known = txn.get();
                 limits.has_page(page.get())
             }
             Fields::TxnPageGrant(txn, page, grant) | Fields::PageGrantTxn(page, grant, txn) => {
                 // In range by its type: `get` says so.
-                let _in_range = (txn.get(), grant.get());
+                let _known = (txn.get(), grant.get());
                 limits.has_page(page.get())
             }
             Fields::TxnCommit(txn, number) => {
                 // In range by its type: `get` says so.
-                let _in_range = (txn.get(), number.get());
+                let _known = (txn.get(), number.get());
                 true
             }
             Fields::PageGrant(page, grant) => {
                 // In range by its type: `get` says so.
-                let _in_range = grant.get();
+                let _known = grant.get();
                 limits.has_page(page.get())
             }
         }

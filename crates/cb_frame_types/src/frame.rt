@@ -167,7 +167,7 @@ impl Body {
             Body::Short(body) => body.fields().fit(limits),
             Body::Commit { txn, writes } => {
                 // In range by its type: `get` says so.
-                let _in_range = txn.get();
+                let _known = txn.get();
                 writes.fit(limits)
             }
             Body::Granted {
@@ -177,7 +177,7 @@ impl Body {
                 bytes,
             } => {
                 // In range by its type: `get` says so.
-                let _in_range = (grant.get(), version.get());
+                let _known = (grant.get(), version.get());
                 limits.has_page(page.get()) && bytes.len() == limits.page_size()
             }
         }
@@ -202,7 +202,7 @@ impl Frame {
         ensures range { AreInRange limits.now }
     {
         // In range by its type: `get` says so.
-        let _in_range = self.incarnation.get();
+        let _known = self.incarnation.get();
         limits.has_client(self.client.get()) && self.body.fits(limits)
     }
 }

@@ -101,7 +101,7 @@ fn fits(limits: &Limits, write: &Write) -> bool
     ensures { IsTrue result ↔ WriteFits limits.now write.now }
 {
     // In range by its type: `get` says so.
-    let _in_range = write.grant.get();
+    let _known = write.grant.get();
     limits.has_page(write.page.get()) && write.bytes.len() == limits.page_size()
 }
 

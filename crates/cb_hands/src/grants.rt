@@ -4,8 +4,8 @@ ghost use Rattle.std.specs.Prelude.{slice_set, true, IfOk, MatchOption};
 ghost use Rattle.std.specs.Option.{is_some};
 ghost use Rattle.cb_hands.specs.Hands.{held_at};
 
-use crate::copies::flag;
 use crate::grant::{Grant, Held};
+use crate::stored_copies::flag;
 use cb_page::{PageNo, PageSet};
 use std::alloc::{AllocError, AllocFailed, Global};
 use std::marker::Model;

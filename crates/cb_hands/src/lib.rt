@@ -13,10 +13,10 @@
 //! that it holds, and what [`PageSet`](cb_page::PageSet) says of a walk.
 #![tactic(auto)]
 
-mod copies;
 mod grant;
 mod grants;
 mod hand;
+mod stored_copies;
 mod stored_hand;
 
 pub use grant::{Grant, Held, Shown};

@@ -3,9 +3,9 @@ ghost use Rattle.std.specs.Prelude.{◌≡◌, ◌↔◌, ◌<◌, ◌≤◌, Is
 ghost use Rattle.cb_hands.specs.Hands.{empty_hand, held_at, permitted, restamped, with_copy};
 ghost use Rattle.cb_hands.specs.Hands.{without_copy, without_permissions};
 
-use crate::copies::{Copies, same_pages};
 use crate::grant::Held;
 use crate::hand::Hand;
+use crate::stored_copies::{StoredCopies, same_pages};
 use cb_page::{ClientNo, Incarnation, PageNo, PageSet, TxnNo, Version};
 use std::alloc::{AllocError, Global};
 use std::marker::Model;
@@ -16,7 +16,7 @@ pub struct StoredHand {
     client: ClientNo,
     incarnation: Incarnation,
     txn: Option<TxnNo>,
-    held: Copies,
+    held: StoredCopies,
     writable: PageSet,
 }
 
@@ -67,7 +67,7 @@ impl StoredHand {
             client,
             incarnation,
             txn: None,
-            held: Copies::new(alloc, pages)?,
+            held: StoredCopies::new(alloc, pages)?,
             writable: PageSet::new(alloc, pages)?,
         })
     }

@@ -5,7 +5,7 @@ use Rattle.std.proofs.lemmas.Bool.Decides.{nat_tests}
 use Rattle.std.proofs.Math.ListN.{length-set}
 use Rattle.cb_commit.specs.History.{FitsInto}
 use Rattle.cb_directory.specs.Directories.{DirectoryState, ReleasesAll, holder}
-use Rattle.cb_directory.specs.Tables.{IsAsLarge}
+use Rattle.cb_directory.specs.RowTables.{IsAsLarge}
 use Rattle.cb_frame_types.specs.declared.writes.Write.{Write}
 use Rattle.cb_links.specs.Changes as links
 use Rattle.cb_links.specs.Changes.{is_live_transaction, session_of}

@@ -2,13 +2,13 @@
 use Rattle.std.proofs.Common.{◌≡◌, ℕ, ◌<◌, ◌≤◌, ◌==◌, Bool, true, false, not, ◌&&◌, ◌||◌, Option, Some, None, length, zero, suc, refl, sym, ap, arith, inl, inr}
 use Rattle.std.specs.Option.{is_some}
 use Rattle.std.specs.Prelude.{MatchOption}
-use Rattle.cb_clients.specs.Clients.{Clients, IsLeast, has, without}
+use Rattle.cb_page.specs.Clients.{Clients, IsLeast, has, without}
 use Rattle.std.proofs.lemmas.Bool.{cases_eq, cases_lt}
 use Rattle.std.proofs.lemmas.Bool.Decides.{nat_tests}
 use Rattle.std.proofs.lemmas.List.{get_or_past}
 use Rattle.cb_directory.specs.Directories.{IsSoleRow, Rule, row}
 use Rattle.cb_directory.specs.Rows.{ClientState, grant_of}
-use Rattle.cb_directory.specs.Tables.{no_client}
+use Rattle.cb_directory.specs.RowTables.{no_client}
 use Rattle.cb_protocol.specs.AnyMessages.{DirectoryRule}
 use Rattle.cb_protocol.specs.Basics.{is_none}
 use Rattle.cb_protocol.specs.Settling.{sole_row}

@@ -10,7 +10,7 @@ use Rattle.cb_commit.specs.History.{CommitsState, begun}
 use Rattle.cb_commit.specs.Stores.{StoreState}
 use Rattle.cb_directory.specs.Directories as directory
 use Rattle.cb_directory.specs.Directories.{DirectoryState, Forgets, GivesBack, IsNew, ReleasesAll, ReleasesIf, holder, row}
-use Rattle.cb_directory.specs.Tables.{at_page}
+use Rattle.cb_directory.specs.RowTables.{at_page}
 use Rattle.cb_links.specs.Admissions.{standing_of}
 use Rattle.cb_links.specs.Changes as links
 use Rattle.cb_links.specs.Changes.{commit_of, ended, greeted, is_live_transaction, session_of, unknown}

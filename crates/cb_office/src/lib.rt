@@ -1,22 +1,40 @@
-//! The station: the server of a running program as all its clients share it, with what each client
-//! holds, what is to be sent to each, and the history of commits. And the office, by which threads
-//! share it.
+//! A page server that threads share: the names that a program needs, from where they stand.
 //!
-//! A [`Station`] is one value, which its owner lends to one client at a time. Each call takes the
-//! client's hand: one that isn't the hand that the station stores is refused as `Foreign`.
+//! An [`Office`] is a [`Station`] under one lock: the server, what is to be sent to each client,
+//! what each client holds, and the history of commits. A [`Worker`] is a client with its [`Hand`]
+//! of [`Grant`]s. It reads pages that it holds without the lock ([`Worker::hit`]) and takes the
+//! office for all else. [`flush_loop`] writes what is committed to a shelf, many commits by one
+//! write, and answers each commit once it is on disk.
 //!
-//! An [`Office`] is the station under one lock, with conditions on which threads wait until it has
-//! changed: one for each client, for its frames, and one for all else. What holds of the station
-//! whenever the lock is free, and of the flags beside it, `lock` says.
+//! [`work`] does the jobs of a client: each adds one to two counters, by a transaction of its own.
+//! A [`Gate`] says when a job may begin, and a [`Tally`] counts each job that was done once.
+//!
+//! What each call promises stands where it is made: `cb_hands`, `cb_station`, `cb_worker`,
+//! `cb_jobs` and `cb_run`. What an office and a worker are made of is handed on too.
+//!
+//! An example, which is compiled and run as the test `example`. A client reads a page, writes it
+//! and commits; that the commit is on disk is reported at once, in place of a flusher:
+//!
+//! ```
+//! worker.begin()?;
+//! worker.fetch(rt, alloc, office, page)?;
+//! worker.want(rt, alloc, office, page)?;
+//! worker.write(page, &[7; 16])?;
+//! let number = worker.commit_at(alloc, &mut office.lock(rt))?;
+//! office.lock(rt).flushed(alloc, number)?;
+//! worker.finish(rt, alloc, office)
+//! ```
 #![tactic(auto)]
 
-mod office;
-mod office_fault;
-mod reading;
-mod shared_station;
-mod station;
+#[cfg(test)]
+mod example;
 
-pub use office::Office;
-pub use office_fault::OfficeFault;
-pub use shared_station::SharedStation;
-pub use station::Station;
+pub use cb_commit::Store;
+pub use cb_hands::{Grant, Hand};
+pub use cb_joined::Entry;
+pub use cb_jobs::{Gate, Tally, Turn, counter_sum};
+pub use cb_page::{ClientNo, CommitNo, Limits, PageNo};
+pub use cb_run::{FlushStop, flush_again, flush_loop, run_on, work};
+pub use cb_station::{Office, OfficeFault, Station};
+pub use cb_twoq::{Chooser, TwoQ};
+pub use cb_worker::{Fetched, Finished, Wanted, Worker, WorkerFault};

@@ -1,1 +1,3 @@
+-- What is proved where.
+-- Saying: steps that send.
 pub mod Saying

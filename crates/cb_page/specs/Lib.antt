@@ -5,3 +5,4 @@ pub mod Bounds
 pub mod Limits
 pub mod Flags
 pub mod Words
+pub mod Clients

@@ -1,15 +1,17 @@
-//! What every layer of the page server speaks of: numbered things, pages, sets of pages, and the
-//! limits of a store.
+//! What every layer of the page server speaks of: numbered things, pages, sets of pages and of
+//! clients, and the limits of a store.
 //!
 //! A store has a fixed count of clients and of pages, and one page size. [`Limits`] says which; all
 //! other types here hold values that lie within the ranges that some limits allow.
 #![tactic(auto)]
 
+mod client_set;
 mod limits;
 mod numbers;
 mod page;
 mod page_set;
 
+pub use client_set::ClientSet;
 pub use limits::{LimitFault, Limits};
 pub use numbers::{ClientNo, CommitNo, GrantNo, Incarnation, MAX_NUMBER, PageNo, TxnNo, Version};
 pub use page::Page;

@@ -2,9 +2,9 @@
 use Rattle.std.specs.Prelude.{◌≡◌, ◌≤◌, ◌*◌, ℕ, Option, Result, Ok, Err, List}
 use Rattle.cb_jobs.specs.Outcomes.{PrintsCounted}
 use Rattle.cb_jobs.specs.declared.printing.Counted.{Counted}
-use Rattle.cb_settings.specs.declared.config.Config.{Config}
-use Rattle.cb_settings.specs.RunSettings.{IsRunSettings, PrintsRefusal}
-use Rattle.cb_settings.specs.declared.running.RunFault.{RunFault}
+use Rattle.cb_console.specs.declared.config.Config.{Config}
+use Rattle.cb_console.specs.RunSettings.{IsRunSettings, PrintsRefusal}
+use Rattle.cb_console.specs.declared.running.RunFault.{RunFault}
 
 -- how many jobs all clients have together
 abbrev pub all_jobs : Config → ℕ

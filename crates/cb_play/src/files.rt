@@ -1,9 +1,9 @@
 //! The files that the words name.
 ghost use Rattle.std.specs.Prelude.{◌≡◌, ◌∷◌, ◌++◌, [], codes, IfOk, MatchOption};
 ghost use Rattle.std.specs.Io.KnownBytes.{Appends};
-ghost use Rattle.cb_settings.specs.Escaped.{escaped};
+ghost use Rattle.cb_console.specs.Escaped.{escaped};
 
-use cb_settings::Escaped;
+use cb_console::Escaped;
 use std::io::Write;
 use std::{fs, io};
 

@@ -4,12 +4,12 @@ ghost use Rattle.cb_jobs.specs.Outcomes.{PrintsCounted};
 ghost use Rattle.cb_run.specs.Runs.{IsCounted};
 ghost use Rattle.cb_play.specs.StoreRuns.{HasFew, IsStoreRun, all_jobs};
 
+use cb_console::{Config, print_refusal, run_settings};
 use cb_jobs::{Ending, Gate, Turn, Watch, print_run};
-use cb_office::{Office, Station};
 use cb_page::{ClientNo, Limits};
 use cb_run::{of_shelf, run_on};
-use cb_settings::{Config, print_refusal, run_settings};
 use cb_shelf::{Shelf, ShelfFault};
+use cb_station::{Office, Station};
 use sqlite::{Alter, Connection};
 use std::alloc::Global;
 use std::io;

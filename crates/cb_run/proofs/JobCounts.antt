@@ -2,7 +2,7 @@
 use Rattle.std.proofs.Common.{◌≡◌, ◌<◌, ◌≤◌, ◌+◌, ℕ, List, [], Option, Some, None, Ok, ap, arith, refl, sym, ◌∙◌}
 use Rattle.cb_client.specs.ByTable.{Calls, limits_at}
 use Rattle.cb_client.specs.CallAnswers.{Begins, Writes}
-use Rattle.cb_client_engine.specs.ClientState.{ClientState, client_of}
+use Rattle.cb_client_core.specs.ClientState.{ClientState, client_of}
 use Rattle.cb_protocol.proofs.Cases.{call_accepted, call_refused}
 use Rattle.cb_protocol.specs.Answers as table
 use Rattle.cb_protocol.specs.Basics.{Bytes}

@@ -1,12 +1,12 @@
 -- Why a flusher stops, and where it has nothing to write.
 use Rattle.std.specs.Prelude.{◌≡◌, ◌==◌, ◌-◌, ◌&&◌, ◌↔◌, if◌then◌else◌, not, ℕ, Option, Some, None, IfSome}
 use Rattle.cb_commit.specs.Batches.{BatchState}
-use Rattle.cb_office.specs.Shared.{SharedState}
-use Rattle.cb_office.specs.Stations.{server_of}
+use Rattle.cb_station.specs.Shared.{SharedState}
+use Rattle.cb_station.specs.Stations.{server_of}
 use Rattle.cb_page.specs.Bounds.{Bounds}
 use Rattle.cb_protocol.specs.Flush.{next_batch}
-use Rattle.cb_statements.specs.declared.fault.ShelfFault.TheVariants.{Shape, Memory}
-use Rattle.cb_statements.specs.Writing.{Fits}
+use Rattle.cb_sql.specs.declared.fault.ShelfFault.TheVariants.{Shape, Memory}
+use Rattle.cb_sql.specs.Writing.{Fits}
 use Rattle.cb_run.specs.declared.flusher.FlushStop.{FlushStop}
 
 -- There was no memory for a batch; or one is still to be written, of which the shape is blamed

@@ -4,8 +4,8 @@ ghost use Rattle.cb_run.specs.Runs.{ending_of_run, ending_of_shelf, ending_of_wo
 
 use cb_client::ClientFault;
 use cb_jobs::{ClientEnding, Ending};
-use cb_office::OfficeFault;
 use cb_shelf::ShelfFault;
+use cb_station::OfficeFault;
 use cb_worker::WorkerFault;
 
 /// By a fault of the flusher or of the tables.

@@ -5,14 +5,14 @@ ghost use Rattle.sqlite.specs.Held.{state};
 ghost use Rattle.sqlite.specs.State.{Survives};
 ghost use Rattle.cb_run.specs.Flushing.{LeavesFirst, LeavesSome, MadeFirst, MadeSome, WritesFirst};
 ghost use Rattle.cb_run.specs.Flushing.{WritesOne, WritesOrStays, WritesSome};
-ghost use Rattle.cb_office.specs.Shared.{is_over};
+ghost use Rattle.cb_station.specs.Shared.{is_over};
 ghost use Rattle.cb_run.specs.Stopping.{IsWritten, Stops};
-ghost use Rattle.cb_statements.specs.Writing.{Fits, Wrote};
+ghost use Rattle.cb_sql.specs.Writing.{Fits, Wrote};
 
 use cb_commit::Batch;
 use cb_jobs::Watch;
-use cb_office::{Office, SharedStation};
 use cb_shelf::{Shelf, ShelfFault};
+use cb_station::{Office, SharedStation};
 use sqlite::Alter;
 use std::alloc::Global;
 use std::sync::Wait;

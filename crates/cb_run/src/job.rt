@@ -6,8 +6,8 @@ ghost use Rattle.cb_run.specs.Jobs.{IsOneMore, TellsJob};
 ghost use Rattle.cb_worker.specs.Workers.{last_txn};
 
 use cb_jobs::{JobDone, count_up};
-use cb_office::Office;
 use cb_page::{ClientNo, CommitNo, PageNo};
+use cb_station::Office;
 use cb_twoq::Chooser;
 use cb_worker::{Fetched, Finished, Wanted, Worker, WorkerFault};
 use std::alloc::Global;

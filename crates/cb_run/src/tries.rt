@@ -7,8 +7,8 @@ ghost use Rattle.cb_run.specs.Stopping.{number_of, tries_left};
 
 use crate::flusher::{FlushStop, flush_again, flush_loop};
 use cb_jobs::Watch;
-use cb_office::Office;
 use cb_shelf::{Shelf, ShelfFault};
+use cb_station::Office;
 use sqlite::Alter;
 use std::alloc::Global;
 use std::sync::Wait;

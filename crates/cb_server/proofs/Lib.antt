@@ -1,3 +1,15 @@
+-- What is proved where.
+-- Counting: what the answer to a message costs.
+-- Making: steps of the engine, one after another, and what one change of its tables is.
+-- Beginning: what a transaction that begins leaves of the engine.
+-- DirectAnswers: the direct answers, kind by kind, as the table has them.
+-- Rooms: room for settling, once a message is answered.
+-- Arising: a server arises by frames that fit, and what it says fits.
+-- Greeting: hello, by its incarnation, and every other message.
+-- Committing: whether a commit is applied, and what is done.
+-- Serving: the server between two calls, and after each.
+-- LawsKept: what the protocol says of servers that arose, of each server.
+-- Resending: whoever is doomed has greeted the server, so it can be told again.
 pub mod Counting
 pub mod Making
 pub mod Beginning

@@ -75,7 +75,7 @@ impl Server {
         ensures { IfOk result (IsNew limits.now store) }
     {
         // Its pages have its size, and no version is above its number: `number` says so.
-        let _sound = store.number();
+        let _known = store.number();
         Ok(Server {
             limits: *limits,
             engine: Engine {

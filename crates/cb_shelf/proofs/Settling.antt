@@ -5,8 +5,8 @@ use Rattle.sqlite.specs.State.{HasCleanDisk, Survives}
 use Rattle.sqlite.specs.Held.{Held, state}
 use Rattle.sqlite.proofs.StateLemmas.{survives_then}
 use Rattle.sqlite.proofs.Callers.{survives_begin}
-use Rattle.cb_statements.specs.Statements.{Statement, MakesAll}
-use Rattle.cb_statements.specs.Inside.{Inside, IsSame}
+use Rattle.cb_sql.specs.Statements.{Statement, MakesAll}
+use Rattle.cb_sql.specs.Inside.{Inside, IsSame}
 use Rattle.cb_shelf.specs.Opening.{LaysOut, LaidBy, Opened, Finds, laid}
 use Rattle.cb_shelf.specs.declared.opening.Found.TheVariants.{Nothing, Old}
 use Rattle.cb_page.specs.Bounds.{Bounds}

@@ -6,16 +6,16 @@ use Rattle.sqlite.specs.Effect.{Database}
 use Rattle.sqlite.specs.State.{Survives}
 use Rattle.sqlite.specs.Held.{Held, state}
 use Rattle.cb_page.specs.Bounds.{Bounds}
-use Rattle.cb_statements.specs.declared.fault.ShelfFault.{ShelfFault}
-use Rattle.cb_statements.specs.declared.fault.ShelfFault.TheVariants.{Shape}
-use Rattle.cb_statements.specs.Asking.{RepliesRow}
-use Rattle.cb_statements.specs.Inside.{Tells, IsNever}
-use Rattle.cb_statements.proofs.Asking.{tells_then}
+use Rattle.cb_sql.specs.declared.fault.ShelfFault.{ShelfFault}
+use Rattle.cb_sql.specs.declared.fault.ShelfFault.TheVariants.{Shape}
+use Rattle.cb_sql.specs.Asking.{RepliesRow}
+use Rattle.cb_sql.specs.Inside.{Tells, IsNever}
+use Rattle.cb_sql.proofs.Asking.{tells_then}
 use Rattle.cb_shelf.specs.Reading.{question, number_values}
 use Rattle.cb_shelf.specs.Opening.{page_count, mark_count, HasRows, Has, MisfitsFor, Misshapen}
 use Rattle.cb_shelf.specs.Opening.Misshapen.{older_rows, newer_rows}
-use Rattle.cb_shelf.specs.declared.opening.Tables.{Tables}
-use Rattle.cb_shelf.specs.declared.opening.Tables.TheVariants.{Nothing as none, Old as older, New as newer}
+use Rattle.cb_shelf.specs.declared.opening.TablesFound.{TablesFound}
+use Rattle.cb_shelf.specs.declared.opening.TablesFound.TheVariants.{Nothing as none, Old as older, New as newer}
 use Rattle.cb_shelf.proofs.Answering.{at_err}
 
 module _ {S : Type 0} (g : Ghosts S) where
@@ -54,7 +54,7 @@ rows_told db pages marks false zeros some first second =
 rows_told db pages marks true zeros some first second = elim (some refl) [ inl more ↦ inl (pages, more, first) | inr more ↦ inr (marks, more, second) ]
 
 -- rows that don't fit, of the tables that there are
-pub misfits_misshapen : (limits : Bounds) (tables : Tables) (db : Database) → Has db tables → MisfitsFor tables limits db → Misshapen limits db
+pub misfits_misshapen : (limits : Bounds) (tables : TablesFound) (db : Database) → Has db tables → MisfitsFor tables limits db → Misshapen limits db
 misfits_misshapen limits none db has wrong = absurd wrong
 misfits_misshapen limits older db has misfits = older_rows has misfits
 misfits_misshapen limits newer db has misfits = newer_rows has misfits

@@ -4,7 +4,7 @@ use Rattle.cb_page.specs.Bounds.{Bounds}
 use Rattle.cb_frame_types.specs.declared.frame.Frame.{Frame}
 use Rattle.cb_commit.specs.Batches.{BatchState}
 use Rattle.cb_commit.specs.History.{CommitsState, dones_between, next_batch}
-use Rattle.cb_statements.specs.Writing.{Fits}
+use Rattle.cb_sql.specs.Writing.{Fits}
 
 -- what is written: the batch that is held, or else the next
 abbrev pub to_write : Option BatchState → CommitsState → Option BatchState

@@ -10,14 +10,14 @@ use Rattle.sqlite.specs.Held.{Held, state}
 use Rattle.cb_page.specs.Bounds.{Bounds}
 use Rattle.cb_commit.specs.Stores.{StoreState, IsOf, zeros, version_at, bytes_at}
 use Rattle.sqlite_schema.specs.declared.schema.Schema.{Schema}
-use Rattle.cb_statements.specs.Inside.{can_answer}
-use Rattle.cb_shelf.specs.declared.opening.Tables.{Tables}
-use Rattle.cb_shelf.specs.declared.opening.Tables.TheVariants.{Nothing as none, Old as older}
-use Rattle.cb_shelf.specs.declared.opening.Tables.TheVariants.{New as newer}
+use Rattle.cb_sql.specs.Inside.{can_answer}
+use Rattle.cb_shelf.specs.declared.opening.TablesFound.{TablesFound}
+use Rattle.cb_shelf.specs.declared.opening.TablesFound.TheVariants.{Nothing as none, Old as older}
+use Rattle.cb_shelf.specs.declared.opening.TablesFound.TheVariants.{New as newer}
 use Rattle.cb_shelf.specs.declared.opening.Found.{Found}
 use Rattle.cb_shelf.specs.declared.opening.Found.TheVariants.{Nothing, Old, New}
-use Rattle.cb_statements.specs.Statements.{Statement, MakesAll, page_statements}
-use Rattle.cb_statements.specs.Asking.{RepliesRow, RepliesElse}
+use Rattle.cb_sql.specs.Statements.{Statement, MakesAll, page_statements}
+use Rattle.cb_sql.specs.Asking.{RepliesRow, RepliesElse}
 use Rattle.cb_shelf.specs.declared.reading.Generation.TheVariants.{Older, Newer}
 use Rattle.cb_shelf.specs.Reading.{question, number_values, IsNumber, Holds, Misfits}
 
@@ -118,7 +118,7 @@ HasNoRows db = HasOld db.schema false ⊎ (HasOld db.schema true × HasRows db f
 
 -- Which tables a database has: none; only older ones, with rows; or those that a shelf writes, and
 -- no older row.
-abbrev pub Has : Database → Tables → Type 0
+abbrev pub Has : Database → TablesFound → Type 0
 Has db none = HasOld db.schema false × HasNew db.schema false
 Has db older = HasOld db.schema true × HasRows db true × HasNew db.schema false
 Has db newer = HasNew db.schema true × HasNoRows db
@@ -134,7 +134,7 @@ pub data IsMixed (db : Database) : Type 0 where
   uncounted : HasOld db.schema true → Uncounted db → IsMixed db
 
 -- the tables that a find is of
-abbrev pub tables_of : Found → Tables
+abbrev pub tables_of : Found → TablesFound
 tables_of Nothing = none
 tables_of (Old store) = older
 tables_of New = newer
@@ -146,7 +146,7 @@ IsFoundIn limits db (Old store) = Holds Older db store
 IsFoundIn limits db New = (store : StoreState) × IsOf limits store × Holds Newer db store
 
 -- the rows of these tables are no store of the limits
-abbrev pub MisfitsFor : Tables → Bounds → Database → Type 0
+abbrev pub MisfitsFor : TablesFound → Bounds → Database → Type 0
 MisfitsFor none limits db = ⊥
 MisfitsFor older limits db = Misfits Older limits db
 MisfitsFor newer limits db = Misfits Newer limits db

@@ -4,9 +4,9 @@ ghost use Rattle.std.specs.Prelude.{OnErr};
 ghost use Rattle.sqlite.specs.State.{HasCleanDisk, Survives};
 ghost use Rattle.sqlite.specs.Held.{state};
 ghost use Rattle.cb_commit.specs.History.{CanFlush, next_batch};
-ghost use Rattle.cb_statements.specs.Statements.{MakesAll, batch_statements};
-ghost use Rattle.cb_statements.specs.Inside.{IsSame, IsSettled};
-ghost use Rattle.cb_statements.specs.Writing.{Fits, Wrote};
+ghost use Rattle.cb_sql.specs.Statements.{MakesAll, batch_statements};
+ghost use Rattle.cb_sql.specs.Inside.{IsSame, IsSettled};
+ghost use Rattle.cb_sql.specs.Writing.{Fits, Wrote};
 ghost use Rattle.cb_shelf.specs.Flushing.{IsMisfit, to_write, once_written, dones_of};
 ghost use Rattle.cb_shelf.specs.Events.{IsEvent};
 

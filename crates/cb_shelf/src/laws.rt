@@ -6,7 +6,7 @@ ghost use Rattle.cb_shelf.specs.Events.{TablesFollow};
 /// written, the tables are the store after some of the commits, at least those that were reported.
 ///
 /// [`crate::flush_once`] says which event each of its calls is. That the statements of a batch
-/// write it over the store in the tables is the premise, which `cb_rows` proves of a shelf's own
+/// write it over the store in the tables is the premise, which `cb_shelf_rows` proves of a shelf's own
 /// tables.
 pub fn tables_follow_commits()
     ensures law { TablesFollow }

@@ -13,7 +13,7 @@ mod reading;
 mod shelf;
 mod writing;
 
-pub use cb_statements::ShelfFault;
+pub use cb_sql::ShelfFault;
 pub use flush::flush_once;
 pub use laws::tables_follow_commits;
 pub use shelf::Shelf;

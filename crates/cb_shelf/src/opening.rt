@@ -5,8 +5,8 @@ ghost use Rattle.sqlite.specs.State.{HasCleanDisk, Survives};
 ghost use Rattle.sqlite.specs.Effect.{Database};
 ghost use Rattle.sqlite.specs.Held.{state};
 ghost use Rattle.cb_commit.specs.Stores.{IsOf, zeros};
-ghost use Rattle.cb_statements.specs.Statements.{MakesAll};
-ghost use Rattle.cb_statements.specs.Inside.{Inside, IsAny, IsSame, IsSettled, Tells};
+ghost use Rattle.cb_sql.specs.Statements.{MakesAll};
+ghost use Rattle.cb_sql.specs.Inside.{Inside, IsAny, IsSame, IsSettled, Tells};
 ghost use Rattle.cb_shelf.specs.Opening.{LaysOut, LaidBy, Opened, IsFound, table_statements};
 ghost use Rattle.cb_shelf.specs.Opening.{Has, HasOld, HasNew, HasRows, HasRowsIf, Uncounted};
 ghost use Rattle.cb_shelf.specs.Opening.{IsMixed, tables_of, IsFoundIn, Finds, MisfitsFor};
@@ -16,12 +16,12 @@ ghost use Rattle.cb_shelf.specs.Opening.{clear_statements, first_pages, laid, ma
 use crate::reading::{Generation, ask_number, read_store};
 use cb_commit::Store;
 use cb_page::{Limits, PageNo};
-use cb_statements::{ShelfFault, is_there, put_page, run};
+use cb_sql::{ShelfFault, is_there, put_page, run};
 use sqlite::{Alter, Connection, Transaction, params};
 use std::alloc::Global;
 
 /// Which tables there are.
-enum Tables {
+enum TablesFound {
     Nothing,
     /// Those of an older generation, with rows.
     Old,
@@ -117,22 +117,22 @@ fn old_rows<S: Alter>(tx: &mut Transaction<'_, S>, there: bool) -> Result<bool, 
 }
 
 /// Which of the three cases it is, if any.
-fn judged(old: bool, rows: bool, new: bool) -> Result<Tables, ShelfFault>
+fn judged(old: bool, rows: bool, new: bool) -> Result<TablesFound, ShelfFault>
     ensures ok { IfOk result (λ tables. (db : Database) → HasOld db.schema old
         → HasRowsIf old db rows → HasNew db.schema new → Has db tables) }
     ensures err { OnErr result ((db : Database) → HasOld db.schema old
         → HasRowsIf old db rows → HasNew db.schema new → IsMixed db) }
 {
     match (old, rows, new) {
-        (false, _, false) => Ok(Tables::Nothing),
-        (true, true, false) => Ok(Tables::Old),
-        (_, false, true) => Ok(Tables::New),
+        (false, _, false) => Ok(TablesFound::Nothing),
+        (true, true, false) => Ok(TablesFound::Old),
+        (_, false, true) => Ok(TablesFound::New),
         _ => Err(ShelfFault::Shape),
     }
 }
 
 /// Finds out which tables there are.
-fn find_tables<S: Alter>(tx: &mut Transaction<'_, S>) -> Result<Tables, ShelfFault>
+fn find_tables<S: Alter>(tx: &mut Transaction<'_, S>) -> Result<TablesFound, ShelfFault>
     ensures same_reference { tx.new.conn.ghost_name ≡ tx.old.conn.ghost_name }
     ensures inside { Inside S.Store IsAny tx.old.conn.now tx.new.conn.now result }
     ensures tells { Tells S.Store Has IsMixed tx.old.conn.now tx.new.conn.now result }
@@ -148,7 +148,7 @@ fn find_store<S: Alter>(
     alloc: Global,
     tx: &mut Transaction<'_, S>,
     limits: &Limits,
-    tables: Tables,
+    tables: TablesFound,
 ) -> Result<Found, ShelfFault>
     ensures same_reference { tx.new.conn.ghost_name ≡ tx.old.conn.ghost_name }
     ensures inside { Inside S.Store IsAny tx.old.conn.now tx.new.conn.now result }
@@ -158,12 +158,12 @@ fn find_store<S: Alter>(
         tx.old.conn.now tx.new.conn.now result }
 {
     match tables {
-        Tables::Nothing => Ok(Found::Nothing),
-        Tables::Old => {
+        TablesFound::Nothing => Ok(Found::Nothing),
+        TablesFound::Old => {
             let old = read_store(alloc, tx, limits, Generation::Older)?;
             Ok(Found::Old(old))
         }
-        Tables::New => {
+        TablesFound::New => {
             let _new = read_store(alloc, tx, limits, Generation::Newer)?;
             Ok(Found::New)
         }

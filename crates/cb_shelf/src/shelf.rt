@@ -4,19 +4,19 @@ ghost use Rattle.std.specs.Prelude.{IfOk, IfErr, OnOk, OnErr};
 ghost use Rattle.sqlite.specs.State.{HasCleanDisk, Survives};
 ghost use Rattle.sqlite.specs.Held.{state};
 ghost use Rattle.cb_commit.specs.Stores.{IsOf};
-ghost use Rattle.cb_statements.specs.Statements.{MakesAll, batch_statements};
-ghost use Rattle.cb_statements.specs.Inside.{IsSame, IsSettled};
+ghost use Rattle.cb_sql.specs.Statements.{MakesAll, batch_statements};
+ghost use Rattle.cb_sql.specs.Inside.{IsSame, IsSettled};
 ghost use Rattle.cb_shelf.specs.Opening.{LaysOut, Opened, Misshapen};
 ghost use Rattle.cb_shelf.specs.Reading.{Holds, Misfits};
 ghost use Rattle.cb_shelf.specs.declared.reading.Generation.TheVariants.{Newer};
-ghost use Rattle.cb_statements.specs.Writing.{Fits, Wrote};
+ghost use Rattle.cb_sql.specs.Writing.{Fits, Wrote};
 
 use crate::opening::open_tables;
 use crate::reading::read_back;
 use crate::writing::write_batch;
 use cb_commit::{Batch, Store};
 use cb_page::Limits;
-use cb_statements::{ShelfFault, fits};
+use cb_sql::{ShelfFault, fits};
 use sqlite::{Alter, Connection};
 use std::alloc::Global;
 

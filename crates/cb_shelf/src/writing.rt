@@ -2,12 +2,12 @@
 ghost use Rattle.std.specs.Prelude.{◌≡◌, ◌≢◌, Err, OnOk, OnErr};
 ghost use Rattle.sqlite.specs.State.{HasCleanDisk, Survives};
 ghost use Rattle.sqlite.specs.Held.{state};
-ghost use Rattle.cb_statements.specs.Statements.{MakesAll, batch_statements};
-ghost use Rattle.cb_statements.specs.Inside.{Inside, IsSame, IsSettled};
-ghost use Rattle.cb_statements.specs.Writing.{Wrote};
+ghost use Rattle.cb_sql.specs.Statements.{MakesAll, batch_statements};
+ghost use Rattle.cb_sql.specs.Inside.{Inside, IsSame, IsSettled};
+ghost use Rattle.cb_sql.specs.Writing.{Wrote};
 
 use cb_commit::Batch;
-use cb_statements::{ShelfFault, put_mark, put_pages};
+use cb_sql::{ShelfFault, put_mark, put_pages};
 use sqlite::{Alter, Connection, Transaction};
 
 /// Writes a batch: its pages, then its number.

@@ -6,7 +6,7 @@ ghost use Rattle.cb_asks.specs.Marks.{HasMarks, is_in_use};
 ghost use Rattle.cb_tables.specs.Tables.{IsAsLarge};
 ghost use Rattle.cb_tables.specs.Tables.{AreTables, HasClient, HasPage, server_of};
 ghost use Rattle.cb_tables.specs.Waits.{HasBegun, IsGreeted};
-ghost use Rattle.cb_clients.specs.Clients.{has};
+ghost use Rattle.cb_page.specs.Clients.{has};
 ghost use Rattle.cb_holdings.specs.Holdings.{Stays};
 ghost use Rattle.cb_outbox.specs.Saying.{HasRoomFor, Says};
 ghost use Rattle.cb_protocol.specs.Basics.{is_none, max_number};

@@ -1,1 +1,3 @@
+-- What is proved where.
+-- Of: holdings of some limits stay so.
 pub mod Of

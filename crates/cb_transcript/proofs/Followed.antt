@@ -1,3 +1,4 @@
+-- Which transaction each client is in, event by event.
 use Rattle.std.proofs.Common.{List, [], add-one, ap, get_or, length, map, refl, reverse, take, option_map, ℕ, ◌++◌, ◌+◌, ◌<◌, ◌≤◌, ◌∙◌, ◌∷◌, ◌≡◌, arith}
 use Rattle.std.proofs.Math.Seq.{take-suc}
 use Rattle.std.proofs.lemmas.List.{length-map, length-reverse, length-take, map-append, reverse-append}

@@ -1,3 +1,4 @@
+-- Which operations of a transcript are listed, and in what order.
 use Rattle.std.proofs.Common.{List, [], All, Bool, true, false, None, Some, Vec, ap, refl, reverse, sym, subst, option_map, get_or, length, Option, nat_eq, ◌&&◌, ℕ, ◌++◌, ◌<◌, ◌∙◌, ◌∷◌, ◌≡◌, cond}
 use Rattle.std.specs.HashMap.{HashMap, IsEmpty}
 use Rattle.std.specs.Map.{lookup}
@@ -9,7 +10,7 @@ use Rattle.cb_protocol.specs.Transcript.{incarnation_at, transaction_at, transcr
 use Rattle.cb_protocol.specs.World.{TranscriptEntry as ToldEntry}
 use Rattle.cb_transcript.specs.ProtocolEvents.{entry_of}
 use Rattle.std.proofs.lemmas.List.{get_or_default}
-use Rattle.cb_transcript.specs.declared.standing.Standing.{Standing}
+use Rattle.cb_transcript.specs.declared.current_transaction.CurrentTransaction.{CurrentTransaction}
 use Rattle.cb_transcript.specs.Operations.{AreStandings, first_standing, HasOperations, done_at, listed, operation_in, operations_at, performed_with, places_of, same_key}
 use Rattle.cb_transcript.proofs.Followed.{operation_told}
 use Rattle.cb_transcript.specs.declared.transactions.TransactionKey.{TransactionKey}
@@ -69,11 +70,11 @@ listed_more m n es e told client place o k is at named added l =
     }
 
 -- the name of the transaction that a client is in
-pub key_named : (ss : List Standing) (told : List ToldEntry) (i client n : ℕ) (d : Standing) → length ss ≡ 32 → i ≡ client → i < 32 → n ≡ client → AreStandings ss told
+pub key_named : (ss : List CurrentTransaction) (told : List ToldEntry) (i client n : ℕ) (d : CurrentTransaction) → length ss ≡ 32 → i ≡ client → i < 32 → n ≡ client → AreStandings ss told
     → key_of n (get_or ss i d).incarnation (get_or ss i d).begun ≡ key_of client (incarnation_at told client) (transaction_at told client)
 key_named ss told i client n d long at below is standings =
     let here : get_or ss i d ≡ record { incarnation = incarnation_at told i; begun = transaction_at told i } = get_or_default ss i d first_standing (rw long below) ∙ standings i below in
-    ap (λ (m : ℕ). key_of m (get_or ss i d).incarnation (get_or ss i d).begun) is ∙ ap (λ (s : Standing). key_of client s.incarnation s.begun) here ∙ ap (λ (j : ℕ). key_of client (incarnation_at told j) (transaction_at told j)) at
+    ap (λ (m : ℕ). key_of m (get_or ss i d).incarnation (get_or ss i d).begun) is ∙ ap (λ (s : CurrentTransaction). key_of client s.incarnation s.begun) here ∙ ap (λ (j : ℕ). key_of client (incarnation_at told j) (transaction_at told j)) at
 
 absurd_none : {X Y : Type 0} {x : X} → None ≡ Some x → Y
 absurd_none h = cc

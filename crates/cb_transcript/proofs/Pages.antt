@@ -1,3 +1,4 @@
+-- Pages within limits, and equal bytes.
 use Rattle.std.proofs.Common.{List, [], get_or, length, map, set, sym, ℕ, ◌<◌, ◌≤◌, ◌∙◌, ◌≡◌, ap, arith}
 use Rattle.std.proofs.lemmas.Grind.{common_steps}
 use Rattle.std.proofs.Math.ListN.{get_or-eq_default}

@@ -1,3 +1,4 @@
+-- What a replay shows of each page, and what a whole one says.
 use Rattle.std.proofs.Common.{List, [], All, add-one, arith, suc-le-suc, true≢false, ap, get_or, subst, Some, suc, zero, true, false, length, refl, sym, take, ℕ, ◌++◌, ◌+◌, ◌<◌, ◌∙◌, ◌∷◌, ◌≡◌}
 use Rattle.std.proofs.Math.Seq.{take-suc}
 use Rattle.std.proofs.lemmas.List.Elements.{filter_map-append}

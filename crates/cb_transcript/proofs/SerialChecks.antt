@@ -1,3 +1,4 @@
+-- What the serial check answers.
 use Rattle.std.proofs.Common.{List, [], subst, add-one, ap, get_or, length, map, refl, reverse, sym, take, drop, None, Some, ◌≤◌, ℕ, ◌++◌, ◌+◌, ◌<◌, ◌∙◌, ◌∷◌, ◌≡◌, arith}
 use mathlib.Core.List.{reverse-cons}
 use Rattle.std.proofs.Math.Seq.{append_snoc, split_at, take-suc}

@@ -16,7 +16,7 @@ use Rattle.cb_protocol.specs.World.{TranscriptEntry as ToldEntry}
 use Rattle.cb_transcript.specs.declared.answer.AnswerWord.{AnswerWord}
 use Rattle.cb_transcript.specs.declared.answer.AnswerWord.TheVariants as word
 use Rattle.cb_transcript.specs.declared.answer.TranscriptEntry.{TranscriptEntry}
-use Rattle.cb_transcript.specs.declared.standing.Standing.{Standing}
+use Rattle.cb_transcript.specs.declared.current_transaction.CurrentTransaction.{CurrentTransaction}
 use Rattle.cb_transcript.specs.declared.transactions.TransactionKey.{TransactionKey}
 
 -- the operation that a call was, by its answer: a read that was answered with bytes, or a write
@@ -39,11 +39,11 @@ performed_with earlier None performed = performed
 performed_with earlier (Some done) performed = add_operation earlier done.0 done.1 performed
 
 -- a client before any event
-abbrev pub first_standing : Standing
+abbrev pub first_standing : CurrentTransaction
 first_standing = record { incarnation = 1; begun = 0 }
 
 -- each client's incarnation, and how many transactions it began in it, after what was told
-abbrev pub AreStandings : List Standing → List ToldEntry → Type 0
+abbrev pub AreStandings : List CurrentTransaction → List ToldEntry → Type 0
 AreStandings standings told = (client : ℕ) → client < 32
     → slice_index_or standings client first_standing
     ≡ record { incarnation = incarnation_at told client; begun = transaction_at told client }

@@ -6,11 +6,11 @@
 #![tactic(auto)]
 
 mod answer;
+mod current_transaction;
 mod operation;
 mod refusal;
 mod replay;
 mod serial;
-mod standing;
 mod transactions;
 mod transcript;
 

@@ -8,8 +8,8 @@ ghost use Rattle.cb_transcript.specs.declared.answer.TranscriptEntry.{Transcript
 ghost use Rattle.cb_transcript.specs.declared.transactions.TransactionKey.{TransactionKey as KeyData};
 
 use crate::answer::TranscriptEntry;
+use crate::current_transaction::{CLIENT_NUMBERS, CurrentTransaction, follow};
 use crate::operation::performer;
-use crate::standing::{CLIENT_NUMBERS, Standing, follow};
 use std::alloc::{AllocError, Global};
 use std::collections::HashMap;
 
@@ -32,7 +32,7 @@ pub(crate) fn transactions_of(
     ensures { IfOk result (λ lists. HasOperations lists entries.now (transcript_of entries.now)) }
 {
     let mut lists = HashMap::new(alloc);
-    let mut standings = [Standing::first(); CLIENT_NUMBERS];
+    let mut standings = [CurrentTransaction::first(); CLIENT_NUMBERS];
     for place in 0..entries.len() {
         list_operation(alloc, &mut lists, &standings, &entries[place], place)?;
         follow(&mut standings, &entries[place]);
@@ -44,7 +44,7 @@ pub(crate) fn transactions_of(
 fn list_operation(
     alloc: Global,
     lists: &mut Transactions,
-    standings: &[Standing; CLIENT_NUMBERS],
+    standings: &[CurrentTransaction; CLIENT_NUMBERS],
     entry: &TranscriptEntry,
     place: usize,
 ) -> Result<(), AllocError>

@@ -3,7 +3,7 @@ use Rattle.std.proofs.Common.{◌≡◌, ◌≢◌, ◌⊎◌, ℕ, ◌+◌, ◌
 use Rattle.std.proofs.lemmas.Bool.{cases_eq}
 use Rattle.std.proofs.lemmas.List.{take_at}
 use Rattle.std.specs.Option.{option_map, unwrap_or}
-use Rattle.cb_clients.specs.Clients.{Clients, has}
+use Rattle.cb_page.specs.Clients.{Clients, has}
 use Rattle.cb_protocol.specs.Server.{WaitingAsk, has_ask}
 use Rattle.cb_asks.specs.Queues.{client_at}
 use Rattle.cb_asks.proofs.Steps.{apart_is, same_is}

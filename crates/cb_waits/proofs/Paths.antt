@@ -1,6 +1,6 @@
 -- Paths of waits, and sets that are closed under them.
 use Rattle.std.proofs.Common.{◌≡◌, ℕ, true}
-use Rattle.cb_clients.specs.Clients.{Clients, has}
+use Rattle.cb_page.specs.Clients.{Clients, has}
 use Rattle.cb_waits.specs.Graph.{Path, OneEdge, MoreEdges}
 
 -- one more edge at the end of a path

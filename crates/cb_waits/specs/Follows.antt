@@ -1,6 +1,6 @@
 -- How a view follows the queues of asks.
 use Rattle.std.specs.Prelude.{◌≡◌, ℕ, Bool, false, not, ◌&&◌, ◌==◌, List, [], ◌∷◌, ◌++◌}
-use Rattle.cb_clients.specs.Clients.{Clients, has}
+use Rattle.cb_page.specs.Clients.{Clients, has}
 use Rattle.cb_protocol.specs.Server.{Server, WaitingAsk, has_ask}
 use Rattle.cb_protocol.specs.WaitsFor.{waits_for}
 use Rattle.cb_waits.specs.Graph.{Edges, waits}

@@ -1,7 +1,7 @@
 -- The waits-for graph and its cycles.
 pub use Rattle.cb_protocol.specs.WaitsFor.{LiesOnCycle, MoreEdges, OneEdge, Path}
 use Rattle.std.specs.Prelude.{◌≡◌, ℕ, Bool, true, List, slice_index_or}
-use Rattle.cb_clients.specs.Clients.{Clients, has, set_of}
+use Rattle.cb_page.specs.Clients.{Clients, has, set_of}
 
 -- for each client those that it waits for
 abbrev pub Edges : Type 0

@@ -1,13 +1,12 @@
 ghost use Rattle.std.specs.Prelude.{◌≡◌, ◌≢◌, ◌⊎◌, ◌↔◌, ◌==◌, if◌then◌else◌, ℕ};
 ghost use Rattle.std.specs.Prelude.{true, false, IsTrue};
-ghost use Rattle.cb_clients.specs.Clients.{has};
+ghost use Rattle.cb_page.specs.Clients.{has};
 ghost use Rattle.cb_protocol.specs.WaitsFor.{LiesOnCycle};
 ghost use Rattle.cb_waits.specs.Follows.{FollowsQueue};
 ghost use Rattle.cb_waits.specs.Graph.{Waits, waits};
 
 use cb_asks::Queue;
-use cb_clients::ClientSet;
-use cb_page::ClientNo;
+use cb_page::{ClientNo, ClientSet};
 use std::marker::Model;
 
 /// For each client the set of those that it waits for. No call takes memory.

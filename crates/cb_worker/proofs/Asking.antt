@@ -5,7 +5,7 @@ use Rattle.cb_client.specs.ByTable.{Calls, as_before, messages_from}
 use Rattle.cb_client.specs.CallAnswers.{AnswersRead, Wants, after_read, read_ask, short_message}
 use Rattle.cb_client.specs.declared.answers.ReadAnswer.TheVariants as read
 use Rattle.cb_client.specs.declared.answers.WantAnswer.TheVariants as want
-use Rattle.cb_client_engine.specs.ClientState.{ClientState, client_of}
+use Rattle.cb_client_core.specs.ClientState.{ClientState, client_of}
 use Rattle.cb_frame_types.specs.declared.frame.Frame.{Frame}
 use Rattle.cb_frame_types.specs.declared.frame.ShortFrame.{ShortFrame}
 use Rattle.cb_outbox.specs.Messages.{messages_of}

@@ -8,8 +8,8 @@ use Rattle.cb_client.specs.CallAnswers.{Answers, AnswersRead, after_read, page_a
 use Rattle.cb_client.specs.declared.answers.ReadAnswer.{ReadAnswer}
 use Rattle.cb_client.specs.declared.answers.ReadAnswer.TheVariants as read
 use Rattle.cb_client.specs.declared.client_fault.ClientFault.{ClientFault}
-use Rattle.cb_client_engine.specs.ClientState.{ClientState, client_of}
-use Rattle.cb_copies.specs.CopiesState.{content_at}
+use Rattle.cb_client_core.specs.ClientState.{ClientState, client_of}
+use Rattle.cb_cache.specs.CacheState.{content_at}
 use Rattle.cb_hands.specs.declared.grant.Held.{Held}
 use Rattle.cb_protocol.proofs.Cases.{call_accepted, call_refused, fault_of_peek}
 use Rattle.cb_protocol.specs.Answers as table

@@ -4,13 +4,13 @@ use Rattle.std.specs.Prelude.{⊤, ◌⊎◌}
 use Rattle.cb_client.specs.CallAnswers.{AnswersRead, after_read, page_read}
 use Rattle.cb_client.specs.declared.answers.ReadAnswer.TheVariants as read
 use Rattle.std.specs.Option.{is_some}
-use Rattle.cb_copies.specs.CopiesState.{content_at}
+use Rattle.cb_cache.specs.CacheState.{content_at}
 use Rattle.cb_frame_types.specs.declared.frame.Frame.{Frame}
 use Rattle.cb_hands.specs.Hands.{HandState}
 use Rattle.cb_joined.specs.Joined.{IsHeld}
-use Rattle.cb_office.specs.Stations.{StationState}
-use Rattle.cb_office.specs.declared.office_fault.OfficeFault.{OfficeFault}
-use Rattle.cb_office.specs.declared.office_fault.OfficeFault.TheVariants as office
+use Rattle.cb_station.specs.Stations.{StationState}
+use Rattle.cb_station.specs.declared.office_fault.OfficeFault.{OfficeFault}
+use Rattle.cb_station.specs.declared.office_fault.OfficeFault.TheVariants as office
 use Rattle.cb_page.specs.Numbers.{max_number}
 use Rattle.cb_protocol.specs.Basics.{Bytes}
 use Rattle.cb_worker.proofs.Reading.{after_read_is, bytes_here, hand_lacks, read_so}

@@ -5,8 +5,8 @@ use Rattle.cb_client.specs.ByTable.{RefusesOrLacks, limits_at, messages_from}
 use Rattle.cb_client.specs.CallAnswers.{Finishes}
 use Rattle.cb_client.specs.declared.client_fault.ClientFault.{ClientFault}
 use Rattle.cb_client.specs.declared.client_fault.ClientFault.TheVariants as fault
-use Rattle.cb_client_engine.specs.ClientState.{ClientState, client_of}
-use Rattle.cb_copies.specs.CopiesState.{limits_of}
+use Rattle.cb_client_core.specs.ClientState.{ClientState, client_of}
+use Rattle.cb_cache.specs.CacheState.{limits_of}
 use Rattle.cb_frame_types.specs.declared.frame.Frame.{Frame}
 use Rattle.cb_outbox.specs.Messages.{message_of}
 use Rattle.cb_protocol.proofs.Cases.{call_accepted, call_refused}
@@ -18,8 +18,8 @@ use Rattle.cb_protocol.specs.ClientCalls.{CallFinish, Reply, call_fault, commit_
 use Rattle.cb_protocol.specs.Messages.{Body, Commit, PageWrite}
 use Rattle.cb_protocol.specs.Serial.{Operation}
 use Rattle.cb_hands.specs.Hands.{HandState}
-use Rattle.cb_office.specs.Stations.{StationState}
-use Rattle.cb_office.specs.declared.office_fault.OfficeFault.{OfficeFault}
+use Rattle.cb_station.specs.Stations.{StationState}
+use Rattle.cb_station.specs.declared.office_fault.OfficeFault.{OfficeFault}
 use Rattle.cb_worker.proofs.Standing.{is_then}
 use Rattle.cb_worker.specs.Calls.{Committed}
 use Rattle.cb_worker.specs.Workers.{WorkerState, with_client}

@@ -2,8 +2,8 @@
 use Rattle.std.proofs.Common.{◌≡◌, ◌≢◌, inl, inr, Bool, true, false, List, [], ◌∷◌, Option, Result, Ok, Err, refl, ◌∙◌, subst}
 use Rattle.std.specs.Prelude.{⊤, ◌⊎◌}
 use Rattle.cb_frame_types.specs.declared.frame.Frame.{Frame}
-use Rattle.cb_office.specs.Stations.{StationState}
-use Rattle.cb_office.specs.declared.office_fault.OfficeFault.{OfficeFault}
+use Rattle.cb_station.specs.Stations.{StationState}
+use Rattle.cb_station.specs.declared.office_fault.OfficeFault.{OfficeFault}
 use Rattle.cb_worker.proofs.Refusing.{no_halt}
 use Rattle.cb_worker.specs.Serving.{Serves, TurnsAt, TurnsThen, Turning}
 use Rattle.cb_worker.specs.Turns.{Turns, TurnsBy, turned_by}

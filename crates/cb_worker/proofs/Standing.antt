@@ -2,11 +2,11 @@
 use Rattle.std.proofs.Common.{◌≡◌, ◌≢◌, inl, Bool, true, false, List, [], Option, Some, None, Result, Ok, Err, IfSome, OnOk, ap, refl, sym, ◌∙◌, not, if◌then◌else◌}
 use Rattle.std.specs.Prelude.{⊤}
 use Rattle.cb_client.specs.ByTable.{Calls, limits_at, over}
-use Rattle.cb_client_engine.specs.ClientState.{ClientState, client_of, outcome_of, status_of}
-use Rattle.cb_client_engine.specs.declared.standing.Outcome.{Outcome}
-use Rattle.cb_client_engine.specs.declared.standing.ClientStatus as says
-use Rattle.cb_client_engine.specs.declared.standing.ClientStatus.TheVariants as statuses
-use Rattle.cb_client_engine.specs.declared.standing.Stage.TheVariants as stages
+use Rattle.cb_client_core.specs.ClientState.{ClientState, client_of, outcome_of, status_of}
+use Rattle.cb_client_core.specs.declared.stage.Outcome.{Outcome}
+use Rattle.cb_client_core.specs.declared.stage.ClientStatus as says
+use Rattle.cb_client_core.specs.declared.stage.ClientStatus.TheVariants as statuses
+use Rattle.cb_client_core.specs.declared.stage.Stage.TheVariants as stages
 use Rattle.cb_protocol.proofs.PagesStay.{last_outcome_is_true}
 use Rattle.cb_protocol.specs.Answers as table
 use Rattle.cb_protocol.specs.Cache.{Committing, Idle, Open, TransactionState, is_committing}

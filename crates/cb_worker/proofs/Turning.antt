@@ -3,8 +3,8 @@ use Rattle.std.proofs.Common.{◌≡◌, Bool, false, List, [], ◌∷◌, Optio
 use Rattle.std.specs.Prelude.{⊤}
 use Rattle.cb_frame_types.specs.declared.frame.Frame.{Frame}
 use Rattle.cb_hands.specs.Hands.{HandState}
-use Rattle.cb_office.specs.Stations.{StationState}
-use Rattle.cb_office.specs.declared.office_fault.OfficeFault.{OfficeFault}
+use Rattle.cb_station.specs.Stations.{StationState}
+use Rattle.cb_station.specs.declared.office_fault.OfficeFault.{OfficeFault}
 use Rattle.cb_worker.specs.Calls.{Collected}
 use Rattle.cb_worker.specs.Turns.{AfterCollecting, Collects, HandsIn, TakesCollected, Turns, TurnsBy, turned_by}
 use Rattle.cb_worker.specs.Waiting.{IsServed}

@@ -1,17 +1,17 @@
 -- What the station does for a worker, as its own calls say.
 use Rattle.std.specs.Prelude.{◌≡◌, ◌↔◌, ◌⊎◌, ◌++◌, ◌∷◌, ◌+◌, ◌≤◌, ℕ, Bool, true, false, List, [], ⊤}
 use Rattle.std.specs.Prelude.{Option, Result, Err, IfErr, IfOk, OnErr, OnOk, slice_get}
-use Rattle.cb_dispatch.specs.Dispatching.{Everybody, Posts, without_oldest}
+use Rattle.cb_mailboxes.specs.Dispatching.{Everybody, Posts, without_oldest}
 use Rattle.cb_frame_types.specs.declared.frame.Frame.{Frame}
 use Rattle.cb_hands.specs.Hands.{HandState}
 use Rattle.cb_joined.specs.declared.entry.Entry.{Entry}
 use Rattle.cb_joined.specs.Joined.{Follow, IsHeld}
-use Rattle.cb_office.specs.Commits.{IsLive, IsOwnCommit, IsPermitted, txn_of, writes_of}
-use Rattle.cb_office.specs.Moves.{IsEntryOf, IsOwn, collected, committed, ended_if_over}
-use Rattle.cb_office.specs.Moves.{given_back, is_plain, is_stray}
-use Rattle.cb_office.specs.Stations.{IsUnchanged, StationState, outbox_of, server_of}
-use Rattle.cb_office.specs.declared.office_fault.OfficeFault.{OfficeFault}
-use Rattle.cb_office.specs.declared.office_fault.OfficeFault.TheVariants as office
+use Rattle.cb_station.specs.Commits.{IsLive, IsOwnCommit, IsPermitted, txn_of, writes_of}
+use Rattle.cb_station.specs.Moves.{IsEntryOf, IsOwn, collected, committed, ended_if_over}
+use Rattle.cb_station.specs.Moves.{given_back, is_plain, is_stray}
+use Rattle.cb_station.specs.Stations.{IsUnchanged, StationState, mailbox_of, server_of}
+use Rattle.cb_station.specs.declared.office_fault.OfficeFault.{OfficeFault}
+use Rattle.cb_station.specs.declared.office_fault.OfficeFault.TheVariants as office
 use Rattle.cb_outbox.specs.Messages.{page_writes}
 use Rattle.cb_page.specs.Numbers.{max_number}
 use Rattle.cb_protocol.specs.CommitLaws.{IsApplied}
@@ -31,23 +31,23 @@ pub record Took (before : StationState) (frame : Frame) (hand : HandState)
   pub stray : OnOk result (is_stray hand frame.body ≡ true
       → IsUnchanged before after × (next ≡ hand))
   pub posts : OnOk result (is_stray hand frame.body ≡ false
-      → Posts before.dispatcher (input_of frame) (outbox_of before) Everybody after.dispatcher)
+      → Posts before.dispatcher (input_of frame) (mailbox_of before) Everybody after.dispatcher)
   pub taken : OnOk result (lacks_number_for before.dispatcher.server frame ≡ false)
   pub moved : OnOk result (is_stray hand frame.body ≡ false
       → next ≡ ended_if_over (server_of after) (given_back hand frame.body))
   pub stored : OnOk result (Follow before.hands after.hands hand next)
   pub history : after.history ≡ before.history
 
--- The oldest frame of the outbox was collected into the hand: what that made of both.
+-- The oldest frame of the mailbox was collected into the hand: what that made of both.
 pub record Collected (before : StationState) (hand : HandState)
     (result : Result (Option Frame) OfficeFault) (after : StationState) (next : HandState)
     : Type 0 where
   pub foreign : (result ≡ Err office.Foreign) ↔ (IsHeld before.hands hand → ⊥)
   pub faults : IfErr result (λ fault. (fault ≡ office.Foreign) ⊎ (fault ≡ office.Memory))
   pub err : OnErr result (IsUnchanged before after × (next ≡ hand))
-  pub oldest : IfOk result (λ frame. frame ≡ slice_get (outbox_of before hand.client) 0)
+  pub oldest : IfOk result (λ frame. frame ≡ slice_get (mailbox_of before hand.client) 0)
   pub rest : OnOk result ((client : ℕ)
-      → outbox_of after client ≡ without_oldest (outbox_of before) hand.client client)
+      → mailbox_of after client ≡ without_oldest (mailbox_of before) hand.client client)
   pub server : after.dispatcher.server ≡ before.dispatcher.server
   pub moved : IfOk result (λ frame. next ≡ collected (server_of before) hand frame)
   pub stored : OnOk result (Follow before.hands after.hands hand next)
@@ -74,7 +74,7 @@ pub record Committed (before : StationState) (frame : Frame) (reads : List Bool)
   pub number : IfOk result (λ number. number ≡ (server_of before).store.last_commit + 1)
   pub entry : OnOk result ((entry : Entry) × (after.history ≡ before.history ++ entry ∷ [])
       × IsEntryOf hand (txn_of frame) (writes_of frame) reads entry)
-  pub posts : OnOk result (Posts before.dispatcher (input_of frame) (outbox_of before) Everybody
+  pub posts : OnOk result (Posts before.dispatcher (input_of frame) (mailbox_of before) Everybody
       after.dispatcher)
   pub applied : OnOk result (IsApplied (server_of before) (server_of after) hand.client
       hand.incarnation (txn_of frame) (page_writes (writes_of frame)))

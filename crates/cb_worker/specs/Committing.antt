@@ -4,10 +4,10 @@ use Rattle.cb_client.specs.ByTable.{RefusesOrLacks, limits_at, messages_from}
 use Rattle.cb_client.specs.CallAnswers.{Finishes}
 use Rattle.cb_client.specs.declared.client_fault.ClientFault.{ClientFault}
 use Rattle.cb_client.specs.declared.client_fault.ClientFault.TheVariants as client
-use Rattle.cb_client_engine.specs.ClientState.{ClientState, client_of}
+use Rattle.cb_client_core.specs.ClientState.{ClientState, client_of}
 use Rattle.cb_frame_types.specs.declared.frame.Frame.{Frame}
-use Rattle.cb_office.specs.Stations.{StationState}
-use Rattle.cb_office.specs.declared.office_fault.OfficeFault.{OfficeFault}
+use Rattle.cb_station.specs.Stations.{StationState}
+use Rattle.cb_station.specs.declared.office_fault.OfficeFault.{OfficeFault}
 use Rattle.cb_outbox.specs.Messages.{message_of}
 use Rattle.cb_page.specs.Flags.{has}
 use Rattle.cb_protocol.specs.Client.{StatusCommitting, bodies_said, client_status}

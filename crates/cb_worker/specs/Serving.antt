@@ -1,7 +1,7 @@
 -- What serving does: turns, one after another.
 use Rattle.std.specs.Prelude.{◌≡◌, ◌≢◌, Bool, true, false, List, [], ◌∷◌, ⊤}
 use Rattle.std.specs.Prelude.{Result, Ok, Err}
-use Rattle.cb_office.specs.Stations.{StationState}
+use Rattle.cb_station.specs.Stations.{StationState}
 use Rattle.cb_worker.specs.Turns.{Turns}
 use Rattle.cb_worker.specs.Workers.{WorkerState}
 use Rattle.cb_worker.specs.declared.worker_fault.WorkerFault.{WorkerFault}

@@ -7,9 +7,9 @@ use Rattle.cb_client.specs.declared.client_fault.ClientFault.TheVariants as clie
 use Rattle.cb_frame_types.specs.Grammar.{Fits}
 use Rattle.cb_frame_types.specs.declared.frame.Frame.{Frame}
 use Rattle.cb_hands.specs.Hands.{HandState}
-use Rattle.cb_office.specs.Stations.{StationState}
-use Rattle.cb_office.specs.declared.office_fault.OfficeFault.{OfficeFault}
-use Rattle.cb_office.specs.declared.office_fault.OfficeFault.TheVariants as office
+use Rattle.cb_station.specs.Stations.{StationState}
+use Rattle.cb_station.specs.declared.office_fault.OfficeFault.{OfficeFault}
+use Rattle.cb_station.specs.declared.office_fault.OfficeFault.TheVariants as office
 use Rattle.cb_outbox.specs.Messages.{messages_of}
 use Rattle.cb_worker.specs.Calls.{Collected, Took}
 use Rattle.cb_worker.specs.Workers.{WorkerState}
@@ -62,7 +62,7 @@ AfterCollecting (Ok None) old result new = (result ≡ Ok false) × (new ≡ old
 AfterCollecting (Ok (Some frame)) old result new =
     TakesCollected (record old { hand = new.hand; collected = Some frame }) frame result new
 
--- The oldest frame of the outbox is collected, and the client takes it.
+-- The oldest frame of the mailbox is collected, and the client takes it.
 pub record Collects (old : WorkerState) (before : StationState) (result : Result Bool WorkerFault)
     (new : WorkerState) (after : StationState) : Type 0 where
   pub answer : Result (Option Frame) OfficeFault

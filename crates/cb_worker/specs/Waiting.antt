@@ -1,7 +1,7 @@
 -- What the calls that take the office are answered, where they return.
 use Rattle.std.specs.Prelude.{◌≡◌, ◌&&◌, ◌⊎◌, ℕ, true, false, List, [], None}
 use Rattle.cb_client.specs.declared.client_fault.ClientFault.TheVariants as client
-use Rattle.cb_client_engine.specs.ClientState.{client_of}
+use Rattle.cb_client_core.specs.ClientState.{client_of}
 use Rattle.cb_protocol.specs.Cache.{is_open}
 use Rattle.cb_protocol.specs.Client as protocol
 use Rattle.cb_protocol.specs.Serial.{Operation}

@@ -4,8 +4,8 @@ use Rattle.std.specs.Prelude.{Option, Some, None, unwrap_or}
 use Rattle.std.specs.Option.{is_some}
 use Rattle.cb_client.specs.ByTable.{limits_at}
 use Rattle.cb_client.specs.CallAnswers.{Answers, held_copy, page_read}
-use Rattle.cb_client_engine.specs.ClientState.{ClientState, client_of}
-use Rattle.cb_copies.specs.CopiesState.{content_at}
+use Rattle.cb_client_core.specs.ClientState.{ClientState, client_of}
+use Rattle.cb_cache.specs.CacheState.{content_at}
 use Rattle.cb_frame_types.specs.declared.frame.Frame.{Frame}
 use Rattle.cb_hands.specs.Hands.{HandState, held_at}
 use Rattle.cb_hands.specs.declared.grant.Held.{Held}

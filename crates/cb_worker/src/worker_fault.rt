@@ -4,7 +4,7 @@ ghost use Rattle.cb_client.specs.declared.client_fault.ClientFault.TheVariants.{
 ghost use Rattle.cb_worker.specs.declared.worker_fault.WorkerFault.TheVariants as worker;
 
 use cb_client::ClientFault;
-use cb_office::OfficeFault;
+use cb_station::OfficeFault;
 use std::alloc::AllocError;
 use thiserror::Error;
 

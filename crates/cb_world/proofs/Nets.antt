@@ -5,7 +5,7 @@ use Rattle.std.specs.List.{AllByRecursion}
 use Rattle.std.proofs.lemmas.Bool.Decides.{nat_tests}
 use Rattle.std.proofs.lemmas.List.{append-nil}
 use Rattle.std.proofs.lemmas.Result.{IfOk-weaker}
-use Rattle.cb_copies.specs.CopiesState.{limits_of}
+use Rattle.cb_cache.specs.CacheState.{limits_of}
 use Rattle.cb_frame_types.specs.Grammar.{Fits, IsFrame}
 use Rattle.cb_frame_types.specs.Spelling.{spelling}
 use Rattle.cb_frame_types.specs.Kinds.{goes_to_server, kind_of_body}
@@ -14,8 +14,8 @@ use Rattle.cb_frame_types.specs.declared.frame.Body.TheVariants as body
 use Rattle.cb_frame_types.specs.declared.frame.ShortBody.TheVariants as short
 use Rattle.cb_frame_types.specs.declared.frame.Frame.{Frame}
 use Rattle.cb_outbox.specs.Messages.{body_of, message_of, messages_of}
-use Rattle.cb_sites.specs.Packets.{IsFrameAt, PacketsState}
-use Rattle.cb_sites.specs.Wire.{AllSpell, Spells}
+use Rattle.cb_world_clients.specs.Packets.{IsFrameAt, PacketsState}
+use Rattle.cb_world_clients.specs.Wire.{AllSpell, Spells}
 use Rattle.cb_page.specs.Bounds.{Bounds}
 use Rattle.cb_protocol.proofs.Cases.{call_accepted, call_refused, step_again, step_call, step_call_no_client, step_flush_all, step_flush_to, step_restart, step_take}
 use Rattle.cb_protocol.specs.AnyMessages.{Input, ReachesDisk, SendsAgain, input_steps}
@@ -35,9 +35,9 @@ use Rattle.cb_protocol.specs.World.{ClientCalls, Event, EventChoiceAllowed, Flus
 use Rattle.cb_holdings.specs.Holdings.{HoldingsState}
 use Rattle.cb_server.specs.ServerState.{IsUnchanged, ServerState, commits_of, server_of}
 use Rattle.cb_server.specs.Taking.{Does, Takes}
-use Rattle.cb_sites.specs.ByWorld.{Answers, Delivers}
-use Rattle.cb_sites.specs.SitesState as sites
-use Rattle.cb_sites.specs.SitesState.{SitesState, client_at}
+use Rattle.cb_world_clients.specs.ByWorld.{Answers, Delivers}
+use Rattle.cb_world_clients.specs.WorldClientsState as world_clients
+use Rattle.cb_world_clients.specs.WorldClientsState.{WorldClientsState, client_at}
 use Rattle.cb_transcript.specs.ProtocolEvents.{sent_of, word_of}
 use Rattle.cb_transcript.specs.declared.answer.Answer.{Answer}
 use Rattle.cb_transcript.specs.declared.answer.AnswerWord.{AnswerWord as Word}
@@ -58,16 +58,16 @@ adds_none n a sent = record {
 -- The event was answered by frames that were sent, and the clients and the server are others: the
 -- net is what the protocol's step makes of it.
 record Moved (n : NetState) (e : Event) (word : AnswerWord) (messages : List Message) (m : NetState) : Type 0 where
-  limits : m.sites.limits ≡ n.sites.limits
+  limits : m.world_clients.limits ≡ n.world_clients.limits
   opening : (commits_of m.server).opening ≡ (commits_of n.server).opening
   by_event : (w : World) → RepresentsNet n w → (let_go : Option ℕ) × (u : World)
-      × EventChoiceAllowed (limits_of n.sites.limits) w e let_go
-      × (step (limits_of n.sites.limits) on_cycle w e let_go ≡ answer_with w e word messages u)
-      × (u.server ≡ server_of m.server) × sites.Represents m.sites u
+      × EventChoiceAllowed (limits_of n.world_clients.limits) w e let_go
+      × (step (limits_of n.world_clients.limits) on_cycle w e let_go ≡ answer_with w e word messages u)
+      × (u.server ≡ server_of m.server) × world_clients.Represents m.world_clients u
 
 -- with the packets that carry its messages
-becomes_sending : (n m : NetState) (e : Event) (word : AnswerWord) (frames : List Frame) (a : Answer) → m.packets ≡ n.packets → n.packets.limits ≡ n.sites.limits → Moved n e word (messages_of frames) m
-    → AllByRecursion (Fits n.sites.limits) frames → word_of a.word ≡ word → a.sent ≡ sent_as (length n.packets.sent) frames → NetBecomes n e a (sending m frames)
+becomes_sending : (n m : NetState) (e : Event) (word : AnswerWord) (frames : List Frame) (a : Answer) → m.packets ≡ n.packets → n.packets.limits ≡ n.world_clients.limits → Moved n e word (messages_of frames) m
+    → AllByRecursion (Fits n.world_clients.limits) frames → word_of a.word ≡ word → a.sent ≡ sent_as (length n.packets.sent) frames → NetBecomes n e a (sending m frames)
 becomes_sending n m e word frames a same l moved fits is sent = record {
   limits = moved.limits;
   opening = moved.opening;
@@ -75,7 +75,7 @@ becomes_sending n m e word frames a same l moved fits is sent = record {
     sent = map spelling frames;
     all = ap (λ (p : PacketsState). p.sent ++ map spelling frames) same;
     counted = sent_length (length n.packets.sent) frames ∙ ap length (sym sent);
-    spelled = frames_spelled n.sites.limits frames fits;
+    spelled = frames_spelled n.world_clients.limits frames fits;
   };
   by_event = λ w sh.
       let by = moved.by_event w sh in (
@@ -87,29 +87,29 @@ becomes_sending n m e word frames a same l moved fits is sent = record {
         numbered (length n.packets.sent) frames ∙ ap (λ (xs : List SentPacket). map sent_of xs) (sym sent),
         record {
           server = by.4;
-          sites = record { clients = by.5.clients; incarnations = by.5.incarnations };
+          world_clients = record { clients = by.5.clients; incarnations = by.5.incarnations };
           packets = subst (λ (b : _). AllSpell b ((sending m frames).packets.sent) (w.packets ++ messages_of frames)) (sym moved.limits)
-              (subst (λ (p : PacketsState). AllSpell n.sites.limits (p.sent ++ map spelling frames) (w.packets ++ messages_of frames)) (sym same)
-              (all_spell n.sites.limits n.packets.sent (map spelling frames) w.packets (messages_of frames) sh.packets (frames_spell n.sites.limits frames fits)));
+              (subst (λ (p : PacketsState). AllSpell n.world_clients.limits (p.sent ++ map spelling frames) (w.packets ++ messages_of frames)) (sym same)
+              (all_spell n.world_clients.limits n.packets.sent (map spelling frames) w.packets (messages_of frames) sh.packets (frames_spell n.world_clients.limits frames fits)));
         },
       );
 }
 
 -- the clients do something at an event that is none of a packet
-pub sites_become : (n : NetState) (s : SitesState) (e : Event) (word : AnswerWord) (frames : List Frame) (a : Answer) → IsNet n → Answers n.sites e word (messages_of frames) s
-    → ((w : World) → EventChoiceAllowed (limits_of n.sites.limits) w e None)
-    → AllByRecursion (Fits n.sites.limits) frames → word_of a.word ≡ word → a.sent ≡ sent_as (length n.packets.sent) frames → NetBecomes n e a (sending (record n { sites = s }) frames)
-sites_become n s e word frames a is answers allowed fits word_is sent = becomes_sending n (record n { sites = s }) e word frames a refl is.packets (record {
+pub world_clients_become : (n : NetState) (s : WorldClientsState) (e : Event) (word : AnswerWord) (frames : List Frame) (a : Answer) → IsNet n → Answers n.world_clients e word (messages_of frames) s
+    → ((w : World) → EventChoiceAllowed (limits_of n.world_clients.limits) w e None)
+    → AllByRecursion (Fits n.world_clients.limits) frames → word_of a.word ≡ word → a.sent ≡ sent_as (length n.packets.sent) frames → NetBecomes n e a (sending (record n { world_clients = s }) frames)
+world_clients_become n s e word frames a is answers allowed fits word_is sent = becomes_sending n (record n { world_clients = s }) e word frames a refl is.packets (record {
   limits = answers.limits;
   opening = refl;
   by_event = λ w sh.
-      let by = answers.by_event w sh.sites None in
+      let by = answers.by_event w sh.world_clients None in
       (None, by.0, allowed w, by.1, by.2 ∙ sh.server, by.3);
 }) fits word_is sent
 
 -- the server does something at an event that is none of a packet
 server_moves : (n : NetState) (v : ServerState) (e : Event) (word : AnswerWord) (input : Input) (messages : List Message) → Does n.server input messages v
-    → ((w : World) → RepresentsNet n w → EventChoiceAllowed (limits_of n.sites.limits) w e None × (step (limits_of n.sites.limits) on_cycle w e None ≡ server_does w e word (input_steps on_cycle w.server input)))
+    → ((w : World) → RepresentsNet n w → EventChoiceAllowed (limits_of n.world_clients.limits) w e None × (step (limits_of n.world_clients.limits) on_cycle w e None ≡ server_does w e word (input_steps on_cycle w.server input)))
     → Moved n e word messages (record n { server = v })
 server_moves n v e word input messages does steps = record {
   limits = refl;
@@ -122,19 +122,19 @@ server_moves n v e word input messages does steps = record {
         (steps w sh).0,
         (steps w sh).1 ∙ (λ i. answer_with w e word (sends i) (record w { server = after i })),
         refl,
-        record { clients = sh.sites.clients; incarnations = sh.sites.incarnations },
+        record { clients = sh.world_clients.clients; incarnations = sh.world_clients.incarnations },
       );
 }
 
 -- it sends again
 pub again_becomes : (n : NetState) (v : ServerState) (frames : List Frame) (a : Answer) → IsNet n → Does n.server SendsAgain (messages_of frames) v
-    → AllByRecursion (Fits n.sites.limits) frames → word_of a.word ≡ AnsweredOk → a.sent ≡ sent_as (length n.packets.sent) frames → NetBecomes n ServerAgain a (sending (record n { server = v }) frames)
+    → AllByRecursion (Fits n.world_clients.limits) frames → word_of a.word ≡ AnsweredOk → a.sent ≡ sent_as (length n.packets.sent) frames → NetBecomes n ServerAgain a (sending (record n { server = v }) frames)
 again_becomes n v frames a is does fits word_is sent = becomes_sending n (record n { server = v }) ServerAgain AnsweredOk frames a refl is.packets
-    (server_moves n v ServerAgain AnsweredOk SendsAgain (messages_of frames) does (λ w sh. (tt, step_again (limits_of n.sites.limits) on_cycle w None))) fits word_is sent
+    (server_moves n v ServerAgain AnsweredOk SendsAgain (messages_of frames) does (λ w sh. (tt, step_again (limits_of n.world_clients.limits) on_cycle w None))) fits word_is sent
 
 -- nothing happens but the answer
 nothing_becomes : (n : NetState) (e : Event) (word : AnswerWord) (a : Answer)
-    → ((w : World) → RepresentsNet n w → EventChoiceAllowed (limits_of n.sites.limits) w e None × (step (limits_of n.sites.limits) on_cycle w e None ≡ answer_only w e word))
+    → ((w : World) → RepresentsNet n w → EventChoiceAllowed (limits_of n.world_clients.limits) w e None × (step (limits_of n.world_clients.limits) on_cycle w e None ≡ answer_only w e word))
     → word_of a.word ≡ word → a.sent ≡ [] → NetBecomes n e a n
 nothing_becomes n e word a steps is sent = record {
   limits = refl;
@@ -147,18 +147,18 @@ nothing_becomes n e word a steps is sent = record {
     (steps w sh).0,
     (steps w sh).1 ∙ ap (λ (x : AnswerWord). answer_with w e x [] w) (sym is),
     ap (λ (xs : List SentPacket). map sent_of xs) (sym sent),
-    record { server = sh.server; sites = record { clients = sh.sites.clients; incarnations = sh.sites.incarnations }; packets = rw (append-nil w.packets) sh.packets },
+    record { server = sh.server; world_clients = record { clients = sh.world_clients.clients; incarnations = sh.world_clients.incarnations }; packets = rw (append-nil w.packets) sh.packets },
   );
 }
 
 -- Packet k carries the message of its frame.
-carried : (n : NetState) (k : ℕ) (f : Frame) (w : World) → IsFrameAt n.packets k f → n.packets.limits ≡ n.sites.limits → RepresentsNet n w → packet_at w.packets k ≡ Some (message_of f)
-carried n k f w x l sh = carried_at (slice_get n.packets.sent k) (packet_at w.packets k) x.is_sent (spelled_at n.sites.limits n.packets.sent w.packets k sh.packets)
+carried : (n : NetState) (k : ℕ) (f : Frame) (w : World) → IsFrameAt n.packets k f → n.packets.limits ≡ n.world_clients.limits → RepresentsNet n w → packet_at w.packets k ≡ Some (message_of f)
+carried n k f w x l sh = carried_at (slice_get n.packets.sent k) (packet_at w.packets k) x.is_sent (spelled_at n.world_clients.limits n.packets.sent w.packets k sh.packets)
   where
-    one : (q : Message) (bytes : List ℕ) → bytes ≡ x.bytes → Spells n.sites.limits bytes q → q ≡ message_of f
-    one q bytes e s = sym s.carries ∙ ap message_of (x.only s.frame (subst (λ (b : _). IsFrame b s.frame x.bytes) (sym l) (subst (λ (b : List ℕ). IsFrame n.sites.limits s.frame b) e s.spelled)))
+    one : (q : Message) (bytes : List ℕ) → bytes ≡ x.bytes → Spells n.world_clients.limits bytes q → q ≡ message_of f
+    one q bytes e s = sym s.carries ∙ ap message_of (x.only s.frame (subst (λ (b : _). IsFrame b s.frame x.bytes) (sym l) (subst (λ (b : List ℕ). IsFrame n.world_clients.limits s.frame b) e s.spelled)))
 
-    carried_at : (o : Option (List ℕ)) (q : Option Message) → o ≡ Some x.bytes → SpelledAt n.sites.limits o q → q ≡ Some (message_of f)
+    carried_at : (o : Option (List ℕ)) (q : Option Message) → o ≡ Some x.bytes → SpelledAt n.world_clients.limits o q → q ≡ Some (message_of f)
     carried_at (Some b) (Some q) e s = ap Some (one q b (let i : b ≡ x.bytes = cc in i) s)
     carried_at (Some b) None e s = absurd s
     carried_at None q e s = cc
@@ -178,19 +178,19 @@ delivered : (L : Limits) (w : World) (k : ℕ) (m : Message) (let_go : Option �
 delivered L w k m v e = step_take L on_cycle w k v ∙ ap (λ (o : Option Message). take_packet L on_cycle w (TakePacket k) o v) e
 
 -- a client takes a packet
-pub client_becomes : (n : NetState) (k : ℕ) (f : Frame) (s : SitesState) (frames : List Frame) (a : Answer) → IsNet n → IsFrameAt n.packets k f → to_server (body_of f.body) ≡ false
-    → Delivers n.sites (message_of f) (messages_of frames) s → AllByRecursion (Fits n.sites.limits) frames → word_of a.word ≡ Taken → a.sent ≡ sent_as (length n.packets.sent) frames
-    → NetBecomes n (TakePacket k) a (sending (record n { sites = s }) frames)
-client_becomes n k f s frames a is at t delivers fits word_is sent = becomes_sending n (record n { sites = s }) (TakePacket k) Taken frames a refl is.packets (record {
+pub client_becomes : (n : NetState) (k : ℕ) (f : Frame) (s : WorldClientsState) (frames : List Frame) (a : Answer) → IsNet n → IsFrameAt n.packets k f → to_server (body_of f.body) ≡ false
+    → Delivers n.world_clients (message_of f) (messages_of frames) s → AllByRecursion (Fits n.world_clients.limits) frames → word_of a.word ≡ Taken → a.sent ≡ sent_as (length n.packets.sent) frames
+    → NetBecomes n (TakePacket k) a (sending (record n { world_clients = s }) frames)
+client_becomes n k f s frames a is at t delivers fits word_is sent = becomes_sending n (record n { world_clients = s }) (TakePacket k) Taken frames a refl is.packets (record {
   limits = delivers.limits;
   opening = refl;
   by_event = λ w sh.
-      let by = delivers.by_event w sh.sites (TakePacket k) in
+      let by = delivers.by_event w sh.world_clients (TakePacket k) in
       let here : packet_at w.packets k ≡ Some (message_of f) = carried n k f w at is.packets sh in (
         by.0,
         by.1,
-        chosen_at (limits_of n.sites.limits) w k (message_of f) by.0 here by.2,
-        delivered (limits_of n.sites.limits) w k (message_of f) by.0 here ∙ (rw t refl ∙ by.3),
+        chosen_at (limits_of n.world_clients.limits) w k (message_of f) by.0 here by.2,
+        delivered (limits_of n.world_clients.limits) w k (message_of f) by.0 here ∙ (rw t refl ∙ by.3),
         by.4 ∙ sh.server,
         by.5,
       );
@@ -198,7 +198,7 @@ client_becomes n k f s frames a is at t delivers fits word_is sent = becomes_sen
 
 -- the server takes a packet
 pub server_becomes : (n : NetState) (k : ℕ) (f : Frame) (v : ServerState) (frames : List Frame) (a : Answer) → IsNet n → IsFrameAt n.packets k f → to_server (body_of f.body) ≡ true
-    → Takes n.server f (messages_of frames) v → AllByRecursion (Fits n.sites.limits) frames → word_of a.word ≡ Taken → a.sent ≡ sent_as (length n.packets.sent) frames
+    → Takes n.server f (messages_of frames) v → AllByRecursion (Fits n.world_clients.limits) frames → word_of a.word ≡ Taken → a.sent ≡ sent_as (length n.packets.sent) frames
     → NetBecomes n (TakePacket k) a (sending (record n { server = v }) frames)
 server_becomes n k f v frames a is at t takes fits word_is sent = becomes_sending n (record n { server = v }) (TakePacket k) Taken frames a refl is.packets (record {
   limits = refl;
@@ -213,15 +213,15 @@ server_becomes n k f v frames a is at t takes fits word_is sent = becomes_sendin
       = ap (λ (x : Server). server_after x (server_take on_cycle x m.client m.incarnation m.body)) sh.server ∙ sym takes.does.becomes in (
         None,
         record w { server = server_of v },
-        chosen_at (limits_of n.sites.limits) w k m None here (λ i. none_let_go (limits_of n.sites.limits) (w.client m.client) m.body t),
-        delivered (limits_of n.sites.limits) w k m None here ∙ (to_the_server w m t fine ∙ (λ i. answer_with w (TakePacket k) Taken (sends i) (record w { server = after i }))),
+        chosen_at (limits_of n.world_clients.limits) w k m None here (λ i. none_let_go (limits_of n.world_clients.limits) (w.client m.client) m.body t),
+        delivered (limits_of n.world_clients.limits) w k m None here ∙ (to_the_server w m t fine ∙ (λ i. answer_with w (TakePacket k) Taken (sends i) (record w { server = after i }))),
         refl,
-        record { clients = sh.sites.clients; incarnations = sh.sites.incarnations },
+        record { clients = sh.world_clients.clients; incarnations = sh.world_clients.incarnations },
       );
 }) fits word_is sent
   where
     to_the_server : (w : World) (m : Message) → to_server m.body ≡ true → is_exhausted w.server m.client m.incarnation m.body ≡ false
-        → deliver (limits_of n.sites.limits) on_cycle w (TakePacket k) m None ≡ server_does w (TakePacket k) Taken (server_take on_cycle w.server m.client m.incarnation m.body)
+        → deliver (limits_of n.world_clients.limits) on_cycle w (TakePacket k) m None ≡ server_does w (TakePacket k) Taken (server_take on_cycle w.server m.client m.incarnation m.body)
     to_the_server w m t z = rw (t, z) refl
 
 -- it has no number left for it
@@ -238,15 +238,15 @@ exhausted_becomes n k f a is at t z word_is sent = record {
         None,
         [],
         w,
-        chosen_at (limits_of n.sites.limits) w k m None here (λ i. none_let_go (limits_of n.sites.limits) (w.client m.client) m.body t),
-        delivered (limits_of n.sites.limits) w k m None here ∙ (to_the_server w m t gone ∙ ap (λ (o : AnswerWord). answer_with w (TakePacket k) o [] w) (sym word_is)),
+        chosen_at (limits_of n.world_clients.limits) w k m None here (λ i. none_let_go (limits_of n.world_clients.limits) (w.client m.client) m.body t),
+        delivered (limits_of n.world_clients.limits) w k m None here ∙ (to_the_server w m t gone ∙ ap (λ (o : AnswerWord). answer_with w (TakePacket k) o [] w) (sym word_is)),
         ap (λ (l : List SentPacket). map sent_of l) (sym sent),
-        record { server = sh.server; sites = record { clients = sh.sites.clients; incarnations = sh.sites.incarnations }; packets = rw (append-nil w.packets) sh.packets },
+        record { server = sh.server; world_clients = record { clients = sh.world_clients.clients; incarnations = sh.world_clients.incarnations }; packets = rw (append-nil w.packets) sh.packets },
       );
 }
   where
     to_the_server : (w : World) (m : Message) → to_server m.body ≡ true → is_exhausted w.server m.client m.incarnation m.body ≡ true
-        → deliver (limits_of n.sites.limits) on_cycle w (TakePacket k) m None ≡ answer_only w (TakePacket k) ServerExhausted
+        → deliver (limits_of n.world_clients.limits) on_cycle w (TakePacket k) m None ≡ answer_only w (TakePacket k) ServerExhausted
     to_the_server w m t z = rw (t, z) refl
 
 -- a packet that was not sent yet
@@ -256,25 +256,25 @@ no_packet_becomes n k a h word_is sent = record {
   opening = refl;
   packets = adds_none n a sent;
   by_event = λ w sh.
-      let none : packet_at w.packets k ≡ None = none_at (slice_get n.packets.sent k) (packet_at w.packets k) h (spelled_at n.sites.limits n.packets.sent w.packets k sh.packets) in (
+      let none : packet_at w.packets k ≡ None = none_at (slice_get n.packets.sent k) (packet_at w.packets k) h (spelled_at n.world_clients.limits n.packets.sent w.packets k sh.packets) in (
         None,
         [],
         w,
-        subst (λ (x : Option Message). MessageChoiceAllowed (limits_of n.sites.limits) w x None) (sym none) tt,
-        step_take (limits_of n.sites.limits) on_cycle w k None ∙ (ap (λ (o : Option Message). take_packet (limits_of n.sites.limits) on_cycle w (TakePacket k) o None) none ∙ ap (λ (o : AnswerWord). answer_with w (TakePacket k) o [] w) (sym word_is)),
+        subst (λ (x : Option Message). MessageChoiceAllowed (limits_of n.world_clients.limits) w x None) (sym none) tt,
+        step_take (limits_of n.world_clients.limits) on_cycle w k None ∙ (ap (λ (o : Option Message). take_packet (limits_of n.world_clients.limits) on_cycle w (TakePacket k) o None) none ∙ ap (λ (o : AnswerWord). answer_with w (TakePacket k) o [] w) (sym word_is)),
         ap (λ (l : List SentPacket). map sent_of l) (sym sent),
-        record { server = sh.server; sites = record { clients = sh.sites.clients; incarnations = sh.sites.incarnations }; packets = rw (append-nil w.packets) sh.packets },
+        record { server = sh.server; world_clients = record { clients = sh.world_clients.clients; incarnations = sh.world_clients.incarnations }; packets = rw (append-nil w.packets) sh.packets },
       );
 }
   where
-    none_at : (o : Option (List ℕ)) (m : Option Message) → o ≡ None → SpelledAt n.sites.limits o m → m ≡ None
+    none_at : (o : Option (List ℕ)) (m : Option Message) → o ≡ None → SpelledAt n.world_clients.limits o m → m ≡ None
     none_at None None e s = refl
     none_at (Some b) m e s = cc
     none_at None (Some m) e s = absurd s
 
 -- the commits up to a number are on disk
 pub flushed_becomes : (n : NetState) (v : ServerState) (e : Event) (number : ℕ) (frames : List Frame) (a : Answer) → IsNet n → FlushesTo n e number → can_flush (server_of n.server) number ≡ true
-    → Does n.server (ReachesDisk number) (messages_of frames) v → AllByRecursion (Fits n.sites.limits) frames → word_of a.word ≡ Flushed number → a.sent ≡ sent_as (length n.packets.sent) frames
+    → Does n.server (ReachesDisk number) (messages_of frames) v → AllByRecursion (Fits n.world_clients.limits) frames → word_of a.word ≡ Flushed number → a.sent ≡ sent_as (length n.packets.sent) frames
     → NetBecomes n e a (sending (record n { server = v }) frames)
 flushed_becomes n v e number frames a is event can does fits word_is sent = becomes_sending n (record n { server = v }) e (Flushed number) frames a refl is.packets
     (server_moves n v e (Flushed number) (ReachesDisk number) (messages_of frames) does
@@ -287,16 +287,16 @@ nothing_to_flush n e number a event can word_is sent = nothing_becomes n e Nothi
 
 -- which number an event flushes up to
 pub flushes_to : (n : NetState) (number : ℕ) → FlushesTo n (FlushTo number) number
-flushes_to n number = λ w sh. (tt, step_flush_to (limits_of n.sites.limits) on_cycle w number None)
+flushes_to n number = λ w sh. (tt, step_flush_to (limits_of n.world_clients.limits) on_cycle w number None)
 
 pub flushes_all : (n : NetState) → FlushesTo n FlushAll (server_of n.server).store.last_commit
-flushes_all n = λ w sh. (tt, step_flush_all (limits_of n.sites.limits) on_cycle w None ∙ ap (λ (x : Server). flush_up_to w FlushAll x.store.last_commit) sh.server)
+flushes_all n = λ w sh. (tt, step_flush_all (limits_of n.world_clients.limits) on_cycle w None ∙ ap (λ (x : Server). flush_up_to w FlushAll x.store.last_commit) sh.server)
 
 -- nothing is said
-pub silent_sites_become : (n : NetState) (s : SitesState) (e : Event) (word : AnswerWord) (a : Answer) → IsNet n → Answers n.sites e word [] s → ((w : World) → EventChoiceAllowed (limits_of n.sites.limits) w e None)
-    → word_of a.word ≡ word → a.sent ≡ [] → NetBecomes n e a (record n { sites = s })
-silent_sites_become n s e word a is answers allowed word_is sent = subst (λ (sent : List (List ℕ)). NetBecomes n e a (record n { sites = s; packets = record n.packets { sent = sent } })) (append-nil n.packets.sent)
-    (sites_become n s e word [] a is answers allowed tt word_is sent)
+pub silent_world_clients_become : (n : NetState) (s : WorldClientsState) (e : Event) (word : AnswerWord) (a : Answer) → IsNet n → Answers n.world_clients e word [] s → ((w : World) → EventChoiceAllowed (limits_of n.world_clients.limits) w e None)
+    → word_of a.word ≡ word → a.sent ≡ [] → NetBecomes n e a (record n { world_clients = s })
+silent_world_clients_become n s e word a is answers allowed word_is sent = subst (λ (sent : List (List ℕ)). NetBecomes n e a (record n { world_clients = s; packets = record n.packets { sent = sent } })) (append-nil n.packets.sent)
+    (world_clients_become n s e word [] a is answers allowed tt word_is sent)
 
 -- a kind's way is the protocol's
 pub way : (b : Body) → goes_to_server (kind_of_body b) ≡ to_server (body_of b)
@@ -337,7 +337,7 @@ unchanged_becomes n v e a same b = record {
         by.3,
         by.4,
         by.5,
-        record { server = by.6.server ∙ sym same.server; sites = record { clients = by.6.sites.clients; incarnations = by.6.sites.incarnations }; packets = by.6.packets },
+        record { server = by.6.server ∙ sym same.server; world_clients = record { clients = by.6.world_clients.clients; incarnations = by.6.world_clients.incarnations }; packets = by.6.packets },
       );
 }
 
@@ -378,11 +378,11 @@ accepted_step L w c call let_go h e =
     ∙ (ap (λ (r : Reply). is_refusal_word r.word) (call_accepted L (w.client c) call e) ∙ accepted_word L (w.client c) call)
 
 -- So a call that the table of its client accepts; `of` is the client, by what its transaction has done.
-pub accepts_call : (n : NetState) (c : ℕ) (call : Call) (limits : Bounds) (of : List Operation → Client) → ((operations : List Operation) → call_fault (limits_of limits) (of operations) call ≡ None) → limits ≡ n.sites.limits
-    → ((w : World) → RepresentsNet n w → w.client c ≡ of (w.client c).cache.operations) → c < n.sites.limits.clients → IsAccepted n (ClientCalls c call)
+pub accepts_call : (n : NetState) (c : ℕ) (call : Call) (limits : Bounds) (of : List Operation → Client) → ((operations : List Operation) → call_fault (limits_of limits) (of operations) call ≡ None) → limits ≡ n.world_clients.limits
+    → ((w : World) → RepresentsNet n w → w.client c ≡ of (w.client c).cache.operations) → c < n.world_clients.limits.clients → IsAccepted n (ClientCalls c call)
 accepts_call n c call limits of accepts l k h = λ w sh let_go.
-    let fault : call_fault (limits_of n.sites.limits) (w.client c) call ≡ None = (λ i. call_fault (limits_of (sym l i)) (k w sh i) call) ∙ accepts (w.client c).cache.operations in
-    accepted_step (limits_of n.sites.limits) w c call let_go h fault
+    let fault : call_fault (limits_of n.world_clients.limits) (w.client c) call ≡ None = (λ i. call_fault (limits_of (sym l i)) (k w sh i) call) ∙ accepts (w.client c).cache.operations in
+    accepted_step (limits_of n.world_clients.limits) w c call let_go h fault
 
 -- a refused call says nothing
 refused_is_silent : (L : Limits) (w : World) (c : ℕ) (call : Call) (let_go : Option ℕ) → (Accepts (step L on_cycle w (ClientCalls c call) let_go) → ⊥) → (step L on_cycle w (ClientCalls c call) let_go).answer.sent ≡ []
@@ -407,24 +407,24 @@ some_sent place [] some e = omega (arith, some)
 some_sent place (f ∷ fs) some e = not_nothing _ _ e
 
 -- so a call at which frames are said was accepted
-pub said_by_accepted : (n : NetState) (c : ℕ) (call : Call) (word : AnswerWord) (frames : List Frame) (s : SitesState) → Answers n.sites (ClientCalls c call) word (messages_of frames) s → 0 < length frames → IsAccepted n (ClientCalls c call)
+pub said_by_accepted : (n : NetState) (c : ℕ) (call : Call) (word : AnswerWord) (frames : List Frame) (s : WorldClientsState) → Answers n.world_clients (ClientCalls c call) word (messages_of frames) s → 0 < length frames → IsAccepted n (ClientCalls c call)
 said_by_accepted n c call word frames s answers some = λ w sh let_go.
-    by w sh let_go (is_refusal_word (step (limits_of n.sites.limits) on_cycle w (ClientCalls c call) let_go).answer.word) refl
+    by w sh let_go (is_refusal_word (step (limits_of n.world_clients.limits) on_cycle w (ClientCalls c call) let_go).answer.word) refl
   where
-    by : (w : World) → RepresentsNet n w → (let_go : Option ℕ) → (x : Bool) → is_refusal_word (step (limits_of n.sites.limits) on_cycle w (ClientCalls c call) let_go).answer.word ≡ x
-        → is_refusal_word (step (limits_of n.sites.limits) on_cycle w (ClientCalls c call) let_go).answer.word ≡ false
+    by : (w : World) → RepresentsNet n w → (let_go : Option ℕ) → (x : Bool) → is_refusal_word (step (limits_of n.world_clients.limits) on_cycle w (ClientCalls c call) let_go).answer.word ≡ x
+        → is_refusal_word (step (limits_of n.world_clients.limits) on_cycle w (ClientCalls c call) let_go).answer.word ≡ false
     by w sh let_go false e = e
     by w sh let_go true e =
-        let made = answers.by_event w sh.sites let_go in
-        let none : (step (limits_of n.sites.limits) on_cycle w (ClientCalls c call) let_go).answer.sent ≡ []
-        = refused_is_silent (limits_of n.sites.limits) w c call let_go (λ accepts. not_both (sym e ∙ accepts)) in
+        let made = answers.by_event w sh.world_clients let_go in
+        let none : (step (limits_of n.world_clients.limits) on_cycle w (ClientCalls c call) let_go).answer.sent ≡ []
+        = refused_is_silent (limits_of n.world_clients.limits) w c call let_go (λ accepts. not_both (sym e ∙ accepts)) in
         absurd (some_sent (length w.packets) frames some (sym (ap (λ (r : StepResult). r.answer.sent) made.1) ∙ none))
 
 -- a client restarts that is there, and has an incarnation left
-pub accepts_restart : (n : NetState) (c : ℕ) → c < n.sites.limits.clients → (client_at n.sites c).incarnation < max_number → IsAccepted n (Restart c)
+pub accepts_restart : (n : NetState) (c : ℕ) → c < n.world_clients.limits.clients → (client_at n.world_clients c).incarnation < max_number → IsAccepted n (Restart c)
 accepts_restart n c h left = λ w sh let_go.
-    let fewer : w.incarnation c < max_number = subst (λ (i : ℕ). i < max_number) (sym (sh.sites.incarnations c h)) left in
-    ap (λ (r : StepResult). is_refusal_word r.answer.word) (step_restart (limits_of n.sites.limits) on_cycle w c let_go h) ∙ rw (below (w.incarnation c) fewer) refl
+    let fewer : w.incarnation c < max_number = subst (λ (i : ℕ). i < max_number) (sym (sh.world_clients.incarnations c h)) left in
+    ap (λ (r : StepResult). is_refusal_word r.answer.word) (step_restart (limits_of n.world_clients.limits) on_cycle w c let_go h) ∙ rw (below (w.incarnation c) fewer) refl
   where
     below : (i : ℕ) → i < max_number → nat_le max_number i ≡ false
     below i less = grind (arith, nat_tests)
@@ -439,13 +439,13 @@ taken_word L w k m let_go false lacks false a b c = rw (a, c) refl
 
 pub accepts_take : (n : NetState) (k : ℕ) → slice_get n.packets.sent k ≢ None → IsAccepted n (TakePacket k)
 accepts_take n k there = λ w sh let_go.
-    ap (λ (r : StepResult). is_refusal_word r.answer.word) (step_take (limits_of n.sites.limits) on_cycle w k let_go)
-    ∙ by w let_go (slice_get n.packets.sent k) (packet_at w.packets k) there (spelled_at n.sites.limits n.packets.sent w.packets k sh.packets)
+    ap (λ (r : StepResult). is_refusal_word r.answer.word) (step_take (limits_of n.world_clients.limits) on_cycle w k let_go)
+    ∙ by w let_go (slice_get n.packets.sent k) (packet_at w.packets k) there (spelled_at n.world_clients.limits n.packets.sent w.packets k sh.packets)
   where
-    by : (w : World) (let_go : Option ℕ) (o : Option (List ℕ)) (m : Option Message) → o ≢ None → SpelledAt n.sites.limits o m → Accepts (take_packet (limits_of n.sites.limits) on_cycle w (TakePacket k) m let_go)
+    by : (w : World) (let_go : Option ℕ) (o : Option (List ℕ)) (m : Option Message) → o ≢ None → SpelledAt n.world_clients.limits o m → Accepts (take_packet (limits_of n.world_clients.limits) on_cycle w (TakePacket k) m let_go)
     by w let_go None m some e = absurd (some refl)
     by w let_go (Some bytes) None some e = absurd e
-    by w let_go (Some bytes) (Some m) some e = taken_word (limits_of n.sites.limits) w k m let_go (to_server m.body) (is_exhausted w.server m.client m.incarnation m.body) (m.incarnation == w.incarnation m.client) refl refl refl
+    by w let_go (Some bytes) (Some m) some e = taken_word (limits_of n.world_clients.limits) w k m let_go (to_server m.body) (is_exhausted w.server m.client m.incarnation m.body) (m.incarnation == w.incarnation m.client) refl refl refl
 
 -- so a packet of which the frame is known
 pub accepts_frame : (n : NetState) (k : ℕ) (f : Frame) → IsFrameAt n.packets k f → IsAccepted n (TakePacket k)
@@ -460,13 +460,13 @@ flush_accepted w e number true can = rw can refl
 flush_accepted w e number false can = rw can refl
 
 pub accepts_again : (n : NetState) → IsAccepted n ServerAgain
-accepts_again n = λ w sh let_go. ap (λ (r : StepResult). is_refusal_word r.answer.word) (step_again (limits_of n.sites.limits) on_cycle w let_go)
+accepts_again n = λ w sh let_go. ap (λ (r : StepResult). is_refusal_word r.answer.word) (step_again (limits_of n.world_clients.limits) on_cycle w let_go)
 
 pub accepts_flush : (n : NetState) → IsAccepted n FlushAll
 accepts_flush n = λ w sh let_go.
     let last = w.server.store.last_commit in
-    ap (λ (r : StepResult). is_refusal_word r.answer.word) (step_flush_all (limits_of n.sites.limits) on_cycle w let_go) ∙ flush_accepted w FlushAll last (can_flush w.server last) refl
+    ap (λ (r : StepResult). is_refusal_word r.answer.word) (step_flush_all (limits_of n.world_clients.limits) on_cycle w let_go) ∙ flush_accepted w FlushAll last (can_flush w.server last) refl
 
 pub accepts_flush_to : (n : NetState) (number : ℕ) → IsAccepted n (FlushTo number)
 accepts_flush_to n number = λ w sh let_go.
-    ap (λ (r : StepResult). is_refusal_word r.answer.word) (step_flush_to (limits_of n.sites.limits) on_cycle w number let_go) ∙ flush_accepted w (FlushTo number) number (can_flush w.server number) refl
+    ap (λ (r : StepResult). is_refusal_word r.answer.word) (step_flush_to (limits_of n.world_clients.limits) on_cycle w number let_go) ∙ flush_accepted w (FlushTo number) number (can_flush w.server number) refl

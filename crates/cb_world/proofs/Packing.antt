@@ -11,8 +11,8 @@ use Rattle.cb_frame_types.specs.declared.frame.Body.TheVariants as body
 use Rattle.cb_frame_types.specs.declared.frame.ShortBody.TheVariants as short
 use Rattle.cb_frame_types.specs.declared.frame.Frame.{Frame}
 use Rattle.cb_outbox.specs.Messages.{body_of, messages_of}
-use Rattle.cb_sites.specs.Packets.{IsSpelled}
-use Rattle.cb_sites.specs.Wire.{AllSpell, Spells}
+use Rattle.cb_world_clients.specs.Packets.{IsSpelled}
+use Rattle.cb_world_clients.specs.Wire.{AllSpell, Spells}
 use Rattle.cb_page.specs.Bounds.{Bounds}
 use Rattle.cb_protocol.specs.Messages.{Message, kind}
 use Rattle.cb_protocol.specs.World.{numbered_from, packet_at}

@@ -4,7 +4,7 @@ use Rattle.std.proofs.lemmas.List.{append-nil, map-append}
 use Rattle.cb_page.specs.Bounds.{Bounds}
 use Rattle.cb_world.specs.Plays.{Played, IsReached, Steps}
 use Rattle.cb_transcript.specs.ProtocolEvents.{event_of, answer_of}
-use Rattle.cb_copies.specs.CopiesState.{limits_of}
+use Rattle.cb_cache.specs.CacheState.{limits_of}
 use Rattle.cb_transcript.specs.Transcripts.{TranscriptState}
 use Rattle.cb_world.specs.WorldState.{WorldState, Represents, opened, told}
 use Rattle.cb_event.specs.declared.event.Event.{Event}

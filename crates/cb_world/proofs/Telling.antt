@@ -7,7 +7,7 @@ use Rattle.std.proofs.Math.Seq.{drop-append_seam}
 use Rattle.cb_commit.specs.declared.commit.Commit.{Commit}
 use Rattle.cb_holdings.specs.Commits.{applied_commit}
 use Rattle.cb_holdings.specs.Holdings.{newest_first}
-use Rattle.cb_copies.specs.CopiesState.{limits_of}
+use Rattle.cb_cache.specs.CacheState.{limits_of}
 use Rattle.cb_world.specs.NetMoves.{NetBecomes}
 use Rattle.cb_world.specs.NetState.{NetState, limits_in}
 use Rattle.cb_transcript.specs.ProtocolEvents.{transcript_of, word_of}

@@ -12,9 +12,9 @@ use Rattle.cb_commit.specs.Stores.{IsSound, IsStored, StoreState, no_page, versi
 use Rattle.cb_world.specs.NetMoves as net
 use Rattle.cb_world.specs.Plays.{IsWorld, IsReached, Steps}
 use Rattle.cb_transcript.specs.ProtocolEvents.{event_of, answer_of, word_of, sent_of, entry_of, transcript_of}
-use Rattle.cb_copies.specs.CopiesState.{limits_of}
+use Rattle.cb_cache.specs.CacheState.{limits_of}
 use Rattle.cb_holdings.specs.Holdings.{opening_of}
-use Rattle.cb_sites.specs.Packets.{IsSpelled}
+use Rattle.cb_world_clients.specs.Packets.{IsSpelled}
 use Rattle.cb_world.specs.NetState.{NetState, RepresentsNet, limits_in}
 use Rattle.cb_transcript.specs.Transcripts.{name_of}
 use Rattle.cb_transcript.specs.declared.transcript.TransactionName.{TransactionName}

@@ -1,9 +1,9 @@
 -- Which events are drawn in a world that plays them. This project's rules.
 use Rattle.std.specs.Prelude.{◌≡◌, ℕ, ⊤, List, [], ◌∷◌, length}
 use Rattle.cb_commit.specs.Stores.{zeros}
-use Rattle.cb_copies.specs.CopiesState.{limits_of}
-use Rattle.cb_draw.specs.Drawn.{DrawingState, drawn_event, drawn_kind, starts, words_of}
-use Rattle.cb_draw.specs.Words.{after_words}
+use Rattle.cb_cache.specs.CacheState.{limits_of}
+use Rattle.cb_event.specs.Drawn.{DrawingState, drawn_event, drawn_kind, starts, words_of}
+use Rattle.cb_event.specs.RandomWords.{after_words}
 use Rattle.cb_event.specs.declared.event.Event.{Event}
 use Rattle.cb_holdings.specs.Holdings.{opening_of}
 use Rattle.cb_page.specs.Bounds.{Bounds}

@@ -6,14 +6,14 @@ ghost use Rattle.std.specs.Prelude.{◌≡◌, ◌<◌, ◌≤◌, ◌+◌, ℕ,
 ghost use Rattle.std.specs.Prelude.{take};
 ghost use Rattle.std.specs.List.{AllByRecursion};
 ghost use Rattle.cb_commit.specs.Stores.{IsOf};
-ghost use Rattle.cb_copies.specs.CopiesState.{limits_of};
+ghost use Rattle.cb_cache.specs.CacheState.{limits_of};
 ghost use Rattle.cb_frame_types.specs.Grammar.{Fits};
 ghost use Rattle.cb_frame_types.specs.Kinds.{goes_to_server, kind_of_body};
 ghost use Rattle.cb_holdings.specs.Holdings.{opening_of};
 ghost use Rattle.cb_world.specs.NetMoves.{CanFlush, FlushesTo, IsAccepted, NetBecomes, Sends};
 ghost use Rattle.cb_world.specs.NetMoves.{sent_as};
 ghost use Rattle.cb_world.specs.NetState.{RepresentsNet, limits_in};
-ghost use Rattle.cb_sites.specs.Packets.{IsFrameAt};
+ghost use Rattle.cb_world_clients.specs.Packets.{IsFrameAt};
 ghost use Rattle.cb_protocol.specs.World.{Event as WorldEvent};
 ghost use Rattle.cb_protocol.specs.World.{ClientCalls, FlushAll, Restart as RestartEvent};
 ghost use Rattle.cb_protocol.specs.World.{ServerAgain, TakePacket, new_world};
@@ -26,9 +26,9 @@ use cb_event::{Call, Event};
 use cb_frame::Frame;
 use cb_page::{ClientNo, CommitNo, Limits};
 use cb_server::{Server, ServerFault};
-use cb_sites::{Packets, Sites};
 use cb_transcript::{Answer, AnswerWord, SentPacket, SentPackets};
 use cb_twoq::Chooser;
+use cb_world_clients::{Packets, WorldClients};
 use std::alloc::{AllocError, Global};
 use std::marker::Model;
 
@@ -37,7 +37,7 @@ use std::marker::Model;
 /// `new` and `event` take memory; no other call does.
 pub(crate) struct Net<Q: Chooser> {
     server: Server,
-    sites: Sites<Q>,
+    world_clients: WorldClients<Q>,
     packets: Packets,
 }
 
@@ -46,7 +46,7 @@ impl<Q: Chooser> Drop for Net<Q> {
     fn drop(self) {
         let Net {
             server: _,
-            sites: _,
+            world_clients: _,
             packets: _,
         } = self;
     }
@@ -59,13 +59,13 @@ impl<Q: Chooser> Model for Net<Q> {
 
     ghost view = { λ net. record {
       server = net.server;
-      sites = net.sites;
+      world_clients = net.world_clients;
       packets = net.packets;
     } };
 
     ghost invariant = { λ net. IsNet (record {
       server = net.server;
-      sites = net.sites;
+      world_clients = net.world_clients;
       packets = net.packets;
     }) };
 }
@@ -83,7 +83,7 @@ impl<Q: Chooser> Net<Q> {
     {
         Ok(Net {
             server: Server::new(alloc, limits, store)?,
-            sites: Sites::new(alloc, limits)?,
+            world_clients: WorldClients::new(alloc, limits)?,
             packets: Packets::new(alloc, limits),
         })
     }
@@ -139,8 +139,8 @@ impl<Q: Chooser> Net<Q> {
             (IsAccepted self.old (ClientCalls client (call_of call.now))) }
     {
         // What holds of all clients, `limits` says.
-        let _limits = self.sites.limits();
-        let reply = self.sites.call(alloc, client, call)?;
+        let _known = self.world_clients.limits();
+        let reply = self.world_clients.call(alloc, client, call)?;
         self.answer(alloc, reply.word, reply.said.as_slice())
     }
 
@@ -176,7 +176,7 @@ impl<Q: Chooser> Net<Q> {
             NetBecomes self.old (TakePacket packet) answer self.new) }
         ensures err { OnErr result (self.new.packets ≡ self.old.packets) }
     {
-        let said = self.sites.take(alloc, frame)?;
+        let said = self.world_clients.take(alloc, frame)?;
         self.answer(alloc, AnswerWord::Taken, said.as_slice())
     }
 
@@ -208,7 +208,7 @@ impl<Q: Chooser> Net<Q> {
         ensures err { OnErr result (self.new.packets ≡ self.old.packets) }
         ensures fails { OnErr result (IsAccepted self.old (RestartEvent client)) }
     {
-        let word = self.sites.restart(alloc, client)?;
+        let word = self.world_clients.restart(alloc, client)?;
         Ok(Answer::silent(alloc, word))
     }
 

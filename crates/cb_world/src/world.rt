@@ -11,9 +11,9 @@ ghost use Rattle.cb_world.specs.NetMoves.{NetBecomes};
 ghost use Rattle.cb_server.specs.ServerState.{server_of};
 ghost use Rattle.cb_transcript.specs.ProtocolEvents.{event_of};
 ghost use Rattle.cb_transcript.specs.Transcripts.{IsSerialOnOpening, committed_name};
-ghost use Rattle.cb_copies.specs.CopiesState.{limits_of};
+ghost use Rattle.cb_cache.specs.CacheState.{limits_of};
 ghost use Rattle.cb_holdings.specs.Holdings.{newest_first, opening_of};
-ghost use Rattle.cb_sites.specs.Packets.{IsSpelled};
+ghost use Rattle.cb_world_clients.specs.Packets.{IsSpelled};
 ghost use Rattle.cb_world.specs.WorldState.{IsTold, Represents, Tells, opened, told};
 ghost use Rattle.cb_transcript.specs.declared.answer.Answer.{Answer as AnswerState};
 ghost use Rattle.cb_transcript.specs.declared.answer.TranscriptEntry.{TranscriptEntry as EntryData};
@@ -100,7 +100,7 @@ impl<Q: Chooser> World<Q> {
     {
         callback_read();
         // The store is sound by its type: each call on it says so.
-        let _number = store.number();
+        let _known = store.number();
         let opening = store.copy(alloc)?;
         Ok(World {
             alloc,

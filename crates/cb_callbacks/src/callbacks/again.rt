@@ -42,6 +42,6 @@ impl Callbacks {
             → HasRoomFor (server_again (server_of self.now.tables)) outbox }
     {
         // To look at a field shows the invariant.
-        let _ = &self.tables;
+        let _known = &self.tables;
     }
 }

@@ -33,7 +33,7 @@ impl Callbacks {
     }
 
     /// The client's copy of the page was given back, and it doesn't use the page.
-    pub fn remove_row(&mut self, client: ClientNo, page: PageNo)
+    pub fn give_back(&mut self, client: ClientNo, page: PageNo)
         requires client { HasClient self.old.tables client }
         requires page { HasPage self.old.tables page }
         ensures { (grant : ℕ) → Changes self.old.tables
@@ -41,7 +41,7 @@ impl Callbacks {
             self.new.tables }
     {
         self.tables.marks.unmark(client, page);
-        self.tables.holdings.remove_row(client, page);
+        self.tables.holdings.give_back(client, page);
         follow_page(&mut self.view, &self.tables, page);
     }
 

@@ -17,9 +17,8 @@ ghost use Rattle.cb_protocol.specs.WaitsFor.{on_cycle};
 
 use crate::Callbacks;
 use cb_asks::Waiting;
-use cb_clients::ClientSet;
 use cb_outbox::Outbox;
-use cb_page::{ClientNo, GrantNo, PageNo};
+use cb_page::{ClientNo, ClientSet, GrantNo, PageNo};
 
 impl Callbacks {
     /// What is done about the first ask of the page. The next ask is to be looked at where it

@@ -15,9 +15,8 @@ ghost use Rattle.cb_protocol.specs.World.{messages_sent};
 
 use crate::Callbacks;
 use crate::callbacks::changes::follow_page;
-use cb_clients::ClientSet;
 use cb_frame::{Frame, Writes};
-use cb_page::{ClientNo, CommitNo, Incarnation, TxnNo};
+use cb_page::{ClientNo, ClientSet, CommitNo, Incarnation, TxnNo};
 use cb_tables::Tables;
 use cb_waits::View;
 use std::alloc::{AllocError, Global};

@@ -16,9 +16,8 @@ ghost use Rattle.cb_protocol.specs.Settling.{permit_write, settle_page, settle_p
 ghost use Rattle.cb_protocol.specs.WaitsFor.{on_cycle};
 
 use crate::Callbacks;
-use cb_clients::ClientSet;
 use cb_outbox::Outbox;
-use cb_page::{ClientNo, GrantNo, Limits, PageNo};
+use cb_page::{ClientNo, ClientSet, GrantNo, Limits, PageNo};
 use cb_tables::Tables;
 use cb_waits::View;
 
@@ -35,7 +34,7 @@ impl Callbacks {
         ensures stays { Stays self.old.tables.holdings self.new.tables.holdings }
     {
         // The invariant of all as it is before the first page, which the proof cites.
-        let _ = &self.tables;
+        let _known = &self.tables;
         let mut from = 0;
         while let Some(page) = self.tables.asks.next_page(from) {
             let asks = self.tables.asks.queue(page).len();
@@ -81,7 +80,7 @@ impl Callbacks {
             ≤ 32 }
     {
         // To look at a field shows the invariant; that few asks wait their count says.
-        let _ = self.tables.asks.waiting_asks();
+        let _known = self.tables.asks.waiting_asks();
     }
 
     /// The page is settled, in so many decisions at most and one.

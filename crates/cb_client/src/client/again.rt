@@ -6,7 +6,7 @@ ghost use Rattle.std.specs.Option.{option_map};
 ghost use Rattle.std.specs.Vec.{vec_capacity, vec_len};
 ghost use Rattle.cb_client.specs.ByTable.{Calls, as_before, limits_at, messages_from};
 ghost use Rattle.cb_client.specs.CallAnswers.{short_message};
-ghost use Rattle.cb_client_engine.specs.ClientState.{client_of, is_gone};
+ghost use Rattle.cb_client_core.specs.ClientState.{client_of, is_gone};
 ghost use Rattle.cb_protocol.specs.Messages.{Drop as DropBody};
 ghost use Rattle.cb_client.specs.declared.client_fault.ClientFault.TheVariants.{Memory};
 ghost use Rattle.cb_frame_types.specs.Grammar.{Fits};
@@ -19,7 +19,7 @@ ghost use Rattle.cb_protocol.specs.Serial.{Operation};
 
 use crate::client::Client;
 use crate::client_fault::ClientFault;
-use cb_client_engine::{Outcome, Stage};
+use cb_client_core::{Outcome, Stage};
 use cb_frame::{Frame, ShortBody, ShortFrame};
 use cb_twoq::Chooser;
 use std::alloc::{AllocError, Global};
@@ -40,7 +40,7 @@ impl<Q: Chooser> Client<Q> {
         ensures none { bodies_said (client_again (limits_at self.now) (client_of self.now [])) ≡ []
             → IsOk result }
     {
-        if !self.engine.welcomed {
+        if !self.core.welcomed {
             let mut frames = Vec::with_capacity(alloc, 1)?;
             frames.push_reserved(self.hello());
             return Ok(frames);
@@ -63,7 +63,7 @@ impl<Q: Chooser> Client<Q> {
             (client_of self.now operations).last_outcome))
             ≡ option_to_list (option_map short_message result) }
     {
-        match self.engine.last {
+        match self.core.last {
             None => None,
             Some(last) => match last {
                 Outcome::Committed(_) => None,
@@ -82,10 +82,10 @@ impl<Q: Chooser> Client<Q> {
           body = DropBody (unwrap_or self.now.dropped 0);
         } }
     {
-        let Some(txn) = self.engine.dropped else {
+        let Some(txn) = self.core.dropped else {
             unreachable!()
         };
-        self.engine.say(ShortBody::Drop { txn })
+        self.core.say(ShortBody::Drop { txn })
     }
 
     /// The Commit of the transaction that is committing, if one is: the one that `finish` answered.
@@ -101,7 +101,7 @@ impl<Q: Chooser> Client<Q> {
             → IsOk result }
         ensures nothing { ((page : ℕ) → has self.now.copies.wrote page ≡ false) → IsOk result }
     {
-        match self.engine.stage {
+        match self.core.stage {
             Stage::Idle | Stage::Open => Ok(None),
             Stage::Committing => Ok(Some(self.commit_frame(alloc)?)),
         }

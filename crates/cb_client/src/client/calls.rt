@@ -9,9 +9,9 @@ ghost use Rattle.cb_client.specs.CallAnswers.{AnswersRead, Begins, after_read};
 ghost use Rattle.cb_client.specs.CallAnswers.{ShortFrameFits, WantFits, Wants, Writes};
 ghost use Rattle.cb_frame_types.specs.Grammar.{Fits};
 ghost use Rattle.cb_client.specs.Lending.{client_ends_as};
-ghost use Rattle.cb_client_engine.specs.declared.standing.Ask.TheVariants.{Nothing};
-ghost use Rattle.cb_client_engine.specs.declared.standing.Stage.TheVariants.{Idle, Open};
-ghost use Rattle.cb_copies.specs.CopiesState.{content_at, copy_at};
+ghost use Rattle.cb_client_core.specs.declared.stage.PendingAsk.TheVariants.{Nothing};
+ghost use Rattle.cb_client_core.specs.declared.stage.Stage.TheVariants.{Idle, Open};
+ghost use Rattle.cb_cache.specs.CacheState.{content_at, copy_at};
 ghost use Rattle.cb_outbox.specs.Messages.{message_of};
 ghost use Rattle.cb_protocol.specs.Answers.{AnsweredOk};
 ghost use Rattle.cb_protocol.specs.ClientCalls.{CallBegin, CallHello, CallPeek};
@@ -19,14 +19,14 @@ ghost use Rattle.cb_protocol.specs.ClientCalls.{CallRead, CallWrite, open_causes
 ghost use Rattle.cb_protocol.specs.ClientCalls.{page_causes, peek_word, read_causes, say_ask};
 ghost use Rattle.cb_protocol.specs.Client.{bodies_said};
 ghost use Rattle.cb_protocol.specs.Serial.{Operation};
-ghost use Rattle.cb_client_engine.specs.ClientState.{client_of};
+ghost use Rattle.cb_client_core.specs.ClientState.{client_of};
 ghost use Rattle.cb_client.specs.ByTable.{messages_from};
 ghost use Rattle.cb_client.specs.CallAnswers.{short_message};
 
 use crate::answers::{ReadAnswer, WantAnswer};
 use crate::client::Client;
 use crate::client_fault::ClientFault;
-use cb_client_engine::{Ask, Stage};
+use cb_client_core::{PendingAsk, Stage};
 use cb_frame::{Frame, ShortBody, ShortFrame};
 use cb_page::{GrantNo, PageNo, TxnNo};
 use cb_twoq::Chooser;
@@ -37,7 +37,7 @@ impl<Q: Chooser> Client<Q> {
         requires { self.now.stage ≢ Idle }
         ensures { self.now.txn ≡ Some result }
     {
-        let Some(txn) = self.engine.txn else {
+        let Some(txn) = self.core.txn else {
             unreachable!()
         };
         txn
@@ -51,8 +51,8 @@ impl<Q: Chooser> Client<Q> {
         ensures fits { Fits self.now.copies.limits result }
     {
         // A look at a field tells the prover what holds of every client.
-        let _no = &self.engine.no;
-        Frame::from(self.engine.say(ShortBody::Hello))
+        let _known = &self.core.no;
+        Frame::from(self.core.say(ShortBody::Hello))
     }
 
     /// The bytes of the client's copy of a page, also while there is no transaction. `None` where
@@ -61,7 +61,7 @@ impl<Q: Chooser> Client<Q> {
         ensures { Calls self.now (CallPeek page) (peek_word (option_copied result)) [] as_before
             self.now }
     {
-        self.engine.copies.peek(page)
+        self.core.copies.peek(page)
     }
 
     /// The number of the next transaction, where none is under way and one is left.
@@ -70,13 +70,13 @@ impl<Q: Chooser> Client<Q> {
         ensures decided { IsDecided self.now CallBegin result }
         ensures next { IfOk result (λ next. next ≡ unwrap_or self.now.txn 0 + 1) }
     {
-        if !self.engine.welcomed {
+        if !self.core.welcomed {
             return Err(ClientFault::NotWelcome);
         }
-        if self.engine.stage != Stage::Idle {
+        if self.core.stage != Stage::Idle {
             return Err(ClientFault::TransactionOpen);
         }
-        let next = match self.engine.txn {
+        let next = match self.core.txn {
             None => Some(TxnNo::new(1)),
             Some(txn) => txn.next(),
         };
@@ -88,9 +88,9 @@ impl<Q: Chooser> Client<Q> {
         ensures { Begins self.old result self.new }
     {
         let txn = self.next_txn()?;
-        self.engine.txn = Some(txn);
-        self.engine.stage = Stage::Open;
-        self.engine.locks.begin(txn);
+        self.core.txn = Some(txn);
+        self.core.stage = Stage::Open;
+        self.core.locks.begin(txn);
         Ok(txn)
     }
 
@@ -100,10 +100,10 @@ impl<Q: Chooser> Client<Q> {
         ensures open { IsOk result → self.now.stage ≡ Open }
     {
         // A transaction that has begun did so after the Welcome.
-        match self.engine.stage {
+        match self.core.stage {
             Stage::Open => Ok(()),
             Stage::Committing => Err(ClientFault::Committing),
-            Stage::Idle if self.engine.welcomed => Err(ClientFault::NoTransaction),
+            Stage::Idle if self.core.welcomed => Err(ClientFault::NoTransaction),
             Stage::Idle => Err(ClientFault::NotWelcome),
         }
     }
@@ -136,7 +136,7 @@ impl<Q: Chooser> Client<Q> {
         ensures here { result ≡ is_some (content_at self.now.copies page) }
         ensures within { IsTrue result → page < self.now.copies.limits.pages }
     {
-        let bytes = self.engine.copies.peek(page);
+        let bytes = self.core.copies.peek(page);
         bytes.is_some()
     }
 
@@ -152,7 +152,7 @@ impl<Q: Chooser> Client<Q> {
         ensures here { IsOk result → is_some (content_at self.now.copies page) ≡ true }
     {
         self.check_page(page)?;
-        if !self.engine.locks.is_locked(page) {
+        if !self.core.locks.is_locked(page) {
             return Err(ClientFault::NotRead);
         }
         if !self.is_here(page) {
@@ -169,7 +169,7 @@ impl<Q: Chooser> Client<Q> {
         ensures size { IsOk result → length bytes.now ≡ self.now.copies.limits.page_size }
     {
         self.check_read(page)?;
-        if !self.engine.copies.may_write(page) {
+        if !self.core.copies.may_write(page) {
             return Err(ClientFault::NotWritable);
         }
         if bytes.len() != self.limits().page_size() {
@@ -189,17 +189,17 @@ impl<Q: Chooser> Client<Q> {
     {
         self.check_finish()?;
         if self.is_here(page) {
-            self.engine.copies.refer(page);
-            self.engine.locks.lock(page);
+            self.core.copies.refer(page);
+            self.core.locks.lock(page);
             return Ok(true);
         }
         if self.is_past(page) {
             return Err(ClientFault::PageRange);
         }
-        if !self.engine.copies.has_room() {
+        if !self.core.copies.has_room() {
             return Err(ClientFault::PoolFull);
         }
-        self.engine.ask = Ask::Read(page);
+        self.core.ask = PendingAsk::Read(page);
         Ok(false)
     }
 
@@ -213,7 +213,7 @@ impl<Q: Chooser> Client<Q> {
     {
         let here = self.read_or_ask(page)?;
         if here {
-            Ok(ReadAnswer::Bytes(self.engine.copies.bytes(page)))
+            Ok(ReadAnswer::Bytes(self.core.copies.bytes(page)))
         } else {
             Ok(ReadAnswer::Asked)
         }
@@ -225,7 +225,7 @@ impl<Q: Chooser> Client<Q> {
         requires page { page < self.now.copies.limits.pages }
         ensures { (copy_at self.now.copies page).held ≡ Some result }
     {
-        let Some(grant) = self.engine.copies.at(page).held else {
+        let Some(grant) = self.core.copies.at(page).held else {
             unreachable!()
         };
         grant
@@ -237,15 +237,15 @@ impl<Q: Chooser> Client<Q> {
         ensures fits { IfOk result (WantFits self.old.copies.limits) }
     {
         self.check_read(page)?;
-        if self.engine.copies.may_write(page) {
-            self.engine.copies.want(page);
+        if self.core.copies.may_write(page) {
+            self.core.copies.want(page);
             return Ok(WantAnswer::Permitted);
         }
         let txn = self.present_txn();
         let grant = self.grant_of(page);
-        let ask = self.engine.say(ShortBody::AskWrite { txn, page, grant });
-        self.engine.copies.want(page);
-        self.engine.ask = Ask::Write(page);
+        let ask = self.core.say(ShortBody::AskWrite { txn, page, grant });
+        self.core.copies.want(page);
+        self.core.ask = PendingAsk::Write(page);
         Ok(WantAnswer::Asked(ask))
     }
 
@@ -254,7 +254,7 @@ impl<Q: Chooser> Client<Q> {
         ensures { Writes self.old page bytes.now result self.new }
     {
         self.check_write(page, bytes)?;
-        self.engine.copies.write(page, bytes);
+        self.core.copies.write(page, bytes);
         Ok(())
     }
 
@@ -266,16 +266,16 @@ impl<Q: Chooser> Client<Q> {
             ≡ option_to_list (option_map short_message result) }
         ensures fits { IfSome result (ShortFrameFits self.now.copies.limits) }
     {
-        match self.engine.ask {
-            Ask::Nothing => None,
-            Ask::Read(page) => {
+        match self.core.ask {
+            PendingAsk::Nothing => None,
+            PendingAsk::Read(page) => {
                 let txn = self.present_txn();
-                Some(self.engine.say(ShortBody::AskRead { txn, page }))
+                Some(self.core.say(ShortBody::AskRead { txn, page }))
             }
-            Ask::Write(page) => {
+            PendingAsk::Write(page) => {
                 let txn = self.present_txn();
-                let grant = self.engine.copies.at(page).held?;
-                Some(self.engine.say(ShortBody::AskWrite { txn, page, grant }))
+                let grant = self.core.copies.at(page).held?;
+                Some(self.core.say(ShortBody::AskWrite { txn, page, grant }))
             }
         }
     }

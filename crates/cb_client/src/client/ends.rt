@@ -4,16 +4,16 @@ ghost use Rattle.std.specs.List.{AllByRecursion};
 ghost use Rattle.std.specs.Vec.{vec_capacity};
 ghost use Rattle.cb_frame_types.specs.Grammar.{Fits};
 ghost use Rattle.cb_client.specs.ByTable.{Calls, RefusesOrLacks, over};
-ghost use Rattle.cb_copies.specs.Room.{room_below};
-ghost use Rattle.cb_client_engine.specs.declared.standing.Stage.TheVariants.{Idle};
+ghost use Rattle.cb_cache.specs.Room.{room_below};
+ghost use Rattle.cb_client_core.specs.declared.stage.Stage.TheVariants.{Idle};
 ghost use Rattle.cb_protocol.specs.Answers.{AnsweredOk};
 ghost use Rattle.cb_protocol.specs.ClientCalls.{CallDrop};
 ghost use Rattle.cb_outbox.specs.Messages.{messages_of};
 
 use crate::client::Client;
 use crate::client_fault::ClientFault;
-use cb_client_engine::{Ask, Outcome, Stage};
-use cb_copies::drop_ends;
+use cb_cache::drop_ends;
+use cb_client_core::{Outcome, PendingAsk, Stage};
 use cb_frame::{Frame, ShortBody};
 use cb_twoq::Chooser;
 use std::alloc::Global;
@@ -36,12 +36,12 @@ impl<Q: Chooser> Client<Q> {
     {
         self.check_open()?;
         let txn = self.present_txn();
-        let said = self.engine.say(ShortBody::Drop { txn });
-        let frames = drop_ends(alloc, &mut self.engine.copies, &mut self.engine.locks, said)?;
-        self.engine.stage = Stage::Idle;
-        self.engine.ask = Ask::Nothing;
-        self.engine.dropped = Some(txn);
-        self.engine.last = Some(Outcome::Dropped);
+        let said = self.core.say(ShortBody::Drop { txn });
+        let frames = drop_ends(alloc, &mut self.core.copies, &mut self.core.locks, said)?;
+        self.core.stage = Stage::Idle;
+        self.core.ask = PendingAsk::Nothing;
+        self.core.dropped = Some(txn);
+        self.core.last = Some(Outcome::Dropped);
         Ok(frames)
     }
 }

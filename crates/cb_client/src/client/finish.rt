@@ -2,10 +2,10 @@
 ghost use Rattle.std.specs.Prelude.{◌≡◌, ◌≢◌, ℕ, false, List, [], ◌∷◌, IfErr, IfOk, IsOk};
 ghost use Rattle.cb_page.specs.Flags.{has};
 ghost use Rattle.cb_client.specs.ByTable.{IsDecided, limits_at, messages_from};
-ghost use Rattle.cb_client_engine.specs.ClientState.{client_of};
+ghost use Rattle.cb_client_core.specs.ClientState.{client_of};
 ghost use Rattle.cb_client.specs.CallAnswers.{Finishes};
-ghost use Rattle.cb_client_engine.specs.declared.standing.Ask.TheVariants.{Nothing};
-ghost use Rattle.cb_client_engine.specs.declared.standing.Stage.TheVariants.{Idle, Open};
+ghost use Rattle.cb_client_core.specs.declared.stage.PendingAsk.TheVariants.{Nothing};
+ghost use Rattle.cb_client_core.specs.declared.stage.Stage.TheVariants.{Idle, Open};
 ghost use Rattle.cb_client.specs.declared.client_fault.ClientFault.TheVariants.{Memory};
 ghost use Rattle.cb_frame_types.specs.Grammar.{Fits};
 ghost use Rattle.cb_outbox.specs.Messages.{message_of};
@@ -15,7 +15,7 @@ ghost use Rattle.cb_protocol.specs.ClientCalls.{CallFinish, say_commit};
 
 use crate::client::Client;
 use crate::client_fault::ClientFault;
-use cb_client_engine::{Stage, written_so_far};
+use cb_client_core::{Stage, written_so_far};
 use cb_frame::{Body, Frame};
 use cb_twoq::Chooser;
 use std::alloc::{AllocError, Global};
@@ -29,7 +29,7 @@ impl<Q: Chooser> Client<Q> {
         ensures no_ask { IsOk result → self.now.ask ≡ Nothing }
     {
         self.check_open()?;
-        if self.engine.ask.is_out() {
+        if self.core.ask.is_out() {
             return Err(ClientFault::Waiting);
         }
         Ok(())
@@ -47,7 +47,7 @@ impl<Q: Chooser> Client<Q> {
     {
         self.check_finish()?;
         let commit = self.commit_frame(alloc)?;
-        self.engine.stage = Stage::Committing;
+        self.core.stage = Stage::Committing;
         Ok(commit)
     }
 
@@ -61,10 +61,10 @@ impl<Q: Chooser> Client<Q> {
         ensures nothing { ((page : ℕ) → has self.now.copies.wrote page ≡ false) → IsOk result }
     {
         let txn = self.present_txn();
-        let writes = written_so_far(alloc, &self.engine.copies)?;
+        let writes = written_so_far(alloc, &self.core.copies)?;
         Ok(Frame {
-            client: self.engine.no,
-            incarnation: self.engine.incarnation,
+            client: self.core.no,
+            incarnation: self.core.incarnation,
             body: Body::Commit { txn, writes },
         })
     }

@@ -48,7 +48,7 @@ impl<Q: Chooser> Client<Q> {
         if !self.is_addressed(client, incarnation) {
             return Ok(Vec::new(alloc));
         }
-        Ok(self.engine.take_body(alloc, body)?)
+        Ok(self.core.take_body(alloc, body)?)
     }
 
     /// Takes the frame that the bytes begin with, whatever follows it, and answers what the client
@@ -67,7 +67,7 @@ impl<Q: Chooser> Client<Q> {
         ensures fits { IfOk result (λ answered.
             AllByRecursion (Fits self.old.copies.limits) answered.0.items) }
     {
-        match decode(alloc, self.engine.copies.limits(), bytes) {
+        match decode(alloc, self.core.copies.limits(), bytes) {
             Err(fault) => Err(BytesFault::Frame(fault)),
             Ok((frame, used)) => match self.take(alloc, frame) {
                 Ok(said) => Ok((said, used)),
@@ -81,6 +81,6 @@ impl<Q: Chooser> Client<Q> {
         ensures { result ≡ ((client == self.now.no)
             && (incarnation == self.now.incarnation)) }
     {
-        client == self.engine.no && incarnation == self.engine.incarnation
+        client == self.core.no && incarnation == self.core.incarnation
     }
 }

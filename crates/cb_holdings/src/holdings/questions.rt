@@ -1,7 +1,7 @@
 //! What is asked before a step is made; each by the protocol's test.
 ghost use Rattle.std.specs.Prelude.{◌≡◌, ℕ, ◌<◌, ◌+◌, ◌≤◌, ◌↔◌, true, false, not, IfSome, IsSome};
 ghost use Rattle.std.specs.Prelude.{MatchOption};
-ghost use Rattle.cb_clients.specs.Clients.{has};
+ghost use Rattle.cb_page.specs.Clients.{has};
 ghost use Rattle.cb_holdings.specs.Holdings.{HasClient, HasPage, or_zero, server_of};
 ghost use Rattle.cb_holdings.specs.Questions.{IsLastIfLive, admission_in, standing_in};
 ghost use Rattle.cb_protocol.specs.AnyMessages.{DirectoryRule};
@@ -10,9 +10,8 @@ ghost use Rattle.cb_protocol.specs.Server.{has_row, is_live_permission, is_write
 ghost use Rattle.cb_protocol.specs.Settling.{no_other_holder, sole_row};
 
 use crate::Holdings;
-use cb_clients::ClientSet;
 use cb_links::{Admission, Standing};
-use cb_page::{ClientNo, CommitNo, GrantNo, Incarnation, PageNo, TxnNo, Version};
+use cb_page::{ClientNo, ClientSet, CommitNo, GrantNo, Incarnation, PageNo, TxnNo, Version};
 
 impl Holdings {
     /// What an incarnation is beside the client's current one.
@@ -21,7 +20,7 @@ impl Holdings {
         ensures { result ≡ admission_in (server_of self.now) client incarnation }
     {
         // It isn't 0, which stands for a client that never greeted.
-        let _least = incarnation.get();
+        let _known = incarnation.get();
         self.sessions.admit(client, incarnation)
     }
 
@@ -32,7 +31,7 @@ impl Holdings {
         ensures last { IsLastIfLive result (server_of self.now) client txn }
     {
         // It isn't 0, which stands for a client without a transaction.
-        let _least = txn.get();
+        let _known = txn.get();
         self.sessions.standing(client, txn)
     }
 

@@ -87,7 +87,7 @@ impl Holdings {
     }
 
     /// The client's copy of the page was given back. A permission that is kept goes with it.
-    pub fn remove_row(&mut self, client: ClientNo, page: PageNo)
+    pub fn give_back(&mut self, client: ClientNo, page: PageNo)
         requires client { HasClient self.old client }
         requires page { HasPage self.old page }
         ensures { (grant : ℕ) → Does self.old

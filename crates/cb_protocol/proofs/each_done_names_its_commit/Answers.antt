@@ -1,3 +1,4 @@
+-- Goals of `each_done_names_its_commit`.
 use Rattle.cb_protocol.proofs.Laws.{dones_name_commits, dones_on_disk}
 use Rattle.cb_protocol.proofs.each_done_names_its_commit.Goals as goal
 

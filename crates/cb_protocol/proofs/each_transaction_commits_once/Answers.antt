@@ -1,3 +1,4 @@
+-- Goals of `each_transaction_commits_once`.
 use Rattle.cb_protocol.proofs.Laws.{commits_once}
 use Rattle.cb_protocol.proofs.each_transaction_commits_once.Goals as goal
 

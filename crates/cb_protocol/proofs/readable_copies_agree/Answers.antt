@@ -1,3 +1,4 @@
+-- Goals of `readable_copies_agree`.
 use Rattle.cb_protocol.proofs.Laws.{copies_agree}
 use Rattle.cb_protocol.proofs.readable_copies_agree.Goals as goal
 

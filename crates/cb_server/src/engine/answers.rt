@@ -145,7 +145,7 @@ impl Engine {
         ensures { Makes self.old (answer_to on_cycle client (GiveBack page grant)) self.new }
     {
         if self.callbacks.holdings().has_row(client, page, grant) {
-            self.callbacks.remove_row(client, page);
+            self.callbacks.give_back(client, page);
         }
     }
 

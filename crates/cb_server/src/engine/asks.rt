@@ -100,7 +100,7 @@ impl Engine {
             else enter_queue on_cycle server page (new_ask client write_grant)) self.new }
     {
         // It isn't 0, which stands for a client that never greeted.
-        let _least = incarnation.get();
+        let _known = incarnation.get();
         if self.callbacks.waits(client) {
             return;
         }
@@ -183,7 +183,7 @@ impl Engine {
         ensures { Makes self.old (λ server. give_permission server client page grant) self.new }
     {
         // It isn't 0, which stands for a client that never greeted.
-        let _least = incarnation.get();
+        let _known = incarnation.get();
         self.callbacks
             .permit_again(client, page, grant, &mut self.outbox);
     }

@@ -3,16 +3,15 @@ ghost use Rattle.std.specs.Prelude.{◌≡◌, ◌≤◌, ℕ, true};
 ghost use Rattle.cb_tables.specs.Asking.{abort_to};
 ghost use Rattle.cb_tables.specs.Tables.{AreTables, HasClient, HasPage, server_of};
 ghost use Rattle.cb_tables.specs.Waits.{IsGreeted, Waits};
-ghost use Rattle.cb_clients.specs.Clients.{has};
+ghost use Rattle.cb_page.specs.Clients.{has};
 ghost use Rattle.cb_outbox.specs.Saying.{HasRoomFor, Says};
 ghost use Rattle.cb_protocol.specs.Resend.{again_doomed, again_page, again_pages};
 ghost use Rattle.cb_protocol.specs.Settling.{send_downgrades};
 
 use crate::Tables;
-use cb_clients::ClientSet;
 use cb_frame::ShortBody;
 use cb_outbox::Outbox;
-use cb_page::{ClientNo, PageNo};
+use cb_page::{ClientNo, ClientSet, PageNo};
 
 impl Tables {
     /// For the first ask of each page, rising.

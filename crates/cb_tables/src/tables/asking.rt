@@ -3,16 +3,15 @@ ghost use Rattle.std.specs.Prelude.{◌≡◌, false, MatchOption, Some};
 ghost use Rattle.cb_tables.specs.Tables.{HasClient, HasPage, server_of};
 ghost use Rattle.cb_tables.specs.Waits.{Waits};
 ghost use Rattle.cb_tables.specs.Asking.{IsKeeper, callback_to};
-ghost use Rattle.cb_clients.specs.Clients.{has};
+ghost use Rattle.cb_page.specs.Clients.{has};
 ghost use Rattle.cb_outbox.specs.Saying.{HasRoomFor, Says};
 ghost use Rattle.cb_protocol.specs.Settling.{keeps_permission, send_callbacks};
 ghost use Rattle.cb_protocol.specs.Settling.{send_downgrade};
 
 use crate::Tables;
-use cb_clients::ClientSet;
 use cb_frame::ShortBody;
 use cb_outbox::Outbox;
-use cb_page::{ClientNo, PageNo, TxnNo};
+use cb_page::{ClientNo, ClientSet, PageNo, TxnNo};
 
 impl Tables {
     /// A Callback to each other client that has a copy of the page, save those left out.

@@ -3,14 +3,13 @@ ghost use Rattle.std.specs.Prelude.{◌≡◌, ◌&&◌, ◌||◌, ◌∷◌, []
 ghost use Rattle.cb_asks.specs.Asks.{queue_at};
 ghost use Rattle.cb_asks.specs.Marks.{is_in_use};
 ghost use Rattle.cb_tables.specs.Tables.{AreTables, HasPage, server_of};
-ghost use Rattle.cb_clients.specs.Clients.{has};
+ghost use Rattle.cb_page.specs.Clients.{has};
 ghost use Rattle.cb_protocol.specs.Basics.{is_exactly};
 ghost use Rattle.cb_protocol.specs.Server.{WaitingAsk, is_live_permission};
 ghost use Rattle.cb_protocol.specs.WaitsFor.{holds_up};
 
 use crate::Tables;
-use cb_clients::ClientSet;
-use cb_page::{ClientNo, PageNo};
+use cb_page::{ClientNo, ClientSet, PageNo};
 
 impl Tables {
     /// The clients that hold up the first ask of the page; nobody where none waits.

@@ -29,7 +29,7 @@ fn client_over<Q: Chooser>(alloc: Global, limits: &Limits, chooser: Q) -> Option
     requires slots { Q.slots chooser ≡ limits.now.slots }
 {
     // There is one client at least: `clients` says so.
-    let _in_range = limits.clients();
+    let _known = limits.clients();
     match Client::new(
         alloc,
         ClientNo::new(0),

@@ -3,8 +3,8 @@
 
 ghost use Rattle.std.specs.Prelude.{◌≡◌, List, true, IfSome};
 ghost use Rattle.cb_client.specs.Laws.{SaysSo};
-ghost use Rattle.cb_client_engine.specs.ByTable.{limits_at};
-ghost use Rattle.cb_client_engine.specs.ClientState.{client_of};
+ghost use Rattle.cb_client_core.specs.ByTable.{limits_at};
+ghost use Rattle.cb_client_core.specs.ClientState.{client_of};
 ghost use Rattle.cb_outbox.specs.Messages.{messages_of};
 ghost use Rattle.cb_protocol.specs.ClientAlone.{AnswersCallback, GivesBackOnce};
 ghost use Rattle.cb_protocol.specs.Serial.{Operation};
@@ -46,5 +46,5 @@ pub(crate) fn gives_back_once<Q: Chooser>(client: &Client<Q>)
         × GivesBackOnce (limits_at client.now) (client_of client.now operations) }
 {
     in_use_is_given_back();
-    let _arose = client.limits();
+    let _known = client.limits();
 }

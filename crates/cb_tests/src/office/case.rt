@@ -5,8 +5,8 @@ use crate::office::frames::{
 use crate::office::stations::{over_zeros, two_join};
 use cb_frame::ShortBody;
 use cb_hands::Hand;
-use cb_office::{OfficeFault, Station};
 use cb_page::{ClientNo, CommitNo, GrantNo, Incarnation, PageNo, PageSet, TxnNo, Version};
+use cb_station::{OfficeFault, Station};
 use std::alloc::{AllocError, Global};
 
 /// The first client reads page 0 and may write it.

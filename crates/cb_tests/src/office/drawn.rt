@@ -6,8 +6,8 @@ use crate::office::frames::{
 use crate::office::stations::over_zeros;
 use cb_frame::ShortBody;
 use cb_hands::Hand;
-use cb_office::{OfficeFault, Station};
 use cb_page::{ClientNo, GrantNo, PageNo, PageSet, TxnNo};
+use cb_station::{OfficeFault, Station};
 use std::alloc::Global;
 
 /// What was done in all.

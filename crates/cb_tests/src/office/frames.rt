@@ -2,8 +2,8 @@
 use crate::stores::page_of;
 use cb_frame::{Body, Frame, ShortBody, ShortFrame, Write, Writes};
 use cb_hands::{Hand, Shown};
-use cb_office::OfficeFault;
 use cb_page::{GrantNo, PageNo, PageSet, TxnNo, Version};
+use cb_station::OfficeFault;
 use std::alloc::{AllocError, Global};
 
 pub(crate) fn said(hand: &Hand, body: ShortBody) -> Frame {

@@ -2,8 +2,8 @@
 use crate::office::frames::{ask_read, ask_write, commit, insert, no_writes, write};
 use crate::office::stations::greatest;
 use cb_hands::Hand;
-use cb_office::{OfficeFault, Station};
 use cb_page::{ClientNo, PageNo, PageSet, TxnNo};
+use cb_station::{OfficeFault, Station};
 use std::alloc::Global;
 
 /// How many pages are written: the last one of each 64.

@@ -1,8 +1,8 @@
 //! Stations for tests.
 use cb_commit::Store;
 use cb_hands::Hand;
-use cb_office::Station;
 use cb_page::{ClientNo, Limits};
+use cb_station::Station;
 use std::alloc::Global;
 
 /// A station over zeros, of three clients and four pages of 16 bytes.

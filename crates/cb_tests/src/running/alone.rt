@@ -1,7 +1,7 @@
 //! A client alone with the office, on one thread, which does the flusher's part too.
 use crate::running::trials::{Trial, goes_well};
-use cb_office::Office;
 use cb_page::{ClientNo, CommitNo, PageNo};
+use cb_station::Office;
 use cb_twoq::Chooser;
 use cb_worker::{Fetched, Finished, Wanted, Worker, WorkerFault};
 use std::alloc::Global;

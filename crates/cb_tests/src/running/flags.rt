@@ -1,7 +1,7 @@
 //! Closing, halting, and waiting for it.
 use crate::running::trials::{Trial, goes_well};
-use cb_office::{Office, SharedStation};
 use cb_page::ClientNo;
+use cb_station::{Office, SharedStation};
 use std::alloc::Global;
 use std::sync::Wait;
 use std::sync::atomic::{AtomicU64, Ordering};

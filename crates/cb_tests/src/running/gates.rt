@@ -2,8 +2,8 @@
 //! other.
 use crate::running::run::{Came, run_to_end};
 use cb_jobs::{Gate, Turn};
-use cb_office::Office;
 use cb_page::ClientNo;
+use cb_station::Office;
 use std::sync::atomic::{AtomicU64, Ordering};
 use std::sync::{Mutex, Wait};
 use std::thread;

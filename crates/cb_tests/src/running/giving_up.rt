@@ -2,8 +2,8 @@
 use crate::running::alone::reads;
 use crate::running::trials::{Trial, goes_well};
 use cb_client::ClientFault;
-use cb_office::{Office, OfficeFault};
 use cb_page::{Incarnation, PageNo};
+use cb_station::{Office, OfficeFault};
 use cb_twoq::Chooser;
 use cb_worker::{Worker, WorkerFault};
 use std::alloc::Global;

@@ -1,8 +1,8 @@
 //! What clients say by hand, and what is still to be written.
 use cb_frame::{Body, Frame, ShortBody, ShortFrame, Write, Writes};
 use cb_hands::Hand;
-use cb_office::{Office, Station};
 use cb_page::{GrantNo, Page, PageNo, PageSet, TxnNo};
+use cb_station::{Office, Station};
 use std::alloc::{AllocError, Global};
 use std::sync::Wait;
 

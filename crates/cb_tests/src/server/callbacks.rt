@@ -35,7 +35,7 @@ fn give_back(limits: &Limits, callbacks: &mut Callbacks, client: ClientNo, page:
     requires of { AreOf limits.now callbacks.old.tables.holdings }
     ensures { AreOf limits.now callbacks.new.tables.holdings }
 {
-    callbacks.remove_row(client, page);
+    callbacks.give_back(client, page);
 }
 
 /// The client, whose transaction has to live, asks for the page: nothing where an ask of it waits.
@@ -63,7 +63,7 @@ fn ask(
         return Ok(outbox.take(alloc));
     };
     // It isn't 0, which stands for a client that never greeted.
-    let _least = incarnation.get();
+    let _known = incarnation.get();
     let lives = callbacks.holdings().standing(client, txn) == Standing::Live;
     if lives && !callbacks.waits(client) {
         callbacks.enter(client, page, write_grant, &mut outbox);

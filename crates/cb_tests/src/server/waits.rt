@@ -2,8 +2,7 @@
 
 ghost use Rattle.std.specs.Prelude.{◌<◌};
 
-use cb_clients::ClientSet;
-use cb_page::ClientNo;
+use cb_page::{ClientNo, ClientSet};
 use cb_waits::View;
 
 /// The set of one client.

@@ -8,8 +8,8 @@ use crate::worker::Worker;
 use crate::worker_fault::WorkerFault;
 use cb_client::ClientFault;
 use cb_frame::Frame;
-use cb_office::Station;
 use cb_page::CommitNo;
+use cb_station::Station;
 use cb_twoq::Chooser;
 use std::alloc::Global;
 

@@ -1,6 +1,6 @@
 //! Workers join, begin another incarnation, and end.
 ghost use Rattle.std.specs.Prelude.{◌≡◌, ◌≤◌, ◌<◌, ◌⊎◌, [], true, Err, IfErr, IfOk, None, OnOk};
-ghost use Rattle.cb_client_engine.specs.ClientState.{new_state};
+ghost use Rattle.cb_client_core.specs.ClientState.{new_state};
 ghost use Rattle.cb_worker.specs.Refusals.{RefusesLeave, RefusesRestart, RefusesStart};
 ghost use Rattle.cb_worker.specs.Refusals.{StopsServing};
 ghost use Rattle.cb_worker.specs.Waiting.{IsServed};
@@ -12,8 +12,8 @@ use crate::worker::Worker;
 use crate::worker_fault::WorkerFault;
 use cb_client::{Client, ClientFault};
 use cb_hands::Hand;
-use cb_office::{Office, OfficeFault};
 use cb_page::{ClientNo, Incarnation, Limits};
+use cb_station::{Office, OfficeFault};
 use cb_twoq::Chooser;
 use std::alloc::Global;
 use std::sync::Wait;

@@ -1,6 +1,6 @@
 //! What the client says of its transaction.
 ghost use Rattle.std.specs.Prelude.{◌≡◌, ◌↔◌, true, IfErr, IfSome, IsTrue, OkIff, Some};
-ghost use Rattle.cb_client_engine.specs.ClientState.{outcome_of};
+ghost use Rattle.cb_client_core.specs.ClientState.{outcome_of};
 ghost use Rattle.cb_protocol.specs.Client as protocol;
 ghost use Rattle.cb_worker.specs.Committing.{IsCommitting};
 ghost use Rattle.cb_worker.specs.Waiting.{IsFinished, LacksTransaction, ending_of};

@@ -6,9 +6,9 @@ use crate::said::Said;
 use crate::worker::Worker;
 use crate::worker_fault::WorkerFault;
 use cb_client::ClientFault;
-use cb_dispatch::copy_of;
 use cb_frame::Frame;
-use cb_office::{OfficeFault, Station};
+use cb_mailboxes::copy_of;
+use cb_station::{OfficeFault, Station};
 use cb_twoq::Chooser;
 use std::alloc::Global;
 

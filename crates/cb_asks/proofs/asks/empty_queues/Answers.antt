@@ -1,3 +1,4 @@
+-- Goals of `empty_queues`.
 use Rattle.std.proofs.Common.{arith, rules}
 use Rattle.std.proofs.lemmas.Grind.{common_steps}
 use Rattle.cb_asks.proofs.asks.empty_queues.Goals as goal

@@ -1,3 +1,4 @@
+-- What holds at each turn of the loops of `empty_queues`.
 use Rattle.std.proofs.Common.{◌≡◌, ℕ, [], length, slice_index_or}
 use Rattle.cb_asks.specs.Queues.{no_queue}
 use Rattle.cb_asks.proofs.asks.empty_queues.Given as goal

@@ -1,3 +1,4 @@
+-- Goals of `nearer`.
 use Rattle.std.proofs.Common.{rules}
 use Rattle.cb_asks.proofs.asks.nearer.Goals as goal
 

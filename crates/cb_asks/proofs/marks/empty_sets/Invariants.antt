@@ -1,3 +1,4 @@
+-- What holds at each turn of the loops of `empty_sets`.
 use Rattle.std.proofs.Common.{◌≡◌, false, replicate}
 use Rattle.cb_asks.proofs.marks.empty_sets.Given as goal
 

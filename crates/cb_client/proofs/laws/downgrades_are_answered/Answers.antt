@@ -1,3 +1,4 @@
+-- Goals of `downgrades_are_answered`.
 use Rattle.cb_client.proofs.Answering.{answers_downgrade}
 use Rattle.cb_client.proofs.laws.downgrades_are_answered.Goals as goal
 

@@ -1,3 +1,4 @@
+-- Goals of `dones`.
 use Rattle.std.proofs.Common.{arith}
 use Rattle.std.proofs.lemmas.Grind.{common_steps}
 use Rattle.cb_commit.proofs.commits.dones.Goals as goal

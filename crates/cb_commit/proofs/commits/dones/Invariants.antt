@@ -1,3 +1,4 @@
+-- What holds at each turn of the loops of `dones`.
 use Rattle.std.proofs.Common.{◌≡◌, take, map}
 use Rattle.cb_commit.specs.History.{done_of}
 use Rattle.cb_commit.proofs.commits.dones.Given as goal

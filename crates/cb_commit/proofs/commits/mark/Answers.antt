@@ -1,3 +1,4 @@
+-- Goals of `mark`.
 use Rattle.std.proofs.Common.{◌≡◌, ◌+◌, ◌∙◌, take, length, ap, refl, true, ◌++◌, ◌∷◌, []}
 use Rattle.std.proofs.lemmas.List.{take_more, length-set}
 use Rattle.cb_commit.proofs.Rewriting.{marked_push}

@@ -1,3 +1,4 @@
+-- What holds at each turn of the loops of `mark`.
 use Rattle.std.proofs.Common.{◌≡◌, take, length}
 use Rattle.cb_commit.specs.Changes.{marked}
 use Rattle.cb_commit.proofs.commits.mark.Given as goal

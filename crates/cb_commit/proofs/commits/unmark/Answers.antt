@@ -1,3 +1,4 @@
+-- Goals of `unmark`.
 use Rattle.std.proofs.Common.{arith}
 use Rattle.std.proofs.lemmas.Grind.{common_steps}
 use Rattle.cb_commit.proofs.commits.unmark.Goals as goal

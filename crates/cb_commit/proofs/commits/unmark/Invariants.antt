@@ -1,3 +1,4 @@
+-- What holds at each turn of the loops of `unmark`.
 use Rattle.std.proofs.Common.{◌≡◌, ℕ, ◌+◌, ◌-◌, ◌<◌, ◌≤◌, ◌&&◌, nat_lt, length}
 use Rattle.cb_page.specs.Flags.{has}
 use Rattle.cb_commit.specs.Stores.{version_at}

@@ -1,3 +1,4 @@
+-- What holds at each turn of the loops of `copy_pages`.
 use Rattle.std.proofs.Common.{◌≡◌, take}
 use Rattle.cb_commit.proofs.store.copy_pages.Given as goal
 

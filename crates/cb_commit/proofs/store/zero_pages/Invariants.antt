@@ -1,3 +1,4 @@
+-- What holds at each turn of the loops of `zero_pages`.
 use Rattle.std.proofs.Common.{◌≡◌, replicate}
 use Rattle.cb_commit.specs.Stores.{zero_page}
 use Rattle.cb_commit.proofs.store.zero_pages.Given as goal

@@ -1,3 +1,4 @@
+-- Goals of `draw_to`.
 use Rattle.std.proofs.Common.{◌≡◌, List, subst, rules}
 use Rattle.std.specs.Io.KnownBytes.{Appends}
 use Rattle.std.specs.List.{flat_map}

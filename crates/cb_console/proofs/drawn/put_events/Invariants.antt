@@ -1,3 +1,4 @@
+-- What holds at each turn of the loops of `put_events`.
 use Rattle.std.proofs.Common.{take}
 use Rattle.std.specs.List.{flat_map}
 use Rattle.std.specs.Io.KnownBytes.{Appends}

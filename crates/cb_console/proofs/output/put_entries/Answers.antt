@@ -1,3 +1,4 @@
+-- Goals of `put_entries`.
 use Rattle.std.proofs.Common.{◌+◌, add-one, arith}
 use Rattle.std.proofs.KnownBytes.{Appends-trans}
 use Rattle.cb_console.proofs.Lines.{lines-more}

@@ -1,3 +1,4 @@
+-- What holds at each turn of the loops of `put_entries`.
 use Rattle.std.proofs.Common.{take}
 use Rattle.std.specs.Io.KnownBytes.{Appends}
 use Rattle.cb_console.specs.Output.{lines_from}

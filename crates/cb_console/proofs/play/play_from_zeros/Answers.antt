@@ -1,3 +1,4 @@
+-- Goals of `play_from_zeros`.
 use Rattle.std.proofs.Common.{rules}
 use Rattle.cb_console.proofs.play.play_from_zeros.Goals as goal
 

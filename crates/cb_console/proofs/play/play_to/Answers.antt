@@ -1,3 +1,4 @@
+-- Goals of `play_to`.
 use Rattle.std.proofs.Common.{rules}
 use Rattle.cb_console.proofs.Checked.{prints_run}
 use Rattle.cb_console.specs.Runs.{IsOutcome}

@@ -1,3 +1,4 @@
+-- Goals of `print_outcome`.
 use Rattle.std.proofs.Common.{rules}
 use Rattle.cb_console.proofs.play.print_outcome.Goals as goal
 

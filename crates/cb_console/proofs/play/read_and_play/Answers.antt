@@ -1,8 +1,9 @@
+-- Goals of `read_and_play`.
 use Rattle.std.proofs.Common.{rules}
 use Rattle.cb_console.proofs.Playing.{told_of}
 use Rattle.cb_console.specs.Runs.{IsPlayOf}
 use Rattle.cb_event.specs.ScheduleText.{IsSchedule}
-use Rattle.cb_settings.specs.Settings.{IsConfig}
+use Rattle.cb_console.specs.Settings.{IsConfig}
 use Rattle.cb_console.proofs.play.read_and_play.Goals as goal
 
 pub returns-clause-ok : goal.returns-clause-ok

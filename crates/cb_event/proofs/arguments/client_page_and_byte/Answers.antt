@@ -1,3 +1,4 @@
+-- Goals of `client_page_and_byte`.
 use Rattle.std.proofs.Common.{rules}
 use Rattle.cb_event.proofs.arguments.client_page_and_byte.Goals as goal
 

@@ -1,3 +1,4 @@
+-- Goals of `number_of`.
 use Rattle.std.proofs.Common.{◌+◌, get_or, arith, ◌∙◌, sym, refl}
 use Rattle.std.proofs.lemmas.Int.Digits.{digits_value_more, digits_more}
 use Rattle.cb_event.proofs.PiecesLemmas.{not_a_digit, too_large, digit, spelled}

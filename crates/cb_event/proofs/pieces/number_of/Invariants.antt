@@ -1,3 +1,4 @@
+-- What holds at each turn of the loops of `number_of`.
 use Rattle.std.proofs.Common.{◌≡◌, ◌<◌, take}
 use Rattle.std.specs.Str.Parse.{digits_value, AllDigits}
 use Rattle.cb_event.proofs.pieces.number_of.Given as goal

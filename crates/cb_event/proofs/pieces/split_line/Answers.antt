@@ -1,3 +1,4 @@
+-- Goals of `split_line`.
 use Rattle.std.proofs.Common.{arith, sym}
 use Rattle.std.proofs.lemmas.Grind.{common_steps}
 use Rattle.cb_event.proofs.PiecesLemmas.{line_cut, last_line, no_line}

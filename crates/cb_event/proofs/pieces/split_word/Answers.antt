@@ -1,3 +1,4 @@
+-- Goals of `split_word`.
 use Rattle.std.proofs.Common.{sym}
 use Rattle.cb_event.proofs.PiecesLemmas.{blanks_only, word_found}
 use Rattle.cb_event.proofs.pieces.split_word.Goals as goal

@@ -1,3 +1,4 @@
+-- Goals of `command_event`.
 use Rattle.std.proofs.Common.{rules}
 use Rattle.cb_event.proofs.text.command_event.Goals as goal
 

@@ -1,3 +1,4 @@
+-- Goals of `read_schedule`.
 use Rattle.std.proofs.Common.{arith, ◌∙◌}
 use Rattle.std.proofs.lemmas.Result.{err_from_is_err_and}
 use Rattle.cb_event.proofs.TextLemmas.{one_more, all_read, refused, one_reading, no_reading}

@@ -1,3 +1,4 @@
+-- What holds at each turn of the loops of `read_schedule`.
 use Rattle.std.proofs.Common.{◌≡◌, ◌≤◌, ◌+◌, length, drop}
 use Rattle.cb_event.specs.Pieces.{lines_of}
 use Rattle.cb_event.proofs.TextLemmas.{IsRead}

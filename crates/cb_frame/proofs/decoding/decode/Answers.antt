@@ -1,3 +1,4 @@
+-- Goals of `decode`.
 use Rattle.std.proofs.Common.{arith}
 use Rattle.cb_frame.proofs.Again.{is_found, is_only}
 use Rattle.cb_frame.proofs.decoding.decode.Goals as goal

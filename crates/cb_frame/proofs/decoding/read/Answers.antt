@@ -1,3 +1,4 @@
+-- Goals of `read`.
 use Rattle.std.proofs.Common.{rules}
 use Rattle.cb_frame.proofs.decoding.read.Goals as goal
 

@@ -1,3 +1,4 @@
+-- Goals of `encode`.
 use Rattle.std.proofs.Common.{arith, append_assoc}
 use Rattle.std.proofs.lemmas.Grind.{common_steps}
 use Rattle.cb_frame_types.specs.Spelling.{spelling, spelling_in}

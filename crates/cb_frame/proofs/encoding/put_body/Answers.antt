@@ -1,3 +1,4 @@
+-- Goals of `put_body`.
 use Rattle.std.proofs.Common.{arith}
 use Rattle.cb_frame.proofs.Sizes.{commit_count}
 use Rattle.cb_frame.proofs.encoding.put_body.Goals as goal

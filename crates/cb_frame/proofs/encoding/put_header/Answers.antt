@@ -1,3 +1,4 @@
+-- Goals of `put_header`.
 use Rattle.std.proofs.Common.{arith}
 use Rattle.std.proofs.lemmas.Grind.{common_steps}
 use Rattle.cb_frame.proofs.encoding.put_header.Goals as goal

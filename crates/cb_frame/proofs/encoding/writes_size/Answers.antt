@@ -1,3 +1,4 @@
+-- Goals of `writes_size`.
 use Rattle.std.proofs.Common.{arith}
 use Rattle.cb_frame.proofs.Sizes.{size_of_writes}
 use Rattle.cb_frame.proofs.encoding.writes_size.Goals as goal

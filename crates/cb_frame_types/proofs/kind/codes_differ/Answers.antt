@@ -1,3 +1,4 @@
+-- Goals of `codes_differ`.
 use Rattle.std.proofs.Common.{◌≡◌, ◌∙◌, ◌==◌, ℕ, ap, sym, refl, if◌then◌else◌}
 use Rattle.cb_frame_types.specs.Kinds.{code_of}
 use Rattle.cb_frame_types.specs.declared.kind.Kind.{Kind}

@@ -1,3 +1,4 @@
+-- What holds at each turn of the loops of `all_fit`.
 use Rattle.std.proofs.Common.{◌↔◌, drop}
 use Rattle.std.specs.List.{AllByRecursion}
 use Rattle.cb_frame_types.specs.Grammar.{WriteFits}

@@ -1,3 +1,4 @@
+-- Goals of `rise`.
 use Rattle.std.proofs.Common.{arith}
 use Rattle.std.proofs.lemmas.Grind.{common_steps}
 use Rattle.cb_frame_types.proofs.writes.rise.Goals as goal

@@ -1,3 +1,4 @@
+-- What holds at each turn of the loops of `rise`.
 use Rattle.std.proofs.Common.{◌↔◌, drop, map}
 use Rattle.cb_page.specs.Rising.{RisesFrom, IsRising}
 use Rattle.cb_frame_types.specs.Grammar.{page_of}

@@ -1,3 +1,4 @@
+-- What holds at each turn of the loops of `no_grants`.
 use Rattle.std.proofs.Common.{◌≡◌, replicate, None}
 use Rattle.cb_hands.proofs.grants.no_grants.Given as goal
 

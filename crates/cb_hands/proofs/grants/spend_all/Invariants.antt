@@ -1,3 +1,4 @@
+-- What holds at each turn of the loops of `spend_all`.
 use Rattle.std.proofs.Common.{vec_len}
 use Rattle.cb_hands.proofs.grants.spend_all.Given as goal
 

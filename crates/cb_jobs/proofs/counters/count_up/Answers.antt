@@ -1,3 +1,4 @@
+-- Goals of `count_up`.
 use Rattle.std.proofs.Common.{rules}
 use Rattle.cb_jobs.proofs.counters.count_up.Goals as goal
 

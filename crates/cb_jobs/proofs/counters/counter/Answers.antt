@@ -1,3 +1,4 @@
+-- Goals of `counter`.
 use Rattle.std.proofs.Common.{rules}
 use Rattle.cb_jobs.proofs.counters.counter.Goals as goal
 

@@ -1,3 +1,4 @@
+-- Goals of `counter_sum`.
 use Rattle.std.proofs.Common.{rules}
 use Rattle.cb_jobs.proofs.counters.counter_sum.Goals as goal
 

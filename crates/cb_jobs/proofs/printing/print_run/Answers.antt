@@ -1,3 +1,4 @@
+-- Goals of `print_run`.
 use Rattle.std.proofs.Common.{rules}
 use Rattle.cb_jobs.proofs.printing.print_run.Goals as goal
 

@@ -1,3 +1,4 @@
+-- What holds at each turn of the loops of `none_done`.
 use Rattle.std.proofs.Common.{◌≡◌, false, replicate}
 use Rattle.cb_jobs.proofs.tally.none_done.Given as goal
 

@@ -1,3 +1,4 @@
+-- Goals of `hands_meet`.
 use Rattle.cb_joined.proofs.Agreeing.{hands_meet}
 use Rattle.cb_joined.proofs.agreement.hands_meet.Goals as goal
 

@@ -1,3 +1,4 @@
+-- Goals of `others_stay`.
 use Rattle.cb_joined.proofs.Agreeing.{commit_leaves_others, others_stay}
 use Rattle.cb_joined.proofs.agreement.others_stay.Goals as goal
 

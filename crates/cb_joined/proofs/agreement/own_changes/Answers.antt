@@ -1,3 +1,4 @@
+-- Goals of `own_changes`.
 use Rattle.cb_joined.proofs.Agreeing.{copy_comes, copy_goes, empty_hand, permission_comes, permissions_end}
 use Rattle.cb_joined.proofs.agreement.own_changes.Goals as goal
 

@@ -1,3 +1,4 @@
+-- Goals of `own_hand_stays`.
 use Rattle.cb_joined.proofs.OwnHand.{own_commit, own_message}
 use Rattle.cb_joined.proofs.agreement.own_hand_stays.Goals as goal
 

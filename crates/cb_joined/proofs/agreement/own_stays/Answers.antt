@@ -1,3 +1,4 @@
+-- Goals of `own_stays`.
 use Rattle.cb_joined.proofs.Own.{own_stays}
 use Rattle.cb_joined.proofs.agreement.own_stays.Goals as goal
 

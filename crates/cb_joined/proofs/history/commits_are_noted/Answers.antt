@@ -1,3 +1,4 @@
+-- Goals of `commits_are_noted`.
 use Rattle.cb_joined.proofs.Noting.{new_server_is_noted, no_other_changes, noted_commit_follows}
 use Rattle.cb_joined.proofs.history.commits_are_noted.Goals as goal
 

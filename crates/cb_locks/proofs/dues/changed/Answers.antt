@@ -1,3 +1,4 @@
+-- Goals of `changed`.
 use Rattle.std.proofs.Common.{rules}
 use Rattle.cb_locks.proofs.dues.changed.Goals as goal
 

@@ -1,3 +1,4 @@
+-- Goals of `pages_are_settled_by_decisions`.
 use Rattle.cb_outbox.proofs.Saying.{settle_more, settle_stop, then_wait}
 use Rattle.cb_outbox.proofs.laws.pages_are_settled_by_decisions.Goals as goal
 

@@ -1,3 +1,4 @@
+-- Goals of `steps_follow_steps`.
 use Rattle.cb_outbox.proofs.Saying.{room_after, room_first, says_then}
 use Rattle.cb_outbox.proofs.laws.steps_follow_steps.Goals as goal
 

@@ -1,3 +1,4 @@
+-- Goals of `lowest_bit`.
 use Rattle.std.proofs.Common.{arith}
 use Rattle.std.proofs.lemmas.Nat.Bits.{bit_at_above}
 use Rattle.cb_page.proofs.Words.{lowest_from, none_from}

@@ -1,3 +1,4 @@
+-- Goals of `end_by`.
 use Rattle.std.proofs.Common.{rules}
 use Rattle.cb_play.proofs.endings.end_by.Goals as goal
 

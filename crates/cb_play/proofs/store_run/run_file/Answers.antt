@@ -1,3 +1,4 @@
+-- Goals of `run_file`.
 use Rattle.cb_play.proofs.Told.{told_ending}
 use Rattle.cb_play.proofs.store_run.run_file.Goals as goal
 

@@ -1,3 +1,4 @@
+-- Goals of `run_in`.
 use Rattle.cb_play.proofs.Told.{told_ending}
 use Rattle.cb_play.proofs.store_run.run_in.Goals as goal
 

@@ -1,3 +1,4 @@
+-- Goals of `run_over`.
 use Rattle.cb_play.proofs.Told.{told_ending}
 use Rattle.cb_play.proofs.store_run.run_over.Goals as goal
 

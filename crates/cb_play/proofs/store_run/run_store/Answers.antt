@@ -1,3 +1,4 @@
+-- Goals of `run_store`.
 use Rattle.std.proofs.Common.{rules}
 use Rattle.cb_play.proofs.store_run.run_store.Goals as goal
 

@@ -1,3 +1,4 @@
+-- Goals of `take_away`.
 use Rattle.cb_pool.proofs.Cleared.{cleared}
 use Rattle.cb_pool.proofs.copies.take_away.Goals as goal
 

@@ -1,3 +1,4 @@
+-- What holds at each turn of the loops of `take_away`.
 use Rattle.std.proofs.Common.{◌≡◌, ◌<◌, ◌+◌, ◌-◌, ℕ, length, None, slice_index_or}
 use Rattle.cb_pool.specs.PoolState.{HasNoneBut}
 use Rattle.cb_pool.proofs.copies.take_away.Given as goal

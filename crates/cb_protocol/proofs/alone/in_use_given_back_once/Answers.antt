@@ -1,3 +1,4 @@
+-- Goals of `in_use_given_back_once`.
 use Rattle.cb_protocol.proofs.TransactionEnds.{in_use_given_back_once}
 use Rattle.cb_protocol.specs.ClientAlone.{Anything}
 use Rattle.cb_protocol.specs.Ranges.{InputFits}

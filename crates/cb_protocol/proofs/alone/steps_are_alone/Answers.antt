@@ -1,3 +1,4 @@
+-- Goals of `steps_are_alone`.
 use Rattle.cb_protocol.proofs.StepsAlone.{packets_only_grow, steps_are_alone}
 use Rattle.cb_protocol.proofs.alone.steps_are_alone.Goals as goal
 

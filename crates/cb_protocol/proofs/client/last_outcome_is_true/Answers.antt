@@ -1,3 +1,4 @@
+-- Goals of `last_outcome_is_true`.
 use Rattle.cb_protocol.proofs.PagesStay.{last_outcome_is_true}
 use Rattle.cb_protocol.proofs.client.last_outcome_is_true.Goals as goal
 

@@ -1,3 +1,4 @@
+-- Goals of `new_copy_is_read`.
 use Rattle.cb_protocol.proofs.PagesStay.{new_copy_is_read}
 use Rattle.cb_protocol.proofs.client.new_copy_is_read.Goals as goal
 

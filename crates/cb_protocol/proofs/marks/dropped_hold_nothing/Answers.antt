@@ -1,3 +1,4 @@
+-- Goals of `dropped_hold_nothing`.
 use Rattle.cb_protocol.proofs.Permissions.{dropped_hold_nothing}
 use Rattle.cb_protocol.proofs.marks.dropped_hold_nothing.Goals as goal
 

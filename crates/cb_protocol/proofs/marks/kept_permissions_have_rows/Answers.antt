@@ -1,3 +1,4 @@
+-- Goals of `kept_permissions_have_rows`.
 use Rattle.cb_protocol.proofs.Permissions.{kept_holders_have_rows, kept_holds_up}
 use Rattle.cb_protocol.proofs.marks.kept_permissions_have_rows.Goals as goal
 

@@ -1,3 +1,4 @@
+-- Goals of `grants_never_run_out`.
 use Rattle.cb_protocol.proofs.GrantNumbers.{grants_left_at_first, grants_never_run_out, settling_takes_kept_grants}
 use Rattle.cb_protocol.proofs.numbers.grants_never_run_out.Goals as goal
 

@@ -1,3 +1,4 @@
+-- Goals of `writers_have_permission`.
 use Rattle.cb_protocol.proofs.Backed.{writers_have_permission}
 use Rattle.cb_protocol.proofs.passes.writers_have_permission.Goals as goal
 

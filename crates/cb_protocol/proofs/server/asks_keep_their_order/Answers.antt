@@ -1,3 +1,4 @@
+-- Goals of `asks_keep_their_order`.
 use Rattle.cb_protocol.proofs.AskOrder.{asks_in_order}
 use Rattle.cb_protocol.proofs.server.asks_keep_their_order.Goals as goal
 

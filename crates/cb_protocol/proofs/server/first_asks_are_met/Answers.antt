@@ -1,3 +1,4 @@
+-- Goals of `first_asks_are_met`.
 use Rattle.cb_protocol.proofs.NoneWaits.{none_waits}
 use Rattle.cb_protocol.proofs.ServedSteps.{first_asks_met}
 use Rattle.cb_protocol.proofs.server.first_asks_are_met.Goals as goal

@@ -1,3 +1,4 @@
+-- Goals of `count_results`.
 use Rattle.cb_run.proofs.counting.count_results.Goals as goal
 
 pub loop-done-preserved : goal.loop-done-preserved

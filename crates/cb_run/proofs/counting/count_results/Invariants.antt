@@ -1,3 +1,4 @@
+-- What holds at each turn of the loops of `count_results`.
 use Rattle.cb_run.specs.Runs.{KeepsRows}
 use Rattle.cb_run.proofs.counting.count_results.Given as goal
 

@@ -1,10 +1,11 @@
+-- Goals of `flush_again`.
 use Rattle.std.proofs.Common.{Option, rules, subst, sym}
 use Rattle.sqlite.specs.Held.{state}
 use Rattle.sqlite.specs.State.{Survives}
 use Rattle.cb_commit.specs.Batches.{BatchState}
 use Rattle.cb_run.proofs.Flushing.{stops_first, survives_first, survives_held}
 use Rattle.cb_run.specs.Flushing.{LeavesFirst, MadeFirst, WritesOne, WritesOrStays}
-use Rattle.cb_statements.specs.Writing.{Wrote}
+use Rattle.cb_sql.specs.Writing.{Wrote}
 use Rattle.cb_run.proofs.flusher.flush_again.Goals as goal
 
 pub returns-in-Err-clause-stops : goal.returns-in-Err-clause-stops

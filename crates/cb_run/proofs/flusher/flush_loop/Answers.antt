@@ -1,8 +1,9 @@
+-- Goals of `flush_loop`.
 use Rattle.std.proofs.Common.{◌∙◌, rules, subst}
 use Rattle.cb_page.specs.Bounds.{Bounds}
 use Rattle.cb_run.proofs.Flushing.{stops, survives_more, writes_more}
 use Rattle.cb_run.specs.Flushing.{WritesOne, WritesOrStays}
-use Rattle.cb_statements.specs.Writing.{Wrote}
+use Rattle.cb_sql.specs.Writing.{Wrote}
 use Rattle.cb_run.proofs.flusher.flush_loop.Goals as goal
 
 pub returns-in-Err-write_and_report-clause-stops : goal.returns-in-Err-write_and_report-clause-stops

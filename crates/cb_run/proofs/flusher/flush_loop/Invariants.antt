@@ -1,3 +1,4 @@
+-- What holds at each turn of the loops of `flush_loop`.
 use Rattle.std.proofs.Common.{◌≡◌}
 use Rattle.sqlite.specs.Held.{state}
 use Rattle.sqlite.specs.State.{Survives}

@@ -1,3 +1,4 @@
+-- Goals of `count_page`.
 use Rattle.std.proofs.Common.{◌≡◌, ◌∙◌}
 use Rattle.cb_protocol.specs.Client as protocol
 use Rattle.cb_run.proofs.JobCounts.{counts_up}

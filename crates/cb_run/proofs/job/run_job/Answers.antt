@@ -1,3 +1,4 @@
+-- Goals of `run_job`.
 use Rattle.cb_run.proofs.JobCounts.{aborts_since, commits_since}
 use Rattle.cb_run.specs.Jobs.{CommitsJob, IsAborted}
 use Rattle.cb_run.proofs.job.run_job.Goals as goal

@@ -1,3 +1,4 @@
+-- What holds at each turn of the loops of `run_job`.
 use Rattle.std.proofs.Common.{◌≤◌}
 use Rattle.cb_worker.specs.Workers.{last_txn}
 use Rattle.cb_run.proofs.job.run_job.Given as goal

@@ -1,3 +1,4 @@
+-- Goals of `try_job`.
 use Rattle.std.proofs.Common.{◌≡◌, ◌∙◌, false, true, rules}
 use Rattle.cb_protocol.specs.Client as protocol
 use Rattle.cb_run.proofs.JobCounts.{begins_later}

@@ -1,3 +1,4 @@
+-- Goals of `counted`.
 use Rattle.std.proofs.Common.{◌≡◌, ◌*◌, ◌≤◌, rules}
 use Rattle.cb_jobs.specs.Tallies.{jobs_done}
 use Rattle.cb_run.proofs.Counts.{at_most, few_done}

@@ -1,3 +1,4 @@
+-- What holds at each turn of the loops of `flush_in_tries`.
 use Rattle.std.proofs.Common.{◌≡◌}
 use Rattle.std.specs.Prelude.{OnErr, OnOk}
 use Rattle.sqlite.specs.Held.{state}

@@ -1,3 +1,4 @@
+-- Goals of `flush_once`.
 use Rattle.std.proofs.Common.{rules}
 use Rattle.cb_shelf.proofs.flush.flush_once.Goals as goal
 

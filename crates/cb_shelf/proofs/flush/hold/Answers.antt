@@ -1,3 +1,4 @@
+-- Goals of `hold`.
 use Rattle.std.proofs.Common.{rules}
 use Rattle.cb_shelf.proofs.flush.hold.Goals as goal
 

@@ -1,3 +1,4 @@
+-- Goals of `look`.
 use Rattle.std.proofs.Common.{IfOk, subst, rules}
 use Rattle.sqlite.specs.State.{HasCleanDisk}
 use Rattle.sqlite.specs.Held.{Held, state}

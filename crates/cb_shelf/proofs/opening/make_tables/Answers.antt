@@ -1,8 +1,9 @@
+-- Goals of `make_tables`.
 use Rattle.std.proofs.Common.{◌≡◌, subst, rules}
 use Rattle.sqlite.specs.State.{Survives}
 use Rattle.sqlite.specs.Held.{Held, state}
 use Rattle.cb_shelf.specs.Opening.{laid, LaidBy}
-use Rattle.cb_statements.proofs.Asking.{never_from}
+use Rattle.cb_sql.proofs.Asking.{never_from}
 use Rattle.cb_shelf.proofs.Settling.{commit_survives}
 use Rattle.cb_shelf.proofs.opening.make_tables.Goals as goal
 

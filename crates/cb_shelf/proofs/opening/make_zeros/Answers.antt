@@ -1,3 +1,4 @@
+-- Goals of `make_zeros`.
 use Rattle.std.proofs.Common.{subst, false}
 use Rattle.sqlite.specs.State.{Survives}
 use Rattle.sqlite.specs.Held.{state}

@@ -1,3 +1,4 @@
+-- Goals of `open_tables`.
 use Rattle.std.proofs.Common.{◌≡◌, Err, inl, refl, sym, subst, ◌∙◌, rules, arith}
 use Rattle.sqlite.specs.State.{HasCleanDisk}
 use Rattle.cb_shelf.specs.Opening.{Finds}

@@ -1,3 +1,4 @@
+-- Goals of `first_bytes`.
 use Rattle.std.proofs.Common.{sym, ◌∙◌}
 use Rattle.std.proofs.lemmas.Result.{IfOk-weaker, on_err_weaker}
 use Rattle.cb_shelf.proofs.Answering.{past_bytes}

@@ -1,3 +1,4 @@
+-- Goals of `has_number`.
 use Rattle.cb_shelf.proofs.Answering.{same_if, other_if}
 use Rattle.cb_shelf.proofs.reading.has_number.Goals as goal
 

@@ -1,3 +1,4 @@
+-- Goals of `marked`.
 use Rattle.cb_shelf.proofs.Answering.{on_any, not_one, no_mark}
 use Rattle.cb_shelf.proofs.reading.marked.Goals as goal
 

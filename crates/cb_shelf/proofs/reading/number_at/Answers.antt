@@ -1,3 +1,4 @@
+-- Goals of `number_at`.
 use Rattle.std.proofs.Common.{sym, ◌∙◌}
 use Rattle.std.proofs.lemmas.Result.{IfOk-weaker, on_err_weaker}
 use Rattle.cb_shelf.proofs.Answering.{past_number}

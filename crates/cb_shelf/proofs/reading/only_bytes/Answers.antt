@@ -1,3 +1,4 @@
+-- Goals of `only_bytes`.
 use Rattle.std.proofs.lemmas.Result.{IfOk-weaker, on_err_weaker}
 use Rattle.cb_shelf.proofs.Answering.{on_any, not_one, no_bytes}
 use Rattle.cb_shelf.proofs.reading.only_bytes.Goals as goal

@@ -1,3 +1,4 @@
+-- Goals of `read_back`.
 use Rattle.std.proofs.Common.{subst, rules}
 use Rattle.sqlite.specs.State.{HasCleanDisk}
 use Rattle.sqlite.specs.Held.{Held, state}

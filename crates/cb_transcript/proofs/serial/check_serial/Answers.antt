@@ -1,3 +1,4 @@
+-- Goals of `check_serial`.
 use Rattle.std.proofs.Common.{ap, refl, subst, ◌+◌, ◌∙◌, ◌≡◌}
 use Rattle.cb_transcript.specs.Operations.{listed}
 use Rattle.cb_transcript.specs.Verdicts.{FirstIllegal}

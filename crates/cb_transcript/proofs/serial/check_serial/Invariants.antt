@@ -1,3 +1,4 @@
+-- What holds at each turn of the loops of `check_serial`.
 use Rattle.cb_transcript.specs.Replays.{HasEveryPage, shown}
 use Rattle.cb_transcript.proofs.SerialChecks.{ChecksTo}
 use Rattle.cb_transcript.proofs.serial.check_serial.Given as goal

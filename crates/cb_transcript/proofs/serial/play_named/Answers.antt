@@ -1,3 +1,4 @@
+-- Goals of `play_named`.
 use Rattle.std.proofs.Common.{All, rules, subst, sym, ◌≡◌}
 use Rattle.cb_transcript.specs.Operations.{listed}
 use Rattle.cb_transcript.proofs.Listed.{IsDone}

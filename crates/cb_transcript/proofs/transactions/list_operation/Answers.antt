@@ -1,3 +1,4 @@
+-- Goals of `list_operation`.
 use Rattle.std.proofs.Common.{ap, length, option_map, rules, sym, ◌∙◌, ◌≡◌}
 use Rattle.std.proofs.lemmas.Result.{on_ok_weaker}
 use Rattle.cb_transcript.specs.Operations.{done_in, operation_in}

@@ -1,3 +1,4 @@
+-- Goals of `transactions_of`.
 use Rattle.std.proofs.Common.{ap, get_or, length, replicate, refl, rules, subst, sym, take, ◌+◌, ◌≤◌, ◌<◌, ◌∙◌, ◌∷◌, ◌≡◌, arith}
 use Rattle.std.proofs.lemmas.List.{get_or-replicate}
 use Rattle.std.proofs.lemmas.Option.{slice_get_read}
@@ -5,13 +6,13 @@ use Rattle.cb_transcript.specs.ProtocolEvents.{entry_of, transcript_of}
 use Rattle.cb_transcript.specs.Operations.{AreStandings, HasOperations, first_standing}
 use Rattle.cb_transcript.proofs.Followed.{few_incarnations, few_transactions, told_length, told_more}
 use Rattle.cb_transcript.proofs.Listed.{listed_none}
-use Rattle.cb_transcript.specs.declared.standing.Standing.{Standing}
+use Rattle.cb_transcript.specs.declared.current_transaction.CurrentTransaction.{CurrentTransaction}
 use Rattle.cb_transcript.proofs.transactions.transactions_of.Goals as goal
 
 pub loop-place-init : goal.loop-place-init
 loop-place-init c = record {
   lists = listed_none c.new-lists.result c.args.entries.now c.new-lists.ensures.empty;
-  standings = λ client h. subst (λ (s : Standing). get_or (replicate 32 s) client first_standing ≡ first_standing) (sym c.first-standings.ensures) (get_or-replicate 32 client first_standing first_standing h);
+  standings = λ client h. subst (λ (s : CurrentTransaction). get_or (replicate 32 s) client first_standing ≡ first_standing) (sym c.first-standings.ensures) (get_or-replicate 32 client first_standing first_standing h);
 }
 
 pub follow-requires-clause-incarnations : goal.follow-requires-clause-incarnations

@@ -1,3 +1,4 @@
+-- What holds at each turn of the loops of `transactions_of`.
 use Rattle.std.proofs.Common.{take}
 use Rattle.cb_transcript.specs.ProtocolEvents.{transcript_of}
 use Rattle.cb_transcript.specs.Operations.{AreStandings, HasOperations}

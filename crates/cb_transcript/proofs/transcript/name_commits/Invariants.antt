@@ -1,3 +1,4 @@
+-- What holds at each turn of the loops of `name_commits`.
 use Rattle.std.proofs.Common.{◌≡◌, ◌≤◌, ◌+◌, ◌++◌, length, map, take}
 use Rattle.std.specs.Vec.{vec_capacity}
 use Rattle.cb_transcript.specs.Transcripts.{committed_name}

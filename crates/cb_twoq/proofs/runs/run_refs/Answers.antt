@@ -1,3 +1,4 @@
+-- Goals of `run_refs`.
 use Rattle.std.proofs.Common.{◌≡◌, ◌+◌, suc, ◌∷◌, [], ◌++◌, take, rules, sym, ap, ◌∙◌, arith}
 use Rattle.std.proofs.Math.Seq.{take-suc}
 use Rattle.cb_twoq.proofs.Running.{answered, one_more}

@@ -1,3 +1,4 @@
+-- What holds at each turn of the loops of `run_refs`.
 use Rattle.std.proofs.Common.{◌≡◌, ◌≤◌, length, take}
 use Rattle.std.specs.Vec.{vec_capacity}
 use Rattle.cb_twoq.specs.Runs.{Runs}

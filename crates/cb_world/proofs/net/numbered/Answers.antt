@@ -1,3 +1,4 @@
+-- Goals of `numbered`.
 use Rattle.std.proofs.Common.{rules}
 use Rattle.cb_world.proofs.Packing.{numbered_more}
 use Rattle.cb_world.proofs.net.numbered.Goals as goal

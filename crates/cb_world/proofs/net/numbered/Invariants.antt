@@ -1,3 +1,4 @@
+-- What holds at each turn of the loops of `numbered`.
 use Rattle.std.proofs.Common.{◌≡◌, take}
 use Rattle.cb_world.specs.NetMoves.{sent_as}
 use Rattle.cb_world.proofs.net.numbered.Given as goal

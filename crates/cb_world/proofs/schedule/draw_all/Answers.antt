@@ -1,3 +1,4 @@
+-- Goals of `draw_all`.
 use Rattle.std.proofs.Common.{◌≡◌, List, [], ◌∷◌, ◌++◌, length, length-append, ap, refl, rules, arith}
 use Rattle.cb_world.proofs.Drawing.{drawn_none, drawn_more, drawn_all}
 use Rattle.cb_world.proofs.schedule.draw_all.Goals as goal

@@ -1,3 +1,4 @@
+-- What holds at each turn of the loops of `draw_all`.
 use Rattle.std.proofs.Common.{◌≡◌, length}
 use Rattle.cb_world.proofs.Drawing.{DrawnTo}
 use Rattle.cb_world.proofs.schedule.draw_all.Given as goal

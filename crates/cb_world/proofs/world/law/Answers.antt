@@ -1,3 +1,4 @@
+-- Goals of `law`.
 use Rattle.std.proofs.Common.{◌≡◌, ℕ, List, true, length, refl, ap, ◌∙◌}
 use Rattle.std.specs.Prelude.{slice_get}
 use Rattle.cb_transcript.specs.Transcripts.{TranscriptState}

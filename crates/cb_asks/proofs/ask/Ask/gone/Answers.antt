@@ -1,3 +1,4 @@
+-- Goals of `Ask::gone`.
 use Rattle.std.proofs.Common.{ap}
 use Rattle.cb_asks.specs.Queues.{Asked}
 use Rattle.cb_asks.proofs.ask.Ask.gone.Goals as goal

@@ -1,3 +1,4 @@
+-- Goals of `Asks::enter`.
 use Rattle.std.proofs.Common.{◌+◌, ◌≡◌, ◌<◌, ◌∷◌, ◌++◌, [], ℕ, length, slice_index_or, ap, arith, ◌∙◌}
 use Rattle.cb_asks.specs.Asks.{AsksState, queue_at, room_at}
 use Rattle.cb_asks.specs.Queues.{QueueState, no_queue}

@@ -1,3 +1,4 @@
+-- Goals of `Asks::leave`.
 use Rattle.std.proofs.Common.{Some, slice_get, List, ◌+◌, ◌≡◌, ◌<◌, ◌∷◌, ℕ, length, slice_index_or, ap, sym, ◌∙◌, arith}
 use Rattle.std.specs.Option.{option_map}
 use Rattle.cb_asks.specs.Asks.{queue_at}

@@ -1,3 +1,4 @@
+-- Goals of `Asks::mark_called_back`.
 use Rattle.std.proofs.Common.{◌≡◌, ◌<◌, ◌+◌, ℕ, List, refl, length, slice_index_or, ap, ◌∙◌, arith}
 use Rattle.cb_asks.specs.Asks.{queue_at}
 use Rattle.cb_asks.specs.Maps.{used}

@@ -1,3 +1,4 @@
+-- Goals of `Asks::new`.
 use Rattle.std.proofs.Common.{arith}
 use Rattle.cb_asks.proofs.Calls.{new_is}
 use Rattle.cb_asks.proofs.Maps.{none_used}

@@ -1,6 +1,7 @@
+-- Goals of `Asks::next_page`.
 use Rattle.std.proofs.Common.{◌≡◌, ◌⊎◌, ◌≢◌, ℕ, true, sym, ◌∙◌, ap, subst, inl, inr, if◌then◌else◌, ◌≤◌, Option, Some, [], IfSome}
 use Rattle.std.proofs.lemmas.Bool.{cases_eq}
-use Rattle.cb_clients.specs.Clients.{Clients, has}
+use Rattle.cb_page.specs.Clients.{Clients, has}
 use Rattle.cb_asks.specs.Asks.{AsksState, HasPage, IsAsks, queue_at}
 use Rattle.cb_asks.specs.Places.{IsUpTo, place_of}
 use Rattle.cb_asks.proofs.Steps.{apart_is, if_found, in_difference, next_found, not_in_difference}

@@ -1,5 +1,6 @@
+-- What holds at each turn of the loops of `Asks::next_page`.
 use Rattle.std.proofs.Common.{◌≡◌, ◌≢◌, ◌≤◌, ℕ, true, Some, [], IfSome}
-use Rattle.cb_clients.specs.Clients.{has, left_out}
+use Rattle.cb_page.specs.Clients.{has, left_out}
 use Rattle.cb_asks.specs.Asks.{HasPage, queue_at}
 use Rattle.cb_asks.specs.Places.{IsUpTo, place_of}
 use Rattle.cb_asks.proofs.asks.Asks.next_page.Given as goal

@@ -1,3 +1,4 @@
+-- Goals of `Asks::read_asks`.
 use Rattle.std.proofs.Common.{◌∙◌, sym}
 use Rattle.cb_asks.proofs.Steps.{few_reads, reads_below}
 use Rattle.cb_asks.proofs.asks.Asks.read_asks.Goals as goal

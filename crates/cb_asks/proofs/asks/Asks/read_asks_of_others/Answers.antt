@@ -1,3 +1,4 @@
+-- Goals of `Asks::read_asks_of_others`.
 use Rattle.std.proofs.Common.{◌≡◌, ◌∙◌, ◌-◌, ℕ, ap, arith}
 use Rattle.cb_asks.specs.Asks.{AsksState, queue_at, reads_of_others}
 use Rattle.cb_asks.specs.Sums.{sum_below}

@@ -1,3 +1,4 @@
+-- Goals of `Asks::reads_of`.
 use Rattle.std.proofs.Common.{◌≡◌, ◌<◌, ◌+◌, length, slice_index_or, ap, sym, ◌∙◌, Some, None, true, false, arith}
 use Rattle.std.specs.Option.{option_map}
 use Rattle.cb_protocol.specs.Basics.{is_none}

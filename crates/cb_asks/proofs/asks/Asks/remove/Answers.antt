@@ -1,3 +1,4 @@
+-- Goals of `Asks::remove`.
 use Rattle.std.proofs.Common.{◌≡◌, ◌<◌, ◌≤◌, ◌+◌, ℕ, length, slice_index_or, ap, sym, subst, ◌∙◌, Some, None, arith}
 use Rattle.std.specs.Option.{option_map}
 use Rattle.cb_protocol.specs.Deadlock.{ask_count}

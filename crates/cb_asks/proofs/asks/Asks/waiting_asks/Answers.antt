@@ -1,5 +1,6 @@
+-- Goals of `Asks::waiting_asks`.
 use Rattle.std.proofs.Common.{◌≡◌, ◌∙◌, ◌+◌, ◌<◌, length, suc, ap, arith, rules, sym}
-use Rattle.cb_clients.specs.Clients.{Clients, has}
+use Rattle.cb_page.specs.Clients.{Clients, has}
 use Rattle.cb_asks.specs.Asks.{AsksState, IsAsks, queue_at}
 use Rattle.cb_asks.specs.Sums.{one_if, sum_below}
 use Rattle.cb_asks.proofs.Steps.{asks_summed}

@@ -1,5 +1,6 @@
+-- What holds at each turn of the loops of `Asks::waiting_asks`.
 use Rattle.std.proofs.Common.{◌≡◌, ◌≤◌, ◌-◌}
-use Rattle.cb_clients.specs.Clients.{has}
+use Rattle.cb_page.specs.Clients.{has}
 use Rattle.cb_asks.specs.Sums.{one_if, sum_below}
 use Rattle.cb_asks.proofs.asks.Asks.waiting_asks.Given as goal
 

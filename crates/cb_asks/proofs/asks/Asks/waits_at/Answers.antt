@@ -1,3 +1,4 @@
+-- Goals of `Asks::waits_at`.
 use Rattle.cb_asks.proofs.Steps.{if_within, one_ask, waits_below}
 use Rattle.cb_asks.proofs.asks.Asks.waits_at.Goals as goal
 

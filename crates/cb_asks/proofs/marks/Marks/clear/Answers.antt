@@ -1,3 +1,4 @@
+-- Goals of `Marks::clear`.
 use Rattle.std.proofs.Common.{◌≡◌, ◌+◌, ◌<◌, [], length, slice_index_or, arith, ap, subst, ◌∙◌}
 use Rattle.cb_asks.specs.Marks.{IsMarks, MarksState, is_in_use}
 use Rattle.cb_asks.proofs.Marking.{Cleared, clear_more, line_read, next_unused, next_within}

@@ -1,3 +1,4 @@
+-- What holds at each turn of the loops of `Marks::clear`.
 use Rattle.std.proofs.Common.{◌≡◌, ◌-◌, ◌<◌, ◌≤◌, ◌==◌, false, ℕ, length}
 use Rattle.cb_asks.specs.Marks.{is_in_use}
 use Rattle.cb_asks.proofs.marks.Marks.clear.Given as goal

@@ -1,3 +1,4 @@
+-- Goals of `Marks::mark`.
 use Rattle.std.proofs.Common.{◌<◌, true, length}
 use Rattle.cb_asks.specs.Marks.{MarksState}
 use Rattle.cb_asks.proofs.Marking.{Put, marks_put, put_is, put_read}

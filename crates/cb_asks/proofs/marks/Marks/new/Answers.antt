@@ -1,3 +1,4 @@
+-- Goals of `Marks::new`.
 use Rattle.std.proofs.Common.{◌≡◌, ℕ, false, replicate, rules, sym, subst}
 use Rattle.cb_asks.specs.Marks.{IsMarks, MarksState, is_in_use}
 use Rattle.cb_asks.proofs.Marking.{new_marks, new_none}

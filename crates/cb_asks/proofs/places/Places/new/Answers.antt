@@ -1,5 +1,6 @@
+-- Goals of `Places::new`.
 use Rattle.std.proofs.Common.{◌≡◌, ℕ, Option, None, refl}
-use Rattle.cb_clients.proofs.Lookups.{replicate_gives}
+use Rattle.cb_page.proofs.Lookups.{replicate_gives}
 use Rattle.cb_asks.proofs.places.Places.new.Goals as goal
 
 pub returns : goal.returns

@@ -1,3 +1,4 @@
+-- Goals of `Queue::ask_of`.
 use Rattle.std.proofs.Common.{◌≡◌, ℕ, None, Some, nat_eq, ap, sym, ◌∙◌}
 use Rattle.std.specs.Map.{lookup}
 use Rattle.std.specs.Option.{option_copied, option_map}

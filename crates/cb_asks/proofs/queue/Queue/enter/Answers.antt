@@ -1,3 +1,4 @@
+-- Goals of `Queue::enter`.
 use Rattle.std.proofs.Common.{◌≡◌, ℕ, List, [], ◌∷◌, ◌++◌, ap, ◌∙◌, arith, nat_eq, false, None, Some, refl}
 use Rattle.indexmap.specs.IndexMap.{insert_entry}
 use Rattle.cb_protocol.specs.Deadlock.{ask_count}

@@ -1,3 +1,4 @@
+-- Goals of `Queue::first`.
 use Rattle.std.proofs.Common.{ap, sym, ◌∙◌, ◌∷◌, ℕ, List}
 use Rattle.cb_protocol.specs.Server.{WaitingAsk, after_first}
 use Rattle.cb_asks.specs.Entries.{ask_of_entry}

@@ -1,3 +1,4 @@
+-- Goals of `Queue::leave`.
 use Rattle.std.proofs.Common.{arith, rules}
 use Rattle.std.proofs.lemmas.Grind.{common_steps}
 use Rattle.cb_asks.proofs.queue.Queue.leave.Goals as goal

@@ -1,3 +1,4 @@
+-- Goals of `Queue::mark_called_back`.
 use Rattle.std.proofs.Common.{ap, ◌∙◌}
 use Rattle.cb_protocol.specs.Server.{set_called_back}
 use Rattle.cb_asks.proofs.Entries.{first_called}

@@ -1,3 +1,4 @@
+-- Goals of `Queue::mark_downgrade_sent`.
 use Rattle.std.proofs.Common.{ap, ◌∙◌}
 use Rattle.cb_protocol.specs.Server.{set_downgrade_sent}
 use Rattle.cb_asks.proofs.Entries.{first_sent}

@@ -1,3 +1,4 @@
+-- Goals of `Queue::remove`.
 use Rattle.std.proofs.Common.{arith, rules, ◌≡◌, ◌≤◌, ℕ, List, None, Some, nat_eq, ap, sym, subst, ◌∙◌}
 use Rattle.std.proofs.lemmas.Grind.{common_steps}
 use Rattle.std.specs.Map.{lookup, remove_entry}

@@ -1,3 +1,4 @@
+-- Goals of `Queue::reserve`.
 use Rattle.std.proofs.Common.{rules}
 use Rattle.cb_asks.proofs.queue.Queue.reserve.Goals as goal
 

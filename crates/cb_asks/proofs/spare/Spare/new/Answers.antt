@@ -1,3 +1,4 @@
+-- Goals of `Spare::new`.
 use Rattle.std.proofs.Common.{arith, rules}
 use Rattle.std.proofs.lemmas.Grind.{common_steps}
 use Rattle.cb_asks.proofs.spare.Spare.new.Goals as goal

@@ -1,3 +1,4 @@
+-- What holds at each turn of the loops of `Spare::new`.
 use Rattle.std.proofs.Common.{◌≡◌, length}
 use Rattle.std.specs.List.{All}
 use Rattle.std.specs.Vec.{vec_capacity}

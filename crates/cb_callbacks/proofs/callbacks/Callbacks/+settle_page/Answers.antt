@@ -1,3 +1,4 @@
+-- Goals of `Callbacks::+settle_page`.
 use Rattle.std.proofs.Common.{◌≡◌, ◌∙◌, ◌+◌, ◌-◌, ◌<◌, ℕ, sym, subst, arith}
 use Rattle.cb_outbox.specs.Saying.{HasRoomFor, Says}
 use Rattle.cb_protocol.specs.Settling.{settle_page}

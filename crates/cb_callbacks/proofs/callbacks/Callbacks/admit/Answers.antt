@@ -1,3 +1,4 @@
+-- Goals of `Callbacks::admit`.
 use Rattle.cb_tables.specs.Tables.{server_of}
 use Rattle.cb_callbacks.proofs.Ending.{admits_ends, forgot, kept_ended, waits_forgot}
 use Rattle.cb_protocol.specs.Session.{Admit}

@@ -1,3 +1,4 @@
+-- Goals of `Callbacks::again`.
 use Rattle.std.proofs.Common.{◌≡◌, ◌∙◌, ◌++◌, ℕ, subst, sym}
 use Rattle.cb_outbox.proofs.Saying.{room_after, room_first, says_as, says_then}
 use Rattle.cb_outbox.specs.Saying.{HasRoomFor, Says}

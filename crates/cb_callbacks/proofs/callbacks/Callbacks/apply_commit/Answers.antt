@@ -1,3 +1,4 @@
+-- Goals of `Callbacks::apply_commit`.
 use Rattle.std.proofs.Common.{◌≡◌, ◌+◌, subst}
 use Rattle.cb_callbacks.specs.Callbacks.{CallbacksState, Changes}
 use Rattle.cb_tables.specs.Tables.{server_of}

@@ -1,6 +1,7 @@
+-- Goals of `Callbacks::call_back_once`.
 use Rattle.std.proofs.Common.{◌≡◌, Bool, ℕ, sym, subst, false, rules}
 use Rattle.cb_asks.specs.Queues.{waiting_ask}
-use Rattle.cb_clients.specs.Clients.{has}
+use Rattle.cb_page.specs.Clients.{has}
 use Rattle.cb_outbox.specs.Saying.{HasRoomFor, Says}
 use Rattle.cb_protocol.specs.Server.{set_called_back}
 use Rattle.cb_protocol.specs.Settling.{call_back_once, nobody, send_callbacks}

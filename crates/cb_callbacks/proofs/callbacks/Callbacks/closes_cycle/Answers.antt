@@ -1,3 +1,4 @@
+-- Goals of `Callbacks::closes_cycle`.
 use Rattle.std.proofs.Common.{◌≡◌, subst}
 use Rattle.cb_protocol.specs.WaitsFor.{on_cycle}
 use Rattle.cb_callbacks.specs.Callbacks.{CallbacksState}

@@ -1,3 +1,4 @@
+-- Goals of `Callbacks::decide_read`.
 use Rattle.std.proofs.Common.{◌≡◌, ◌∙◌, ◌&&◌, sym, subst, ap, false, rules, Bool}
 use Rattle.cb_asks.specs.Queues.{waiting_ask}
 use Rattle.cb_protocol.specs.Basics.{is_none}

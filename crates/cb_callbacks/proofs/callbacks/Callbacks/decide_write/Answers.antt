@@ -1,3 +1,4 @@
+-- Goals of `Callbacks::decide_write`.
 use Rattle.std.proofs.Common.{◌≡◌, ◌∙◌, sym, subst, true, false}
 use Rattle.cb_asks.specs.Queues.{waiting_ask}
 use Rattle.cb_protocol.specs.Server.{has_row}

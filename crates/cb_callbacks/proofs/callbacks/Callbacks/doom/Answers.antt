@@ -1,3 +1,4 @@
+-- Goals of `Callbacks::doom`.
 use Rattle.std.proofs.Common.{◌≡◌, sym, subst, true}
 use Rattle.cb_protocol.specs.Server.{has_ask}
 use Rattle.cb_protocol.specs.Settling.{doom_client}

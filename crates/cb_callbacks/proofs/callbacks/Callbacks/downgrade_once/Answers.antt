@@ -1,3 +1,4 @@
+-- Goals of `Callbacks::downgrade_once`.
 use Rattle.std.proofs.Common.{rules}
 use Rattle.cb_protocol.specs.Server.{set_downgrade_sent}
 use Rattle.cb_callbacks.proofs.Noted.{kept_noted, notes_sent}

@@ -1,3 +1,4 @@
+-- Goals of `Callbacks::end_permission`.
 use Rattle.std.proofs.Common.{◌<◌, [], ◌∷◌, ℕ, refl, sym, subst, arith}
 use Rattle.cb_asks.specs.Asks.{queue_at}
 use Rattle.cb_asks.specs.Marks.{is_in_use}

@@ -1,3 +1,4 @@
+-- Goals of `Callbacks::enter`.
 use Rattle.std.proofs.Common.{arith, rules}
 use Rattle.std.proofs.lemmas.Grind.{common_steps}
 use Rattle.cb_tables.specs.Tables.{server_of}

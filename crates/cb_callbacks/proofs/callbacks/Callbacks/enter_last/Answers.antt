@@ -1,3 +1,4 @@
+-- Goals of `Callbacks::enter_last`.
 use Rattle.std.proofs.Common.{◌≡◌, ◌∙◌, ◌∷◌, [], sym, subst, true, false}
 use Rattle.cb_callbacks.specs.Callbacks.{CallbacksState}
 use Rattle.cb_tables.specs.Tables.{HasClient, HasPage, server_of}

@@ -1,3 +1,4 @@
+-- Goals of `Callbacks::flushed`.
 use Rattle.std.proofs.Common.{◌≡◌, subst, sym, true}
 use Rattle.cb_callbacks.specs.Callbacks.{CallbacksState, Changes}
 use Rattle.cb_tables.specs.Tables.{server_of}

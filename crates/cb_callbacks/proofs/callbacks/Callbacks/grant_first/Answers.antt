@@ -1,3 +1,4 @@
+-- Goals of `Callbacks::grant_first`.
 use Rattle.std.proofs.Common.{sym, subst}
 use Rattle.cb_protocol.specs.Settling.{grant_row}
 use Rattle.cb_callbacks.specs.Callbacks.{CallbacksState}

@@ -1,3 +1,4 @@
+-- Goals of `Callbacks::has_kept_permission`.
 use Rattle.std.proofs.Common.{rules}
 use Rattle.cb_callbacks.proofs.callbacks.Callbacks.has_kept_permission.Goals as goal
 

@@ -1,3 +1,4 @@
+-- Goals of `Callbacks::kept_view`.
 use Rattle.std.proofs.Common.{subst}
 use Rattle.cb_callbacks.specs.Callbacks.{CallbacksState}
 use Rattle.cb_tables.specs.Tables.{server_of}

@@ -1,3 +1,4 @@
+-- Goals of `Callbacks::lacks_grant`.
 use Rattle.std.proofs.Common.{◌≡◌, ◌∙◌, true, subst, sym}
 use Rattle.cb_holdings.specs.Questions.{IsLast, standing_in}
 use Rattle.cb_links.specs.declared.sessions.Standing.TheVariants as standing

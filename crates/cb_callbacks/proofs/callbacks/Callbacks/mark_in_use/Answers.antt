@@ -1,3 +1,4 @@
+-- Goals of `Callbacks::mark_in_use`.
 use Rattle.std.proofs.Common.{◌∙◌, [], ◌∷◌, sym, subst}
 use Rattle.cb_asks.specs.Asks.{queue_at}
 use Rattle.cb_asks.specs.Marks.{is_in_use}

@@ -1,3 +1,4 @@
+-- Goals of `Callbacks::messages_to_settle`.
 use Rattle.std.proofs.Common.{◌∙◌, sym, arith}
 use Rattle.cb_tables.specs.Tables.{server_of}
 use Rattle.cb_callbacks.proofs.Bounds.{few_by_kind, messages_counted, reads_among}

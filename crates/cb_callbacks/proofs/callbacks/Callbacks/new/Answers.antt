@@ -1,3 +1,4 @@
+-- Goals of `Callbacks::new`.
 use Rattle.std.proofs.Common.{◌∙◌, sym, subst, arith}
 use Rattle.cb_holdings.specs.Holdings.{limits_of, opening_of}
 use Rattle.cb_protocol.specs.Server.{new_server}
@@ -20,7 +21,7 @@ invariant_of-result c =
       };
       waits = subst Waits (sym same) (waits_new (limits_of c.args.limits.now) (opening_of c.args.store));
       follows = subst (Follows c.nobody.result) (sym same) (follows_new (limits_of c.args.limits.now) (opening_of c.args.store) c.nobody.result c.nobody.ensures);
-      few = let is = c.in_ok-new.ensures.of.clients in let range = c.clients-few.ensures.in_range.clients in omega (arith, is, range);
+      few = let is = c.in_ok-new.ensures.of.clients in let range = c.clients-known.ensures.in_range.clients in omega (arith, is, range);
     }
 
 pub returns-clause-server : goal.returns-clause-server

@@ -1,3 +1,4 @@
+-- Goals of `Callbacks::permit_again`.
 use Rattle.std.proofs.Common.{rules, sym, subst}
 use Rattle.cb_callbacks.specs.Callbacks.{CallbacksState}
 use Rattle.cb_tables.specs.Tables.{HasPage, server_of}

@@ -1,3 +1,4 @@
+-- Goals of `Callbacks::permit_first`.
 use Rattle.std.proofs.Common.{sym, subst}
 use Rattle.cb_protocol.specs.Settling.{permit_write}
 use Rattle.cb_callbacks.specs.Callbacks.{CallbacksState}

@@ -1,3 +1,4 @@
+-- Goals of `Callbacks::read_asks`.
 use Rattle.std.proofs.Common.{rules}
 use Rattle.cb_callbacks.proofs.callbacks.Callbacks.read_asks.Goals as goal
 

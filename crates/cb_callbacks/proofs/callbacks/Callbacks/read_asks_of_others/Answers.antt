@@ -1,3 +1,4 @@
+-- Goals of `Callbacks::read_asks_of_others`.
 use Rattle.std.proofs.Common.{◌≡◌, refl, subst, sym}
 use Rattle.cb_callbacks.specs.Callbacks.{CallbacksState}
 use Rattle.cb_tables.specs.Tables.{server_of}

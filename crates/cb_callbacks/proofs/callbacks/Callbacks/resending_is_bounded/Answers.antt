@@ -1,3 +1,4 @@
+-- Goals of `Callbacks::resending_is_bounded`.
 use Rattle.std.proofs.Common.{◌≤◌, ◌+◌, ◌*◌, length, subst}
 use Rattle.cb_asks.specs.Asks.{asks_below}
 use Rattle.cb_outbox.specs.Saying.{HasRoomFor, OutboxState}

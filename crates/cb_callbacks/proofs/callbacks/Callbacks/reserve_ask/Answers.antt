@@ -1,3 +1,4 @@
+-- Goals of `Callbacks::reserve_ask`.
 use Rattle.std.proofs.Common.{rules}
 use Rattle.cb_callbacks.proofs.Page.{kept_reserved}
 use Rattle.cb_callbacks.proofs.callbacks.Callbacks.reserve_ask.Goals as goal

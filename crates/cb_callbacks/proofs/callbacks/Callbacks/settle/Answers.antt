@@ -1,3 +1,4 @@
+-- Goals of `Callbacks::settle`.
 use Rattle.std.proofs.Common.{◌≡◌, ◌∙◌, ◌+◌, ◌<◌, ◌≤◌, [], ℕ, length, sym, subst, ap, arith}
 use Rattle.cb_asks.specs.Asks.{queue_at}
 use Rattle.cb_asks.specs.Queues.{QueueState}

@@ -1,3 +1,4 @@
+-- What holds at each turn of the loops of `Callbacks::settle`.
 use Rattle.std.proofs.Common.{◌≤◌, ◌-◌, ◌+◌}
 use Rattle.cb_tables.specs.Tables.{server_of}
 use Rattle.cb_tables.specs.Waits.{Waits}

@@ -1,3 +1,4 @@
+-- Goals of `Callbacks::settling_is_bounded`.
 use Rattle.std.proofs.Common.{rules, ◌≤◌, ◌+◌, ◌*◌, length, subst}
 use Rattle.cb_asks.specs.Asks.{asks_below}
 use Rattle.cb_outbox.specs.Saying.{HasRoomFor, OutboxState}

@@ -1,3 +1,4 @@
+-- Goals of `Callbacks::wait_or_doom`.
 use Rattle.std.proofs.Common.{◌∙◌, sym}
 use Rattle.cb_protocol.specs.WaitsFor.{on_cycle}
 use Rattle.cb_tables.specs.Tables.{server_of}

@@ -1,3 +1,4 @@
+-- Goals of `Callbacks::waiting_asks`.
 use Rattle.std.proofs.Common.{rules}
 use Rattle.cb_callbacks.proofs.callbacks.Callbacks.waiting_asks.Goals as goal
 

@@ -1,3 +1,4 @@
+-- Goals of `follow_pages`.
 use Rattle.std.proofs.Common.{◌+◌, ◌<◌, ℕ, sym, subst, ap, arith}
 use Rattle.cb_callbacks.specs.Following.{FollowsPages}
 use Rattle.cb_tables.specs.Tables.{server_of}

@@ -1,3 +1,4 @@
+-- What holds at each turn of the loops of `follow_pages`.
 use Rattle.std.proofs.Common.{◌≤◌, ◌-◌}
 use Rattle.cb_callbacks.specs.Following.{FollowsPages}
 use Rattle.cb_tables.specs.Tables.{server_of}

@@ -1,7 +1,8 @@
+-- Goals of `follow_left`.
 use Rattle.std.proofs.Common.{◌≡◌, ◌∙◌, ◌&&◌, ◌==◌, not, ap}
 use Rattle.cb_asks.specs.Asks.{queue_at}
 use Rattle.cb_asks.specs.Queues.{QueueState}
-use Rattle.cb_clients.specs.Clients.{has}
+use Rattle.cb_page.specs.Clients.{has}
 use Rattle.cb_tables.specs.Tables.{server_of}
 use Rattle.cb_callbacks.proofs.Left.{held_up_front, if_none}
 use Rattle.cb_protocol.specs.Server.{has_ask}

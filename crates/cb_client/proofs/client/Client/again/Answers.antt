@@ -1,10 +1,11 @@
+-- Goals of `Client::again`.
 use Rattle.std.proofs.Common.{◌≡◌, ◌++◌, [], List, false, true, true≢false, option_to_list, refl, sym, ◌∙◌, ap, arith, rules}
 use Rattle.std.specs.Option.{option_map}
 use Rattle.cb_outbox.specs.Messages.{message_of, messages_of}
 use Rattle.cb_protocol.specs.Messages.{Message}
 use Rattle.cb_client.specs.CallAnswers.{short_message}
 use Rattle.cb_protocol.specs.ClientCalls.{CallAgain}
-use Rattle.cb_client_engine.specs.ClientState.{IsClient}
+use Rattle.cb_client_core.specs.ClientState.{IsClient}
 use Rattle.cb_client.proofs.FramesFit.{call_frames_fit}
 use Rattle.cb_client.proofs.Room.{greets, no_part, none_said}
 use Rattle.cb_client.proofs.SayingAgain.{all_again, greets_again}

@@ -1,10 +1,11 @@
+-- Goals of `Client::ask`.
 use Rattle.std.proofs.Common.{◌≡◌, List, [], ◌∷◌, Some, refl, rules}
 use Rattle.cb_protocol.specs.Client.{bodies_said}
 use Rattle.cb_protocol.specs.ClientCalls.{say_ask}
 use Rattle.cb_protocol.specs.Serial.{Operation}
 use Rattle.cb_client.specs.ByTable.{messages_from}
 use Rattle.cb_client.specs.CallAnswers.{short_message}
-use Rattle.cb_client_engine.specs.ClientState.{IsClient, client_of}
+use Rattle.cb_client_core.specs.ClientState.{IsClient, client_of}
 use Rattle.cb_client.proofs.FramesFit.{ask_frame_fits}
 use Rattle.cb_client.proofs.Writing.{asking_open, asking_within}
 use Rattle.cb_client.proofs.client.Client.ask.Goals as goal

@@ -1,3 +1,4 @@
+-- Goals of `Client::begin`.
 use Rattle.std.proofs.Common.{◌≡◌, Err, refl, rules}
 use Rattle.cb_client.proofs.CallSteps.{begin_keeps, begins, refused}
 use Rattle.cb_client.proofs.client.Client.begin.Goals as goal

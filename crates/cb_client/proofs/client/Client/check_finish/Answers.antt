@@ -1,6 +1,7 @@
+-- Goals of `Client::check_finish`.
 use Rattle.std.proofs.Common.{◌≡◌, true, false, Err, sym, rules}
 use Rattle.cb_protocol.specs.Client.{is_asking}
-use Rattle.cb_client_engine.specs.ClientState.{ask_of}
+use Rattle.cb_client_core.specs.ClientState.{ask_of}
 use Rattle.cb_client.proofs.Refusals.{finish_free, finish_is, finish_shut, finish_waits}
 use Rattle.cb_client.proofs.client.Client.check_finish.Goals as goal
 

@@ -1,3 +1,4 @@
+-- Goals of `Client::check_open`.
 use Rattle.cb_client.proofs.Refusals.{open_committing, open_free}
 use Rattle.cb_client.proofs.client.Client.check_open.Goals as goal
 

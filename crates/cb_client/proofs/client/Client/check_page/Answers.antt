@@ -1,3 +1,4 @@
+-- Goals of `Client::check_page`.
 use Rattle.std.proofs.Common.{◌≡◌, Err, sym, rules}
 use Rattle.cb_client.proofs.Refusals.{page_free, page_past, page_shut}
 use Rattle.cb_client.proofs.client.Client.check_page.Goals as goal

@@ -1,3 +1,4 @@
+-- Goals of `Client::check_read`.
 use Rattle.std.proofs.Common.{◌≡◌, true, false, Err, sym, rules}
 use Rattle.cb_page.specs.Flags.{has}
 use Rattle.cb_client.proofs.Refusals.{read_bare, read_free, read_shut, read_unlocked}

@@ -1,3 +1,4 @@
+-- Goals of `Client::check_write`.
 use Rattle.std.proofs.Common.{◌≡◌, ◌==◌, length, true, false, Err, sym, rules, arith}
 use Rattle.std.proofs.lemmas.Bool.Decides.{nat_tests}
 use Rattle.cb_page.specs.Flags.{has}

@@ -1,10 +1,11 @@
+-- Goals of `Client::commit_again`.
 use Rattle.std.proofs.Common.{◌≡◌, List, [], ◌∷◌, Some, rules}
 use Rattle.cb_outbox.specs.Messages.{message_of}
 use Rattle.cb_protocol.specs.Client.{bodies_said}
 use Rattle.cb_protocol.specs.ClientCalls.{commit_again}
 use Rattle.cb_protocol.specs.Serial.{Operation}
 use Rattle.cb_client.specs.ByTable.{limits_at, messages_from}
-use Rattle.cb_client_engine.specs.ClientState.{IsClient, client_of}
+use Rattle.cb_client_core.specs.ClientState.{IsClient, client_of}
 use Rattle.cb_client.proofs.SayingAgain.{commit_again_fits}
 use Rattle.cb_client.proofs.client.Client.commit_again.Goals as goal
 

@@ -1,5 +1,6 @@
+-- Goals of `Client::commit_frame`.
 use Rattle.std.proofs.Common.{◌≡◌, false, true, true≢false, sym}
-use Rattle.cb_copies.specs.CopiesState.{client_with}
+use Rattle.cb_cache.specs.CacheState.{client_with}
 use Rattle.cb_outbox.specs.Messages.{page_writes}
 use Rattle.cb_protocol.specs.Client.{Client}
 use Rattle.cb_protocol.specs.ClientCalls.{written_pages}

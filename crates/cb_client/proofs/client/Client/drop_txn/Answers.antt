@@ -1,6 +1,7 @@
+-- Goals of `Client::drop_txn`.
 use Rattle.std.proofs.Common.{◌≡◌, Err, rules}
 use Rattle.cb_client.proofs.CallSteps.{FindsNone, refused}
-use Rattle.cb_client_engine.proofs.Ending.{owes}
+use Rattle.cb_client_core.proofs.Ending.{owes}
 use Rattle.cb_client.proofs.Ending.{drop_is, drop_keeps, drops, refuses_or_lacks}
 use Rattle.cb_client.proofs.FramesFit.{call_frames_fit}
 use Rattle.cb_protocol.specs.ClientCalls.{CallDrop}

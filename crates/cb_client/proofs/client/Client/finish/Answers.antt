@@ -1,6 +1,7 @@
+-- Goals of `Client::finish`.
 use Rattle.std.proofs.Common.{◌≡◌, false, true, true≢false, sym, Err, rules}
 use Rattle.cb_protocol.specs.ClientCalls.{CallFinish}
-use Rattle.cb_client_engine.specs.ClientState.{IsClient}
+use Rattle.cb_client_core.specs.ClientState.{IsClient}
 use Rattle.cb_client.proofs.CallSteps.{refused}
 use Rattle.cb_client.proofs.FramesFit.{call_frame_fits}
 use Rattle.cb_client.proofs.Room.{not_memory}

@@ -1,3 +1,4 @@
+-- Goals of `Client::held`.
 use Rattle.std.proofs.Common.{rules}
 use Rattle.cb_client.proofs.client.Client.held.Goals as goal
 

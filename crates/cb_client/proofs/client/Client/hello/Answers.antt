@@ -1,9 +1,10 @@
+-- Goals of `Client::hello`.
 use Rattle.std.proofs.Common.{[], ◌∷◌}
 use Rattle.cb_outbox.specs.Messages.{message_of}
 use Rattle.cb_protocol.specs.Answers.{AnsweredOk}
 use Rattle.cb_protocol.specs.ClientCalls.{CallHello}
 use Rattle.cb_client.specs.ByTable.{Calls, as_before}
-use Rattle.cb_client_engine.specs.ClientState.{IsClient}
+use Rattle.cb_client_core.specs.ClientState.{IsClient}
 use Rattle.cb_client.proofs.CallSteps.{greets}
 use Rattle.cb_client.proofs.FramesFit.{call_frame_fits}
 use Rattle.cb_client.proofs.client.Client.hello.Goals as goal

@@ -1,3 +1,4 @@
+-- Goals of `Client::is_addressed`.
 use Rattle.std.proofs.Common.{rules}
 use Rattle.cb_client.proofs.client.Client.is_addressed.Goals as goal
 

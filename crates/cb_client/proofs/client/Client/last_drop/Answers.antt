@@ -1,3 +1,4 @@
+-- Goals of `Client::last_drop`.
 use Rattle.std.proofs.Common.{refl}
 use Rattle.cb_client.proofs.SayingAgain.{has_dropped}
 use Rattle.cb_client.proofs.client.Client.last_drop.Goals as goal

@@ -1,3 +1,4 @@
+-- Goals of `Client::may_write`.
 use Rattle.std.proofs.Common.{rules}
 use Rattle.cb_client.proofs.client.Client.may_write.Goals as goal
 

@@ -1,3 +1,4 @@
+-- Goals of `Client::peek`.
 use Rattle.cb_client.proofs.CallSteps.{peeks}
 use Rattle.cb_client.proofs.client.Client.peek.Goals as goal
 

@@ -1,3 +1,4 @@
+-- Goals of `Client::present_txn`.
 use Rattle.std.proofs.Common.{refl}
 use Rattle.cb_client.proofs.CallSteps.{has_begun}
 use Rattle.cb_client.proofs.client.Client.present_txn.Goals as goal

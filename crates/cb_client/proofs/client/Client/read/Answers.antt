@@ -1,5 +1,6 @@
-use Rattle.cb_copies.specs.CopiesState.{content_at}
-use Rattle.cb_client_engine.specs.ClientState.{ClientState}
+-- Goals of `Client::read`.
+use Rattle.cb_cache.specs.CacheState.{content_at}
+use Rattle.cb_client_core.specs.ClientState.{ClientState}
 use Rattle.std.specs.Option.{is_some}
 use Rattle.cb_client.specs.CallAnswers.{after_read}
 use Rattle.std.proofs.Common.{ap, ◌≡◌, Some, false, Err, refl, ◌∙◌, rules}

@@ -1,3 +1,4 @@
+-- Goals of `Client::read_or_ask`.
 use Rattle.std.proofs.Common.{◌≡◌, Err, refl, sym, rules}
 use Rattle.cb_client.proofs.Calling.{after_ask, after_here, after_refused, ask_keeps, called_ask, called_here, called_refused, finds_full, finds_here, finds_room, read_keeps, read_shut_out}
 use Rattle.cb_client.proofs.Refusals.{fetch_full, fetch_is, fetch_shut, page_free, page_past, page_shut, page_within}

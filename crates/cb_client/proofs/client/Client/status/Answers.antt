@@ -1,3 +1,4 @@
+-- Goals of `Client::status`.
 use Rattle.std.proofs.Common.{rules}
 use Rattle.cb_client.proofs.client.Client.status.Goals as goal
 

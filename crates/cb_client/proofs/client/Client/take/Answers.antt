@@ -1,3 +1,4 @@
+-- Goals of `Client::take`.
 use Rattle.cb_client.proofs.FramesFit.{body_frames_fit}
 use Rattle.cb_client.proofs.client.Client.take.Goals as goal
 

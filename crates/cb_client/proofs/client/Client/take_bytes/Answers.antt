@@ -1,3 +1,4 @@
+-- Goals of `Client::take_bytes`.
 use Rattle.std.proofs.Common.{rules, sym, true≢false}
 use Rattle.cb_client.proofs.Room.{needs_room}
 use Rattle.cb_client.proofs.client.Client.take_bytes.Goals as goal

@@ -1,3 +1,4 @@
+-- Goals of `Client::want`.
 use Rattle.std.proofs.Common.{◌≡◌, Err, refl, sym, rules}
 use Rattle.cb_client.proofs.CallSteps.{refused}
 use Rattle.cb_client.proofs.Refusals.{want_is}

@@ -1,3 +1,4 @@
+-- Goals of `Client::write`.
 use Rattle.std.proofs.Common.{◌≡◌, Err, refl, rules}
 use Rattle.cb_client.proofs.CallSteps.{refused}
 use Rattle.cb_client.proofs.Calling.{write_keeps, writes}

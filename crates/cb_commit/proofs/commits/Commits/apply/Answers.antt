@@ -1,3 +1,4 @@
+-- Goals of `Commits::apply`.
 use Rattle.std.proofs.Common.{◌≡◌, ◌+◌, ◌∙◌, ℕ, ap, arith, rules}
 use Rattle.cb_commit.specs.declared.commit.Commit.{Commit}
 use Rattle.cb_commit.specs.History.{CommitsState}

@@ -1,3 +1,4 @@
+-- Goals of `Commits::batch`.
 use Rattle.std.proofs.Common.{rules, subst}
 use Rattle.cb_commit.specs.History.{AreCommits}
 use Rattle.cb_commit.proofs.Changed.{changed_is_batch}

@@ -1,3 +1,4 @@
+-- Goals of `Commits::can_flush`.
 use Rattle.std.proofs.Common.{rules}
 use Rattle.cb_commit.proofs.commits.Commits.can_flush.Goals as goal
 

@@ -1,3 +1,4 @@
+-- Goals of `Commits::changed_pages`.
 use Rattle.std.proofs.Common.{◌<◌, ◌∙◌, arith, sym, length, false, inl, inr}
 use Rattle.std.proofs.lemmas.Bool.{cases_lt}
 use Rattle.std.proofs.lemmas.List.{get_or_past}

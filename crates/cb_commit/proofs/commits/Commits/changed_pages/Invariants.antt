@@ -1,3 +1,4 @@
+-- What holds at each turn of the loops of `Commits::changed_pages`.
 use Rattle.std.proofs.Common.{◌≡◌, ◌-◌, ◌≤◌, length}
 use Rattle.cb_commit.specs.Batches.{changed_below}
 use Rattle.cb_commit.proofs.commits.Commits.changed_pages.Given as goal

@@ -1,3 +1,4 @@
+-- Goals of `Commits::flushed`.
 use Rattle.std.proofs.Common.{◌≡◌, ◌-◌, ◌∙◌, arith, rules, sym}
 use Rattle.cb_commit.proofs.Folding.{dones_part}
 use Rattle.cb_commit.proofs.commits.Commits.flushed.Goals as goal

@@ -1,3 +1,4 @@
+-- Goals of `Commits::next_number`.
 use Rattle.std.proofs.Common.{rules}
 use Rattle.cb_commit.proofs.commits.Commits.next_number.Goals as goal
 

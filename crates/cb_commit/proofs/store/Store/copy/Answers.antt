@@ -1,3 +1,4 @@
+-- Goals of `Store::copy`.
 use Rattle.std.proofs.Common.{rules}
 use Rattle.cb_commit.proofs.store.Store.copy.Goals as goal
 

@@ -1,3 +1,4 @@
+-- Goals of `Store::from_rows`.
 use Rattle.std.proofs.Common.{rules}
 use Rattle.cb_commit.proofs.store.Store.from_rows.Goals as goal
 

@@ -1,3 +1,4 @@
+-- Goals of `Store::is_of`.
 use Rattle.std.proofs.Common.{rules}
 use Rattle.cb_commit.proofs.store.Store.is_of.Goals as goal
 

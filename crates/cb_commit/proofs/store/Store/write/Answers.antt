@@ -1,3 +1,4 @@
+-- Goals of `Store::write`.
 use Rattle.std.proofs.Common.{◌≡◌, ◌+◌, ◌∙◌, take, length, arith, ap, sym, refl, rules, ◌++◌, ◌∷◌, []}
 use Rattle.std.proofs.lemmas.List.{take_more, length-set, take_all}
 use Rattle.std.proofs.lemmas.List.Elements.{All-set}

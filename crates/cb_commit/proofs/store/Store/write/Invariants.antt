@@ -1,3 +1,4 @@
+-- What holds at each turn of the loops of `Store::write`.
 use Rattle.std.proofs.Common.{◌≡◌, take, length}
 use Rattle.std.specs.List.{All}
 use Rattle.cb_commit.specs.Stores.{IsStored}

@@ -1,3 +1,4 @@
+-- Goals of `Store::zeros`.
 use Rattle.std.proofs.Common.{rules}
 use Rattle.cb_commit.proofs.store.Store.zeros.Goals as goal
 

@@ -1,3 +1,4 @@
+-- Goals of `Directory::clear_writer`.
 use Rattle.std.proofs.Common.{rules}
 use Rattle.cb_directory.proofs.directory.Directory.clear_writer.Goals as goal
 

@@ -1,3 +1,4 @@
+-- Goals of `Directory::clear_writers`.
 use Rattle.std.proofs.Common.{◌≡◌, ◌==◌, ℕ, Bool, true, false, Option, Some, None, arith, ap, ◌∙◌, refl, inl, inr}
 use Rattle.std.proofs.lemmas.Bool.{cases_eq, cases_lt}
 use Rattle.cb_directory.specs.Directories.{holder, without_holder}

@@ -1,5 +1,6 @@
+-- What holds at each turn of the loops of `Directory::clear_writers`.
 use Rattle.std.proofs.Common.{◌≡◌, ◌-◌, ◌<◌, ◌≤◌, ℕ, length}
-use Rattle.cb_directory.specs.Tables as tables
+use Rattle.cb_directory.specs.RowTables as tables
 use Rattle.cb_directory.specs.Directories.{row, holder, tag, without_holder}
 use Rattle.cb_directory.proofs.directory.Directory.clear_writers.Given as goal
 

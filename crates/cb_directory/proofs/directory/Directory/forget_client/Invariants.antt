@@ -1,5 +1,6 @@
+-- What holds at each turn of the loops of `Directory::forget_client`.
 use Rattle.std.proofs.Common.{◌≡◌, ◌-◌, ◌<◌, ◌≤◌, ◌==◌, None, false, ℕ, length}
-use Rattle.cb_directory.specs.Tables as tables
+use Rattle.cb_directory.specs.RowTables as tables
 use Rattle.cb_directory.specs.Directories.{row, holder, tag}
 use Rattle.cb_directory.proofs.directory.Directory.forget_client.Given as goal
 

@@ -1,3 +1,4 @@
+-- Goals of `Directory::give_back`.
 use Rattle.std.proofs.Common.{arith, refl, rules, subst}
 use Rattle.cb_directory.specs.Directories.{DirectoryState, GivesBack}
 use Rattle.cb_directory.proofs.directory.Directory.give_back.Goals as goal

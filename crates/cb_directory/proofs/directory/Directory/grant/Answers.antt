@@ -1,3 +1,4 @@
+-- Goals of `Directory::grant`.
 use Rattle.std.proofs.Common.{rules, arith}
 use Rattle.cb_directory.proofs.directory.Directory.grant.Goals as goal
 

@@ -1,3 +1,4 @@
+-- Goals of `Directory::new`.
 use Rattle.std.proofs.Common.{rules}
 use Rattle.cb_directory.proofs.directory.Directory.new.Goals as goal
 

@@ -1,3 +1,4 @@
+-- Goals of `Directory::next_grant`.
 use Rattle.std.proofs.Common.{rules}
 use Rattle.cb_directory.proofs.directory.Directory.next_grant.Goals as goal
 

@@ -1,3 +1,4 @@
+-- Goals of `commit_of`.
 use Rattle.std.proofs.Common.{arith}
 use Rattle.std.proofs.lemmas.Grind.{common_steps}
 use Rattle.cb_frame.specs.Checks.{can_be_length, numbers_fit, pages_rise}

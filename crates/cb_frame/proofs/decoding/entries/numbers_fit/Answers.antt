@@ -1,3 +1,4 @@
+-- Goals of `numbers_fit`.
 use Rattle.std.proofs.Common.{length, arith}
 use Rattle.cb_frame.proofs.Entries.{entries_left, numbers_end, numbers_step}
 use Rattle.cb_frame.proofs.decoding.entries.numbers_fit.Goals as goal

@@ -1,3 +1,4 @@
+-- What holds at each turn of the loops of `numbers_fit`.
 use Rattle.std.proofs.Common.{◌≡◌, ◌-◌, ◌*◌, length}
 use Rattle.std.specs.List.{list_all}
 use Rattle.cb_frame.specs.Checks.{is_write, writes_at}

@@ -1,3 +1,4 @@
+-- Goals of `pages_rise`.
 use Rattle.std.proofs.Common.{length, arith, sym, ◌∙◌}
 use Rattle.std.proofs.lemmas.Bool.Decides.{nat_tests}
 use Rattle.cb_frame.proofs.Entries.{entries_left, numbers_go_on, rises_end, rises_step}

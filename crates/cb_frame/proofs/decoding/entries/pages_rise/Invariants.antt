@@ -1,3 +1,4 @@
+-- What holds at each turn of the loops of `pages_rise`.
 use Rattle.std.proofs.Common.{◌≡◌, ◌-◌, ◌*◌, length, map, true}
 use Rattle.std.specs.List.{list_all}
 use Rattle.cb_page.specs.Rising.{rises_from, is_rising}

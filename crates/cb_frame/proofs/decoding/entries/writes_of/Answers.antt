@@ -1,3 +1,4 @@
+-- Goals of `writes_of`.
 use Rattle.std.proofs.Common.{length, ◌∙◌, arith}
 use Rattle.cb_frame.proofs.Entries.{entries_left, numbers_go_on, writes_goes_on, writes_done}
 use Rattle.cb_frame.proofs.decoding.entries.writes_of.Goals as goal

@@ -1,3 +1,4 @@
+-- What holds at each turn of the loops of `writes_of`.
 use Rattle.std.proofs.Common.{◌≡◌, ◌+◌, ◌-◌, ◌*◌, ◌++◌, ◌≤◌, length, true, vec_len, vec_capacity}
 use Rattle.std.specs.List.{list_all}
 use Rattle.cb_frame.specs.Checks.{writes_at, is_write}

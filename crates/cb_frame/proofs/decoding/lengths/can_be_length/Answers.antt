@@ -1,3 +1,4 @@
+-- Goals of `can_be_length`.
 use Rattle.std.proofs.Common.{arith}
 use Rattle.std.proofs.lemmas.Grind.{common_steps}
 use Rattle.cb_frame.specs.Checks.{can_be_length}

@@ -1,3 +1,4 @@
+-- Goals of `parts_fit`.
 use Rattle.std.proofs.Common.{arith}
 use Rattle.std.proofs.lemmas.Grind.{common_steps}
 use Rattle.cb_frame.specs.Checks.{can_be_length, parts_fit}

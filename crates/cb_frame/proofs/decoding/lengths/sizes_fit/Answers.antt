@@ -1,3 +1,4 @@
+-- Goals of `sizes_fit`.
 use Rattle.std.proofs.Common.{length, arith}
 use Rattle.std.proofs.lemmas.Bool.Decides.{nat_tests}
 use Rattle.cb_frame.proofs.Entries.{sizes_fit_step, sizes_fit_end, entries_left}

@@ -1,3 +1,4 @@
+-- What holds at each turn of the loops of `sizes_fit`.
 use Rattle.std.proofs.Common.{◌≡◌, ◌-◌, ◌*◌, length}
 use Rattle.cb_frame.specs.Checks.{sizes_fit}
 use Rattle.cb_frame.proofs.decoding.lengths.sizes_fit.Given as goal

@@ -1,3 +1,4 @@
+-- Goals of `Kind::code`.
 use Rattle.std.proofs.Common.{rules}
 use Rattle.cb_frame_types.proofs.kind.Kind.code.Goals as goal
 

@@ -1,3 +1,4 @@
+-- Goals of `Kind::goes_to_server`.
 use Rattle.std.proofs.Common.{rules}
 use Rattle.cb_frame_types.proofs.kind.Kind.goes_to_server.Goals as goal
 

@@ -1,3 +1,4 @@
+-- Goals of `Kind::name`.
 use Rattle.std.proofs.Common.{rules}
 use Rattle.cb_frame_types.proofs.kind.Kind.name.Goals as goal
 

@@ -1,3 +1,4 @@
+-- Goals of `Writes::push`.
 use Rattle.std.proofs.Common.{rules}
 use Rattle.cb_frame_types.proofs.writes.Writes.push.Goals as goal
 

@@ -1,3 +1,4 @@
+-- Goals of `Grants::clear`.
 use Rattle.cb_hands.proofs.Flagged.{cleared_all, cleared_next}
 use Rattle.cb_hands.proofs.grants.Grants.clear.Goals as goal
 

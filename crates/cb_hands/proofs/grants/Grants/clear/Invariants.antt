@@ -1,3 +1,4 @@
+-- What holds at each turn of the loops of `Grants::clear`.
 use Rattle.std.proofs.Common.{◌-◌, length}
 use Rattle.cb_hands.proofs.Flagged.{Cleared}
 use Rattle.cb_hands.proofs.grants.Grants.clear.Given as goal

@@ -1,3 +1,4 @@
+-- Goals of `Grants::next`.
 use Rattle.cb_hands.proofs.Flagged.{next_held}
 use Rattle.cb_hands.proofs.grants.Grants.next.Goals as goal
 

@@ -1,3 +1,4 @@
+-- Goals of `Hand::restamp`.
 use Rattle.std.proofs.Common.{rules}
 use Rattle.cb_hands.proofs.hand.Hand.restamp.Goals as goal
 

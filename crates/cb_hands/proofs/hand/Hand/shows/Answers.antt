@@ -1,3 +1,4 @@
+-- Goals of `Hand::shows`.
 use Rattle.std.proofs.Common.{rules}
 use Rattle.cb_hands.proofs.hand.Hand.shows.Goals as goal
 

@@ -1,3 +1,4 @@
+-- Goals of `StoredHand::is_of`.
 use Rattle.std.proofs.Common.{rules}
 use Rattle.cb_hands.proofs.stored_hand.StoredHand.is_of.Goals as goal
 

@@ -1,3 +1,4 @@
+-- Goals of `StoredHand::permit`.
 use Rattle.std.proofs.Common.{rules}
 use Rattle.cb_hands.proofs.stored_hand.StoredHand.permit.Goals as goal
 

@@ -1,3 +1,4 @@
+-- Goals of `StoredHand::renew`.
 use Rattle.std.proofs.Common.{rules}
 use Rattle.cb_hands.proofs.stored_hand.StoredHand.renew.Goals as goal
 

@@ -1,3 +1,4 @@
+-- Goals of `StoredHand::restamp`.
 use Rattle.std.proofs.Common.{rules}
 use Rattle.cb_hands.proofs.stored_hand.StoredHand.restamp.Goals as goal
 

@@ -1,3 +1,4 @@
+-- Goals of `Holdings::admit`.
 use Rattle.cb_holdings.proofs.Steps.{admits}
 use Rattle.cb_holdings.proofs.holdings.Holdings.admit.Goals as goal
 

@@ -1,3 +1,4 @@
+-- Goals of `Holdings::apply_commit`.
 use Rattle.std.proofs.Common.{◌≡◌, true, false, refl, rules, subst, sym}
 use Rattle.cb_holdings.specs.Holdings.{HasClient, HoldingsState}
 use Rattle.cb_holdings.proofs.Applying.{MayApply, applied_are, applies_ending, applies_keeping}

@@ -1,3 +1,4 @@
+-- Goals of `Holdings::batch`.
 use Rattle.std.proofs.Common.{◌≡◌, ◌∙◌, Option, ap, subst}
 use Rattle.std.proofs.lemmas.Result.{IfOk-weaker}
 use Rattle.std.specs.Option.{option_map}

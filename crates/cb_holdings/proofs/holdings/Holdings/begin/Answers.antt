@@ -1,3 +1,4 @@
+-- Goals of `Holdings::begin`.
 use Rattle.std.proofs.Common.{◌≡◌, true, false, rules}
 use Rattle.cb_links.specs.Changes.{is_live_transaction, session_of}
 use Rattle.cb_holdings.proofs.Steps.{begins_after, begins_live}

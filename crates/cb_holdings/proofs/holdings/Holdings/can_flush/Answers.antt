@@ -1,3 +1,4 @@
+-- Goals of `Holdings::can_flush`.
 use Rattle.std.proofs.Common.{rules}
 use Rattle.cb_holdings.proofs.holdings.Holdings.can_flush.Goals as goal
 

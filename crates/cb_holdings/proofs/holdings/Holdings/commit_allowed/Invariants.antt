@@ -1,3 +1,4 @@
+-- What holds at each turn of the loops of `Holdings::commit_allowed`.
 use Rattle.std.proofs.Common.{◌≡◌, drop}
 use Rattle.cb_holdings.specs.Holdings.{server_of}
 use Rattle.cb_outbox.specs.Messages.{page_writes}

@@ -1,3 +1,4 @@
+-- Goals of `Holdings::commit_allowed_later`.
 use Rattle.std.proofs.Common.{◌≡◌, ◌∙◌, sym, ap, true}
 use Rattle.cb_holdings.specs.Holdings.{HoldingsState, client_session, server_of}
 use Rattle.cb_links.specs.Changes.{is_live_transaction}

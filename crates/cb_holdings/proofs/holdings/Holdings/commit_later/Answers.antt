@@ -1,3 +1,4 @@
+-- Goals of `Holdings::commit_later`.
 use Rattle.std.proofs.Common.{◌≡◌, ◌∙◌, ◌<◌, true, false, refl, rules, subst, sym, ap}
 use Rattle.cb_commit.specs.History.{FitsInto}
 use Rattle.cb_holdings.specs.Holdings.{HasClient, HoldingsState, client_session}

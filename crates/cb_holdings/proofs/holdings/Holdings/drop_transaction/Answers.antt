@@ -1,3 +1,4 @@
+-- Goals of `Holdings::drop_transaction`.
 use Rattle.cb_holdings.proofs.Steps.{drops}
 use Rattle.cb_holdings.proofs.holdings.Holdings.drop_transaction.Goals as goal
 

@@ -1,3 +1,4 @@
+-- Goals of `Holdings::end_permission`.
 use Rattle.cb_holdings.proofs.Steps.{ends_permission}
 use Rattle.cb_holdings.proofs.holdings.Holdings.end_permission.Goals as goal
 

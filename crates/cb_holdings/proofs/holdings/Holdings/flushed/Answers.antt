@@ -1,3 +1,4 @@
+-- Goals of `Holdings::flushed`.
 use Rattle.std.proofs.Common.{◌≡◌, ◌∙◌, ap, subst, sym}
 use Rattle.std.proofs.lemmas.Result.{IfOk-weaker, on_ok_weaker}
 use Rattle.cb_commit.specs.History.{CommitsState, dones_between}

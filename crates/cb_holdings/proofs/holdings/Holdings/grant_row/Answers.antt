@@ -1,3 +1,4 @@
+-- Goals of `Holdings::grant_row`.
 use Rattle.std.proofs.Common.{rules}
 use Rattle.cb_holdings.proofs.holdings.Holdings.grant_row.Goals as goal
 

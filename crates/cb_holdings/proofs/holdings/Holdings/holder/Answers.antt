@@ -1,3 +1,4 @@
+-- Goals of `Holdings::holder`.
 use Rattle.std.proofs.Common.{subst}
 use Rattle.cb_directory.specs.Directories.{Rule}
 use Rattle.cb_holdings.specs.Holdings.{HoldingsState}

@@ -1,3 +1,4 @@
+-- Goals of `Holdings::is_write_holder`.
 use Rattle.std.proofs.Common.{◌≡◌, Some, length, rules, subst}
 use Rattle.cb_directory.specs.Directories.{IsSoleRow, holder}
 use Rattle.cb_holdings.specs.Holdings.{HoldingsState}

@@ -1,3 +1,4 @@
+-- Goals of `Holdings::new`.
 use Rattle.cb_holdings.proofs.Steps.{opens}
 use Rattle.cb_holdings.proofs.holdings.Holdings.new.Goals as goal
 

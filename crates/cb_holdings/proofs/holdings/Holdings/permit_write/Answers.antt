@@ -1,3 +1,4 @@
+-- Goals of `Holdings::permit_write`.
 use Rattle.std.proofs.Common.{◌≡◌, true, subst, sym}
 use Rattle.cb_protocol.specs.Settling.{sole_row}
 use Rattle.cb_holdings.specs.Holdings.{HoldingsState, server_of}

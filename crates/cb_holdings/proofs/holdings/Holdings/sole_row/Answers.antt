@@ -1,6 +1,7 @@
+-- Goals of `Holdings::sole_row`.
 use Rattle.std.proofs.Common.{◌≡◌, ◌∙◌, ℕ, not, rules, subst}
 use Rattle.std.specs.Option.{is_some}
-use Rattle.cb_clients.specs.Clients.{has}
+use Rattle.cb_page.specs.Clients.{has}
 use Rattle.cb_directory.specs.Directories.{row}
 use Rattle.cb_holdings.specs.Holdings.{AreHoldings, HoldingsState}
 use Rattle.cb_holdings.proofs.Rows.{sole_by}

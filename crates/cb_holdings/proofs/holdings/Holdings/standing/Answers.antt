@@ -1,3 +1,4 @@
+-- Goals of `Holdings::standing`.
 use Rattle.std.proofs.Common.{subst}
 use Rattle.cb_holdings.specs.Holdings.{HoldingsState, server_of}
 use Rattle.cb_holdings.specs.Questions.{IsLastIfLive}

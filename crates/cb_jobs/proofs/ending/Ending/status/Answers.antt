@@ -1,3 +1,4 @@
+-- Goals of `Ending::status`.
 use Rattle.std.proofs.Common.{rules}
 use Rattle.cb_jobs.proofs.ending.Ending.status.Goals as goal
 

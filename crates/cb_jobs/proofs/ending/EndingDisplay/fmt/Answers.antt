@@ -1,3 +1,4 @@
+-- Goals of `EndingDisplay::fmt`.
 use Rattle.std.proofs.Common.{rules}
 use Rattle.cb_jobs.proofs.ending.EndingDisplay.fmt.Goals as goal
 

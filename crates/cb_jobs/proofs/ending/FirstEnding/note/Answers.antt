@@ -1,3 +1,4 @@
+-- Goals of `FirstEnding::note`.
 use Rattle.std.proofs.Common.{rules}
 use Rattle.cb_jobs.proofs.ending.FirstEnding.note.Goals as goal
 

@@ -1,3 +1,4 @@
+-- Goals of `JoinedHands::new`.
 use Rattle.std.proofs.Common.{rules}
 use Rattle.cb_joined.proofs.joined_hands.JoinedHands.new.Goals as goal
 

@@ -1,3 +1,4 @@
+-- What holds at each turn of the loops of `JoinedHands::new`.
 use Rattle.std.proofs.Common.{◌≡◌, None, replicate}
 use Rattle.cb_joined.proofs.joined_hands.JoinedHands.new.Given as goal
 

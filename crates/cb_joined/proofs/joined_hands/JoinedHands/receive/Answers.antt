@@ -1,3 +1,4 @@
+-- Goals of `JoinedHands::receive`.
 use Rattle.std.proofs.Common.{arith}
 use Rattle.std.proofs.lemmas.Grind.{common_steps}
 use Rattle.cb_joined.proofs.joined_hands.JoinedHands.receive.Goals as goal

@@ -1,3 +1,4 @@
+-- Goals of `JoinedHands::remove`.
 use Rattle.std.proofs.Common.{rules}
 use Rattle.cb_joined.proofs.joined_hands.JoinedHands.remove.Goals as goal
 

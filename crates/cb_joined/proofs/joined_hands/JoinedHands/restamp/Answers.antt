@@ -1,3 +1,4 @@
+-- Goals of `JoinedHands::restamp`.
 use Rattle.std.proofs.Common.{arith}
 use Rattle.std.proofs.lemmas.Grind.{common_steps}
 use Rattle.cb_joined.proofs.joined_hands.JoinedHands.restamp.Goals as goal

@@ -1,3 +1,4 @@
+-- Goals of `Sessions::admit`.
 use Rattle.std.proofs.Common.{rules}
 use Rattle.cb_links.proofs.sessions.Sessions.admit.Goals as goal
 

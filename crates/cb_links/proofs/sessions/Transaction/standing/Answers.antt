@@ -1,3 +1,4 @@
+-- Goals of `Transaction::standing`.
 use Rattle.std.proofs.Common.{rules}
 use Rattle.cb_links.proofs.sessions.Transaction.standing.Goals as goal
 

@@ -1,3 +1,4 @@
+-- Goals of `CallbackDue::give_down`.
 use Rattle.std.proofs.Common.{rules}
 use Rattle.cb_locks.proofs.callback_due.CallbackDue.give_down.Goals as goal
 

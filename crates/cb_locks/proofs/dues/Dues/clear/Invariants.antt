@@ -1,3 +1,4 @@
+-- What holds at each turn of the loops of `Dues::clear`.
 use Rattle.std.proofs.Common.{◌≡◌, ◌-◌, ◌<◌, ◌≤◌, ℕ, length, get_or}
 use Rattle.cb_locks.specs.Dues.{nothing_due}
 use Rattle.cb_locks.proofs.dues.Dues.clear.Given as goal

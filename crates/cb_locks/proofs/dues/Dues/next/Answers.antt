@@ -1,3 +1,4 @@
+-- Goals of `Dues::next`.
 use Rattle.cb_locks.proofs.Counted.{next_due}
 use Rattle.cb_locks.proofs.dues.Dues.next.Goals as goal
 

@@ -1,3 +1,4 @@
+-- Goals of `Dues::put`.
 use Rattle.std.proofs.Common.{◌≡◌, ◌<◌, ◌+◌, ◌∙◌, sym, List, length, ap, arith}
 use Rattle.std.proofs.Math.ListN.{get_or}
 use Rattle.cb_locks.specs.declared.dues.PageDue.{PageDue}

@@ -1,3 +1,4 @@
+-- Goals of `PageDue::called_by`.
 use Rattle.std.proofs.Common.{rules}
 use Rattle.cb_locks.proofs.dues.PageDue.called_by.Goals as goal
 

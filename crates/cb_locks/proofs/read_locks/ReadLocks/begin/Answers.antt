@@ -1,3 +1,4 @@
+-- Goals of `ReadLocks::begin`.
 use Rattle.std.proofs.Common.{rules}
 use Rattle.cb_locks.proofs.read_locks.ReadLocks.begin.Goals as goal
 

@@ -1,3 +1,4 @@
+-- Goals of `ReadLocks::clear`.
 use Rattle.std.proofs.Common.{rules}
 use Rattle.cb_locks.proofs.read_locks.ReadLocks.clear.Goals as goal
 

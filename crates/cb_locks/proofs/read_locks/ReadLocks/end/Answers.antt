@@ -1,3 +1,4 @@
+-- Goals of `ReadLocks::end`.
 use Rattle.std.proofs.Common.{arith}
 use Rattle.std.proofs.lemmas.Grind.{common_steps}
 use Rattle.cb_locks.proofs.read_locks.ReadLocks.end.Goals as goal

@@ -1,3 +1,4 @@
+-- Goals of `ReadLocks::hand_out`.
 use Rattle.std.proofs.Common.{◌≡◌, ◌≤◌, ◌+◌, [], ◌∷◌, ◌++◌, length, option_to_list, ap, subst, sym, ◌∙◌, arith}
 use Rattle.cb_locks.specs.Locks.{LocksState, due_at, owed_at, owed_below}
 use Rattle.cb_locks.proofs.Handing.{IsNext, owed_end, owed_room, owed_step}

@@ -1,3 +1,4 @@
+-- What holds at each turn of the loops of `ReadLocks::hand_out`.
 use Rattle.std.proofs.Common.{◌≡◌, ◌-◌, ◌≤◌, length}
 use Rattle.std.specs.Vec.{vec_capacity}
 use Rattle.cb_locks.specs.Locks.{owed_below}

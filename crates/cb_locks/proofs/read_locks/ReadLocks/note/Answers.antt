@@ -1,3 +1,4 @@
+-- Goals of `ReadLocks::note`.
 use Rattle.std.proofs.Common.{rules}
 use Rattle.cb_locks.proofs.read_locks.ReadLocks.note.Goals as goal
 

@@ -1,3 +1,4 @@
+-- Goals of `Outbox::grant`.
 use Rattle.std.proofs.Common.{arith}
 use Rattle.std.proofs.lemmas.Grind.{common_steps}
 use Rattle.cb_outbox.proofs.outbox.Outbox.grant.Goals as goal

@@ -1,3 +1,4 @@
+-- What holds at each turn of the loops of `Outbox::reserve`.
 use Rattle.std.proofs.Common.{◌≡◌, ◌≤◌, length, max}
 use Rattle.std.specs.List.{All}
 use Rattle.cb_outbox.proofs.outbox.Outbox.reserve.Given as goal

@@ -1,3 +1,4 @@
+-- Goals of `Outbox::take`.
 use Rattle.std.proofs.Common.{rules}
 use Rattle.cb_outbox.proofs.outbox.Outbox.take.Goals as goal
 

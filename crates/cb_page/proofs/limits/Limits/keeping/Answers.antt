@@ -1,3 +1,4 @@
+-- Goals of `Limits::keeping`.
 use Rattle.std.proofs.Common.{rules}
 use Rattle.cb_page.proofs.limits.Limits.keeping.Goals as goal
 

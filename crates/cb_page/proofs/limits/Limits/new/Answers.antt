@@ -1,3 +1,4 @@
+-- Goals of `Limits::new`.
 use Rattle.std.proofs.Common.{rules, arith}
 use Rattle.std.proofs.lemmas.Grind.{common_steps}
 use Rattle.cb_page.proofs.limits.Limits.new.Goals as goal

@@ -1,3 +1,4 @@
+-- What holds at each turn of the loops of `PageSet::clear`.
 use Rattle.std.proofs.Common.{◌≡◌, ◌^◌, ◌<◌, length}
 use Rattle.cb_page.specs.Words.{Summarizes}
 use Rattle.cb_page.proofs.page_set.PageSet.clear.Given as goal

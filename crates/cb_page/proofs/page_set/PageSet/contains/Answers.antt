@@ -1,3 +1,4 @@
+-- Goals of `PageSet::contains`.
 use Rattle.std.proofs.Common.{◌≡◌, sym, arith, nat_lt, false}
 use Rattle.cb_page.proofs.Words.{flag-test, has_past}
 use Rattle.std.proofs.lemmas.Bool.{le-ltb}

@@ -1,3 +1,4 @@
+-- Goals of `PageSet::insert`.
 use Rattle.std.proofs.Common.{◌*◌, ◌/◌, ◌%◌, ◌^◌, ◌<◌, bit_or, sym, ap, ◌∙◌, length, arith}
 use Rattle.std.proofs.lemmas.List.{length-set}
 use Rattle.cb_page.proofs.Words.{length-flags_of, flags-insert}

@@ -1,3 +1,4 @@
+-- Goals of `PageSet::new`.
 use Rattle.cb_page.proofs.Words.{flags_of_zeros}
 use Rattle.cb_page.proofs.page_set.PageSet.new.Goals as goal
 

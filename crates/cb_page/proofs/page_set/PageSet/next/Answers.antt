@@ -1,3 +1,4 @@
+-- Goals of `PageSet::next`.
 use Rattle.std.proofs.Common.{arith, inl, inr, ◌∙◌}
 use Rattle.std.proofs.lemmas.Bool.{cases_lt}
 use Rattle.cb_page.proofs.Words.{has-flags_of, has_past, not_in}

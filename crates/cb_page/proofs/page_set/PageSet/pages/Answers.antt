@@ -1,3 +1,4 @@
+-- Goals of `PageSet::pages`.
 use Rattle.std.proofs.Common.{sym, ap, ◌∙◌, length}
 use Rattle.cb_page.proofs.Words.{length-flags_of}
 use Rattle.cb_page.proofs.page_set.PageSet.pages.Goals as goal

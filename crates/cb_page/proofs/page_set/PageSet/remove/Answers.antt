@@ -1,3 +1,4 @@
+-- Goals of `PageSet::remove`.
 use Rattle.std.proofs.Common.{◌/◌, ◌^◌, ◌<◌, sym, ap, ◌∙◌, length, arith}
 use Rattle.std.proofs.lemmas.List.{length-set}
 use Rattle.cb_page.proofs.Words.{length-flags_of, flags-remove}

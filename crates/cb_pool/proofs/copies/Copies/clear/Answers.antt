@@ -1,3 +1,4 @@
+-- Goals of `Copies::clear`.
 use Rattle.cb_pool.proofs.Counted.{counted_empty}
 use Rattle.cb_pool.proofs.copies.Copies.clear.Goals as goal
 

@@ -1,3 +1,4 @@
+-- Goals of `Copies::fix`.
 use Rattle.std.proofs.Common.{◌≡◌, ◌<◌, ◌+◌, ◌&&◌, length, ap, arith}
 use Rattle.cb_page.specs.Flags as flags
 use Rattle.cb_pool.specs.CopiesState.{CopiesState, bit}

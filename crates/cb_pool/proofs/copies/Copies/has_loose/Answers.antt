@@ -1,3 +1,4 @@
+-- Goals of `Copies::has_loose`.
 use Rattle.std.proofs.Common.{◌<◌, arith}
 use Rattle.std.proofs.lemmas.Grind.{common_steps}
 use Rattle.cb_pool.proofs.Counted.{finds_loose, counts_loose}

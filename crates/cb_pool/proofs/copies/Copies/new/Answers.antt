@@ -1,3 +1,4 @@
+-- Goals of `Copies::new`.
 use Rattle.std.proofs.Common.{◌≡◌, None, replicate, ◌∙◌, ap, arith}
 use Rattle.cb_pool.proofs.Counted.{counted_none}
 use Rattle.cb_pool.proofs.copies.Copies.new.Goals as goal

@@ -1,3 +1,4 @@
+-- What holds at each turn of the loops of `Copies::new`.
 use Rattle.std.proofs.Common.{◌≡◌, ◌≤◌, None, replicate}
 use Rattle.std.specs.Vec.{vec_capacity}
 use Rattle.cb_pool.proofs.copies.Copies.new.Given as goal

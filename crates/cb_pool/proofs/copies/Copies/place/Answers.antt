@@ -1,3 +1,4 @@
+-- Goals of `Copies::place`.
 use Rattle.std.proofs.Common.{rules}
 use Rattle.cb_pool.proofs.copies.Copies.place.Goals as goal
 

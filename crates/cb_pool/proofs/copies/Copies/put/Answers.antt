@@ -1,3 +1,4 @@
+-- Goals of `Copies::put`.
 use Rattle.std.proofs.Common.{◌≡◌, ◌<◌, ◌+◌, ◌&&◌, length, ap, arith}
 use Rattle.std.specs.Option.{is_some}
 use Rattle.cb_page.specs.Flags as flags

@@ -1,3 +1,4 @@
+-- Goals of `Copies::unfix_all`.
 use Rattle.cb_pool.proofs.Counted.{counted_unfix}
 use Rattle.cb_pool.proofs.copies.Copies.unfix_all.Goals as goal
 

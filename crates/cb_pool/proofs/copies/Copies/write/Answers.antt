@@ -1,3 +1,4 @@
+-- Goals of `Copies::write`.
 use Rattle.std.proofs.Common.{length, None, ap, slice_index_or}
 use Rattle.cb_pool.specs.CopiesState.{CopiesState, IfHere}
 use Rattle.cb_pool.proofs.Counted.{counted_write}

@@ -1,3 +1,4 @@
+-- Goals of `Pool::fix`.
 use Rattle.std.proofs.Common.{rules}
 use Rattle.cb_pool.proofs.pool.Pool.fix.Goals as goal
 

@@ -1,3 +1,4 @@
+-- Goals of `Pool::install`.
 use Rattle.std.proofs.Common.{◌≡◌, ◌<◌, length, ap, sym, subst, ◌∙◌}
 use Rattle.cb_twoq.specs.Law.{Chooses}
 use Rattle.cb_pool.specs.PoolState.{PoolState}

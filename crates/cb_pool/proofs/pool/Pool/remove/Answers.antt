@@ -1,3 +1,4 @@
+-- Goals of `Pool::remove`.
 use Rattle.std.proofs.Common.{rules, arith}
 use Rattle.std.proofs.lemmas.Grind.{common_steps}
 use Rattle.cb_pool.proofs.pool.Pool.remove.Goals as goal

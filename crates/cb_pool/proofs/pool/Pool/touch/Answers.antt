@@ -1,3 +1,4 @@
+-- Goals of `Pool::touch`.
 use Rattle.std.proofs.Common.{rules}
 use Rattle.cb_pool.proofs.pool.Pool.touch.Goals as goal
 

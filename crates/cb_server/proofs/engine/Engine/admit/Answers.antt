@@ -1,3 +1,4 @@
+-- Goals of `Engine::admit`.
 use Rattle.cb_protocol.specs.ServerMessages.{admit_incarnation}
 use Rattle.cb_protocol.specs.Settling.{settle_pages}
 use Rattle.cb_protocol.specs.WaitsFor.{on_cycle}

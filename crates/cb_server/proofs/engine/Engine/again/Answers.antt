@@ -1,3 +1,4 @@
+-- Goals of `Engine::again`.
 use Rattle.std.proofs.Common.{length, refl, sym, ap, ◌∙◌, arith}
 use Rattle.cb_protocol.specs.Resend.{server_again}
 use Rattle.cb_server.specs.declared.engine.Engine.{Engine}

@@ -1,3 +1,4 @@
+-- Goals of `Engine::applies`.
 use Rattle.std.proofs.Common.{◌≡◌, ◌∙◌, List, ap, subst, sym}
 use Rattle.cb_asks.specs.Asks.{queue_at}
 use Rattle.cb_asks.specs.Marks.{is_in_use}

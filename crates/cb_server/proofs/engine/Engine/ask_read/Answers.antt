@@ -1,3 +1,4 @@
+-- Goals of `Engine::ask_read`.
 use Rattle.std.proofs.Common.{◌∷◌, [], refl}
 use Rattle.cb_protocol.specs.Messages.{AbortNow, AskRead}
 use Rattle.cb_protocol.specs.ServerMessages.{direct_answer, take_ask_read}

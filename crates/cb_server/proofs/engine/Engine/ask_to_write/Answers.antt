@@ -1,3 +1,4 @@
+-- Goals of `Engine::ask_to_write`.
 use Rattle.std.proofs.Common.{rules}
 use Rattle.cb_server.proofs.engine.Engine.ask_to_write.Goals as goal
 

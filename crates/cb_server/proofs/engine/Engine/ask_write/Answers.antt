@@ -1,3 +1,4 @@
+-- Goals of `Engine::ask_write`.
 use Rattle.std.proofs.Common.{◌∷◌, [], refl}
 use Rattle.cb_protocol.specs.Messages.{AbortNow, AskWrite}
 use Rattle.cb_protocol.specs.ServerMessages.{direct_answer, take_ask_write}

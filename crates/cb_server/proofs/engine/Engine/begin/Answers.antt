@@ -1,3 +1,4 @@
+-- Goals of `Engine::begin`.
 use Rattle.std.proofs.Common.{rules, ◌≡◌, false, sym, subst}
 use Rattle.cb_holdings.specs.Questions.{standing_in}
 use Rattle.cb_links.specs.declared.sessions.Standing.TheVariants as standing

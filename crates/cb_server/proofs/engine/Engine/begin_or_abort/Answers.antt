@@ -1,3 +1,4 @@
+-- Goals of `Engine::begin_or_abort`.
 use Rattle.std.proofs.Common.{refl}
 use Rattle.cb_protocol.specs.Messages.{AbortNow}
 use Rattle.cb_server.proofs.Beginning.{current_begun}

@@ -1,3 +1,4 @@
+-- Goals of `Engine::commit`.
 use Rattle.std.proofs.Common.{◌≡◌, false, rules}
 use Rattle.cb_outbox.specs.Messages.{page_writes}
 use Rattle.cb_server.specs.Answering.{applies, server_in}

@@ -1,3 +1,4 @@
+-- Goals of `Engine::done_again`.
 use Rattle.std.proofs.Common.{rules}
 use Rattle.cb_server.proofs.engine.Engine.done_again.Goals as goal
 

@@ -1,3 +1,4 @@
+-- Goals of `Engine::downgraded`.
 use Rattle.std.proofs.Common.{◌∙◌, sym, refl}
 use Rattle.cb_server.proofs.DirectAnswers.{goes_down}
 use Rattle.cb_server.proofs.engine.Engine.downgraded.Goals as goal

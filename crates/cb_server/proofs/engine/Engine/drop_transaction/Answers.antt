@@ -1,3 +1,4 @@
+-- Goals of `Engine::drop_transaction`.
 use Rattle.std.proofs.Common.{◌≡◌, ◌∙◌, true, refl}
 use Rattle.cb_protocol.specs.Server.{has_not_ended}
 use Rattle.cb_server.specs.Answering.{server_in}

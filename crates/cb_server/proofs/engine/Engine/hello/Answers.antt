@@ -1,3 +1,4 @@
+-- Goals of `Engine::hello`.
 use Rattle.std.proofs.Common.{rules, ◌≡◌, [], ◌∷◌, arith}
 use Rattle.cb_holdings.specs.Questions.{admission_in}
 use Rattle.cb_links.specs.declared.sessions.Admission.TheVariants as admission

@@ -1,3 +1,4 @@
+-- Goals of `Engine::is_exhausted_by`.
 use Rattle.std.proofs.Common.{rules}
 use Rattle.cb_server.proofs.engine.Engine.is_exhausted_by.Goals as goal
 

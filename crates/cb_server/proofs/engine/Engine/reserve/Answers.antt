@@ -1,3 +1,4 @@
+-- Goals of `Engine::reserve`.
 use Rattle.std.proofs.Common.{refl, arith}
 use Rattle.cb_server.proofs.engine.Engine.reserve.Goals as goal
 

@@ -1,3 +1,4 @@
+-- Goals of `Engine::take`.
 use Rattle.std.proofs.Common.{rules, ◌≡◌, ◌≢◌, ◌∙◌, [], false, sym}
 use Rattle.cb_outbox.specs.Messages.{body_of}
 use Rattle.cb_protocol.specs.ServerMessages.{server_take, take_current}

@@ -1,3 +1,4 @@
+-- Goals of `Engine::take_current`.
 use Rattle.std.proofs.Common.{rules, ◌≡◌, ◌∙◌, [], false, sym, subst}
 use Rattle.cb_outbox.specs.Messages.{body_of}
 use Rattle.cb_protocol.specs.Server.{Server, server_after}

@@ -1,3 +1,4 @@
+-- Goals of `Engine::welcome`.
 use Rattle.std.proofs.Common.{◌++◌, ◌∷◌, [], ◌∙◌, ap, refl, arith}
 use Rattle.cb_outbox.specs.Saying.{OutboxState}
 use Rattle.cb_protocol.specs.Messages.{Welcome}

@@ -1,3 +1,4 @@
+-- Goals of `Server::again`.
 use Rattle.std.proofs.Common.{subst}
 use Rattle.std.specs.List.{AllByRecursion}
 use Rattle.cb_frame_types.specs.Grammar.{Fits}

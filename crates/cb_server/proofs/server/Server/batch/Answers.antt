@@ -1,3 +1,4 @@
+-- Goals of `Server::batch`.
 use Rattle.std.proofs.Common.{rules}
 use Rattle.cb_server.proofs.server.Server.batch.Goals as goal
 

@@ -1,3 +1,4 @@
+-- Goals of `Server::can_flush`.
 use Rattle.std.proofs.Common.{◌∙◌, ap}
 use Rattle.cb_holdings.specs.Holdings as holdings
 use Rattle.cb_holdings.specs.Holdings.{HoldingsState}

@@ -1,3 +1,4 @@
+-- Goals of `Server::take_bytes`.
 use Rattle.std.proofs.Common.{rules}
 use Rattle.cb_server.proofs.server.Server.take_bytes.Goals as goal
 

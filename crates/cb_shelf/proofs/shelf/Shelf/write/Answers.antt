@@ -1,3 +1,4 @@
+-- Goals of `Shelf::write`.
 use Rattle.std.proofs.Common.{rules}
 use Rattle.cb_shelf.proofs.shelf.Shelf.write.Goals as goal
 

@@ -1,3 +1,4 @@
+-- Goals of `Tables::again_doomed`.
 use Rattle.std.proofs.Common.{◌<◌, ◌≤◌, rules, sym, ap, arith}
 use Rattle.cb_protocol.specs.Resend.{again_doomed}
 use Rattle.cb_protocol.specs.Server.{Server}

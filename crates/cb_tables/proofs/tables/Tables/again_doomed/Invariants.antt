@@ -1,3 +1,4 @@
+-- What holds at each turn of the loops of `Tables::again_doomed`.
 use Rattle.cb_outbox.specs.Saying.{Says}
 use Rattle.cb_tables.specs.Asking.{abort_to}
 use Rattle.cb_tables.specs.Tables.{server_of}

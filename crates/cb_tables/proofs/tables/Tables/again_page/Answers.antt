@@ -1,3 +1,4 @@
+-- Goals of `Tables::again_page`.
 use Rattle.std.proofs.Common.{rules}
 use Rattle.cb_tables.proofs.tables.Tables.again_page.Goals as goal
 

@@ -1,3 +1,4 @@
+-- Goals of `Tables::again_pages`.
 use Rattle.std.proofs.Common.{◌≡◌, ◌+◌, ◌<◌, ℕ, refl, sym, subst, arith, ap}
 use Rattle.cb_outbox.specs.Saying.{Says}
 use Rattle.cb_protocol.specs.Resend.{again_page, again_pages}

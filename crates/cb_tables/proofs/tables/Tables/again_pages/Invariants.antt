@@ -1,3 +1,4 @@
+-- What holds at each turn of the loops of `Tables::again_pages`.
 use Rattle.std.proofs.Common.{◌≤◌, ◌-◌}
 use Rattle.cb_outbox.specs.Saying.{Says}
 use Rattle.cb_tables.specs.Tables.{server_of}

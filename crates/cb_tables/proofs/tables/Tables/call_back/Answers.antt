@@ -1,5 +1,6 @@
+-- Goals of `Tables::call_back`.
 use Rattle.std.proofs.Common.{◌≡◌, ◌+◌, ◌<◌, ℕ, refl, sym, subst, arith, ap}
-use Rattle.cb_clients.specs.Clients.{has}
+use Rattle.cb_page.specs.Clients.{has}
 use Rattle.cb_outbox.specs.Saying.{Says}
 use Rattle.cb_protocol.specs.Server.{Server}
 use Rattle.cb_protocol.specs.Settling.{send_callbacks}

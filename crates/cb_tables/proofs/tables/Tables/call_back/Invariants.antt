@@ -1,5 +1,6 @@
+-- What holds at each turn of the loops of `Tables::call_back`.
 use Rattle.std.proofs.Common.{◌≤◌, ◌-◌}
-use Rattle.cb_clients.specs.Clients.{has}
+use Rattle.cb_page.specs.Clients.{has}
 use Rattle.cb_outbox.specs.Saying.{Says}
 use Rattle.cb_tables.specs.Asking.{callback_to}
 use Rattle.cb_tables.specs.Tables.{server_of}

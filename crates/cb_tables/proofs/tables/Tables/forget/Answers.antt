@@ -1,3 +1,4 @@
+-- Goals of `Tables::forget`.
 use Rattle.std.proofs.Common.{rules}
 use Rattle.cb_tables.proofs.tables.Tables.forget.Goals as goal
 

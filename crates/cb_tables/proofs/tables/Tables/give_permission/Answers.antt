@@ -1,3 +1,4 @@
+-- Goals of `Tables::give_permission`.
 use Rattle.std.proofs.Common.{refl}
 use Rattle.cb_tables.proofs.Changes.{are_stays, gives}
 use Rattle.cb_tables.proofs.tables.Tables.give_permission.Goals as goal

@@ -1,3 +1,4 @@
+-- Goals of `Tables::grant_first`.
 use Rattle.std.proofs.Common.{◌≡◌, ◌∙◌, refl, ap, arith}
 use Rattle.cb_commit.specs.Stores.{StoreState, bytes_at, version_at}
 use Rattle.cb_protocol.specs.Server.{Server}

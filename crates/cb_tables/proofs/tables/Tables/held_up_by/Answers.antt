@@ -1,3 +1,4 @@
+-- Goals of `Tables::held_up_by`.
 use Rattle.std.proofs.Common.{rules}
 use Rattle.cb_tables.proofs.tables.Tables.held_up_by.Goals as goal
 

@@ -1,3 +1,4 @@
+-- Goals of `Tables::permit_first`.
 use Rattle.std.proofs.Common.{rules}
 use Rattle.cb_tables.proofs.tables.Tables.permit_first.Goals as goal
 

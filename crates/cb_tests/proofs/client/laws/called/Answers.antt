@@ -1,3 +1,4 @@
+-- Goals of `called`.
 use Rattle.std.proofs.Common.{◌≡◌, true, refl}
 use Rattle.cb_client.specs.FramesTaken.{is_for}
 use Rattle.cb_tests.proofs.client.laws.called.Goals as goal

@@ -1,3 +1,4 @@
+-- What holds at each turn of the loops of `rise`.
 use Rattle.std.specs.Vec.{vec_len}
 use Rattle.cb_tests.proofs.client.locks.rise.Given as goal
 

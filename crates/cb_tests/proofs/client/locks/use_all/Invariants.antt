@@ -1,3 +1,4 @@
+-- What holds at each turn of the loops of `use_all`.
 use Rattle.std.proofs.Common.{◌≡◌, length}
 use Rattle.cb_tests.proofs.client.locks.use_all.Given as goal
 

@@ -1,3 +1,4 @@
+-- What holds at each turn of the loops of `are_recorded`.
 use Rattle.std.proofs.Common.{◌≡◌, ◌≤◌, length}
 use Rattle.cb_tests.proofs.pool.calls.are_recorded.Given as goal
 

@@ -1,3 +1,4 @@
+-- What holds at each turn of the loops of `takes_all`.
 use Rattle.std.proofs.Common.{◌≡◌, length}
 use Rattle.cb_tests.proofs.pool.calls.takes_all.Given as goal
 

@@ -1,3 +1,4 @@
+-- Goals of `apply`.
 use Rattle.std.proofs.Common.{ap, ◌∙◌}
 use Rattle.cb_commit.proofs.Rewriting.{rewritten_length}
 use Rattle.cb_tests.proofs.running.commits.apply.Goals as goal

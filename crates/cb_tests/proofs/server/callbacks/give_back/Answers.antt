@@ -1,7 +1,8 @@
+-- Goals of `give_back`.
 use Rattle.cb_tests.proofs.Of.{still_of}
 use Rattle.cb_tests.proofs.server.callbacks.give_back.Goals as goal
 
 pub returns : goal.returns
 returns c =
-    still_of c.args.limits.now c.args.callbacks.now.tables.holdings c.remove_row.new.self.tables.holdings c.requires.of
-    (c.remove_row.ensures 0).stays
+    still_of c.args.limits.now c.args.callbacks.now.tables.holdings c.give_back.new.self.tables.holdings c.requires.of
+    (c.give_back.ensures 0).stays

@@ -1,3 +1,4 @@
+-- What holds at each turn of the loops of `are_applied`.
 use Rattle.cb_commit.specs.Stores.{IsOf}
 use Rattle.cb_tests.proofs.server.commits.are_applied.Given as goal
 

@@ -1,3 +1,4 @@
+-- Goals of `Replay::answers_call`.
 use Rattle.std.proofs.Common.{rules}
 use Rattle.cb_transcript.proofs.replay.Replay.answers_call.Goals as goal
 

@@ -1,3 +1,4 @@
+-- Goals of `Replay::new`.
 use Rattle.std.proofs.Common.{arith, ap, length, subst, ◌<◌, ◌≤◌}
 use Rattle.std.proofs.Math.ListN.{get_or-eq_default}
 use Rattle.cb_commit.specs.Stores.{bytes_at, no_page}

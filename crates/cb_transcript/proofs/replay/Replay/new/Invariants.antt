@@ -1,3 +1,4 @@
+-- What holds at each turn of the loops of `Replay::new`.
 use Rattle.std.proofs.Common.{◌≡◌, ◌<◌, ℕ, [], length, map, get_or}
 use Rattle.cb_commit.specs.Stores.{bytes_at}
 use Rattle.cb_transcript.proofs.replay.Replay.new.Given as goal

@@ -1,3 +1,4 @@
+-- Goals of `Replay::play`.
 use Rattle.std.proofs.Common.{ap, length, refl, rules, Some, slice_index_or, subst, sym, ◌∙◌, ◌≡◌}
 use Rattle.std.proofs.lemmas.Option.{slice_get_read}
 use Rattle.cb_transcript.specs.Operations.{done_at, done_in}

@@ -1,3 +1,4 @@
+-- What holds at each turn of the loops of `Replay::play`.
 use Rattle.cb_transcript.specs.Replays.{HasEveryPage, shown}
 use Rattle.cb_transcript.proofs.Replays.{PlaysTo}
 use Rattle.cb_transcript.proofs.replay.Replay.play.Given as goal

@@ -1,3 +1,4 @@
+-- Goals of `Replay::put`.
 use Rattle.std.proofs.Common.{length, subst, ◌<◌, ◌≡◌, ℕ}
 use Rattle.std.specs.Vec.{with_item}
 use Rattle.cb_protocol.specs.Basics.{update}

@@ -1,3 +1,4 @@
+-- Goals of `Replay::shows`.
 use Rattle.std.proofs.Common.{rules, ◌≡◌, ◌<◌, length, ◌∙◌, ap}
 use Rattle.cb_transcript.specs.Replays.{shown}
 use Rattle.cb_transcript.proofs.Pages.{shown_at}

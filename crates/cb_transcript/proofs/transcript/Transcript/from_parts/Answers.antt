@@ -1,3 +1,4 @@
+-- Goals of `Transcript::from_parts`.
 use Rattle.std.proofs.Common.{rules}
 use Rattle.cb_transcript.proofs.transcript.Transcript.from_parts.Goals as goal
 

@@ -1,3 +1,4 @@
+-- Goals of `Transcript::tell`.
 use Rattle.std.proofs.Common.{rules}
 use Rattle.cb_transcript.proofs.transcript.Transcript.tell.Goals as goal
 

@@ -1,3 +1,4 @@
+-- What holds at each turn of the loops of `PageHasherHasher::write`.
 use Rattle.std.specs.Prelude.{◌≡◌, ◌≤◌, length, take}
 use Rattle.std.specs.List.{fold}
 use Rattle.cb_twoq.specs.PageHash.{with_byte}

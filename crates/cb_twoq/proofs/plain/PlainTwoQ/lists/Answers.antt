@@ -1,3 +1,4 @@
+-- Goals of `PlainTwoQ::lists`.
 use Rattle.std.proofs.Common.{rules}
 use Rattle.cb_twoq.proofs.plain.PlainTwoQ.lists.Goals as goal
 

@@ -1,3 +1,4 @@
+-- Goals of `PlainTwoQ::new`.
 use Rattle.cb_twoq.proofs.Referred.{none_queued}
 use Rattle.cb_twoq.proofs.plain.PlainTwoQ.new.Goals as goal
 

@@ -1,3 +1,4 @@
+-- Goals of `PlainTwoQChooser::forget`.
 use Rattle.cb_twoq.proofs.Forgotten.{forgotten, forgotten_queues}
 use Rattle.cb_twoq.proofs.plain.PlainTwoQChooser.forget.Goals as goal
 

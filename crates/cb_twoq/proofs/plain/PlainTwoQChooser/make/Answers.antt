@@ -1,3 +1,4 @@
+-- Goals of `PlainTwoQChooser::make`.
 use Rattle.std.proofs.Common.{rules}
 use Rattle.cb_twoq.proofs.plain.PlainTwoQChooser.make.Goals as goal
 

@@ -1,3 +1,4 @@
+-- Goals of `PlainTwoQChooser::reference`.
 use Rattle.std.proofs.Common.{refl, sym, ◌∙◌}
 use Rattle.cb_twoq.proofs.Referred.{as_member, as_newcomer, as_refused}
 use Rattle.cb_twoq.proofs.plain.PlainTwoQChooser.reference.Goals as goal

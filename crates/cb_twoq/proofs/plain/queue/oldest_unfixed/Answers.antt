@@ -1,3 +1,4 @@
+-- Goals of `oldest_unfixed`.
 use Rattle.std.proofs.Common.{rules}
 use Rattle.cb_twoq.proofs.PageLists.{oldest_unfixed_take}
 use Rattle.cb_twoq.proofs.plain.queue.oldest_unfixed.Goals as goal

@@ -1,3 +1,4 @@
+-- What holds at each turn of the loops of `oldest_unfixed`.
 use Rattle.std.proofs.Common.{◌≡◌, ◌≤◌, length, take}
 use Rattle.cb_twoq.specs.Queues.{oldest_unfixed}
 use Rattle.cb_twoq.proofs.plain.queue.oldest_unfixed.Given as goal

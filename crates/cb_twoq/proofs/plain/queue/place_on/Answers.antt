@@ -1,3 +1,4 @@
+-- Goals of `place_on`.
 use Rattle.std.proofs.Common.{rules}
 use Rattle.cb_twoq.proofs.PageLists.{place}
 use Rattle.cb_twoq.proofs.plain.queue.place_on.Goals as goal

@@ -1,3 +1,4 @@
+-- What holds at each turn of the loops of `place_on`.
 use Rattle.std.proofs.Common.{◌≡◌, ◌++◌, take, drop}
 use Rattle.cb_twoq.specs.Pages.{has, without}
 use Rattle.cb_twoq.proofs.plain.queue.place_on.Given as goal

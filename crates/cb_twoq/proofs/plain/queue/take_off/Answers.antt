@@ -1,3 +1,4 @@
+-- Goals of `take_off`.
 use Rattle.std.proofs.Common.{sym}
 use Rattle.cb_twoq.proofs.PageLists.{without_absent}
 use Rattle.cb_twoq.proofs.plain.queue.take_off.Goals as goal

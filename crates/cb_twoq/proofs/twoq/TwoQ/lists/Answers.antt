@@ -1,3 +1,4 @@
+-- Goals of `TwoQ::lists`.
 use Rattle.std.proofs.Common.{rules}
 use Rattle.cb_twoq.proofs.twoq.TwoQ.lists.Goals as goal
 

@@ -1,3 +1,4 @@
+-- Goals of `TwoQ::new`.
 use Rattle.std.proofs.Common.{sym, subst, rules}
 use Rattle.cb_twoq.specs.Queues.{TwoQState, AreQueues}
 use Rattle.cb_twoq.specs.Places.{ArePlaces}

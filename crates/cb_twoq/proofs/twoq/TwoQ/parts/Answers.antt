@@ -1,3 +1,4 @@
+-- Goals of `TwoQ::parts`.
 use Rattle.std.proofs.Common.{arith}
 use Rattle.std.proofs.lemmas.Grind.{common_steps}
 use Rattle.cb_twoq.proofs.twoq.TwoQ.parts.Goals as goal

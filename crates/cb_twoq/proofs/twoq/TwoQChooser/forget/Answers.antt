@@ -1,3 +1,4 @@
+-- Goals of `TwoQChooser::forget`.
 use Rattle.std.proofs.Common.{List, rules, sym, subst, arith}
 use Rattle.cb_twoq.specs.Law.{Forgets}
 use Rattle.cb_twoq.specs.Queues.{TwoQState, AreQueues, forget, members_of}

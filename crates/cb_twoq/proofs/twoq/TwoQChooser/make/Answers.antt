@@ -1,3 +1,4 @@
+-- Goals of `TwoQChooser::make`.
 use Rattle.std.proofs.Common.{rules}
 use Rattle.cb_twoq.proofs.twoq.TwoQChooser.make.Goals as goal
 

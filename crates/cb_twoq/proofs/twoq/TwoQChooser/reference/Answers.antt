@@ -1,3 +1,4 @@
+-- Goals of `TwoQChooser::reference`.
 use Rattle.std.proofs.Common.{List, None, sym, ◌∙◌, subst, arith}
 use Rattle.cb_twoq.specs.Law.{Chooses}
 use Rattle.cb_twoq.specs.Queues.{TwoQState, members_of}

@@ -1,3 +1,4 @@
+-- Goals of `bring_in`.
 use Rattle.std.proofs.Common.{◌≡◌, List, Err, rules, refl, sym, ◌∙◌, subst}
 use Rattle.cb_twoq.specs.Queues.{TwoQState, page_of}
 use Rattle.cb_twoq.specs.Indexed.{queues_of}

@@ -1,3 +1,4 @@
+-- Goals of `add`.
 use Rattle.cb_twoq.proofs.Orders.{newest_added}
 use Rattle.cb_twoq.proofs.twoq.steps.add.Goals as goal
 

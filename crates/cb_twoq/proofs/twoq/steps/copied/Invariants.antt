@@ -1,3 +1,4 @@
+-- What holds at each turn of the loops of `copied`.
 use Rattle.std.proofs.Common.{◌≡◌, ◌++◌, length}
 use Rattle.std.specs.Map.{keys_of}
 use Rattle.cb_twoq.proofs.twoq.steps.copied.Given as goal

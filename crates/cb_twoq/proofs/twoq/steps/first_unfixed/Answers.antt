@@ -1,3 +1,4 @@
+-- Goals of `first_unfixed`.
 use Rattle.std.proofs.Common.{rules}
 use Rattle.cb_twoq.proofs.Orders.{first_unfixed_step}
 use Rattle.cb_twoq.proofs.twoq.steps.first_unfixed.Goals as goal

@@ -1,3 +1,4 @@
+-- What holds at each turn of the loops of `first_unfixed`.
 use Rattle.std.proofs.Common.{◌≡◌, drop, reverse}
 use Rattle.cb_twoq.specs.Queues.{oldest_unfixed}
 use Rattle.cb_twoq.proofs.twoq.steps.first_unfixed.Given as goal

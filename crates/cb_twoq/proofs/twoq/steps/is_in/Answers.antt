@@ -1,3 +1,4 @@
+-- Goals of `is_in`.
 use Rattle.std.proofs.Common.{sym, ◌∙◌}
 use Rattle.cb_twoq.proofs.Orders.{has_reverse}
 use Rattle.cb_twoq.proofs.twoq.steps.is_in.Goals as goal

@@ -1,3 +1,4 @@
+-- Goals of `last_unfixed`.
 use Rattle.std.proofs.Common.{rules}
 use Rattle.cb_twoq.proofs.Orders.{last_unfixed_step}
 use Rattle.cb_twoq.proofs.twoq.steps.last_unfixed.Goals as goal

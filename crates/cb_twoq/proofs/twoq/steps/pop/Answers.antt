@@ -1,3 +1,4 @@
+-- Goals of `pop`.
 use Rattle.cb_twoq.proofs.Orders.{cached_removed}
 use Rattle.cb_twoq.proofs.twoq.steps.pop.Goals as goal
 

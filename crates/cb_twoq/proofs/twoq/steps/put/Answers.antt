@@ -1,3 +1,4 @@
+-- Goals of `put`.
 use Rattle.cb_twoq.proofs.Orders.{put_new}
 use Rattle.cb_twoq.proofs.twoq.steps.put.Goals as goal
 

@@ -1,3 +1,4 @@
+-- Goals of `renew`.
 use Rattle.cb_twoq.proofs.Orders.{cached_renewed}
 use Rattle.cb_twoq.proofs.twoq.steps.renew.Goals as goal
 

@@ -1,3 +1,4 @@
+-- Goals of `take_off`.
 use Rattle.std.proofs.Common.{sym, ◌∙◌, ap}
 use Rattle.cb_twoq.specs.Pages.{has}
 use Rattle.cb_twoq.proofs.Orders.{newest_removed}

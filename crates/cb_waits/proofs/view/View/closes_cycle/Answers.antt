@@ -1,6 +1,7 @@
+-- Goals of `View::closes_cycle`.
 use Rattle.std.proofs.Common.{◌≡◌, ℕ, Bool, true, false, arith, refl, sym, ◌∙◌, inl, inr}
 use Rattle.std.proofs.lemmas.Bool.{cases_eq}
-use Rattle.cb_clients.specs.Clients.{has}
+use Rattle.cb_page.specs.Clients.{has}
 use Rattle.cb_waits.specs.Graph.{Path, OneEdge, Waits}
 use Rattle.cb_waits.proofs.Paths.{along, closed_holds}
 use Rattle.cb_waits.proofs.view.View.closes_cycle.Goals as goal

@@ -1,5 +1,6 @@
+-- What holds at each turn of the loops of `View::closes_cycle`.
 use Rattle.std.proofs.Common.{◌≡◌, ℕ, true}
-use Rattle.cb_clients.specs.Clients.{has, left_out}
+use Rattle.cb_page.specs.Clients.{has, left_out}
 use Rattle.cb_waits.specs.Graph.{Path, Waits, waits}
 use Rattle.cb_waits.proofs.view.View.closes_cycle.Given as goal
 

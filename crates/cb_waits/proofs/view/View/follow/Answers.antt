@@ -1,5 +1,6 @@
+-- Goals of `View::follow`.
 use Rattle.std.proofs.Common.{◌≡◌, ℕ, ◌+◌, suc, Some, None, take, length, refl, sym, ◌∙◌, ap, subst, arith, rules}
-use Rattle.cb_clients.specs.Clients.{has}
+use Rattle.cb_page.specs.Clients.{has}
 use Rattle.cb_protocol.specs.Server.{has_ask}
 use Rattle.cb_asks.specs.Queues.{client_at}
 use Rattle.cb_waits.specs.Follows.{waited_for}

@@ -1,5 +1,6 @@
+-- What holds at each turn of the loops of `View::follow`.
 use Rattle.std.proofs.Common.{◌≡◌, ℕ, take}
-use Rattle.cb_clients.specs.Clients.{has}
+use Rattle.cb_page.specs.Clients.{has}
 use Rattle.cb_protocol.specs.Server.{has_ask}
 use Rattle.cb_waits.specs.Follows.{waited_for}
 use Rattle.cb_waits.proofs.Following.{Followed}

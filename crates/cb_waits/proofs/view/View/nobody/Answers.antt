@@ -1,7 +1,8 @@
+-- Goals of `View::nobody`.
 use Rattle.std.proofs.Common.{◌≡◌, false}
-use Rattle.cb_clients.specs.Clients.{Clients, has, set_of}
-use Rattle.cb_clients.proofs.Flags.{has_none}
-use Rattle.cb_clients.proofs.Lookups.{replicate_gives}
+use Rattle.cb_page.specs.Clients.{Clients, has, set_of}
+use Rattle.cb_page.proofs.ClientBits.{has_none}
+use Rattle.cb_page.proofs.Lookups.{replicate_gives}
 use Rattle.cb_waits.proofs.view.View.nobody.Goals as goal
 
 pub returns : goal.returns

@@ -1,3 +1,4 @@
+-- Goals of `View::put_row`.
 use Rattle.std.proofs.Common.{rules}
 use Rattle.cb_waits.proofs.view.View.put_row.Goals as goal
 

@@ -1,3 +1,4 @@
+-- Goals of `Said::remove_oldest`.
 use Rattle.std.proofs.Common.{rules, ◌≡◌, ◌<◌, ◌-◌, length}
 use Rattle.std.specs.Option.{option_to_list}
 use Rattle.cb_worker.proofs.Kept.{others_left}

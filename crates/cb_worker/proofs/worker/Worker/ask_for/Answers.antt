@@ -1,3 +1,4 @@
+-- Goals of `Worker::ask_for`.
 use Rattle.std.proofs.Common.{◌∙◌, Ok, None, [], inr, ap}
 use Rattle.cb_client.specs.CallAnswers.{AnswersRead, after_read}
 use Rattle.cb_client.specs.declared.answers.ReadAnswer.TheVariants as read

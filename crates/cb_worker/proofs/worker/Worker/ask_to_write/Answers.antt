@@ -1,3 +1,4 @@
+-- Goals of `Worker::ask_to_write`.
 use Rattle.std.proofs.Common.{Ok, refl}
 use Rattle.cb_client.specs.CallAnswers.{Wants}
 use Rattle.cb_client.specs.declared.answers.WantAnswer.TheVariants as want

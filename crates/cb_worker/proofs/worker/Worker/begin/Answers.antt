@@ -1,3 +1,4 @@
+-- Goals of `Worker::begin`.
 use Rattle.std.proofs.Common.{rules}
 use Rattle.cb_worker.proofs.worker.Worker.begin.Goals as goal
 

@@ -1,3 +1,4 @@
+-- Goals of `Worker::begin_finish`.
 use Rattle.std.proofs.Common.{rules}
 use Rattle.cb_worker.proofs.Staying.{after, commits_still}
 use Rattle.cb_worker.proofs.worker.Worker.begin_finish.Goals as goal

@@ -1,7 +1,8 @@
+-- Goals of `Worker::collect`.
 use Rattle.std.proofs.Common.{◌≡◌, ◌∙◌, Some, None, Ok, Result, ap, refl, subst}
 use Rattle.std.proofs.Common.{Option}
 use Rattle.cb_frame_types.specs.declared.frame.Frame.{Frame}
-use Rattle.cb_office.specs.declared.office_fault.OfficeFault.{OfficeFault}
+use Rattle.cb_station.specs.declared.office_fault.OfficeFault.{OfficeFault}
 use Rattle.cb_worker.proofs.Turning.{collects_some}
 use Rattle.cb_worker.specs.Calls.{Collected}
 use Rattle.cb_worker.proofs.worker.Worker.collect.Goals as goal

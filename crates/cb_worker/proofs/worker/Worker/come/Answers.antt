@@ -1,3 +1,4 @@
+-- Goals of `Worker::come`.
 use Rattle.std.proofs.Common.{sym}
 use Rattle.cb_worker.proofs.worker.Worker.come.Goals as goal
 

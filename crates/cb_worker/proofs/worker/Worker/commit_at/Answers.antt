@@ -1,5 +1,6 @@
+-- Goals of `Worker::commit_at`.
 use Rattle.std.proofs.Common.{ℕ, Ok, Err, Result, subst}
-use Rattle.cb_office.specs.declared.office_fault.OfficeFault.{OfficeFault}
+use Rattle.cb_station.specs.declared.office_fault.OfficeFault.{OfficeFault}
 use Rattle.cb_worker.proofs.Saying.{hands_commit_in}
 use Rattle.cb_worker.specs.Calls.{Committed}
 use Rattle.cb_worker.specs.Committing.{AreLocked}

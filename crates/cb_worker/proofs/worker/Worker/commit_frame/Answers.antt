@@ -1,3 +1,4 @@
+-- Goals of `Worker::commit_frame`.
 use Rattle.std.proofs.Common.{◌≡◌, IsTrue, false, rules}
 use Rattle.cb_worker.proofs.Saying.{again_none, finish_refused, finish_says}
 use Rattle.cb_worker.specs.Committing.{IsCommitting}

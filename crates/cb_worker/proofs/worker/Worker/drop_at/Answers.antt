@@ -1,3 +1,4 @@
+-- Goals of `Worker::drop_at`.
 use Rattle.std.proofs.Common.{IsTrue, inr, rules}
 use Rattle.cb_worker.proofs.Standing.{still_dropped}
 use Rattle.cb_worker.proofs.worker.Worker.drop_at.Goals as goal

@@ -1,3 +1,4 @@
+-- Goals of `Worker::drop_open`.
 use Rattle.std.proofs.Common.{refl}
 use Rattle.cb_worker.proofs.Standing.{dropped}
 use Rattle.cb_worker.proofs.Staying.{dropped_still}

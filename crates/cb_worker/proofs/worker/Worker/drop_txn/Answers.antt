@@ -1,3 +1,4 @@
+-- Goals of `Worker::drop_txn`.
 use Rattle.std.proofs.Common.{rules}
 use Rattle.cb_worker.proofs.worker.Worker.drop_txn.Goals as goal
 

@@ -1,5 +1,6 @@
+-- Goals of `Worker::ended`.
 use Rattle.std.proofs.Common.{◌≡◌, List, Some}
-use Rattle.cb_client_engine.specs.ClientState.{client_of, outcome_of, status_of}
+use Rattle.cb_client_core.specs.ClientState.{client_of, outcome_of, status_of}
 use Rattle.cb_protocol.specs.Client.{client_status}
 use Rattle.cb_protocol.specs.Serial.{Operation}
 use Rattle.cb_worker.proofs.Standing.{finished_so, idle_so}

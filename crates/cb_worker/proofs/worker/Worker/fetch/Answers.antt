@@ -1,6 +1,7 @@
+-- Goals of `Worker::fetch`.
 use Rattle.std.proofs.Common.{◌≡◌, true, sym, ◌∙◌, ap, refl, rules, subst}
 use Rattle.std.specs.Option.{option_copied}
-use Rattle.cb_copies.specs.CopiesState.{content_at}
+use Rattle.cb_cache.specs.CacheState.{content_at}
 use Rattle.cb_worker.proofs.Reading.{fetches, not_bare, peeked}
 use Rattle.cb_worker.specs.Waiting.{HasRead}
 use Rattle.cb_worker.specs.Workers.{IsStill, WorkerState}

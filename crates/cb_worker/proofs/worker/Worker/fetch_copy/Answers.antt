@@ -1,3 +1,4 @@
+-- Goals of `Worker::fetch_copy`.
 use Rattle.std.proofs.Common.{rules, sym}
 use Rattle.cb_worker.proofs.Reading.{reads_in_one}
 use Rattle.cb_worker.proofs.worker.Worker.fetch_copy.Goals as goal

@@ -1,3 +1,4 @@
+-- Goals of `Worker::hand_all_in`.
 use Rattle.std.proofs.Common.{◌≡◌, ◌≢◌, ◌∙◌, [], Err, refl, rules, arith}
 use Rattle.std.proofs.lemmas.Grind.{common_steps}
 use Rattle.cb_worker.proofs.Serving.{does, last, more, none}

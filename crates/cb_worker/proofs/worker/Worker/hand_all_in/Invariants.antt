@@ -1,3 +1,4 @@
+-- What holds at each turn of the loops of `Worker::hand_all_in`.
 use Rattle.std.proofs.Common.{◌≡◌, length}
 use Rattle.cb_worker.proofs.Serving.{Turned}
 use Rattle.cb_worker.specs.Serving.{HandsOne}

@@ -1,7 +1,8 @@
+-- Goals of `Worker::hand_in`.
 use Rattle.std.proofs.Common.{◌≡◌, ◌∙◌, ◌∷◌, Ok, Err, Result, true, ap, drop, refl, subst, sym}
 use Rattle.std.specs.Option.{option_copied}
 use Rattle.std.specs.Prelude.{⊤}
-use Rattle.cb_office.specs.declared.office_fault.OfficeFault.{OfficeFault}
+use Rattle.cb_station.specs.declared.office_fault.OfficeFault.{OfficeFault}
 use Rattle.cb_worker.proofs.Kept.{none_first, oldest_first}
 use Rattle.cb_worker.proofs.Turning.{hands_in}
 use Rattle.cb_worker.specs.Calls.{Took}

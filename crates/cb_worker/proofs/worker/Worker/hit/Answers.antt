@@ -1,6 +1,7 @@
+-- Goals of `Worker::hit`.
 use Rattle.std.proofs.Common.{◌≡◌, true, sym, ◌∙◌, ap, refl}
 use Rattle.std.specs.Option.{option_copied}
-use Rattle.cb_copies.specs.CopiesState.{content_at}
+use Rattle.cb_cache.specs.CacheState.{content_at}
 use Rattle.cb_worker.proofs.Reading.{hits, peeked, same_bytes}
 use Rattle.cb_worker.specs.Workers.{WorkerState, may_hit}
 use Rattle.cb_worker.proofs.worker.Worker.hit.Goals as goal

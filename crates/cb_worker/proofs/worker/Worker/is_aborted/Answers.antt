@@ -1,3 +1,4 @@
+-- Goals of `Worker::is_aborted`.
 use Rattle.std.proofs.Common.{subst}
 use Rattle.cb_protocol.specs.Client as protocol
 use Rattle.cb_worker.specs.Waiting.{ending_of}

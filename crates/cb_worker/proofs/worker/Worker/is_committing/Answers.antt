@@ -1,3 +1,4 @@
+-- Goals of `Worker::is_committing`.
 use Rattle.std.proofs.Common.{refl, sym, true≢false}
 use Rattle.cb_worker.proofs.Standing.{committing_so, says_committing}
 use Rattle.cb_worker.specs.Committing.{IsCommitting}

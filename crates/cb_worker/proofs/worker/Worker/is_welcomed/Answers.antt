@@ -1,3 +1,4 @@
+-- Goals of `Worker::is_welcomed`.
 use Rattle.std.proofs.Common.{◌≡◌, sym, true, true≢false}
 use Rattle.cb_worker.proofs.Standing.{welcomed_so}
 use Rattle.cb_worker.proofs.worker.Worker.is_welcomed.Goals as goal

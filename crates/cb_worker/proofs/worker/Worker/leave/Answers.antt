@@ -1,3 +1,4 @@
+-- Goals of `Worker::leave`.
 use Rattle.std.proofs.Common.{ap, rules, sym}
 use Rattle.cb_worker.proofs.Refusing.{leaves_not}
 use Rattle.cb_worker.specs.Workers.{WorkerState}

@@ -1,6 +1,7 @@
+-- Goals of `Worker::needs_transaction`.
 use Rattle.std.proofs.Common.{◌≡◌, ◌≢◌, List, refl}
-use Rattle.cb_client_engine.specs.ClientState.{client_of, status_of}
-use Rattle.cb_client_engine.specs.declared.standing.ClientStatus.TheVariants as statuses
+use Rattle.cb_client_core.specs.ClientState.{client_of, status_of}
+use Rattle.cb_client_core.specs.declared.stage.ClientStatus.TheVariants as statuses
 use Rattle.cb_protocol.specs.Client.{client_status}
 use Rattle.cb_protocol.specs.Serial.{Operation}
 use Rattle.cb_worker.proofs.Standing.{busy_so, idle_so, none_idle, none_unwelcomed, unwelcomed_so, welcomed_so}

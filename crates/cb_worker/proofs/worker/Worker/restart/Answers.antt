@@ -1,3 +1,4 @@
+-- Goals of `Worker::restart`.
 use Rattle.std.proofs.Common.{rules}
 use Rattle.cb_worker.proofs.worker.Worker.restart.Goals as goal
 

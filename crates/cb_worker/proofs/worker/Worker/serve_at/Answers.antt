@@ -1,3 +1,4 @@
+-- Goals of `Worker::serve_at`.
 use Rattle.std.proofs.Common.{◌≡◌, inl, inr, Err, true, false, refl, sym, ◌∙◌, rules}
 use Rattle.cb_worker.proofs.Refusing.{no_halt}
 use Rattle.cb_worker.proofs.Serving.{ends, more, none, stops, unturned}

@@ -1,3 +1,4 @@
+-- What holds at each turn of the loops of `Worker::serve_at`.
 use Rattle.std.proofs.Common.{◌≡◌, ◌⊎◌, false}
 use Rattle.cb_worker.proofs.Serving.{Turned}
 use Rattle.cb_worker.specs.Turns.{Turns}

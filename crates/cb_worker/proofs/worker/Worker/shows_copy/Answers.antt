@@ -1,3 +1,4 @@
+-- Goals of `Worker::shows_copy`.
 use Rattle.std.proofs.Common.{rules}
 use Rattle.cb_worker.proofs.worker.Worker.shows_copy.Goals as goal
 

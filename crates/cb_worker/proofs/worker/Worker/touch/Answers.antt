@@ -1,7 +1,8 @@
+-- Goals of `Worker::touch`.
 use Rattle.std.proofs.Common.{◌≡◌, true, false, sym, ◌∙◌}
 use Rattle.std.specs.Option.{is_some}
 use Rattle.cb_client.specs.CallAnswers.{AnswersRead, after_read}
-use Rattle.cb_copies.specs.CopiesState.{content_at}
+use Rattle.cb_cache.specs.CacheState.{content_at}
 use Rattle.cb_worker.proofs.Reading.{absent, lent_so, stays, touched, touches}
 use Rattle.cb_worker.specs.Workers.{after_hit, shows_copy, with_client}
 use Rattle.cb_worker.proofs.worker.Worker.touch.Goals as goal

@@ -1,3 +1,4 @@
+-- Goals of `Worker::turn_at`.
 use Rattle.std.proofs.Common.{◌≡◌, [], None, arith, rules}
 use Rattle.std.proofs.lemmas.Grind.{common_steps}
 use Rattle.cb_worker.proofs.worker.Worker.turn_at.Goals as goal

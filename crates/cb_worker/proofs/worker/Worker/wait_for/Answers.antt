@@ -1,3 +1,4 @@
+-- Goals of `Worker::wait_for`.
 use Rattle.std.proofs.Common.{◌∙◌, sym}
 use Rattle.cb_worker.proofs.Staying.{after}
 use Rattle.cb_worker.proofs.Steps.{came_so, refused_so, stops_so, where_ok}

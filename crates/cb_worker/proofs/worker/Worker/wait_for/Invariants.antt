@@ -1,3 +1,4 @@
+-- What holds at each turn of the loops of `Worker::wait_for`.
 use Rattle.std.specs.Prelude.{IfErr, IfOk, IfSome, OnOk}
 use Rattle.cb_worker.specs.Steps.{Comes, RefusesToBegin, StopsOr}
 use Rattle.cb_worker.specs.Waiting.{IsServed}

@@ -1,3 +1,4 @@
+-- Goals of `Worker::welcomed`.
 use Rattle.cb_worker.proofs.Steps.{only_serving}
 use Rattle.cb_worker.proofs.worker.Worker.welcomed.Goals as goal
 

@@ -1,3 +1,4 @@
+-- Goals of `Worker::write`.
 use Rattle.std.proofs.Common.{rules}
 use Rattle.cb_worker.proofs.worker.Worker.write.Goals as goal
 

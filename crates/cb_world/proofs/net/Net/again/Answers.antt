@@ -1,3 +1,4 @@
+-- Goals of `Net::again`.
 use Rattle.std.proofs.Common.{subst, IfOk}
 use Rattle.std.specs.List.{AllByRecursion}
 use Rattle.cb_frame_types.specs.Grammar.{Fits}
@@ -11,7 +12,7 @@ use Rattle.cb_world.proofs.net.Net.again.Goals as goal
 
 pub returns-clause-ok : goal.returns-clause-ok
 returns-clause-ok g c =
-    let net : NetState = record { server = c.self.inside.server; sites = c.self.inside.sites; packets = c.self.inside.packets } in
+    let net : NetState = record { server = c.self.inside.server; world_clients = c.self.inside.world_clients; packets = c.self.inside.packets } in
     let frames = c.in_ok-said.said.items in
     let fits = subst (λ (limits : Bounds). AllByRecursion (Fits limits) frames) c.self.invariant.server c.in_ok-said.ensures.fits in
     subst (λ (n : NetState). IfOk c.answer.result (λ a. NetBecomes n ServerAgain a c.answer.new.self)) c.self.view_is

@@ -1,3 +1,4 @@
+-- Goals of `Net::event`.
 use Rattle.std.proofs.Common.{subst, sym, IfOk, rules}
 use Rattle.std.specs.Prelude.{OnErr}
 use Rattle.std.proofs.lemmas.Result.{IfOk-weaker}
@@ -6,7 +7,7 @@ use Rattle.cb_protocol.specs.World.{Event, FlushTo}
 use Rattle.cb_transcript.specs.ProtocolEvents.{event_of}
 use Rattle.cb_world.specs.NetMoves.{FlushesTo, IsAccepted, NetBecomes}
 use Rattle.cb_world.proofs.Nets.{accepts_again, accepts_flush, accepts_flush_to, flushes_to}
-use Rattle.cb_sites.proofs.Replying.{on_any_err}
+use Rattle.cb_world_clients.proofs.Replying.{on_any_err}
 use Rattle.cb_world.proofs.net.Net.event.Goals as goal
 
 pub returns-in-Take-clause-ok : goal.returns-in-Take-clause-ok

@@ -1,3 +1,4 @@
+-- Goals of `Net::flush`.
 use Rattle.std.proofs.Common.{subst, sym, ap, ◌∙◌}
 use Rattle.std.proofs.lemmas.Result.{IfOk-weaker}
 use Rattle.std.specs.Prelude.{ℕ}

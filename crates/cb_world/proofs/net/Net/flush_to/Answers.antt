@@ -1,3 +1,4 @@
+-- Goals of `Net::flush_to`.
 use Rattle.std.proofs.Common.{◌≡◌, subst, sym, ap, IfOk}
 use Rattle.std.specs.List.{AllByRecursion}
 use Rattle.cb_frame_types.specs.Grammar.{Fits}
@@ -16,14 +17,14 @@ use Rattle.cb_world.proofs.net.Net.flush_to.Goals as goal
 
 pub returns-in-None-clause-ok : goal.returns-in-None-clause-ok
 returns-in-None-clause-ok g c =
-    let net : NetState = record { server = c.self.inside.server; sites = c.self.inside.sites; packets = c.self.inside.packets } in
+    let net : NetState = record { server = c.self.inside.server; world_clients = c.self.inside.world_clients; packets = c.self.inside.packets } in
     let not_so = subst (λ (n : NetState). can_flush (server_of n.server) c.args.number ≡ false) (sym c.self.view_is) c.in-None.ensures in
     subst (λ (n : NetState). (event : Event) → FlushesTo n event c.args.number → NetBecomes n event c.silent.result n) c.self.view_is
     (λ event up_to. nothing_to_flush net event c.args.number c.silent.result up_to not_so (ap (λ (a : Answer). word_of a.word) c.silent.ensures) (ap (λ (a : Answer). a.sent) c.silent.ensures))
 
 pub returns-in_ok-said-in-Some-clause-ok : goal.returns-in_ok-said-in-Some-clause-ok
 returns-in_ok-said-in-Some-clause-ok g c =
-    let net : NetState = record { server = c.self.inside.server; sites = c.self.inside.sites; packets = c.self.inside.packets } in
+    let net : NetState = record { server = c.self.inside.server; world_clients = c.self.inside.world_clients; packets = c.self.inside.packets } in
     let frames = c.in_ok-said-in-Some.said.items in
     let commit = c.in-Some.commit in
     let can = subst (λ (n : NetState). can_flush (server_of n.server) c.args.number ≡ true) (sym c.self.view_is) c.in-Some.ensures.1 in

@@ -1,12 +1,13 @@
+-- Goals of `Net::new`.
 use Rattle.std.proofs.Common.{[], subst, sym}
 use Rattle.cb_holdings.specs.Holdings.{opening_of}
-use Rattle.cb_sites.specs.Packets.{PacketsState}
-use Rattle.cb_sites.specs.Wire.{AllSpell}
+use Rattle.cb_world_clients.specs.Packets.{PacketsState}
+use Rattle.cb_world_clients.specs.Wire.{AllSpell}
 use Rattle.cb_world.proofs.net.Net.new.Goals as goal
 
 pub returns-clause-represents : goal.returns-clause-represents
 returns-clause-represents g c = record {
   server = sym c.in_ok-new.ensures.server;
-  sites = c.in_ok-new-2.ensures.opening (opening_of c.args.store);
+  world_clients = c.in_ok-new-2.ensures.opening (opening_of c.args.store);
   packets = subst (λ (p : PacketsState). AllSpell c.in_ok-new-2.field-0.limits p.sent []) (sym c.new-3.ensures) tt;
 }

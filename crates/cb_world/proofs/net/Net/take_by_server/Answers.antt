@@ -1,8 +1,9 @@
+-- Goals of `Net::take_by_server`.
 use Rattle.std.proofs.Common.{subst, sym, ap, ◌∙◌, IfOk}
 use Rattle.std.specs.List.{AllByRecursion}
 use Rattle.cb_frame_types.specs.Grammar.{Fits}
 use Rattle.cb_page.specs.Bounds.{Bounds}
-use Rattle.cb_sites.specs.Packets.{IsFrameAt}
+use Rattle.cb_world_clients.specs.Packets.{IsFrameAt}
 use Rattle.cb_protocol.specs.World.{TakePacket}
 use Rattle.cb_transcript.specs.ProtocolEvents.{word_of}
 use Rattle.cb_transcript.specs.declared.answer.AnswerWord.TheVariants as word
@@ -15,7 +16,7 @@ use Rattle.cb_world.proofs.net.Net.take_by_server.Goals as goal
 
 pub returns-in-Ok-clause-ok : goal.returns-in-Ok-clause-ok
 returns-in-Ok-clause-ok g c =
-    let net : NetState = record { server = c.self.inside.server; sites = c.self.inside.sites; packets = c.self.inside.packets } in
+    let net : NetState = record { server = c.self.inside.server; world_clients = c.self.inside.world_clients; packets = c.self.inside.packets } in
     let frames = c.in-Ok.said.items in
     let event = TakePacket c.args.packet in
     let at = subst (λ (n : NetState). IsFrameAt n.packets c.args.packet c.args.frame) (sym c.self.view_is) c.requires.packet in
@@ -26,10 +27,10 @@ returns-in-Ok-clause-ok g c =
 
 pub returns-in-Err-Exhausted-clause-ok : goal.returns-in-Err-Exhausted-clause-ok
 returns-in-Err-Exhausted-clause-ok g c =
-    let net : NetState = record { server = c.self.inside.server; sites = c.self.inside.sites; packets = c.self.inside.packets } in
+    let net : NetState = record { server = c.self.inside.server; world_clients = c.self.inside.world_clients; packets = c.self.inside.packets } in
     let event = TakePacket c.args.packet in
     let at = subst (λ (n : NetState). IsFrameAt n.packets c.args.packet c.args.frame) (sym c.self.view_is) c.requires.packet in
-    subst (λ (n : NetState). NetBecomes n event c.silent.result (record { server = c.take.new.self; sites = c.self.inside.sites; packets = c.self.inside.packets })) c.self.view_is
+    subst (λ (n : NetState). NetBecomes n event c.silent.result (record { server = c.take.new.self; world_clients = c.self.inside.world_clients; packets = c.self.inside.packets })) c.self.view_is
     (unchanged_becomes net c.take.new.self event c.silent.result c.in-Err-Exhausted.ensures.unchanged
     (exhausted_becomes net c.args.packet c.args.frame c.silent.result c.self.invariant at (sym (way c.args.frame.body) ∙ c.requires.way) (c.in-Err-Exhausted.ensures.err ∙ ap is_exhaustion c.in-Err-Exhausted.field-0-is)
     (ap (λ (a : Answer). word_of a.word) c.silent.ensures) (ap (λ (a : Answer). a.sent) c.silent.ensures)))

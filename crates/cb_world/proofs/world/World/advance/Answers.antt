@@ -1,3 +1,4 @@
+-- Goals of `World::advance`.
 use Rattle.std.proofs.Common.{refl, false, subst, rules}
 use Rattle.cb_world.specs.Plays.{Steps}
 use Rattle.cb_world.specs.WorldState.{WorldState}

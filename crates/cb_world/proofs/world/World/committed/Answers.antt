@@ -1,3 +1,4 @@
+-- Goals of `World::committed`.
 use Rattle.std.proofs.Common.{◌≡◌, ◌∙◌, ap, map, subst}
 use Rattle.cb_server.specs.ServerState.{ServerState, server_of}
 use Rattle.cb_transcript.specs.Transcripts.{committed_name}

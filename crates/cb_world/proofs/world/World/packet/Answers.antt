@@ -1,3 +1,4 @@
+-- Goals of `World::packet`.
 use Rattle.std.proofs.Common.{rules}
 use Rattle.cb_world.proofs.world.World.packet.Goals as goal
 

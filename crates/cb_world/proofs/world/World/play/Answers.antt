@@ -1,3 +1,4 @@
+-- Goals of `World::play`.
 use Rattle.std.proofs.Common.{◌≡◌, length, take, ap, subst, ◌∙◌, List, arith}
 use Rattle.std.proofs.lemmas.List.{take_more}
 use Rattle.std.proofs.Math.Seq.{take-length}

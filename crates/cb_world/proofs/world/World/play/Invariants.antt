@@ -1,3 +1,4 @@
+-- What holds at each turn of the loops of `World::play`.
 use Rattle.std.proofs.Common.{take}
 use Rattle.cb_world.proofs.Playing.{PlayedTo}
 use Rattle.cb_world.proofs.world.World.play.Given as goal

@@ -1,3 +1,4 @@
+-- Goals of `Begun::lives`.
 use Rattle.std.proofs.Common.{rules}
 use Rattle.cb_server.proofs.engine.answers.Begun.lives.Goals as goal
 

@@ -1,3 +1,4 @@
+-- Goals of `FifoChooser::forget`.
 use Rattle.cb_twoq.proofs.InOrder.{leaves, leaves_once}
 use Rattle.cb_tests.proofs.pool.fifo.FifoChooser.forget.Goals as goal
 

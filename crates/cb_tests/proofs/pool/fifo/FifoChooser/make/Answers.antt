@@ -1,3 +1,4 @@
+-- Goals of `FifoChooser::make`.
 use Rattle.cb_twoq.proofs.InOrder.{none_once}
 use Rattle.cb_tests.proofs.pool.fifo.FifoChooser.make.Goals as goal
 

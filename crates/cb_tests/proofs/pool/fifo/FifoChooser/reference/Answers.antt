@@ -1,3 +1,4 @@
+-- Goals of `FifoChooser::reference`.
 use Rattle.std.proofs.Common.{◌≡◌, ◌≤◌, ◌<◌, ◌∷◌, length, false, Some, rules, refl, sym, ◌∙◌, arith}
 use Rattle.cb_twoq.specs.Pages.{has}
 use Rattle.cb_twoq.specs.Queues.{oldest_unfixed}

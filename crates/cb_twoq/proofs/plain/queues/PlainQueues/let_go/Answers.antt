@@ -1,3 +1,4 @@
+-- Goals of `PlainQueues::let_go`.
 use Rattle.std.proofs.Common.{rules}
 use Rattle.cb_twoq.proofs.plain.queues.PlainQueues.let_go.Goals as goal
 

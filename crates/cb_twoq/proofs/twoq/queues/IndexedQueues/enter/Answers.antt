@@ -1,3 +1,4 @@
+-- Goals of `IndexedQueues::enter`.
 use Rattle.std.proofs.Common.{sym, ◌∙◌, ap, subst, length, ◌≤◌}
 use Rattle.cb_twoq.specs.Queues.{TwoQState, let_go}
 use Rattle.cb_twoq.specs.Indexed.{queues_of, IsOff}

@@ -1,3 +1,4 @@
+-- Goals of `IndexedQueues::forget`.
 use Rattle.std.proofs.Common.{List, ℕ, sym, ◌∙◌, ap}
 use Rattle.cb_twoq.specs.Indexed.{queues_of}
 use Rattle.cb_twoq.proofs.Placing.{forgets_none, forgets_a1in, forgets_am}

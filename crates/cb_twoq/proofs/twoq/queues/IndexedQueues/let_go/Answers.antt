@@ -1,3 +1,4 @@
+-- Goals of `IndexedQueues::let_go`.
 use Rattle.std.proofs.Common.{rules}
 use Rattle.cb_twoq.proofs.twoq.queues.IndexedQueues.let_go.Goals as goal
 

@@ -1,3 +1,4 @@
+-- Goals of `IndexedQueues::place`.
 use Rattle.std.proofs.Common.{rules}
 use Rattle.cb_twoq.proofs.twoq.queues.IndexedQueues.place.Goals as goal
 

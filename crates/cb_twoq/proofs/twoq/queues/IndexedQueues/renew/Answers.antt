@@ -1,3 +1,4 @@
+-- Goals of `IndexedQueues::renew`.
 use Rattle.std.proofs.Common.{rules}
 use Rattle.cb_twoq.proofs.twoq.queues.IndexedQueues.renew.Goals as goal
 

@@ -1,0 +1,12 @@
+-- Goals of `Cache::fill`.
+use Rattle.std.proofs.Common.{refl}
+use Rattle.cb_cache.proofs.Steps.{fill_result}
+use Rattle.cb_cache.proofs.PoolRoom.{full_by}
+use Rattle.cb_cache.proofs.cache.Cache.fill.Goals as goal
+
+pub returns-clause-full : goal.returns-clause-full
+returns-clause-full g c = rw (← c.self.view_is) (full_by _ c.self.invariant c.args.page _ c.install.ensures.full)
+
+pub returns-clause-ok : goal.returns-clause-ok
+returns-clause-ok g c = rw (← c.self.view_is)
+    (fill_result _ _ c.args.page c.args.bytes c.install.result c.install.new.self (rw (← c.self.view_is) at c.requires.page) c.self.invariant c.install.ensures.pages c.install.ensures.gone refl)

@@ -1,0 +1,368 @@
+ghost use Rattle.std.specs.Prelude.{◌≡◌, ℕ, ◌<◌, ◌≤◌, ◌↔◌, ◌||◌, [], ◌∷◌, length, true, false};
+ghost use Rattle.std.specs.Prelude.{Some, None, Ok, Err, IfOk, OnErr, IsTrue, MatchOption};
+ghost use Rattle.std.specs.Option.{is_some, option_copied};
+ghost use Rattle.cb_page.specs.Bounds.{AreInRange};
+ghost use Rattle.cb_page.specs.Flags.{has};
+ghost use Rattle.cb_twoq.specs.Pages.{has as on};
+ghost use Rattle.cb_protocol.specs.Cache.{Abandon, Fill, Install, LetGo, RefuseGrant, TakeDone};
+ghost use Rattle.cb_protocol.specs.Cache.{TakePermission, WriteBytes, YieldPermission};
+ghost use Rattle.cb_protocol.specs.Client.{ChangeCache, Client, EndTransaction, LastOutcome};
+ghost use Rattle.cb_protocol.specs.Client.{MarkWanted, has_room, pages_in_pool};
+ghost use Rattle.cb_cache.specs.CacheState.{AreCopies, IsFull, client_with, content_at, copy_at};
+ghost use Rattle.cb_cache.specs.CacheState.{limits_of, no_copies};
+ghost use Rattle.cb_pool.specs.PoolState.{has_free_slot};
+ghost use Rattle.cb_cache.specs.ByTable.{BringsIn, Does, DoesInTxn};
+
+use crate::table::{CopyTable, PageCopy, greatest_grant};
+use crate::written::{drop_copies, set_versions};
+use cb_page::{CommitNo, GrantNo, Limits, Page, PageNo, PageSet, TxnNo, Version};
+use cb_pool::{Pool, PoolFault};
+use cb_twoq::Chooser;
+use std::alloc::{AllocError, Global};
+use std::marker::Model;
+
+/// A client's copies of pages: of each the grants that came, its version, its bytes in a pool, the
+/// permission to write it, and whether the transaction wrote it or asked to.
+///
+/// Each method that changes something is one step of the protocol, save `restart`; which step comes
+/// when, its caller decides. Only `new`, `install` and `fill` take memory.
+pub struct Cache<Q: Chooser> {
+    limits: Limits,
+    table: CopyTable,
+    may_write: PageSet,
+    wrote: PageSet,
+    wanted: PageSet,
+    pool: Pool<Q>,
+}
+
+// By hand, so that who owns copies proves this drop alone, and not those of all its parts.
+impl<Q: Chooser> Drop for Cache<Q> {
+    fn drop(self) {
+        let Cache {
+            limits: _,
+            table: _,
+            may_write: _,
+            wrote: _,
+            wanted: _,
+            pool: _,
+        } = self;
+    }
+}
+
+impl<Q: Chooser> Model for Cache<Q> {
+    ghost use Rattle.cb_cache.specs.CacheState.{CacheState, AreCopies};
+
+    ghost Value = { CacheState };
+
+    ghost view = { λ copies. record {
+      limits = copies.limits;
+      rows = copies.table;
+      may_write = copies.may_write;
+      wrote = copies.wrote;
+      wanted = copies.wanted;
+      pool = copies.pool;
+    } };
+
+    ghost invariant = { λ copies. AreCopies (record {
+      limits = copies.limits;
+      rows = copies.table;
+      may_write = copies.may_write;
+      wrote = copies.wrote;
+      wanted = copies.wanted;
+      pool = copies.pool;
+    }) };
+}
+
+impl<Q: Chooser> Cache<Q> {
+    /// No grant ever came, over an empty chooser of as many slots as the limits say. It is refused
+    /// only where memory is.
+    pub fn new(alloc: Global, chooser: Q, limits: &Limits) -> Result<Cache<Q>, AllocError>
+        requires members { Q.members chooser ≡ [] }
+        requires slots { Q.slots chooser ≡ limits.now.slots }
+        ensures { IfOk result (λ copies. copies ≡ no_copies limits.now) }
+    {
+        let pages = limits.pages() as usize;
+        Ok(Cache {
+            limits: *limits,
+            table: CopyTable::new(alloc, pages)?,
+            may_write: PageSet::new(alloc, pages)?,
+            wrote: PageSet::new(alloc, pages)?,
+            wanted: PageSet::new(alloc, pages)?,
+            pool: Pool::new(alloc, chooser, limits)?,
+        })
+    }
+
+    /// The limits of the store and the pool.
+    pub fn limits(&self) -> &Limits
+        ensures value { result.now ≡ self.now.limits }
+        ensures sound { AreCopies self.now }
+    {
+        &self.limits
+    }
+
+    /// Lends the pool's chooser, whose members are the pages with bytes in the pool.
+    pub fn chooser(&self) -> &Q
+        ensures { (page : ℕ)
+            → on (Q.members result.now) page ≡ is_some (content_at self.now page) }
+    {
+        self.pool.chooser()
+    }
+
+    /// What is known of a page beside its bytes.
+    pub fn at(&self, page: PageNo) -> PageCopy
+        requires { page < self.now.limits.pages }
+        ensures value { result ≡ copy_at self.now page }
+        ensures sound { AreCopies self.now }
+    {
+        self.table.at(page)
+    }
+
+    /// Whether the client may write the page.
+    pub fn may_write(&self, page: PageNo) -> bool
+        ensures { result ≡ has self.now.may_write page }
+    {
+        self.may_write.contains(page)
+    }
+
+    /// Whether the transaction wrote the page.
+    pub fn wrote(&self, page: PageNo) -> bool
+        ensures { result ≡ has self.now.wrote page }
+    {
+        self.wrote.contains(page)
+    }
+
+    /// Whether the transaction wrote the page or asked to: the pool may not let it go.
+    pub fn is_fixed(&self, page: PageNo) -> bool
+        ensures { result ≡ (has self.now.wanted page || has self.now.wrote page) }
+    {
+        self.wanted.contains(page) || self.wrote.contains(page)
+    }
+
+    /// The first page that the transaction wrote at or after a place.
+    pub fn next_written(&self, from: usize) -> Option<PageNo>
+        ensures { MatchOption result
+            ((page : ℕ) → from ≤ page → has self.now.wrote page ≡ false)
+            (λ page. (from ≤ page) × (has self.now.wrote page ≡ true)
+            × ((other : ℕ) → from ≤ other → other < page → has self.now.wrote other ≡ false)) }
+    {
+        self.wrote.next(from)
+    }
+
+    /// The bytes of the page's copy, if they are in the pool, with no reference to it.
+    pub fn peek(&self, page: PageNo) -> Option<&[u8]>
+        ensures bytes { option_copied result ≡ content_at self.now page }
+        ensures sound { AreCopies self.now }
+    {
+        self.pool.peek(page)
+    }
+
+    /// The bytes of the page's copy, which are in the pool, with no reference to it.
+    pub fn bytes(&self, page: PageNo) -> &[u8]
+        requires { is_some (content_at self.now page) ≡ true }
+        ensures { Some result.now ≡ content_at self.now page }
+    {
+        self.pool.bytes(page)
+    }
+
+    /// Refers to a page, if its bytes are in the pool.
+    ///
+    /// The copies are the same, save that the pool may let another page go later.
+    pub fn refer(&mut self, page: PageNo)
+        ensures { self.new ≡ self.old }
+    {
+        self.pool.touch(page);
+    }
+
+    /// Whether the pool can take in one more page.
+    pub fn has_room(&self) -> bool
+        ensures room { (client : Client)
+            → result ≡ has_room (limits_of self.now.limits) (client_with self.now client) }
+        ensures within { (client : Client)
+            → pages_in_pool (client_with self.now client) self.now.limits.pages
+            ≤ self.now.limits.slots }
+    {
+        self.pool.room()
+    }
+
+    /// Whether a slot of the pool is free: a page that comes in lets none go then.
+    pub fn has_free_slot(&self) -> bool
+        ensures { result ≡ has_free_slot self.now.pool }
+    {
+        self.pool.has_free_slot()
+    }
+
+    /// A new copy comes. The bytes of the page answered, if any, went from the pool, and its grant
+    /// is bare now: a caller that doesn't read it lets it go by `let_go`.
+    ///
+    /// `Full` comes where the page isn't in the pool and there is no room, and `Memory` only where
+    /// a growth of the chooser was refused; nothing changes then.
+    pub fn install(
+        &mut self,
+        page: PageNo,
+        grant: GrantNo,
+        version: Version,
+        bytes: Page,
+    ) -> Result<Option<PageNo>, PoolFault>
+        requires page { page < self.old.limits.pages }
+        requires size { length bytes ≡ self.old.limits.page_size }
+        ensures ok { IfOk result (λ gone.
+            BringsIn self.old page (ChangeCache (Install page grant version bytes)) gone self.new) }
+        ensures full { (result ≡ Err PoolFault.Full)
+            ↔ ((content_at self.old page ≡ None) × IsFull self.old) }
+        ensures here { is_some (content_at self.old page) ≡ true → result ≡ Ok None }
+        ensures slot { has_free_slot self.old.pool ≡ true → IfOk result (λ gone. gone ≡ None) }
+        ensures err { OnErr result (self.new ≡ self.old) }
+        ensures limits { self.new.limits ≡ self.old.limits }
+    {
+        let gone = self.pool.install(page, bytes)?;
+        let copy = self.table.at(page);
+        self.table.put(
+            page,
+            PageCopy {
+                seen: Some(grant),
+                held: Some(grant),
+                version,
+                ..copy
+            },
+        );
+        Ok(gone)
+    }
+
+    /// Bytes come for a grant that is held. What is answered and refused is as for `install`.
+    pub fn fill(&mut self, page: PageNo, bytes: Page) -> Result<Option<PageNo>, PoolFault>
+        requires held { is_some (copy_at self.old page).held ≡ true }
+        requires page { page < self.old.limits.pages }
+        requires size { length bytes ≡ self.old.limits.page_size }
+        ensures ok { IfOk result (λ gone. (grant : ℕ)
+            → BringsIn self.old page (ChangeCache (Fill page grant bytes)) gone self.new) }
+        ensures full { (result ≡ Err PoolFault.Full)
+            ↔ ((content_at self.old page ≡ None) × IsFull self.old) }
+        ensures here { is_some (content_at self.old page) ≡ true → result ≡ Ok None }
+        ensures slot { has_free_slot self.old.pool ≡ true → IfOk result (λ gone. gone ≡ None) }
+        ensures err { OnErr result (self.new ≡ self.old) }
+        ensures limits { self.new.limits ≡ self.old.limits }
+    {
+        self.pool.install(page, bytes)
+    }
+
+    /// A grant is seen that isn't held.
+    pub fn refuse(&mut self, page: PageNo, grant: GrantNo)
+        requires { page < self.old.limits.pages }
+        ensures { Does self.old (ChangeCache (RefuseGrant page grant) ∷ []) self.new }
+    {
+        let copy = self.table.at(page);
+        self.table.put(
+            page,
+            PageCopy {
+                seen: Some(greatest_grant(copy.seen, grant)),
+                ..copy
+            },
+        );
+    }
+
+    /// The copy of a page goes, and the permission to write it.
+    pub fn let_go(&mut self, page: PageNo)
+        requires page { page < self.old.limits.pages }
+        requires unwritten { has self.old.wrote page ≡ false }
+        ensures { Does self.old (ChangeCache (LetGo page) ∷ []) self.new }
+    {
+        let copy = self.table.at(page);
+        self.table.put(page, PageCopy { held: None, ..copy });
+        self.may_write.remove(page);
+        self.pool.remove(page);
+    }
+
+    /// The client may write a page that it holds, for this transaction.
+    pub fn take_permission(&mut self, page: PageNo, txn: TxnNo)
+        requires held { is_some (copy_at self.old page).held ≡ true }
+        requires page { page < self.old.limits.pages }
+        ensures by_table { (grant : ℕ)
+            → DoesInTxn txn self.old (ChangeCache (TakePermission page grant) ∷ []) self.new }
+        ensures limits { self.new.limits ≡ self.old.limits }
+    {
+        let copy = self.table.at(page);
+        self.table.put(
+            page,
+            PageCopy {
+                tag: Some(txn),
+                ..copy
+            },
+        );
+        self.may_write.insert(page);
+    }
+
+    /// The client may not write the page any more.
+    pub fn yield_permission(&mut self, page: PageNo)
+        requires { page < self.old.limits.pages }
+        ensures { Does self.old (ChangeCache (YieldPermission page) ∷ []) self.new }
+    {
+        self.may_write.remove(page);
+    }
+
+    /// The transaction asked to write the page: the pool may not let it go.
+    pub fn want(&mut self, page: PageNo)
+        requires { page < self.old.limits.pages }
+        ensures { Does self.old (MarkWanted page ∷ []) self.new }
+    {
+        self.wanted.insert(page);
+        self.pool.fix(page);
+    }
+
+    /// The transaction writes a page whose bytes are in the pool; they are overwritten in place.
+    pub fn write(&mut self, page: PageNo, bytes: &[u8])
+        requires here { is_some (content_at self.old page) ≡ true }
+        requires size { length bytes.now ≡ self.old.limits.page_size }
+        ensures { Does self.old (ChangeCache (WriteBytes page bytes.now) ∷ []) self.new }
+    {
+        self.pool.write(page, bytes);
+        self.wrote.insert(page);
+        self.pool.fix(page);
+    }
+
+    /// The transaction ends as dropped or aborted: the copies that it wrote go, and all
+    /// permissions. It costs the pages written, and what [`PageSet`] says of a walk.
+    pub fn abandon(&mut self)
+        ensures by_table { (outcome : LastOutcome)
+            → Does self.old (EndTransaction outcome ∷ ChangeCache Abandon ∷ []) self.new }
+        ensures limits { self.new.limits ≡ self.old.limits }
+    {
+        drop_copies(&mut self.table, &mut self.pool, &self.wrote);
+        self.may_write.clear();
+        self.wrote.clear();
+        self.wanted.clear();
+        self.pool.unfix_all();
+    }
+
+    /// The transaction ends as committed with that number, which is the version of what it wrote;
+    /// permissions stay where they are kept. It costs the same.
+    pub fn take_done(&mut self, number: CommitNo)
+        ensures by_table { (outcome : LastOutcome)
+            → Does self.old (EndTransaction outcome ∷ ChangeCache (TakeDone number) ∷ []) self.new }
+        ensures limits { self.new.limits ≡ self.old.limits }
+    {
+        set_versions(&mut self.table, &self.wrote, number);
+        if !self.limits.keep_write() {
+            self.may_write.clear();
+        }
+        self.wrote.clear();
+        self.wanted.clear();
+        self.pool.unfix_all();
+    }
+
+    /// Begins the client's next incarnation, over an empty chooser of as many slots as the limits
+    /// say.
+    ///
+    /// It takes no memory, and costs the pages that a grant came for in the incarnation that ends
+    /// and what [`PageSet`] says of a walk, beside the drop of the chooser before.
+    pub fn restart(&mut self, chooser: Q)
+        requires members { Q.members chooser ≡ [] }
+        requires slots { Q.slots chooser ≡ self.old.limits.slots }
+        ensures { self.new ≡ no_copies self.old.limits }
+    {
+        self.pool.restart(chooser, self.table.known());
+        self.table.clear();
+        self.may_write.clear();
+        self.wrote.clear();
+        self.wanted.clear();
+    }
+}

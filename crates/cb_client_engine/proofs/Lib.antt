@@ -1,9 +1,0 @@
-pub mod Keeping
-pub mod Reaching
-pub mod RoomLeft
-pub mod Taking
-pub mod Granting
-pub mod Ending
-pub mod Frames
-pub mod Writing
-pub mod Room

@@ -1,2 +1,0 @@
-pub mod Flags
-pub mod Lookups

@@ -1,5 +1,0 @@
-use Rattle.cb_clients.proofs.Flags.{has_test}
-use Rattle.cb_clients.proofs.client_set.ClientSet.contains.Goals as goal
-
-pub returns : goal.returns
-returns c = rw (← c.self.view_is, c.get.ensures.value) (has_test c.self.inside.bits c.args.client)

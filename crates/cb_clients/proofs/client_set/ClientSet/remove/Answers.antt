@@ -1,6 +1,0 @@
-use Rattle.std.proofs.Common.{rules, arith}
-use Rattle.cb_clients.proofs.Flags.{has_remove}
-use Rattle.cb_clients.proofs.client_set.ClientSet.remove.Goals as goal
-
-pub returns : goal.returns
-returns c = rw (← c.self.view_is, c.get.ensures.value) (λ other. has_remove c.self.inside.bits c.args.client other (search rules) (omega (arith, c.get.ensures)))

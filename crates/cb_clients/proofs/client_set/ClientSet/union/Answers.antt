@@ -1,5 +1,0 @@
-use Rattle.cb_clients.proofs.Flags.{has_union}
-use Rattle.cb_clients.proofs.client_set.ClientSet.union.Goals as goal
-
-pub returns : goal.returns
-returns c = rw (← c.self.view_is, ← c.other.view_is) (has_union c.self.inside.bits c.other.inside.bits)

@@ -1,9 +1,0 @@
-pub mod Changing
-pub mod Ends
-pub mod Keeping
-pub mod Known
-pub mod PageSteps
-pub mod PoolRoom
-pub mod Room
-pub mod Steps
-pub mod Walk

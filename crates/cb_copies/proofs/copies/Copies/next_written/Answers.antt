@@ -1,5 +1,0 @@
-use Rattle.std.proofs.Common.{rules}
-use Rattle.cb_copies.proofs.copies.Copies.next_written.Goals as goal
-
-pub returns : goal.returns
-returns g c = search rules

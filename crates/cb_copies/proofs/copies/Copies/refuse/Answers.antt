@@ -1,5 +1,0 @@
-use Rattle.cb_copies.proofs.Steps.{refuses}
-use Rattle.cb_copies.proofs.copies.Copies.refuse.Goals as goal
-
-pub returns : goal.returns
-returns g c = rw (c.put.ensures, c.greatest_grant.ensures, c.at-copy.ensures, ← c.self.view_is) (refuses _ c.args.page c.args.grant (rw (← c.self.view_is) at c.requires) c.self.invariant.sizes)

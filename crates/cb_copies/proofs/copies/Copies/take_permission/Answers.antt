@@ -1,5 +1,0 @@
-use Rattle.cb_copies.proofs.Steps.{takes_permission}
-use Rattle.cb_copies.proofs.copies.Copies.take_permission.Goals as goal
-
-pub returns-clause-by_table : goal.returns-clause-by_table
-returns-clause-by_table g c = λ grant. rw (c.put.ensures, c.insert.ensures, c.at-copy.ensures, ← c.self.view_is) (takes_permission _ c.args.page c.args.txn grant (rw (← c.self.view_is) at c.requires.page) c.self.invariant.sizes)

@@ -1,7 +1,0 @@
-use Rattle.cb_copies.proofs.PoolRoom.{within_pool}
-use Rattle.cb_copies.proofs.Steps.{writes}
-use Rattle.cb_copies.proofs.copies.Copies.write.Goals as goal
-
-pub returns : goal.returns
-returns g c = rw (c.fix.ensures, c.write.ensures, c.insert.ensures, ← c.self.view_is)
-    (writes _ c.args.page c.args.bytes.now _ (within_pool _ c.args.page (rw (← c.self.view_is) at c.requires.here)) c.self.invariant.sizes)

@@ -1,6 +1,0 @@
-use Rattle.std.proofs.Common.{rules}
-use Rattle.cb_copies.proofs.Known.{known_cleared}
-use Rattle.cb_copies.proofs.table.CopyTable.clear.Goals as goal
-
-pub invariant_of-self : goal.invariant_of-self
-invariant_of-self c = known_cleared _ _ _ _ c.self.invariant (search rules) (search rules)

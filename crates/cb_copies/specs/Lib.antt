@@ -1,7 +1,0 @@
-pub use Rattle.cb_pool.specs.PoolState
-pub mod ByTable
-pub mod CopiesState
-pub mod Ending
-pub mod Owing
-pub mod Room
-pub mod Rows

@@ -1,2 +1,0 @@
-pub mod Posting
-pub mod Dispatching

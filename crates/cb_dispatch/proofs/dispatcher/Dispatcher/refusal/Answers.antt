@@ -1,5 +1,0 @@
-use Rattle.std.proofs.Common.{rules}
-use Rattle.cb_dispatch.proofs.dispatcher.Dispatcher.refusal.Goals as goal
-
-pub returns-then-is_exhausted_by : goal.returns-then-is_exhausted_by
-returns-then-is_exhausted_by c = search rules

@@ -1,5 +1,0 @@
-use Rattle.std.proofs.Common.{rules}
-use Rattle.cb_draw.proofs.drawing.Drawing.new.Goals as goal
-
-pub returns : goal.returns
-returns c = search rules

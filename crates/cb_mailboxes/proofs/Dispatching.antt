@@ -1,0 +1,77 @@
+-- A dispatcher before and after its calls.
+use Rattle.std.proofs.Common.{◌≡◌, ◌<◌, ℕ, not, ◌==◌, List, [], length, reverse, filter, slice_index_or, slice_set, refl, sym, ◌∙◌, ap, subst, Result, Ok, Err, OnErr, All}
+use Rattle.std.proofs.lemmas.List.Elements.{All-filter, All-from_recursion}
+use Rattle.std.specs.List.{AllByRecursion}
+use Rattle.cb_mailboxes.proofs.Posting.{posted, posted_anew, posted_nothing, posted_to_others}
+use Rattle.cb_mailboxes.specs.Dispatching.{DispatcherState, Everybody, IsUnchanged, Others, Posts, emptied, mailbox_of, server_of}
+use Rattle.cb_mailboxes.specs.Mailboxes.{AsBefore, MailboxesState, current_in, mailbox_in}
+use Rattle.cb_frame_types.specs.Grammar.{Fits}
+use Rattle.cb_frame_types.specs.declared.frame.Frame.{Frame}
+use Rattle.cb_holdings.specs.Holdings as holdings
+use Rattle.cb_holdings.specs.Holdings.{HoldingsState}
+use Rattle.cb_outbox.specs.Messages.{messages_of}
+use Rattle.cb_page.specs.Bounds.{Bounds}
+use Rattle.cb_protocol.specs.AnyMessages.{Input}
+use Rattle.cb_protocol.specs.Server.{Server}
+use Rattle.cb_server.specs.ServerState as server
+use Rattle.cb_server.specs.ServerState.{ServerState}
+use Rattle.cb_server.specs.Taking.{Does}
+
+pub on_err : {T E : Type 0} (r : Result T E) (P : Type 0) → P → OnErr r P
+on_err (Ok x) P p = tt
+on_err (Err e) P p = p
+
+-- what is late is in the mailboxes, by the server's own incarnations
+pub by_server : (s : ServerState) (h : HoldingsState) (old ready : MailboxesState) → h ≡ s.tables.holdings → AsBefore (current_in (holdings.server_of h)) old ready → AsBefore (current_in (server.server_of s)) old ready
+by_server s h old ready e as_before = subst (λ (k : HoldingsState). AsBefore (current_in (holdings.server_of k)) old ready) e as_before
+
+-- a call was refused
+pub unchanged : (d : DispatcherState) (ready : MailboxesState) → AsBefore (current_in (server_of d)) d.mailboxes ready → IsUnchanged d (record { server = d.server; mailboxes = ready })
+unchanged d ready as_before = record { server = record { limits = refl; server = refl; holdings = refl }; mailbox = as_before.mailbox }
+
+pub unchanged_too : (d : DispatcherState) (ready : MailboxesState) (new : ServerState) → AsBefore (current_in (server_of d)) d.mailboxes ready → server.IsUnchanged d.server new
+    → IsUnchanged d (record { server = new; mailboxes = ready })
+unchanged_too d ready new as_before same = record {
+  server = same;
+  mailbox = λ client. ap (λ (s : Server). mailbox_in (current_in s) ready client) same.server ∙ as_before.mailbox client;
+}
+
+-- a step was made
+module _ (d : DispatcherState) (input : Input) (ready : MailboxesState) (new : ServerState) (said : List Frame) (as_before : AsBefore (current_in (server_of d)) d.mailboxes ready) (none : ready.late ≡ [])
+    (does : Does d.server input (messages_of said) new) where
+  pub posts : (boxes : MailboxesState) → boxes.boxes ≡ ready.boxes → boxes.late ≡ reverse said → Posts d input (mailbox_of d) Everybody (record { server = new; mailboxes = boxes })
+  posts boxes e f = record {
+    said = said;
+    does = does;
+    mailbox = λ client hears. posted (current_in (server_of d)) (current_in (server.server_of new)) d.mailboxes ready boxes said as_before none e f client;
+  }
+
+  pub greets : (client : ℕ) (cleared boxes : MailboxesState) → client < length ready.boxes → cleared ≡ record ready { boxes = slice_set ready.boxes client [] } → boxes.boxes ≡ cleared.boxes → boxes.late ≡ reverse said
+      → Posts d input (emptied (mailbox_of d) client) Everybody (record { server = new; mailboxes = boxes })
+  greets client cleared boxes lt c e f = record {
+    said = said;
+    does = does;
+    mailbox = λ k hears. posted_anew (current_in (server_of d)) (current_in (server.server_of new)) d.mailboxes ready boxes said client lt as_before none (e ∙ ap (λ (o : MailboxesState). o.boxes) c) f k;
+  }
+
+  pub dismisses : (client : ℕ) (kept : List Frame) (cleared boxes : MailboxesState) → client < length ready.boxes → kept ≡ filter (λ frame. not (frame.client == client)) said
+      → cleared ≡ record ready { boxes = slice_set ready.boxes client [] } → boxes.boxes ≡ cleared.boxes → boxes.late ≡ reverse kept
+      → Posts d input (mailbox_of d) (Others client) (record { server = new; mailboxes = boxes })
+  dismisses client kept cleared boxes lt filtered c e f = record {
+    said = said;
+    does = does;
+    mailbox = λ k other. posted_to_others (current_in (server_of d)) (current_in (server.server_of new)) d.mailboxes ready boxes said kept client lt as_before none filtered (e ∙ ap (λ (o : MailboxesState). o.boxes) c) f k other;
+  }
+
+  pub silences : (client : ℕ) (kept : List Frame) (cleared boxes : MailboxesState) → client < length ready.boxes → kept ≡ filter (λ frame. not (frame.client == client)) said
+      → cleared ≡ record ready { boxes = slice_set ready.boxes client [] } → boxes.boxes ≡ cleared.boxes → boxes.late ≡ reverse kept
+      → mailbox_of (record { server = new; mailboxes = boxes }) client ≡ []
+  silences client kept cleared boxes lt filtered c e f =
+      posted_nothing (current_in (server_of d)) (current_in (server.server_of new)) d.mailboxes ready boxes said kept client lt as_before none filtered (e ∙ ap (λ (o : MailboxesState). o.boxes) c) f
+
+-- there is a mailbox for whoever something is said to
+pub kept_have_boxes : (limits : Bounds) (boxes : List (List Frame)) (client : ℕ) (said kept : List Frame) → AllByRecursion (Fits limits) said → length boxes ≡ limits.clients
+    → kept ≡ filter (λ frame. not (frame.client == client)) said → All (λ frame. frame.client < length boxes) kept
+kept_have_boxes limits boxes client said kept fits sizes filtered =
+    subst (λ (l : List Frame). All (λ frame. frame.client < length boxes) l) (sym filtered) (All-filter (λ (frame : Frame). not (frame.client == client)) (λ (frame : Frame). frame.client < length boxes) said
+    (λ k d lt. subst (λ (n : ℕ). (slice_index_or said k d).client < n) (sym sizes) (All-from_recursion (Fits limits) said fits k d lt).client))

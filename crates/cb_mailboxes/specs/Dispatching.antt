@@ -1,0 +1,54 @@
+-- A server with mailboxes as its callers see it, and what its steps put into them.
+use Rattle.std.specs.Prelude.{◌≡◌, ◌≢◌, ℕ, ◌==◌, if◌then◌else◌, List, [], ◌++◌, drop}
+use Rattle.cb_mailboxes.specs.Mailboxes.{MailboxesState, addressed, current_in, mailbox_in}
+use Rattle.cb_frame_types.specs.declared.frame.Frame.{Frame}
+use Rattle.cb_outbox.specs.Messages.{messages_of}
+use Rattle.cb_protocol.specs.AnyMessages.{Input}
+use Rattle.cb_protocol.specs.Server.{Server}
+use Rattle.cb_server.specs.ServerState as server
+use Rattle.cb_server.specs.ServerState.{ServerState}
+use Rattle.cb_server.specs.Taking.{Does}
+
+-- a server, and what is to be sent to its clients
+pub record DispatcherState : Type 0 where
+  pub server : ServerState
+  pub mailboxes : MailboxesState
+
+-- the protocol's server that it has
+abbrev pub server_of : DispatcherState → Server
+server_of state = server.server_of state.server
+
+-- what is to be sent to a client, the oldest frame first
+abbrev pub mailbox_of : DispatcherState → (client : ℕ) → List Frame
+mailbox_of state client = mailbox_in (current_in (server_of state)) state.mailboxes client
+
+-- Nothing changes but room.
+pub record IsUnchanged (old new : DispatcherState) : Type 0 where
+  pub server : server.IsUnchanged old.server new.server
+  pub mailbox : (client : ℕ) → mailbox_of new client ≡ mailbox_of old client
+
+-- The server does what the protocol's does at the input. To each client that hears of it is to be
+-- sent what was to be sent before, and then what the server says to its current incarnation, in
+-- order.
+pub record Posts (old : DispatcherState) (input : Input) (before : ℕ → List Frame)
+    (Hears : ℕ → Type 0) (new : DispatcherState) : Type 0 where
+  pub said : List Frame
+  pub does : Does old.server input (messages_of said) new.server
+  pub mailbox : (client : ℕ) → Hears client → mailbox_of new client
+      ≡ before client ++ addressed (current_in (server_of new)) client said
+
+-- everybody hears; everybody else does
+abbrev pub Everybody : ℕ → Type 0
+Everybody client = Unit {0}
+
+abbrev pub Others : (client : ℕ) → ℕ → Type 0
+Others client other = other ≢ client
+
+-- what is to be sent, but nothing to that client
+abbrev pub emptied : (ℕ → List Frame) → (client : ℕ) → ℕ → List Frame
+emptied before client other = if other == client then [] else before other
+
+-- what is to be sent once that client has collected its oldest frame
+abbrev pub without_oldest : (ℕ → List Frame) → (client : ℕ) → ℕ → List Frame
+without_oldest before client other =
+    if other == client then drop 1 (before client) else before other

@@ -1,0 +1,2 @@
+pub mod Mailboxes
+pub mod Dispatching

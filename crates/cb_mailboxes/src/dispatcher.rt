@@ -1,0 +1,285 @@
+//! The type, its opening, what it takes, and what it shows.
+ghost use Rattle.std.specs.Prelude.{◌≡◌, ◌≢◌, ◌↔◌, ◌<◌, ℕ, [], slice_get, IfErr, IfOk, IfSome};
+ghost use Rattle.std.specs.Prelude.{IsTrue, OnErr, OnOk, true, false, not, ◌==◌};
+ghost use Rattle.std.specs.List.{AllByRecursion, filter};
+ghost use Rattle.std.specs.Option.{option_map};
+ghost use Rattle.cb_commit.specs.History.{CatchesUp};
+ghost use Rattle.cb_commit.specs.Stores.{IsOf};
+ghost use Rattle.cb_mailboxes.specs.Dispatching.{Everybody, IsUnchanged, Others, Posts, emptied};
+ghost use Rattle.cb_mailboxes.specs.Dispatching.{mailbox_of, server_of, without_oldest};
+ghost use Rattle.cb_frame_types.specs.Grammar.{Fits};
+ghost use Rattle.cb_holdings.specs.Commits.{batch_of};
+ghost use Rattle.cb_mailboxes.specs.Mailboxes.{AsBefore, current_in};
+ghost use Rattle.cb_outbox.specs.Messages.{messages_of};
+ghost use Rattle.cb_protocol.specs.AnyMessages.{MessageComes, ReachesDisk};
+ghost use Rattle.cb_protocol.specs.Flush.{can_flush, next_batch};
+ghost use Rattle.cb_protocol.specs.Messages.{Hello};
+ghost use Rattle.cb_server.specs.ServerState.{IsNew, IsServer, IsUnchanged as IsSame, commits_of};
+ghost use Rattle.cb_server.specs.Taking.{Does, Refuses, input_of, lacks_number_for};
+
+use crate::copying::copy_of;
+use crate::mailboxes::Mailboxes;
+use cb_commit::{Batch, Store};
+use cb_frame::{Frame, ShortBody, ShortFrame};
+use cb_holdings::Holdings;
+use cb_page::{ClientNo, CommitNo, Incarnation, Limits};
+use cb_server::{Server, ServerFault};
+use std::alloc::{AllocError, Global};
+use std::marker::Model;
+
+/// A server, and a mailbox for each of its clients.
+///
+/// Every call but `limits`, `holdings`, `has_frame_for` and `can_flush` takes memory.
+pub struct Dispatcher {
+    server: Server,
+    mailboxes: Mailboxes,
+}
+
+// By hand, so that who owns a dispatcher proves this drop alone, and not those of all its parts.
+impl Drop for Dispatcher {
+    fn drop(self) {
+        let Dispatcher {
+            server: _,
+            mailboxes: _,
+        } = self;
+    }
+}
+
+impl Model for Dispatcher {
+    ghost use Rattle.std.specs.Prelude.{◌≡◌, length};
+    ghost use Rattle.cb_mailboxes.specs.Dispatching.{DispatcherState};
+
+    ghost Value = { DispatcherState };
+
+    ghost view = { λ d. record { server = d.server; mailboxes = d.mailboxes } };
+
+    ghost invariant = { λ d. length d.mailboxes.boxes ≡ d.server.limits.clients };
+}
+
+impl Dispatcher {
+    /// A server over a store, all of which counts as on disk. No client is known, and nothing is to
+    /// be sent.
+    ///
+    /// It copies the store. `AllocError` only where memory was refused.
+    pub fn new(alloc: Global, limits: &Limits, store: Store) -> Result<Dispatcher, AllocError>
+        requires { IsOf limits.now store }
+        ensures new { IfOk result (λ d. IsNew limits.now store d.server) }
+        ensures mailbox { IfOk result (λ d. (client : ℕ) → mailbox_of d client ≡ []) }
+        ensures arose { IfOk result (λ d. IsServer d.server) }
+    {
+        let mailboxes = Mailboxes::new(alloc, limits.clients())?;
+        let server = Server::new(alloc, limits, store)?;
+        // A new server has arisen.
+        let _known = server.limits();
+        Ok(Dispatcher { server, mailboxes })
+    }
+
+    /// The limits of its store and its clients.
+    pub fn limits(&self) -> &Limits
+        ensures value { result.now ≡ self.now.server.limits }
+        ensures arose { IsServer self.now.server }
+    {
+        self.server.limits()
+    }
+
+    /// What the server has of its clients and pages.
+    pub fn holdings(&self) -> &Holdings
+        ensures { result.now ≡ self.now.server.tables.holdings }
+    {
+        self.server.holdings()
+    }
+
+    /// The server takes a frame. `Exhausted` exactly where the server has no number left for it,
+    /// also where a growth is refused; `Memory` only where a growth was refused.
+    pub fn take(&mut self, alloc: Global, frame: &Frame) -> Result<(), ServerFault>
+        requires { Fits self.old.server.limits frame.now }
+        ensures ok { OnOk result
+            (Posts self.old (input_of frame.now) (mailbox_of self.old) Everybody self.new) }
+        ensures taken { OnOk result (lacks_number_for self.old.server frame.now ≡ false) }
+        ensures arose { OnOk result (IsServer self.new.server) }
+        ensures err { IfErr result (Refuses self.old.server frame.now) }
+        ensures unchanged { OnErr result (IsUnchanged self.old self.new) }
+    {
+        let Ok(copy) = self.make_ready_for(alloc, frame) else {
+            return Err(self.refusal(frame));
+        };
+        let said = self.server.take(alloc, copy)?;
+        self.mailboxes.put(said);
+        // The server still arises by the protocol's steps.
+        let _known = self.server.limits();
+        Ok(())
+    }
+
+    /// Makes ready to take a frame, and copies it for the server.
+    fn make_ready_for(&mut self, alloc: Global, frame: &Frame) -> Result<Frame, AllocError>
+        ensures copy { IfOk result (λ copy. copy ≡ frame.now) }
+        ensures ready { OnOk result (self.new.mailboxes.late ≡ []) }
+        ensures server { self.new.server ≡ self.old.server }
+        ensures mailboxes { AsBefore (current_in (server_of self.old)) self.old.mailboxes
+            self.new.mailboxes }
+    {
+        self.mailboxes.make_ready(self.server.holdings())?;
+        copy_of(alloc, frame)
+    }
+
+    /// Why a frame is refused for which a growth was refused: want of a number goes before want of
+    /// memory.
+    fn refusal(&self, frame: &Frame) -> ServerFault
+        requires { Fits self.now.server.limits frame.now }
+        ensures { Refuses self.now.server frame.now result }
+    {
+        if self.server.is_exhausted_by(frame) {
+            ServerFault::Exhausted
+        } else {
+            ServerFault::Memory
+        }
+    }
+
+    /// The server takes the Hello of a client's incarnation. What was to be sent to the client goes
+    /// before.
+    ///
+    /// `AllocError` only where memory was refused.
+    pub fn greet(
+        &mut self,
+        alloc: Global,
+        client: ClientNo,
+        incarnation: Incarnation,
+    ) -> Result<(), AllocError>
+        requires { client < self.old.server.limits.clients }
+        ensures ok { OnOk result (Posts self.old (MessageComes client incarnation Hello)
+            (emptied (mailbox_of self.old) client) Everybody self.new) }
+        ensures arose { OnOk result (IsServer self.new.server) }
+        ensures unchanged { OnErr result (IsUnchanged self.old self.new) }
+    {
+        self.mailboxes.make_ready(self.server.holdings())?;
+        let said = hello(&mut self.server, alloc, client, incarnation)?;
+        self.mailboxes.clear(client);
+        self.mailboxes.put(said);
+        // The server still arises by the protocol's steps.
+        let _known = self.server.limits();
+        Ok(())
+    }
+
+    /// As `greet`, and nothing is sent to the client: nobody is that incarnation.
+    ///
+    /// `AllocError` only where memory was refused.
+    pub fn dismiss(
+        &mut self,
+        alloc: Global,
+        client: ClientNo,
+        incarnation: Incarnation,
+    ) -> Result<(), AllocError>
+        requires { client < self.old.server.limits.clients }
+        ensures ok { OnOk result (Posts self.old (MessageComes client incarnation Hello)
+            (mailbox_of self.old) (Others client) self.new) }
+        ensures silent { OnOk result (mailbox_of self.new client ≡ []) }
+        ensures arose { OnOk result (IsServer self.new.server) }
+        ensures unchanged { OnErr result (IsUnchanged self.old self.new) }
+    {
+        self.mailboxes.make_ready(self.server.holdings())?;
+        let mut said = hello(&mut self.server, alloc, client, incarnation)?;
+        keep_others(&mut said, client);
+        self.mailboxes.clear(client);
+        self.mailboxes.put(said);
+        // The server still arises by the protocol's steps.
+        let _known = self.server.limits();
+        Ok(())
+    }
+
+    /// Whether a frame is to be sent to the client, so that `collect` answers one.
+    pub fn has_frame_for(&self, client: ClientNo) -> bool
+        requires { client < self.now.server.limits.clients }
+        ensures { IsTrue result ↔ (mailbox_of self.now client ≢ []) }
+    {
+        self.mailboxes.has_frame_for(self.server.holdings(), client)
+    }
+
+    /// The oldest frame to the client; `None` exactly where its mailbox is empty.
+    ///
+    /// `AllocError` only where memory was refused; nothing is taken then.
+    pub fn collect(&mut self, client: ClientNo) -> Result<Option<Frame>, AllocError>
+        requires { client < self.old.server.limits.clients }
+        ensures oldest { IfOk result (λ frame.
+            frame ≡ slice_get (mailbox_of self.old client) 0) }
+        ensures rest { OnOk result ((other : ℕ) → mailbox_of self.new other
+            ≡ without_oldest (mailbox_of self.old) client other) }
+        ensures server { self.new.server ≡ self.old.server }
+        ensures unchanged { OnErr result (IsUnchanged self.old self.new) }
+    {
+        self.mailboxes.make_ready(self.server.holdings())?;
+        Ok(self.mailboxes.collect(client))
+    }
+
+    /// What is to be written to disk next; `None` where every commit is on disk.
+    ///
+    /// `AllocError` only where memory was refused.
+    pub fn batch(&self, alloc: Global) -> Result<Option<Batch>, AllocError>
+        ensures batch { IfOk result (λ batch.
+            option_map batch_of batch ≡ next_batch (server_of self.now)) }
+        ensures catches_up { IfOk result (λ batch.
+            IfSome batch (CatchesUp (commits_of self.now.server))) }
+        ensures can_flush { IfOk result (λ batch.
+            IfSome batch (λ b. can_flush (server_of self.now) b.number ≡ true)) }
+    {
+        self.server.batch(alloc)
+    }
+
+    /// Whether that commit was made and isn't on disk yet.
+    pub fn can_flush(&self, number: CommitNo) -> bool
+        ensures { result ≡ can_flush (server_of self.now) number }
+    {
+        self.server.can_flush(number)
+    }
+
+    /// The commits up to this number are on disk now.
+    ///
+    /// `AllocError` only where memory was refused.
+    pub fn flushed(&mut self, alloc: Global, number: CommitNo) -> Result<(), AllocError>
+        requires { can_flush (server_of self.old) number ≡ true }
+        ensures ok { OnOk result
+            (Posts self.old (ReachesDisk number) (mailbox_of self.old) Everybody self.new) }
+        ensures arose { OnOk result (IsServer self.new.server) }
+        ensures unchanged { OnErr result (IsUnchanged self.old self.new) }
+    {
+        self.mailboxes.make_ready(self.server.holdings())?;
+        let said = self.server.flushed(alloc, number)?;
+        self.mailboxes.put(said);
+        // The server still arises by the protocol's steps.
+        let _known = self.server.limits();
+        Ok(())
+    }
+}
+
+/// The server takes the Hello of a client's incarnation, for which no number is ever lacking.
+fn hello(
+    server: &mut Server,
+    alloc: Global,
+    client: ClientNo,
+    incarnation: Incarnation,
+) -> Result<Vec<Frame>, AllocError>
+    requires { client < server.old.limits.clients }
+    ensures ok { IfOk result (λ said. Does server.old (MessageComes client incarnation Hello)
+        (messages_of said.items) server.new) }
+    ensures fits { IfOk result (λ said. AllByRecursion (Fits server.old.limits) said.items) }
+    ensures unchanged { OnErr result (IsSame server.old server.new) }
+{
+    // In range by its type: `get` says so.
+    let _known = incarnation.get();
+    let frame = Frame::from(ShortFrame {
+        client,
+        incarnation,
+        body: ShortBody::Hello,
+    });
+    match server.take(alloc, frame) {
+        Ok(said) => Ok(said),
+        Err(_) => Err(AllocError),
+    }
+}
+
+/// Only what is for other clients stays.
+fn keep_others(said: &mut Vec<Frame>, client: ClientNo)
+    ensures { said.new.items
+        ≡ filter (λ frame. not (frame.client == client)) said.old.items }
+{
+    said.retain(|frame| frame.client != client);
+}

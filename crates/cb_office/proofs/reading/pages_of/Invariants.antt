@@ -1,6 +1,0 @@
-use Rattle.std.proofs.Common.{◌≡◌, map, take}
-use Rattle.cb_frame_types.specs.Grammar.{page_of}
-use Rattle.cb_office.proofs.reading.pages_of.Given as goal
-
-abbrev pub invariant-loop-write : goal.invariant-loop-write
-invariant-loop-write l = l.pages.items ≡ map page_of (take l.write-index l.writes)

@@ -1,9 +1,0 @@
-use Rattle.std.proofs.Common.{◌≡◌, ◌≤◌, ◌-◌, length}
-use Rattle.cb_office.specs.Moves.{reads_below}
-use Rattle.cb_office.proofs.reading.reads_of.Given as goal
-
-abbrev pub invariant-loop-page : goal.invariant-loop-page
-invariant-loop-page l = record { reads : l.reads.items ≡ reads_below l.hand l.pages l.from; within : l.from ≤ length l.pages }
-
-abbrev pub decreases-loop-page : goal.decreases-loop-page
-decreases-loop-page l = length l.pages - l.from

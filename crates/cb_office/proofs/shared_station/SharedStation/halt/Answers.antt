@@ -1,8 +1,0 @@
-use Rattle.std.proofs.Common.{rules}
-use Rattle.cb_office.proofs.shared_station.SharedStation.halt.Goals as goal
-
-pub invariant_of-self : goal.invariant_of-self
-invariant_of-self c = search rules
-
-pub returns : goal.returns
-returns c = search rules

@@ -1,6 +1,0 @@
-use Rattle.std.proofs.Common.{rules}
-use Rattle.cb_office.proofs.Calls.{meets}
-use Rattle.cb_office.proofs.station.Station.meet.Goals as goal
-
-pub returns-then-ne-clause-met : goal.returns-then-ne-clause-met
-returns-then-ne-clause-met c = meets c.args.self.now c.args.one.now c.args.other.now c.history-sound.ensures.sound (search rules) (search rules) (search rules)

@@ -1,5 +1,0 @@
-use Rattle.std.proofs.Common.{rules}
-use Rattle.cb_office.proofs.station.collecting.has_permission.Goals as goal
-
-pub returns-in-Ended : goal.returns-in-Ended
-returns-in-Ended c = search rules

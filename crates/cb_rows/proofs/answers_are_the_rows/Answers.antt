@@ -1,5 +1,0 @@
-use Rattle.cb_rows.proofs.Answering.{answered_rows}
-use Rattle.cb_rows.proofs.answers_are_the_rows.Goals as goal
-
-pub returns : goal.returns
-returns c = record { law = answered_rows }

@@ -1,5 +1,0 @@
-use Rattle.cb_rows.proofs.Holding.{batch_held}
-use Rattle.cb_rows.proofs.batches_are_held.Goals as goal
-
-pub returns : goal.returns
-returns g c = record { law = batch_held g.S.Store }

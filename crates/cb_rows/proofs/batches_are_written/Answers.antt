@@ -1,5 +1,0 @@
-use Rattle.cb_rows.proofs.Paging.{writes_batch}
-use Rattle.cb_rows.proofs.batches_are_written.Goals as goal
-
-pub returns : goal.returns
-returns g c = record { law = writes_batch g.S.Store }

@@ -1,5 +1,0 @@
-use Rattle.cb_rows.proofs.Following.{first_load}
-use Rattle.cb_rows.proofs.first_loads_are_zeros.Goals as goal
-
-pub returns : goal.returns
-returns g c = record { law = first_load g.S.Store }

@@ -1,5 +1,0 @@
-use Rattle.cb_rows.proofs.Following.{load_follows}
-use Rattle.cb_rows.proofs.loads_follow_batches.Goals as goal
-
-pub returns : goal.returns
-returns g c = record { law = load_follows g.S.Store }

@@ -1,5 +1,0 @@
-use Rattle.cb_rows.proofs.Marking.{mark_sets}
-use Rattle.cb_rows.proofs.numbers_are_set.Goals as goal
-
-pub returns : goal.returns
-returns g c = record { law = mark_sets g.S.Store }

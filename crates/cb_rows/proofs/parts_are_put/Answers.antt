@@ -1,5 +1,0 @@
-use Rattle.cb_rows.proofs.Putting.{part_puts}
-use Rattle.cb_rows.proofs.parts_are_put.Goals as goal
-
-pub returns : goal.returns
-returns g c = record { law = part_puts g.S.Store }

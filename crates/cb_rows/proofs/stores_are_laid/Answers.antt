@@ -1,5 +1,0 @@
-use Rattle.cb_rows.proofs.Laying.{store_laid}
-use Rattle.cb_rows.proofs.stores_are_laid.Goals as goal
-
-pub returns : goal.returns
-returns g c = record { law = store_laid g.S.Store }

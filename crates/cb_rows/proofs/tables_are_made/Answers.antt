@@ -1,5 +1,0 @@
-use Rattle.cb_rows.proofs.Creating.{tables_made}
-use Rattle.cb_rows.proofs.tables_are_made.Goals as goal
-
-pub returns : goal.returns
-returns g c = record { law = tables_made g.S.Store }

@@ -1,5 +1,0 @@
-use Rattle.cb_rows.proofs.Putting.{page_puts}
-use Rattle.cb_rows.proofs.versions_are_put.Goals as goal
-
-pub returns : goal.returns
-returns g c = record { law = page_puts g.S.Store }

@@ -1,0 +1,33 @@
+//! Schedules and the worlds that play them: the names that a caller needs, from where they stand.
+//!
+//! A schedule is a list of [`Event`]s: calls of clients, packets that are taken in any order, lost
+//! or repeated, restarts, and what is left to the server. [`read_schedule`] reads one from a text,
+//! and [`draw`] draws one by a seed. A [`World`] is a server with its clients and their packets. It
+//! plays events one by one, each with an [`Answer`], or a whole list, which gives a [`Transcript`];
+//! [`check_serial`] tells of any transcript whether its commits are a serial history.
+//!
+//! What each call promises stands where it is made: `cb_event`, `cb_transcript` and `cb_world`.
+//! The limits, the store and the chooser that a world is made of are handed on too.
+//!
+//! An example, which is compiled and run as the test `example`:
+//!
+//! ```
+//! let limits = Limits::new(1, 8, 16, 4, 1, 2).ok()?;
+//! let store = Store::zeros(alloc, &limits).ok()?;
+//! let events = read_schedule(alloc, &limits, SCHEDULE.as_bytes()).ok()?;
+//! let world = World::<TwoQ>::new(alloc, &limits, store).ok()?;
+//! let told = world.play(events.as_slice()).ok()?;
+//! let verdict = check_serial(alloc, &told).ok()?;
+//! Some(told.commits().len() == 1 && verdict == Verdict::Serial)
+//! ```
+#![tactic(auto)]
+
+#[cfg(test)]
+mod example;
+
+pub use cb_commit::Store;
+pub use cb_event::{Call, Event, ScheduleFault, read_schedule};
+pub use cb_page::Limits;
+pub use cb_transcript::{Answer, Transcript, Verdict, check_serial};
+pub use cb_twoq::TwoQ;
+pub use cb_world::{PlayFault, World, draw};

@@ -1,2 +1,0 @@
-pub mod ConfigLemmas
-pub mod RunLemmas

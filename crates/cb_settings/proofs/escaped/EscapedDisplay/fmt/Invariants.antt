@@ -1,9 +1,0 @@
-use Rattle.std.specs.Fmt.{HasWritten, IsPlainFormatter}
-use Rattle.std.specs.List.{flat_map}
-use Rattle.cb_settings.specs.Escaped.{escaped_character}
-use Rattle.cb_settings.proofs.escaped.EscapedDisplay.fmt.Given as goal
-
-abbrev pub invariant-loop-character : goal.invariant-loop-character
-invariant-loop-character g l =
-    IsPlainFormatter l.initial.f
-    → HasWritten g.W.Write.write_str_gives l.initial.f (flat_map escaped_character l.yielded) l.f

@@ -1,5 +1,0 @@
-use Rattle.std.proofs.Common.{rules}
-use Rattle.cb_settings.proofs.running.RunFaultDisplay.fmt.Goals as goal
-
-pub returns-in-FewPages-clause-writes : goal.returns-in-FewPages-clause-writes
-returns-in-FewPages-clause-writes g c = search rules

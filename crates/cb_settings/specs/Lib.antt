@@ -1,3 +1,0 @@
-pub mod Escaped
-pub mod RunSettings
-pub mod Settings

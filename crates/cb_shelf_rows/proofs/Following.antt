@@ -1,0 +1,103 @@
+-- What the tables answer after the open that made them, and the steps since.
+use Rattle.std.proofs.Common.{◌≡◌, inl, inr, ℕ, true, false, List, [], ◌∷◌, length, codes, refl, sym, ap, ◌∙◌, subst, true≢false}
+use Rattle.std.specs.List.{All, AllByRecursion}
+use Rattle.std.proofs.lemmas.List.{length-replicate}
+use Rattle.std.proofs.lemmas.List.Elements.{All-replicate, All-set, recursion_from_All}
+use Rattle.sqlite_tied.specs.Compute.{everything}
+use Rattle.sqlite_trees.specs.declared.store.Store.{Ghosts}
+use Rattle.sqlite_schema.specs.declared.schema.Schema.{Schema}
+use Rattle.sqlite.specs.Effect.{Database}
+use Rattle.sqlite.specs.Listing.{understood, listing_schema}
+use Rattle.cb_page.specs.Bounds.{Bounds}
+use Rattle.cb_commit.specs.declared.batch.BatchPage.{BatchPage}
+use Rattle.cb_commit.specs.declared.store.StoredPage.{StoredPage}
+use Rattle.cb_commit.specs.Stores.{StoreState, IsOf, zeros, zero_page}
+use Rattle.cb_commit.specs.Batches.{BatchState, overwritten, after_batch}
+use Rattle.cb_sql.specs.Inside.{can_answer}
+use Rattle.cb_sql.specs.Statements.{MakesAll}
+use Rattle.cb_sql.specs.Writing.{IsOfSize, Fits}
+use Rattle.cb_shelf.specs.Newer.{HoldsNewer}
+use Rattle.cb_shelf.specs.Opening.{laid, LaysOut}
+use Rattle.cb_shelf_rows.specs.Tables.{schema, no_schema}
+use Rattle.cb_shelf_rows.specs.Rows.{IsShelf, HasStore, HasFullPages}
+use Rattle.cb_shelf_rows.specs.Laws.{Step, MakesSteps, after_steps}
+use Rattle.cb_shelf_rows.specs.Laws.Step.{reopened, written}
+use Rattle.cb_shelf_rows.proofs.Answering.{answered_rows}
+use Rattle.cb_shelf_rows.proofs.Holding.{over_pages}
+use Rattle.cb_shelf_rows.proofs.Laying.{full_laid}
+use Rattle.cb_shelf_rows.proofs.Paging.{writes_batch}
+
+-- ---- an open
+
+-- a database with no table has no mark of a shelf, and no page of an older one
+no_mark : can_answer no_schema (codes "SELECT id, commits, page_size, pages FROM mark2") ≡ false
+unfolding understood listing_schema everything
+no_mark = refl
+
+no_old_page : can_answer no_schema (codes "SELECT no, version, body FROM page") ≡ false
+unfolding understood listing_schema everything
+no_old_page = refl
+
+-- a shelf has its mark
+mark_there : can_answer schema (codes "SELECT id, commits, page_size, pages FROM mark2") ≡ true
+unfolding understood listing_schema everything
+mark_there = refl
+
+-- one schema does not answer a query and leave it unanswered
+cant_differ : {X : Type 0} (one other : Schema) (query : List ℕ) → one ≡ other → can_answer one query ≡ true → can_answer other query ≡ false → X
+cant_differ one other query same does isnt = absurd (true≢false (sym does ∙ ap (λ s. can_answer s query) same ∙ isnt))
+
+-- where there is no table it makes them, with zeros
+lays_zeros : {S : Type 0} (g : Ghosts S) (limits : Bounds) (before after : Database) → before.schema ≡ no_schema → LaysOut g limits before after → MakesAll g (laid (zeros limits) false) before after
+lays_zeros g limits before after has (inl found) = cant_differ before.schema no_schema _ has found.0.0.0.0 no_mark
+lays_zeros g limits before after has (inr (inl made)) = made.1
+lays_zeros g limits before after has (inr (inr old)) = cant_differ before.schema no_schema _ has old.1.0.0.0 no_old_page
+
+-- over a shelf it changes nothing
+leaves_shelf : {S : Type 0} (g : Ghosts S) (limits : Bounds) (before after : Database) → IsShelf before → LaysOut g limits before after → before ≡ after
+leaves_shelf g limits before after shelf (inl found) = found.1
+leaves_shelf g limits before after shelf (inr (inl made)) = cant_differ schema before.schema _ (sym shelf.schema) mark_there made.0.0.1.0
+leaves_shelf g limits before after shelf (inr (inr old)) = cant_differ schema before.schema _ (sym shelf.schema) mark_there old.1.0.2.0
+
+-- ---- full pages
+
+abbrev AreFull : ℕ → List StoredPage → Type 0
+AreFull size pages = All (λ page. length page.bytes ≡ size) pages
+
+zeros_full : (limits : Bounds) → HasFullPages (zeros limits)
+zeros_full limits = All-replicate (λ (page : StoredPage). length page.bytes ≡ limits.page_size) limits.pages (zero_page limits.page_size) (length-replicate limits.page_size 0)
+
+over_full : (limits : Bounds) (batch : List BatchPage) (pages : List StoredPage) → AllByRecursion (IsOfSize limits) batch → AreFull limits.page_size pages → AreFull limits.page_size (overwritten pages batch)
+over_full limits [] pages fits full = full
+over_full limits (next ∷ batch) pages fits full = over_full limits batch _ fits.1 (All-set (λ (page : StoredPage). length page.bytes ≡ limits.page_size) pages next.page _ fits.0.bytes full)
+
+-- a batch that fits leaves them full
+batch_full : (limits : Bounds) (store : StoreState) (batch : BatchState) → IsOf limits store → Fits limits batch → HasFullPages store → HasFullPages (after_batch store batch)
+batch_full limits store batch of fits full =
+    subst (λ size. AreFull size (overwritten store.pages batch.pages)) (sym of.page_size)
+    (over_full limits batch.pages store.pages (recursion_from_All _ _ fits) (subst (λ size. AreFull size store.pages) of.page_size full))
+
+-- ---- the steps
+
+-- steps over a store's rows make them those of the store after these steps
+follows : {S : Type 0} (g : Ghosts S) (limits : Bounds) (steps : List Step) (store : StoreState) (before after : Database) → IsOf limits store → HasFullPages store → HasStore before store → MakesSteps g limits steps before after
+    → HasFullPages (after_steps store steps) × HasStore after (after_steps store steps)
+follows g limits [] store before after of full has m = (full, subst (λ db. HasStore db store) m has)
+follows g limits (reopened ∷ steps) store before after of full has m =
+    follows g limits steps store m.0 after of full (subst (λ db. HasStore db store) (leaves_shelf g limits before m.0 has.shelf m.1) has) m.2
+follows g limits (written batch ∷ steps) store before after of full has m =
+    let now : IsOf limits (after_batch store batch) = record { count = over_pages store.pages batch.pages ∙ of.count; page_size = of.page_size } in
+    follows g limits steps (after_batch store batch) m.1 after now (batch_full limits store batch of m.0 full) (writes_batch g limits batch store before m.1 of m.0 has m.2).0 m.3
+
+-- what the tables answer is the zeros with the batches written over them
+pub load_follows : {S : Type 0} (g : Ghosts S) (limits : Bounds) (steps : List Step) (answered : StoreState) (before opened after : Database) → before.schema ≡ no_schema → LaysOut g limits before opened
+    → MakesSteps g limits steps opened after → HasFullPages answered → HoldsNewer after answered → answered ≡ after_steps (zeros limits) steps
+load_follows g limits steps answered before opened after has lays m full holds =
+    let rows = full_laid g (zeros limits) before opened (zeros_full limits) has (lays_zeros g limits before opened has lays) in
+    let of : IsOf limits (zeros limits) = record { count = length-replicate limits.pages (zero_page limits.page_size); page_size = refl } in
+    let now = follows g limits steps (zeros limits) opened after of (zeros_full limits) rows m in answered_rows (after_steps (zeros limits) steps) answered after now.0 full now.1 holds
+
+-- with no step they are zeros
+pub first_load : {S : Type 0} (g : Ghosts S) (limits : Bounds) (answered : StoreState) (before after : Database) → before.schema ≡ no_schema → LaysOut g limits before after → HasFullPages answered → HoldsNewer after answered
+    → answered ≡ zeros limits
+first_load g limits answered before after has lays = load_follows g limits [] answered before after after has lays refl

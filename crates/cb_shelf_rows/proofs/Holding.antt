@@ -1,0 +1,141 @@
+-- The rows of the tables are a store's where what the tables answer is that store.
+use Rattle.std.proofs.Common.{◌≡◌, ℕ, ◌<◌, pos, Bool, true, false, ◌&&◌, List, [], ◌∷◌, map, filter, length, length-set, refl, sym, ap, ◌∙◌, subst, subst₂, arith, ◌*◌}
+use Rattle.sqlite_value.specs.declared.value.Value.TheVariants.{Int, Blob}
+use Rattle.sqlite_value.specs.declared.keys.Collation.TheVariants.{Binary}
+use Rattle.sqlite_value.specs.Order.{Row, column}
+use Rattle.sqlite_trees.specs.declared.store.Store.{Ghosts}
+use Rattle.sqlite_sql.specs.Term.{Term, col, op2}
+use Rattle.sqlite_sql.specs.declared.ops.BinaryOp.TheVariants.{Compare}
+use Rattle.sqlite_sql.specs.declared.ops.CompareOp.TheVariants.{Eq}
+use Rattle.sqlite_schema.specs.Rules.{equal}
+use Rattle.sqlite.specs.Effect.{Database}
+use Rattle.cb_page.specs.Bounds.{Bounds}
+use Rattle.cb_commit.specs.Stores.{StoreState, IsOf, version_at}
+use Rattle.cb_commit.specs.declared.store.StoredPage.{StoredPage}
+use Rattle.cb_commit.specs.declared.batch.BatchPage.{BatchPage}
+use Rattle.cb_commit.specs.Batches.{BatchState, after_batch, overwritten}
+use Rattle.cb_sql.specs.Statements.{Statement, MakesAll, batch_statements, part_count}
+use Rattle.cb_sql.specs.Asking.{RepliesRow}
+use Rattle.cb_sql.specs.Writing.{Fits}
+use Rattle.cb_shelf.specs.Reading.{mark_values, number_values}
+use Rattle.cb_shelf.specs.Newer.{HoldsNewer}
+use Rattle.cb_shelf_rows.specs.Tables.{schema, mark_tree, page_tree, part_tree}
+use Rattle.cb_shelf_rows.specs.Rows.{IsShelf, is_of_page, page_rows, part_rows, mark_columns, IsMarked, HasVersion, HasPart, HasStore, IsAsLarge}
+use Rattle.cb_shelf_rows.proofs.Counting.{all_pass, tells_count}
+use Rattle.cb_shelf_rows.proofs.Lists.{filter_same}
+use Rattle.cb_shelf_rows.proofs.Marking.{one_mapped}
+use Rattle.cb_shelf_rows.proofs.Paging.{writes_batch}
+use Rattle.cb_shelf_rows.proofs.Selecting.{passes, told_row, tells_row}
+use Rattle.cb_shelf_rows.proofs.Texts.{marks_text, marks_get, marks_unlisted, version_text, version_get, version_unlisted, bytes_text, bytes_get, bytes_unlisted, pages_text, pages_get, pages_unlisted, parts_text, parts_get, parts_unlisted}
+
+abbrev version_of : ℕ → Statement
+version_of page = record { text = version_text; params = Int (pos page) ∷ [] }
+
+abbrev part_of : ℕ → ℕ → Statement
+part_of page place = record { text = bytes_text; params = Int (pos page) ∷ Int (pos place) ∷ [] }
+
+one_test : (x : Bool) → (x && true) ≡ x
+one_test true = refl
+one_test false = refl
+
+two_tests : (x y : Bool) → (x && (y && true)) ≡ (x && y)
+two_tests true y = one_test y
+two_tests false y = refl
+
+-- ---- the version of a page
+
+abbrev by_page : List Term
+by_page = op2 (Compare Eq Binary) (col 1 0) (col 0 0) ∷ []
+
+of_page : (db : Database) (page : ℕ) → filter (passes page_tree by_page (col 1 2 ∷ []) (Int (pos page) ∷ [])) (db.trees page_tree) ≡ page_rows db page
+of_page db page = filter_same _ _ (db.trees page_tree) (λ r here. one_test (is_of_page page r))
+
+version_told : (db : Database) (page version : ℕ) → db.schema ≡ schema → RepliesRow db (version_of page) (number_values version) → HasVersion db page version
+version_told db page version has h =
+    let r = told_row version_text page_tree by_page (col 1 2 ∷ []) _ version_get version_unlisted (Int (pos page) ∷ []) db (number_values version) has h in
+    ap (map (λ (r : Row). column r 2)) (sym (of_page db page) ∙ r.1) ∙ ap (λ v. v ∷ []) r.2.0
+
+version_tells : (db after : Database) (page before version : ℕ) → db.schema ≡ schema → after.schema ≡ schema → RepliesRow db (version_of page) (number_values before) → HasVersion after page version
+    → RepliesRow after (version_of page) (number_values version)
+version_tells db after page before version has still h is =
+    let r = one_mapped (λ (r : Row). column r 2) (page_rows after page) _ is in
+    tells_row version_text page_tree by_page (col 1 2 ∷ []) _ version_get version_unlisted (Int (pos page) ∷ []) db after (number_values before) (number_values version) has still h r.0 (of_page after page ∙ r.1) (r.2, tt)
+
+-- ---- a part
+
+abbrev by_place : List Term
+by_place = op2 (Compare Eq Binary) (col 1 1) (col 0 0) ∷ op2 (Compare Eq Binary) (col 1 2) (col 0 1) ∷ []
+
+at_place : (db : Database) (page place : ℕ) → filter (passes part_tree by_place (col 1 3 ∷ []) (Int (pos page) ∷ Int (pos place) ∷ [])) (db.trees part_tree) ≡ part_rows db page place
+at_place db page place = filter_same _ _ (db.trees part_tree) (λ r here. two_tests (equal Binary (column r 1) (Int (pos page))) (equal Binary (column r 2) (Int (pos place))))
+
+part_told : (db : Database) (page place : ℕ) (bytes : List ℕ) → db.schema ≡ schema → RepliesRow db (part_of page place) (Blob bytes ∷ []) → HasPart db page place bytes
+part_told db page place bytes has h =
+    let r = told_row bytes_text part_tree by_place (col 1 3 ∷ []) _ bytes_get bytes_unlisted (Int (pos page) ∷ Int (pos place) ∷ []) db (Blob bytes ∷ []) has h in
+    ap (map (λ (r : Row). column r 3)) (sym (at_place db page place) ∙ r.1) ∙ ap (λ v. v ∷ []) r.2.0
+
+part_tells : (db after : Database) (page place : ℕ) (before bytes : List ℕ) → db.schema ≡ schema → after.schema ≡ schema → RepliesRow db (part_of page place) (Blob before ∷ []) → HasPart after page place bytes
+    → RepliesRow after (part_of page place) (Blob bytes ∷ [])
+part_tells db after page place before bytes has still h is =
+    let r = one_mapped (λ (r : Row). column r 3) (part_rows after page place) _ is in
+    tells_row bytes_text part_tree by_place (col 1 3 ∷ []) _ bytes_get bytes_unlisted (Int (pos page) ∷ Int (pos place) ∷ []) db after (Blob before ∷ []) (Blob bytes ∷ []) has still h r.0 (at_place after page place ∙ r.1)
+    (r.2, tt)
+
+-- ---- the mark
+
+abbrev mark_shown : List Term
+mark_shown = col 1 0 ∷ col 1 2 ∷ col 1 3 ∷ col 1 4 ∷ []
+
+mark_told : (db : Database) (number page_size pages : ℕ) → db.schema ≡ schema → RepliesRow db (record { text = marks_text; params = [] }) (mark_values number page_size pages) → IsMarked db number page_size pages
+mark_told db number page_size pages has h =
+    let r = told_row marks_text mark_tree [] mark_shown _ marks_get marks_unlisted [] db (mark_values number page_size pages) has h in
+    ap (map mark_columns) (sym (all_pass (db.trees mark_tree)) ∙ r.1) ∙ ap (λ v. v ∷ []) (rw (r.2.0, r.2.1.0, r.2.1.1.0, r.2.1.1.1.0) refl)
+
+mark_tells : (db after : Database) (before number page_size pages : ℕ) → db.schema ≡ schema → after.schema ≡ schema
+    → RepliesRow db (record { text = marks_text; params = [] }) (mark_values before page_size pages) → IsMarked after number page_size pages
+    → RepliesRow after (record { text = marks_text; params = [] }) (mark_values number page_size pages)
+mark_tells db after before number page_size pages has still h is =
+    let r = one_mapped mark_columns (after.trees mark_tree) _ is in
+    tells_row marks_text mark_tree [] mark_shown _ marks_get marks_unlisted [] db after (mark_values before page_size pages) (mark_values number page_size pages) has still h r.0 (all_pass (after.trees mark_tree) ∙ r.1)
+    (ap (λ (l : Row). column l 0) r.2, (ap (λ (l : Row). column l 1) r.2, (ap (λ (l : Row). column l 2) r.2, (ap (λ (l : Row). column l 3) r.2, tt))))
+
+-- ---- the store
+
+pub holds_rows : (db : Database) (store : StoreState) → IsShelf db → HoldsNewer db store → HasStore db store
+holds_rows db store shelf holds = record {
+  shelf = shelf;
+  mark = mark_told db store.number store.page_size (length store.pages) shelf.schema holds.mark;
+  versions = λ page low. version_told db page (version_at store page) shelf.schema (holds.each page low).version;
+  parts = λ page place low within. part_told db page place _ shelf.schema ((holds.each page low).parts place within);
+}
+
+-- the rows that another database has instead are what it answers
+rows_hold : (db after : Database) (store now : StoreState) → IsShelf db → HoldsNewer db store → length now.pages ≡ length store.pages → now.page_size ≡ store.page_size → HasStore after now → IsAsLarge db after
+    → HoldsNewer after now
+rows_hold db after store now shelf holds pages size has large =
+    let still = has.shelf.schema in
+    record {
+      mark = mark_tells db after store.number now.number now.page_size (length now.pages) shelf.schema still
+          (subst₂ (λ s n. RepliesRow db (record { text = marks_text; params = [] }) (mark_values store.number s n)) (sym size) (sym pages) holds.mark) has.mark;
+      pages = subst (λ n. RepliesRow after (record { text = pages_text; params = [] }) (number_values n)) (sym pages)
+          (tells_count pages_text page_tree _ pages_get pages_unlisted [] db after (number_values (length store.pages)) shelf.schema still large.versions holds.pages);
+      parts = subst₂ (λ s n. RepliesRow after (record { text = parts_text; params = [] }) (number_values (n * part_count s))) (sym size) (sym pages)
+          (tells_count parts_text part_tree _ parts_get parts_unlisted [] db after (number_values (length store.pages * part_count store.page_size)) shelf.schema still large.parts holds.parts);
+      each = λ page low.
+          let there = holds.each page (omega (arith, low, pages)) in record {
+            version = version_tells db after page _ (version_at now page) shelf.schema still there.version (has.versions page low);
+            parts = λ place within. part_tells db after page place _ _ shelf.schema still (there.parts place (subst (λ s. place < part_count s) size within)) (has.parts page place low within);
+          };
+    }
+
+-- a batch leaves as many pages as there were
+pub over_pages : (pages : List StoredPage) (batch : List BatchPage) → length (overwritten pages batch) ≡ length pages
+over_pages pages [] = refl
+over_pages pages (w ∷ batch) = over_pages _ batch ∙ length-set pages w.page _
+
+-- The statements of a batch that fits write it over the store that the tables hold.
+pub batch_held : {S : Type 0} (g : Ghosts S) (limits : Bounds) (store : StoreState) (batch : BatchState) (before after : Database) → IsShelf before → IsOf limits store → HoldsNewer before store → Fits limits batch
+    → MakesAll g (batch_statements batch) before after → IsShelf after × HoldsNewer after (after_batch store batch)
+batch_held g limits store batch before after shelf of holds fits m =
+    let wrote = writes_batch g limits batch store before after of fits (holds_rows before store shelf holds) m in
+    (wrote.0.shelf, rows_hold before after store (after_batch store batch) shelf holds (over_pages store.pages batch.pages) refl wrote.0 wrote.1)

@@ -1,0 +1,29 @@
+-- What is proved where.
+-- Lists: rows of a table that are picked by a test, as one row is put in and others are taken out.
+-- Texts: what each text is to the schema of the tables.
+-- Replacing: what INSERT OR REPLACE of one row makes of a table.
+-- Equal: sQL's equality of a value and a number.
+-- Putting: what the statements of a page make of the tables.
+-- Selecting: what a question by a key answers, by the rows that have the key.
+-- Marking: what the statement of a batch's number makes of the tables.
+-- Counting: what a question for a count answers.
+-- Paging: what the statements of a batch make of the tables, one page after another.
+-- Holding: the rows of the tables are a store's where what the tables answer is that store.
+-- Creating: the statements that create the tables.
+-- Laying: the statements that put a store into tables that were just made.
+-- Answering: the store that tables answer is the one that their rows are.
+-- Following: what the tables answer after the open that made them, and the steps since.
+pub mod Lists
+pub mod Texts
+pub mod Replacing
+pub mod Equal
+pub mod Putting
+pub mod Selecting
+pub mod Marking
+pub mod Counting
+pub mod Paging
+pub mod Holding
+pub mod Creating
+pub mod Laying
+pub mod Answering
+pub mod Following

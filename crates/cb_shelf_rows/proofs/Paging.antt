@@ -1,0 +1,209 @@
+-- What the statements of a batch make of the tables, one page after another.
+use Rattle.std.proofs.Common.{◌≡◌, ◌≢◌, ◌⊎◌, inl, inr, ℕ, zero, suc, ◌+◌, ◌<◌, ◌≤◌, List, [], ◌∷◌, ◌++◌, drop, map, filter, length, get_or, set, length-set, refl, sym, ap, ◌∙◌, subst, arith}
+use Rattle.std.specs.List.{AllByRecursion, range_with_len}
+use Rattle.std.proofs.lemmas.List.Elements.{recursion_from_All}
+use Rattle.std.proofs.lemmas.List.{get_or-set_same, get_or-set_other}
+use Rattle.sqlite_value.specs.declared.value.Value.{Value}
+use Rattle.sqlite_value.specs.Order.{Row, column}
+use Rattle.sqlite_trees.specs.declared.store.Store.{Ghosts}
+use Rattle.sqlite_rules.specs.Lists.{Has}
+use Rattle.sqlite.specs.Effect.{Database}
+use Rattle.cb_page.specs.Bounds.{Bounds}
+use Rattle.cb_commit.specs.declared.batch.BatchPage.{BatchPage}
+use Rattle.cb_commit.specs.declared.store.StoredPage.{StoredPage}
+use Rattle.cb_commit.specs.Stores.{StoreState, IsOf, no_page, version_at, bytes_at}
+use Rattle.cb_commit.specs.Batches.{BatchState, overwritten, after_batch}
+use Rattle.cb_sql.specs.Statements.{Statement, Makes, MakesAll, part_at, part_count, part_statement, page_statements, statements_of, pages_statements, mark_statement, batch_statements}
+use Rattle.cb_sql.specs.Writing.{IsOfSize, Fits}
+use Rattle.cb_shelf_rows.specs.Tables.{mark_tree, page_tree, part_tree}
+use Rattle.cb_shelf_rows.specs.Rows.{IsShelf, is_of_page, is_at, page_rows, part_rows, PutsPart, mark_columns, IsMarked, HasVersion, HasPart, HasStore, IsAsLarge}
+use Rattle.cb_shelf_rows.proofs.Marking.{mark_sets, one_mapped}
+use Rattle.cb_shelf_rows.proofs.Putting.{page_puts, part_puts}
+
+pub same_or_not : (m n : ℕ) → (m ≡ n) ⊎ (m ≢ n)
+same_or_not zero zero = inl refl
+same_or_not zero (suc n) = inr (λ e. omega (arith, e))
+same_or_not (suc m) zero = inr (λ e. omega (arith, e))
+same_or_not (suc m) (suc n) = elim (same_or_not m n) [ inl e ↦ inl (ap suc e) | inr apart ↦ inr (λ e. apart (omega (arith, e))) ]
+
+pub has_or_not : (xs : List ℕ) (x : ℕ) → Has xs x ⊎ (Has xs x → ⊥)
+has_or_not [] x = inr (λ h. h)
+has_or_not (y ∷ xs) x = elim (same_or_not x y) [
+  | inl e ↦ inl (inl e)
+  | inr apart ↦ elim (has_or_not xs x) [ inl h ↦ inl (inr h) | inr none ↦ inr (λ h. elim h [ inl e ↦ apart e | inr later ↦ none later ]) ]
+]
+
+pub in_range : (n a x : ℕ) → a ≤ x → x < a + n → Has (range_with_len a n) x
+in_range zero a x low high = absurd (omega (arith, low, high))
+in_range (suc n) a x low high = elim (same_or_not x a) [ inl e ↦ inl e | inr apart ↦ inr (in_range n (a + 1) x (omega (arith, low, apart)) (omega (arith, high))) ]
+
+of_range : (n a x : ℕ) → Has (range_with_len a n) x → x < a + n
+of_range zero a x h = absurd h
+of_range (suc n) a x (inl e) = omega (arith, e)
+of_range (suc n) a x (inr later) = omega (arith, of_range n (a + 1) x later)
+
+pub makes_split : {S : Type 0} (g : Ghosts S) (xs ys : List Statement) (before after : Database) → MakesAll g (xs ++ ys) before after → (between : Database) × MakesAll g xs before between × MakesAll g ys between after
+makes_split g [] ys before after m = (before, refl, m)
+makes_split g (x ∷ xs) ys before after m = let rest = makes_split g xs ys m.0 after m.2 in (rest.0, (m.0, m.1, rest.1), rest.2)
+
+one_long : {X Y : Type 0} (f : X → Y) (xs : List X) (y : Y) → map f xs ≡ y ∷ [] → length xs ≡ 1
+one_long f xs y e = ap length (one_mapped f xs y e).1
+
+-- ---- the parts of a page
+
+bytes_in : (r : Row) (a b c : Value) → drop 1 r ≡ a ∷ b ∷ c ∷ [] → column r 3 ≡ c
+bytes_in [] a b c e = absurd cc
+bytes_in (v ∷ r) a b c e = ap (λ (l : Row). column l 2) e
+
+part_there : (page place : ℕ) (bytes : List ℕ) (before after : Database) → PutsPart page place bytes before after → HasPart after page place bytes
+part_there page place bytes before after p =
+    let one = one_mapped (drop 1) (part_rows after page place) _ p.put in
+    ap (map (λ (r : Row). column r 3)) one.1 ∙ ap (λ v. v ∷ []) (bytes_in one.0 _ _ _ one.2)
+
+record PutsParts (page : ℕ) (bytes : List ℕ) (places : List ℕ) (before after : Database) : Type 0 where
+  shelf : IsShelf after
+  put : (at : ℕ) → Has places at → HasPart after page at (part_at bytes at)
+  others : (other at : ℕ) → (other ≢ page) ⊎ (Has places at → ⊥) → part_rows after other at ≡ part_rows before other at
+  count : ((at : ℕ) → Has places at → length (part_rows before page at) ≡ 1) → length (after.trees part_tree) ≡ length (before.trees part_tree)
+  marks : after.trees mark_tree ≡ before.trees mark_tree
+  versions : after.trees page_tree ≡ before.trees page_tree
+
+puts_parts : {S : Type 0} (g : Ghosts S) (page : ℕ) (bytes places : List ℕ) (before after : Database) → IsShelf before → MakesAll g (map (part_statement page bytes) places) before after → PutsParts page bytes places before after
+puts_parts g page bytes [] before after shelf m = record {
+  shelf = subst IsShelf m shelf;
+  put = λ at h. absurd h;
+  others = λ other at apart. ap (λ (d : Database). part_rows d other at) (sym m);
+  count = λ ones. ap (λ (d : Database). length (d.trees part_tree)) (sym m);
+  marks = ap (λ (d : Database). d.trees mark_tree) (sym m);
+  versions = ap (λ (d : Database). d.trees page_tree) (sym m);
+}
+puts_parts g page bytes (place ∷ places) before after shelf m =
+    let mid = m.0 in
+    let one = part_puts g before mid page place bytes shelf m.1 in
+    let more = puts_parts g page bytes places mid after one.shelf m.2 in
+    let there = part_there page place (part_at bytes place) before mid one in
+    record {
+      shelf = more.shelf;
+      put = λ at h. elim h [
+        | inl e ↦ elim (has_or_not places at) [
+          | inl later ↦ more.put at later
+          | inr none ↦
+              ap (map (λ (r : Row). column r 3)) (more.others page at (inr none)) ∙ subst (λ k. HasPart mid page k (part_at bytes k)) (sym e) there
+        ]
+        | inr later ↦ more.put at later
+      ];
+      others = λ other at apart. elim apart [
+        | inl ne ↦ more.others other at (inl ne) ∙ one.others other at (inl ne)
+        | inr none ↦ more.others other at (inr (λ h. none (inr h))) ∙ one.others other at (inr (λ e. none (inl e)))
+      ];
+      count = λ ones.
+          let same : length (mid.trees part_tree) ≡ length (before.trees part_tree) = omega (arith, one.count, ones place (inl refl)) in
+          more.count (λ at h. elim (same_or_not at place) [
+            | inl e ↦ subst (λ k. length (part_rows mid page k) ≡ 1) (sym e) (one_long (λ (r : Row). column r 3) (part_rows mid page place) _ there)
+            | inr apart ↦ ap length (one.others page at (inr apart)) ∙ ones at (inr h)
+          ]) ∙ same;
+      marks = more.marks ∙ one.marks;
+      versions = more.versions ∙ one.pages;
+    }
+
+-- ---- a page
+
+pub record PutsPage (page version : ℕ) (bytes : List ℕ) (before after : Database) : Type 0 where
+  pub shelf : IsShelf after
+  pub put : HasVersion after page version
+  pub parts : (at : ℕ) → at < part_count (length bytes) → HasPart after page at (part_at bytes at)
+  pub other_versions : (other : ℕ) → other ≢ page → page_rows after other ≡ page_rows before other
+  pub other_parts : (other at : ℕ) → other ≢ page → part_rows after other at ≡ part_rows before other at
+  pub count : length (page_rows before page) ≡ 1 → length (after.trees page_tree) ≡ length (before.trees page_tree)
+  pub parts_count : ((at : ℕ) → at < part_count (length bytes) → length (part_rows before page at) ≡ 1) → length (after.trees part_tree) ≡ length (before.trees part_tree)
+  pub marks : after.trees mark_tree ≡ before.trees mark_tree
+
+pub puts_page : {S : Type 0} (g : Ghosts S) (page version : ℕ) (bytes : List ℕ) (before after : Database) → IsShelf before → MakesAll g (page_statements page version bytes) before after → PutsPage page version bytes before after
+puts_page g page version bytes before after shelf m =
+    let mid = m.0 in
+    let n = part_count (length bytes) in
+    let one = page_puts g before mid page version shelf m.1 in
+    let more = puts_parts g page bytes (range_with_len 0 n) mid after one.shelf m.2 in
+    record {
+      shelf = more.shelf;
+      put = ap (λ l. map (λ (r : Row). column r 2) (filter (is_of_page page) l)) more.versions ∙ ap (map (λ (r : Row). column r 2)) one.put;
+      parts = λ at low. more.put at (in_range n 0 at (omega arith) (omega (arith, low)));
+      other_versions = λ other apart. ap (filter (is_of_page other)) more.versions ∙ one.others other apart;
+      other_parts = λ other at apart. more.others other at (inl apart) ∙ ap (filter (is_at other at)) one.parts;
+      count = λ is. ap length more.versions ∙ omega (arith, one.count, is);
+      parts_count = λ ones.
+          more.count (λ at h. ap (λ l. length (filter (is_at page at) l)) one.parts ∙ ones at (omega (arith, of_range n 0 at h))) ∙ ap length one.parts;
+      marks = more.marks ∙ one.marks;
+    }
+
+-- ---- the pages of a batch
+
+as_large : (a b c : Database) → IsAsLarge a b → IsAsLarge b c → IsAsLarge a c
+as_large a b c p q = record { versions = q.versions ∙ p.versions; parts = q.parts ∙ p.parts }
+
+-- a store with one page of a batch written over it
+abbrev with_page : StoreState → BatchPage → StoreState
+with_page store w = record store { pages = set store.pages w.page (record { version = w.version; bytes = w.bytes }) }
+
+writes_page : {S : Type 0} (g : Ghosts S) (limits : Bounds) (store : StoreState) (w : BatchPage) (before after : Database) → IsOf limits store → IsOfSize limits w → HasStore before store
+    → MakesAll g (statements_of w) before after → HasStore after (with_page store w) × IsAsLarge before after
+writes_page g limits store w before after of fits has m =
+    let p = puts_page g w.page w.version w.bytes before after has.shelf m in
+    let low : w.page < length store.pages = omega (arith, fits.page, of.count) in
+    let size : length w.bytes ≡ store.page_size = fits.bytes ∙ sym of.page_size in
+    let long = length-set store.pages w.page (record { version = w.version; bytes = w.bytes }) in
+    let now : StoredPage = record { version = w.version; bytes = w.bytes } in
+    let here : get_or (with_page store w).pages w.page no_page ≡ now = get_or-set_same store.pages w.page now no_page low in
+    let there : (page : ℕ) → page ≢ w.page → get_or (with_page store w).pages page no_page ≡ get_or store.pages page no_page = λ page apart. get_or-set_other store.pages w.page page now no_page apart in (
+      record {
+        shelf = p.shelf;
+        mark = subst (λ n. IsMarked after store.number store.page_size n) (sym long) (ap (map mark_columns) p.marks ∙ has.mark);
+        versions = λ page within. elim (same_or_not page w.page) [
+          | inl e ↦ subst (λ k. HasVersion after k (version_at (with_page store w) k)) (sym e) (subst (λ (s : StoredPage). HasVersion after w.page s.version) (sym here) p.put)
+          | inr apart ↦
+              subst (λ (s : StoredPage). HasVersion after page s.version) (sym (there page apart))
+              (ap (map (λ (r : Row). column r 2)) (p.other_versions page apart) ∙ has.versions page (omega (arith, within, long)))
+        ];
+        parts = λ page place within low. elim (same_or_not page w.page) [
+          | inl e ↦
+              subst (λ k. HasPart after k place (part_at (bytes_at (with_page store w) k) place)) (sym e)
+              (subst (λ (s : StoredPage). HasPart after w.page place (part_at s.bytes place)) (sym here) (p.parts place (subst (λ n. place < part_count n) (sym size) low)))
+          | inr apart ↦
+              subst (λ (s : StoredPage). HasPart after page place (part_at s.bytes place)) (sym (there page apart))
+              (ap (map (λ (r : Row). column r 3)) (p.other_parts page place apart) ∙ has.parts page place (omega (arith, within, long)) low)
+        ];
+      },
+      record {
+        versions = p.count (one_long (λ (r : Row). column r 2) (page_rows before w.page) _ (has.versions w.page low));
+        parts = p.parts_count (λ at within. one_long (λ (r : Row). column r 3) (part_rows before w.page at) _ (has.parts w.page at low (subst (λ n. at < part_count n) size within)));
+      },
+    )
+
+writes_pages : {S : Type 0} (g : Ghosts S) (limits : Bounds) (pages : List BatchPage) (store : StoreState) (before after : Database) → IsOf limits store → AllByRecursion (IsOfSize limits) pages → HasStore before store
+    → MakesAll g (pages_statements pages) before after → HasStore after (record store { pages = overwritten store.pages pages }) × IsAsLarge before after
+writes_pages g limits [] store before after of fits has m =
+    (subst (λ d. HasStore d store) m has, record { versions = ap (λ (d : Database). length (d.trees page_tree)) (sym m); parts = ap (λ (d : Database). length (d.trees part_tree)) (sym m) })
+writes_pages g limits (w ∷ pages) store before after of fits has m =
+    let split = makes_split g (statements_of w) (pages_statements pages) before after m in
+    let one = writes_page g limits store w before split.0 of fits.0 has split.1 in
+    let long = length-set store.pages w.page (record { version = w.version; bytes = w.bytes }) in
+    let more = writes_pages g limits pages (with_page store w) split.0 after (record { count = long ∙ of.count; page_size = of.page_size }) fits.1 one.0 split.2 in
+    (more.0, as_large before split.0 after one.1 more.1)
+
+-- the statements of a batch write it over the store
+pub writes_batch : {S : Type 0} (g : Ghosts S) (limits : Bounds) (batch : BatchState) (store : StoreState) (before after : Database) → IsOf limits store → Fits limits batch → HasStore before store
+    → MakesAll g (batch_statements batch) before after → HasStore after (after_batch store batch) × IsAsLarge before after
+writes_batch g limits batch store before after of fits has m =
+    let split = makes_split g (pages_statements batch.pages) (mark_statement batch.number ∷ []) before after m in
+    let mid = split.0 in
+    let p = writes_pages g limits batch.pages store before mid of (recursion_from_All _ _ fits) has split.1 in
+    let made = subst (Makes g (mark_statement batch.number) mid) split.2.2 split.2.1 in
+    let s = mark_sets g mid after batch.number store.number store.page_size (length (overwritten store.pages batch.pages)) p.0.shelf p.0.mark made in (
+      record {
+        shelf = s.shelf;
+        mark = s.put;
+        versions = λ page low. ap (λ l. map (λ (r : Row). column r 2) (filter (is_of_page page) l)) s.versions ∙ p.0.versions page low;
+        parts = λ page place within low. ap (λ l. map (λ (r : Row). column r 3) (filter (is_at page place) l)) s.parts ∙ p.0.parts page place within low;
+      },
+      record { versions = ap length s.versions ∙ p.1.versions; parts = ap length s.parts ∙ p.1.parts },
+    )

@@ -1,0 +1,6 @@
+-- Goals of `batches_are_written`.
+use Rattle.cb_shelf_rows.proofs.Paging.{writes_batch}
+use Rattle.cb_shelf_rows.proofs.batches_are_written.Goals as goal
+
+pub returns : goal.returns
+returns g c = record { law = writes_batch g.S.Store }

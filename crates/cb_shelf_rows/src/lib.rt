@@ -1,0 +1,77 @@
+//! What the statements of a batch make of the rows of a shelf's tables, as laws by name.
+//!
+//! The crate has no code: each function carries one law in its contract, over the definitions of
+//! `cb_sql` and `cb_shelf`. The laws are about a database whose schema is that of the three
+//! tables `mark2`, `page2` and `part`, as they are made where no other was, and whose rows have
+//! whole numbers as rowids, which rise (`IsShelf`). Each statement keeps this.
+//!
+//! A table is stated as a map from its key to its rows: `page_rows` and `part_rows`.
+//! `cb_shelf::Shelf::write` says that the statements of its batch ran (`MakesAll`), and
+//! [`batches_are_held`] what the tables hold then.
+#![tactic(auto)]
+
+ghost use Rattle.cb_shelf_rows.specs.Laws.{StoresAreLaid, VersionsArePut, PartsArePut};
+ghost use Rattle.cb_shelf_rows.specs.Laws.{NumbersAreSet};
+ghost use Rattle.cb_shelf_rows.specs.Laws.{BatchesAreWritten, BatchesAreHeld, TablesAreMade};
+ghost use Rattle.cb_shelf_rows.specs.Laws.{AnswersAreTheRows, FirstLoadsAreZeros};
+ghost use Rattle.cb_shelf_rows.specs.Laws.{LoadsFollowBatches};
+
+use sqlite::Alter;
+
+/// Where there is no table, the statements that create the tables make a shelf's, with no row.
+pub fn tables_are_made<S: Alter>()
+    ensures law { TablesAreMade S.Store }
+{}
+
+/// Where there is no table, the statements of an open that finds none make tables whose rows are
+/// those of the store.
+pub fn stores_are_laid<S: Alter>()
+    ensures law { StoresAreLaid S.Store }
+{}
+
+/// The statement of a page's version puts one row with it in the place of those that the page had.
+/// Each other page keeps its rows, and so do the other tables.
+pub fn versions_are_put<S: Alter>()
+    ensures law { VersionsArePut S.Store }
+{}
+
+/// The statement of a part puts one row with its bytes in the place of those that the page had
+/// there. Each other part keeps its rows, and so do the other tables.
+pub fn parts_are_put<S: Alter>()
+    ensures law { PartsArePut S.Store }
+{}
+
+/// The statement of the number sets it in the row of the mark, and nothing else.
+pub fn numbers_are_set<S: Alter>()
+    ensures law { NumbersAreSet S.Store }
+{}
+
+/// Where the rows are those of a store, the statements of a batch that fits make them those of that
+/// store with the batch written over it. `page2` and `part` have as many rows as before.
+pub fn batches_are_written<S: Alter>()
+    ensures law { BatchesAreWritten S.Store }
+{}
+
+/// Where the tables hold a store, by what they answer to the questions of a load, they hold that
+/// store with the batch written over it once the statements of a batch that fits have run.
+pub fn batches_are_held<S: Alter>()
+    ensures law { BatchesAreHeld S.Store }
+{}
+
+/// What tables answer that have the rows of a store is that store and no other, where each page of
+/// both has its store's size, as of every `Store`.
+pub fn answers_are_the_rows()
+    ensures law { AnswersAreTheRows }
+{}
+
+/// What the tables answer after an open over a database with no table is the store of zeros.
+pub fn first_loads_are_zeros<S: Alter>()
+    ensures law { FirstLoadsAreZeros S.Store }
+{}
+
+/// What the tables answer after an open over a database with no table, and then batches that fit,
+/// is the store of zeros with these batches written over it in their order. Later opens of the same
+/// limits, before, between or after the batches, change nothing.
+pub fn loads_follow_batches<S: Alter>()
+    ensures law { LoadsFollowBatches S.Store }
+{}

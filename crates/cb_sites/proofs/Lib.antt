@@ -1,3 +1,0 @@
-pub mod Replying
-pub mod Sends
-pub mod Worlds

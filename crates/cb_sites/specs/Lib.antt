@@ -1,4 +1,0 @@
-pub mod ByWorld
-pub mod Packets
-pub mod SitesState
-pub mod Wire

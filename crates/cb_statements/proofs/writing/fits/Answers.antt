@@ -1,5 +1,0 @@
-use Rattle.std.proofs.Common.{rules}
-use Rattle.cb_statements.proofs.writing.fits.Goals as goal
-
-pub returns : goal.returns
-returns c = search rules

@@ -1,0 +1,19 @@
+-- What is proved where.
+-- Onward: what a message other than Hello leaves of its own client's incarnation and transaction.
+-- Reached: what the protocol says of servers that arose, of a station's server.
+-- Keeping: what is stored of a hand stays as the server has it, by each step and each change.
+-- Following: a hand and what is stored of it, through several changes.
+-- PagesRead: what a commit reads and writes, page by page.
+-- Receiving: what a grant whose row stands makes of the hand.
+-- Stations: what holds of every station holds after each call.
+-- Calls: what holds of every station holds after each call, by what the call did.
+-- Admitting: what a commit is answered, by why it is refused or that it is allowed.
+pub mod Onward
+pub mod Reached
+pub mod Keeping
+pub mod Following
+pub mod PagesRead
+pub mod Receiving
+pub mod Stations
+pub mod Calls
+pub mod Admitting

@@ -1,0 +1,22 @@
+//! The station: the server of a running program as all its clients share it, with what each client
+//! holds, what is to be sent to each, and the history of commits. And the office, by which threads
+//! share it.
+//!
+//! A [`Station`] is one value, which its owner lends to one client at a time. Each call takes the
+//! client's hand: one that isn't the hand that the station stores is refused as `Foreign`.
+//!
+//! An [`Office`] is the station under one lock, with conditions on which threads wait until it has
+//! changed: one for each client, for its frames, and one for all else. What holds of the station
+//! whenever the lock is free, and of the flags beside it, `lock` says.
+#![tactic(auto)]
+
+mod office;
+mod office_fault;
+mod reading;
+mod shared_station;
+mod station;
+
+pub use office::Office;
+pub use office_fault::OfficeFault;
+pub use shared_station::SharedStation;
+pub use station::Station;

@@ -1,0 +1,125 @@
+//! The lock.
+ghost use Rattle.std.specs.Sync.Mutex.{mutex_guard_value};
+ghost use Rattle.cb_station.specs.Stations.{IsStation};
+ghost use Rattle.cb_station.specs.Shared.{AreFlags};
+
+use crate::shared_station::SharedStation;
+use crate::station::Station;
+use cb_page::ClientNo;
+use std::array;
+use std::sync::{Condvar, Mutex, MutexGuard, Wait};
+
+/// As many as there are clients at most.
+const CLIENTS: usize = 32;
+
+/// A station under one lock. Each client waits by itself for a frame, so that nobody is woken for
+/// another's; whoever waits for anything else is told of commits, closing and halting.
+///
+/// What a call that takes the lock itself does with the station no contract can say: it is shown by
+/// tests.
+#[derive(Drop)]
+pub struct Office {
+    shared: Mutex<SharedStation>,
+    changed: Condvar,
+    frames: [Condvar; CLIENTS],
+}
+
+impl Office {
+    /// An office over a station. The last of so many calls of `work` to end closes it.
+    pub fn new(station: Station, workers: usize) -> Office {
+        Office {
+            shared: Mutex::new(SharedStation::new(station, workers)),
+            changed: Condvar::new(),
+            frames: array::from_fn(|_client| Condvar::new()),
+        }
+    }
+
+    /// Takes the lock, and lends what lies under it until the guard is let go. Whatever threads did
+    /// before, the station is one: its history is legal and is what its server did, and what it has
+    /// stored of each hand the server has.
+    pub fn lock<R: Wait>(&self, rt: &R) -> MutexGuard<'_, SharedStation>
+        ensures sound { IsStation (mutex_guard_value result).station }
+        ensures flags { AreFlags (mutex_guard_value result) }
+    {
+        sound(self.shared.lock(rt))
+    }
+
+    /// Lets the lock go until somebody tells of a commit or of the end of a call of `work`, closes
+    /// or halts the office, and takes it again. It may return for no reason.
+    pub fn wait<'a, R: Wait>(
+        &'a self,
+        rt: &R,
+        shared: MutexGuard<'a, SharedStation>,
+    ) -> MutexGuard<'a, SharedStation>
+        ensures sound { IsStation (mutex_guard_value result).station }
+        ensures flags { AreFlags (mutex_guard_value result) }
+    {
+        sound(self.changed.wait(rt, shared))
+    }
+
+    /// Lets the lock go until there may be a frame to that client, or the office is halted, and
+    /// takes it again. It may return for no reason.
+    pub fn wait_for_frame<'a, R: Wait>(
+        &'a self,
+        rt: &R,
+        shared: MutexGuard<'a, SharedStation>,
+        client: ClientNo,
+    ) -> MutexGuard<'a, SharedStation>
+        ensures sound { IsStation (mutex_guard_value result).station }
+        ensures flags { AreFlags (mutex_guard_value result) }
+    {
+        sound(self.frames[client.index()].wait(rt, shared))
+    }
+
+    /// Tells those clients to which there is a frame; the lock is held.
+    pub fn tell_clients(&self, shared: &SharedStation) {
+        let station = shared.station();
+        for client in 0..CLIENTS as u16 {
+            let client = ClientNo::new(client);
+            if station.has_frame_for(client) {
+                self.frames[client.index()].notify_all();
+            }
+        }
+    }
+
+    /// Tells who waits for commits, the end of a call of `work`, closing or halting.
+    pub fn tell(&self) {
+        self.changed.notify_all();
+    }
+
+    /// Tells everybody.
+    pub fn tell_all(&self) {
+        self.tell();
+        for waiting in &self.frames {
+            waiting.notify_all();
+        }
+    }
+
+    /// No call of `work` begins any more: one that would takes no job. Those that are going on do all
+    /// their jobs, and the flusher ends when none is left and all is written; at once, where nobody
+    /// works and all is.
+    ///
+    /// Whoever commits without `work`, and isn't counted by `begin_work`, isn't waited for: what he
+    /// commits after the flusher has ended is in memory alone.
+    pub fn close<R: Wait>(&self, rt: &R) {
+        self.lock(rt).close();
+        self.tell();
+    }
+
+    /// Closes the office, and every call that waits for it gives up. No call of `work` commits any
+    /// more, so the flusher ends when all is written.
+    pub fn halt<R: Wait>(&self, rt: &R) {
+        self.lock(rt).halt();
+        self.tell_all();
+    }
+}
+
+/// What lies under the lock, with what always holds of it.
+fn sound(shared: MutexGuard<'_, SharedStation>) -> MutexGuard<'_, SharedStation>
+    ensures sound { IsStation (mutex_guard_value result).station }
+    ensures flags { AreFlags (mutex_guard_value result) }
+{
+    // What holds of every station under the lock, `station` says.
+    let _known = shared.station();
+    shared
+}

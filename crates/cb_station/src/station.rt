@@ -1,0 +1,153 @@
+//! The type, its opening, and what it shows.
+ghost use Rattle.std.specs.Prelude.{◌≡◌, ◌≢◌, ◌↔◌, ◌<◌, ℕ, [], true, false, IfErr, IfOk, IfSome};
+ghost use Rattle.std.specs.Prelude.{IsTrue, None, OnOk, Ok, replicate};
+ghost use Rattle.std.specs.Option.{option_map};
+ghost use Rattle.cb_joined.specs.Agreement.{Meet};
+ghost use Rattle.cb_commit.specs.History.{CatchesUp};
+ghost use Rattle.cb_commit.specs.Stores.{IsOf};
+ghost use Rattle.cb_holdings.specs.Commits.{batch_of};
+ghost use Rattle.cb_joined.specs.Joined.{IsHeld};
+ghost use Rattle.cb_station.specs.Moves.{IsOwn};
+ghost use Rattle.cb_station.specs.Stations.{IsStation, mailbox_of, server_of};
+ghost use Rattle.cb_station.specs.declared.office_fault.OfficeFault.TheVariants as office;
+ghost use Rattle.cb_protocol.specs.Flush.{can_flush, next_batch};
+ghost use Rattle.cb_server.specs.ServerState.{IsNew, commits_of};
+
+mod collecting;
+mod committing;
+mod entering;
+mod taking;
+
+use crate::office_fault::OfficeFault;
+use cb_commit::{Batch, Store};
+use cb_frame::Frame;
+use cb_hands::Hand;
+use cb_joined::{Entry, JoinedHands};
+use cb_mailboxes::Dispatcher;
+use cb_page::{ClientNo, Limits};
+use std::alloc::{AllocError, Global};
+use std::marker::Model;
+
+/// A server that several clients share, with what each joined client's hand shows, what is to be
+/// sent to each, and the history of commits.
+///
+/// What holds of it whenever nobody has it, `history` says. Every call but `meet`, `history` and
+/// `has_frame_for` takes memory.
+pub struct Station {
+    dispatcher: Dispatcher,
+    hands: JoinedHands,
+    history: Vec<Entry>,
+}
+
+// By hand, so that who owns a station proves this drop alone, and not those of all its parts.
+impl Drop for Station {
+    fn drop(self) {
+        let Station {
+            dispatcher: _,
+            hands: _,
+            history: _,
+        } = self;
+    }
+}
+
+impl Model for Station {
+    ghost use Rattle.cb_station.specs.Stations.{IsStation, StationState};
+
+    ghost Value = { StationState };
+
+    ghost view = { λ station. record {
+      dispatcher = station.dispatcher;
+      hands = station.hands;
+      history = station.history.items;
+    } };
+
+    ghost invariant = { λ station. IsStation (record {
+      dispatcher = station.dispatcher;
+      hands = station.hands;
+      history = station.history.items;
+    }) };
+}
+
+impl Station {
+    /// A station over a store; nobody has joined. Write permissions may not be kept.
+    ///
+    /// `AllocError` only where memory was refused.
+    pub fn new(alloc: Global, limits: &Limits, store: Store) -> Result<Station, AllocError>
+        requires store { IsOf limits.now store }
+        requires plain { limits.now.keep_write ≡ false }
+        ensures new { IfOk result (λ station.
+            IsNew limits.now store station.dispatcher.server) }
+        ensures mailbox { IfOk result (λ station.
+            (client : ℕ) → mailbox_of station client ≡ []) }
+        ensures hands { IfOk result (λ station.
+            station.hands ≡ replicate limits.now.clients None) }
+        ensures history { IfOk result (λ station. station.history ≡ []) }
+    {
+        Ok(Station {
+            dispatcher: Dispatcher::new(alloc, limits, store)?,
+            hands: JoinedHands::new(alloc, limits.clients())?,
+            history: Vec::new(alloc),
+        })
+    }
+
+    /// The commits, the first one first. With what is stored of the hands, they are as the server
+    /// has it.
+    pub fn history(&self) -> &[Entry]
+        ensures value { result.now ≡ self.now.history }
+        ensures sound { IsStation self.now }
+    {
+        self.history.as_slice()
+    }
+
+    /// Whether both hands are of two clients and each is what is stored of it. Then both show the
+    /// same version of each page that both hold, and neither may write such a page.
+    pub fn meet(&self, one: &Hand, other: &Hand) -> Result<(), OfficeFault>
+        ensures ok { (result ≡ Ok tt) ↔ (IsHeld self.now.hands one.now
+            × IsHeld self.now.hands other.now × (one.now.client ≢ other.now.client)) }
+        ensures err { IfErr result (λ fault. fault ≡ office.Foreign) }
+        ensures met { OnOk result (Meet one.now other.now) }
+    {
+        // The station agrees with its hands, whatever was called before.
+        let _known = self.history();
+        if self.hands.knows(one) && self.hands.knows(other) && one.client() != other.client() {
+            Ok(())
+        } else {
+            Err(OfficeFault::Foreign)
+        }
+    }
+
+    /// Whether a frame is to be sent to the client, so that `collect` answers one. Nothing is sent
+    /// to a client that isn't there.
+    pub fn has_frame_for(&self, client: ClientNo) -> bool
+        ensures { IsTrue result ↔ ((client < self.now.dispatcher.server.limits.clients)
+            × (mailbox_of self.now client ≢ [])) }
+    {
+        self.dispatcher.limits().has_client(client.get()) && self.dispatcher.has_frame_for(client)
+    }
+
+    /// What is to be written to disk next; `None` where every commit is on disk.
+    ///
+    /// `Memory` only where a growth was refused.
+    pub fn batch(&self, alloc: Global) -> Result<Option<Batch>, OfficeFault>
+        ensures batch { IfOk result (λ batch.
+            option_map batch_of batch ≡ next_batch (server_of self.now)) }
+        ensures catches_up { IfOk result (λ batch.
+            IfSome batch (CatchesUp (commits_of self.now.dispatcher.server))) }
+        ensures can_flush { IfOk result (λ batch.
+            IfSome batch (λ b. can_flush (server_of self.now) b.number ≡ true)) }
+        ensures err { IfErr result (λ fault. fault ≡ office.Memory) }
+    {
+        Ok(self.dispatcher.batch(alloc)?)
+    }
+
+    /// Whether the frame fits the limits and is of the hand's client and incarnation, and the hand
+    /// is the one that is stored.
+    fn is_own(&self, frame: &Frame, hand: &Hand) -> bool
+        ensures { IsTrue result ↔ IsOwn self.now frame.now hand.now }
+    {
+        frame.client == hand.client()
+            && frame.incarnation == hand.incarnation()
+            && frame.fits(self.dispatcher.limits())
+            && self.hands.knows(hand)
+    }
+}

@@ -1,0 +1,132 @@
+//! A client collects what was sent to it.
+ghost use Rattle.std.specs.Prelude.{◌≡◌, ◌↔◌, ◌<◌, ◌⊎◌, ◌&&◌, ℕ, Err, None, Some};
+ghost use Rattle.std.specs.Prelude.{length, IfErr, IfOk, OnErr, OnOk, slice_get};
+ghost use Rattle.cb_mailboxes.specs.Dispatching.{without_oldest};
+ghost use Rattle.cb_holdings.specs.Holdings.{HasClient, HasPage};
+ghost use Rattle.cb_holdings.specs.Holdings.{server_of as server_in};
+ghost use Rattle.cb_joined.specs.Joined.{Follow, IsHeld};
+ghost use Rattle.cb_station.specs.Moves.{collected, is_lasting, received, received_of};
+ghost use Rattle.cb_station.specs.Moves.{told};
+ghost use Rattle.cb_station.specs.Stations.{IsUnchanged, mailbox_of, server_of};
+ghost use Rattle.cb_station.specs.declared.office_fault.OfficeFault.TheVariants as office;
+ghost use Rattle.cb_protocol.specs.Server.{is_write_holder};
+
+use crate::office_fault::OfficeFault;
+use crate::station::Station;
+use cb_frame::{Body, Frame, ShortBody};
+use cb_hands::Hand;
+use cb_holdings::Holdings;
+use cb_joined::JoinedHands;
+use cb_links::Standing;
+use cb_page::{ClientNo, GrantNo, PageNo, TxnNo};
+
+impl Station {
+    /// The oldest frame to the client; `None` exactly where its mailbox is empty. A grant that comes
+    /// makes the hand hold the page while its row stands, a permission to write marks it while the
+    /// transaction has it.
+    ///
+    /// `Foreign` exactly where the hand isn't the one stored; `Memory` only where a growth was
+    /// refused.
+    pub fn collect(&mut self, hand: &mut Hand) -> Result<Option<Frame>, OfficeFault>
+        ensures foreign { (result ≡ Err office.Foreign)
+            ↔ (IsHeld self.old.hands hand.old → ⊥) }
+        ensures faults { IfErr result (λ fault.
+            (fault ≡ office.Foreign) ⊎ (fault ≡ office.Memory)) }
+        ensures err { OnErr result (IsUnchanged self.old self.new × (hand.new ≡ hand.old)) }
+        ensures oldest { IfOk result (λ frame.
+            frame ≡ slice_get (mailbox_of self.old hand.old.client) 0) }
+        ensures rest { OnOk result ((client : ℕ) → mailbox_of self.new client
+            ≡ without_oldest (mailbox_of self.old) hand.old.client client) }
+        ensures server { self.new.dispatcher.server ≡ self.old.dispatcher.server }
+        ensures hand { IfOk result (λ frame.
+            hand.new ≡ collected (server_of self.old) hand.old frame) }
+        ensures stored { OnOk result (Follow self.old.hands self.new.hands hand.old hand.new) }
+        ensures history { self.new.history ≡ self.old.history }
+    {
+        if !self.hands.knows(hand) {
+            return Err(OfficeFault::Foreign);
+        }
+        let Some(frame) = self.dispatcher.collect(hand.client())? else {
+            return Ok(None);
+        };
+        let holdings = self.dispatcher.holdings();
+        take_in(holdings, &mut self.hands, hand, &frame.body);
+        Ok(Some(frame))
+    }
+}
+
+/// What such a frame makes of the hand.
+fn take_in(holdings: &Holdings, hands: &mut JoinedHands, hand: &mut Hand, body: &Body)
+    requires held { IsHeld hands.old hand.old }
+    requires client { HasClient holdings.now hand.old.client }
+    requires pages { (k : ℕ) → k < length hand.old.held → HasPage holdings.now k }
+    ensures hand { hand.new ≡ received_of (server_in holdings.now) hand.old body.now }
+    ensures stored { Follow hands.old hands.new hand.old hand.new }
+{
+    match body {
+        Body::Granted { page, grant, .. } => receive(holdings, hands, hand, *page, *grant),
+        Body::Short(ShortBody::MayWrite { txn, page, grant }) => {
+            permit(holdings, hands, hand, *txn, *page, *grant);
+        }
+        Body::Short(_) => {}
+        Body::Commit { .. } => {}
+    }
+}
+
+/// The hand holds the page, if its row stands and it doesn't yet.
+fn receive(
+    holdings: &Holdings,
+    hands: &mut JoinedHands,
+    hand: &mut Hand,
+    page: PageNo,
+    grant: GrantNo,
+)
+    requires held { IsHeld hands.old hand.old }
+    requires client { HasClient holdings.now hand.old.client }
+    requires pages { (k : ℕ) → k < length hand.old.held → HasPage holdings.now k }
+    ensures hand { hand.new ≡ received (server_in holdings.now) hand.old page grant }
+    ensures stored { Follow hands.old hands.new hand.old hand.new }
+{
+    if page.index() < hand.pages() && hand.held(page).is_none() {
+        if holdings.has_row(hand.client(), page, grant) {
+            let version = holdings.version(page);
+            hands.receive(hand, page, grant, version);
+        }
+    }
+}
+
+/// The hand may write the page, if it holds it by that grant and the transaction has the
+/// permission.
+fn permit(
+    holdings: &Holdings,
+    hands: &mut JoinedHands,
+    hand: &mut Hand,
+    txn: TxnNo,
+    page: PageNo,
+    grant: GrantNo,
+)
+    requires held { IsHeld hands.old hand.old }
+    requires client { HasClient holdings.now hand.old.client }
+    requires pages { (k : ℕ) → k < length hand.old.held → HasPage holdings.now k }
+    ensures hand { hand.new ≡ told (server_in holdings.now) hand.old txn page grant }
+    ensures stored { Follow hands.old hands.new hand.old hand.new }
+{
+    if let Some(held) = hand.held(page) {
+        if held.grant == grant && has_permission(holdings, hand.client(), txn, page) {
+            hands.permit(hand, page, txn);
+        }
+    }
+}
+
+/// Whether that transaction of the client lasts and has the permission to write the page.
+fn has_permission(holdings: &Holdings, client: ClientNo, txn: TxnNo, page: PageNo) -> bool
+    requires client { HasClient holdings.now client }
+    requires page { HasPage holdings.now page }
+    ensures { result ≡ (is_lasting (server_in holdings.now) client txn
+        && is_write_holder (server_in holdings.now) client page) }
+{
+    match holdings.standing(client, txn) {
+        Standing::Live | Standing::Doomed => holdings.is_write_holder(client, page),
+        Standing::Ended | Standing::Later => false,
+    }
+}

@@ -1,0 +1,176 @@
+//! A client commits.
+ghost use Rattle.std.specs.Prelude.{◌≡◌, ◌↔◌, ◌⊎◌, ◌+◌, ◌<◌, ◌≤◌, ◌++◌, ◌∷◌, [], true};
+ghost use Rattle.std.specs.Prelude.{false, Err, IfErr, IfOk, OnErr, OnOk, length, vec_len};
+ghost use Rattle.std.specs.Prelude.{vec_capacity};
+ghost use Rattle.std.specs.List.{All};
+ghost use Rattle.cb_joined.specs.OwnHand.{all_restamped, pages_written};
+ghost use Rattle.cb_mailboxes.specs.Dispatching.{Everybody, Posts};
+ghost use Rattle.cb_joined.specs.declared.entry.Entry.{Entry as Noted};
+ghost use Rattle.cb_joined.specs.Joined.{Follow, IsHeld};
+ghost use Rattle.cb_station.specs.Commits.{AllowsCommit, IsLive, IsOwnCommit, IsPermitted};
+ghost use Rattle.cb_station.specs.Commits.{RefusesCommit, is_live, txn_of, writes_of};
+ghost use Rattle.cb_station.specs.Moves.{IsEntryOf, committed};
+ghost use Rattle.cb_station.specs.Stations.{IsUnchanged, mailbox_of, server_of};
+ghost use Rattle.cb_station.specs.declared.office_fault.OfficeFault.TheVariants as office;
+ghost use Rattle.cb_outbox.specs.Messages.{page_writes};
+ghost use Rattle.cb_page.specs.Numbers.{max_number};
+ghost use Rattle.cb_protocol.specs.CommitLaws.{IsApplied};
+ghost use Rattle.cb_server.specs.Taking.{input_of};
+
+use crate::office_fault::OfficeFault;
+use crate::reading::{holds_all, may_write_all, pages_of, reads_of};
+use crate::station::Station;
+use cb_frame::{Body, Frame, Write};
+use cb_hands::Hand;
+use cb_joined::{Entry, JoinedHands};
+use cb_links::Standing;
+use cb_page::{ClientNo, CommitNo, PageSet, TxnNo, Version};
+use std::alloc::{AllocError, Global};
+
+impl Station {
+    /// The transaction commits, having read these pages. One entry is put behind the history: it,
+    /// these pages at the versions of the grants held, and the pages that it writes. The grants of
+    /// the written pages are of the new version, and the permissions to write end.
+    ///
+    /// `Foreign` exactly where the frame isn't a Commit of the hand's or the hand isn't the one
+    /// stored; else `NotHeld` exactly where a page read has no grant, or a page written isn't shown
+    /// as this transaction's to write, by the frame's grant; else `NotLive` exactly where the
+    /// transaction has ended or is doomed; else `Exhausted` exactly where no commit number is left;
+    /// else `Memory`, only where a growth was refused.
+    pub fn commit(
+        &mut self,
+        alloc: Global,
+        frame: &Frame,
+        reads: &PageSet,
+        hand: &mut Hand,
+    ) -> Result<CommitNo, OfficeFault>
+        ensures foreign { (result ≡ Err office.Foreign)
+            ↔ (IsOwnCommit self.old frame.now hand.old → ⊥) }
+        ensures not_held { (result ≡ Err office.NotHeld)
+            ↔ (IsOwnCommit self.old frame.now hand.old
+            × (IsPermitted hand.old reads.now frame.now → ⊥)) }
+        ensures not_live { (result ≡ Err office.NotLive)
+            ↔ (IsOwnCommit self.old frame.now hand.old
+            × IsPermitted hand.old reads.now frame.now
+            × (IsLive (server_of self.old) frame.now → ⊥)) }
+        ensures exhausted { (result ≡ Err office.Exhausted)
+            ↔ (IsOwnCommit self.old frame.now hand.old
+            × IsPermitted hand.old reads.now frame.now × IsLive (server_of self.old) frame.now
+            × (max_number ≤ (server_of self.old).store.last_commit)) }
+        ensures faults { IfErr result (λ fault. (fault ≡ office.Foreign)
+            ⊎ (fault ≡ office.NotHeld) ⊎ (fault ≡ office.NotLive) ⊎ (fault ≡ office.Exhausted)
+            ⊎ (fault ≡ office.Memory)) }
+        ensures err { OnErr result (IsUnchanged self.old self.new × (hand.new ≡ hand.old)) }
+        ensures number { IfOk result (λ number.
+            number ≡ (server_of self.old).store.last_commit + 1) }
+        ensures entry { OnOk result ((entry : Noted)
+            × (self.new.history ≡ self.old.history ++ entry ∷ [])
+            × IsEntryOf hand.old (txn_of frame.now) (writes_of frame.now) reads.now entry) }
+        ensures posts { OnOk result (Posts self.old.dispatcher (input_of frame.now)
+            (mailbox_of self.old) Everybody self.new.dispatcher) }
+        ensures applied { OnOk result (IsApplied (server_of self.old) (server_of self.new)
+            hand.old.client hand.old.incarnation (txn_of frame.now)
+            (page_writes (writes_of frame.now))) }
+        ensures hand { IfOk result (λ number.
+            hand.new ≡ committed hand.old (writes_of frame.now) number) }
+        ensures stored { OnOk result (Follow self.old.hands self.new.hands hand.old hand.new) }
+    {
+        let number = self.number_for(frame, reads, hand)?;
+        let Body::Commit { txn, writes } = &frame.body else {
+            unreachable!()
+        };
+        let entry = entry_of(
+            alloc,
+            &mut self.history,
+            hand,
+            *txn,
+            reads,
+            writes.as_slice(),
+        )?;
+        // A number is left: it is refused only where memory is.
+        if self.dispatcher.take(alloc, frame).is_err() {
+            return Err(OfficeFault::Memory);
+        }
+        let version = Version::new(number.get());
+        restamp(&mut self.hands, hand, writes.as_slice(), version);
+        self.hands.end_permissions(hand);
+        self.history.push_reserved(entry);
+        Ok(number)
+    }
+
+    /// The number that the commit gets, or why there is none: the first reason that stands.
+    fn number_for(
+        &self,
+        frame: &Frame,
+        reads: &PageSet,
+        hand: &Hand,
+    ) -> Result<CommitNo, OfficeFault>
+        ensures refused { IfErr result (RefusesCommit self.now frame.now hand.now reads.now) }
+        ensures allowed { IfOk result (AllowsCommit self.now frame.now hand.now reads.now) }
+    {
+        let Body::Commit { txn, writes } = &frame.body else {
+            return Err(OfficeFault::Foreign);
+        };
+        if !self.is_own(frame, hand) {
+            return Err(OfficeFault::Foreign);
+        }
+        if !holds_all(hand, reads) || !may_write_all(hand, *txn, writes.as_slice()) {
+            return Err(OfficeFault::NotHeld);
+        }
+        if !self.is_live(hand.client(), *txn) {
+            return Err(OfficeFault::NotLive);
+        }
+        let Some(number) = self.dispatcher.holdings().next_commit() else {
+            return Err(OfficeFault::Exhausted);
+        };
+        Ok(number)
+    }
+
+    /// Whether the transaction hasn't ended and isn't doomed.
+    fn is_live(&self, client: ClientNo, txn: TxnNo) -> bool
+        requires { client < self.now.dispatcher.server.limits.clients }
+        ensures { result ≡ is_live (server_of self.now) client txn }
+    {
+        match self.dispatcher.holdings().standing(client, txn) {
+            Standing::Live | Standing::Later => true,
+            Standing::Ended | Standing::Doomed => false,
+        }
+    }
+}
+
+/// The entry of a transaction that read these pages and writes those, with room for it behind the
+/// history.
+fn entry_of(
+    alloc: Global,
+    history: &mut Vec<Entry>,
+    hand: &Hand,
+    txn: TxnNo,
+    reads: &PageSet,
+    writes: &[Write],
+) -> Result<Entry, AllocError>
+    ensures entry { IfOk result (IsEntryOf hand.now txn writes.now reads.now) }
+    ensures same { history.new.items ≡ history.old.items }
+    ensures room { OnOk result (vec_len history.new < vec_capacity history.new) }
+{
+    history.reserve(1)?;
+    Ok(Entry {
+        client: hand.client(),
+        incarnation: hand.incarnation(),
+        txn,
+        reads: reads_of(alloc, hand, reads)?,
+        writes: pages_of(alloc, writes)?,
+    })
+}
+
+/// What the hand holds of the written pages is of that version.
+fn restamp(hands: &mut JoinedHands, hand: &mut Hand, writes: &[Write], version: Version)
+    requires held { IsHeld hands.old hand.old }
+    requires pages { All (λ write. write.page < length hand.old.held) writes.now }
+    ensures hand { hand.new
+        ≡ all_restamped hand.old (pages_written (page_writes writes.now)) version }
+    ensures stored { Follow hands.old hands.new hand.old hand.new }
+{
+    for write in writes {
+        hands.restamp(hand, write.page, version);
+    }
+}

@@ -1,0 +1,4 @@
+pub mod ByWorld
+pub mod Packets
+pub mod WorldClientsState
+pub mod Wire
