@@ -3,7 +3,7 @@ use Rattle.std.proofs.Common.{Bool, List, [], ap, arith, false, if◌then◌else
 use Rattle.std.proofs.lemmas.Bool.Decides.{nat_tests}
 use Rattle.std.proofs.lemmas.List.{append-nil}
 use Rattle.cb_protocol.specs.AskLaws.{AreInOrderOf, AsksKeepTheirOrder}
-use Rattle.cb_protocol.specs.Server.{ChangeSession, Doom, EnterQueue, ForgetTransaction, LeaveQueue, MarkCalledBack, MarkDowngradeSent, MarkInUse, RemoveAsk, Send, Server, ServerStep, SetFlushed, UnmarkInUse, WaitingAsk, after_first, after_server_step, set_called_back, set_downgrade_sent, without_client}
+use Rattle.cb_protocol.specs.Server.{ChangeSession, Doom, EnterQueue, ForgetTransaction, LeaveQueue, MarkCalledBack, MarkDowngradeSent, MarkInUse, RemoveAsk, Send, Server, SetFlushed, UnmarkInUse, WaitingAsk, after_first, set_called_back, set_downgrade_sent, without_client}
 
 all_in_order : (queue : List WaitingAsk) → AreInOrderOf queue queue
 all_in_order [] = tt

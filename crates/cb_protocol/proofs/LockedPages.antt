@@ -1,13 +1,12 @@
 -- What a transaction had locked as it finished keeps its rows until its commit is applied.
 use Rattle.std.proofs.Common.{List, None, Option, Some, [], ap, arith, inl, inr, refl, subst, sym, ℕ, ◌<◌, ◌∙◌, ◌∷◌, ◌≡◌, ◌≢◌, ◌⊎◌}
 use Rattle.cb_protocol.proofs.Committing.{Awaits, Locks, stays_applied, still_committing}
-use Rattle.cb_protocol.proofs.Followed.{Keeps, MirrorsSome, kept_along, reached_mirrors}
+use Rattle.cb_protocol.proofs.Followed.{ImageOfSome, IsImage, Keeps, image_of_reached, kept_along}
 use Rattle.cb_protocol.proofs.ReadVersions.{AllRead, ReadFacts, read_at_start, read_kept}
 use Rattle.cb_protocol.specs.CommitsOnTheirWay.{CommitsFindTheirRows, CommitsKeepTheirRows, HasFinished, HasLocked, IsOnItsWay, RowStands, WritesAreBacked}
 use Rattle.cb_protocol.proofs.Invariant.{MessageFact, SessionFacts, cache_at_session}
 use Rattle.cb_protocol.proofs.Machine.{ClientChanges, ClientMaySay, ClientRestarts, ClientSays, ListsWrites, Machine, ServerChanges, ServerMaySend, ServerSends, WasSent, present_cache}
 use Rattle.cb_protocol.proofs.MachineSteps.{came_now}
-use Rattle.cb_protocol.proofs.Mirrors.{Mirrors}
 use Rattle.cb_protocol.specs.AnyMessages.{IsCommit, committed_names}
 use Rattle.cb_protocol.specs.Basics.{IsIn, Limits}
 use Rattle.cb_protocol.specs.Cache.{Cache}
@@ -80,11 +79,11 @@ name_of_commit (commit ∷ commits) c i x n m = elim m.1 [
 ]
 
 -- the machine has the transaction's incarnation as current
-now : (L : Limits) (o : Opening) (v : World) (w : Machine) (name : TransactionName) → Mirrors L o v w → IsOnItsWay v name → (w.session name.client).current ≡ name.incarnation
+now : (L : Limits) (o : Opening) (v : World) (w : Machine) (name : TransactionName) → IsImage L o v w → IsOnItsWay v name → (w.session name.client).current ≡ name.incarnation
 now L o v w name m on = ap (λ (t : ℕ → Session). (t name.client).current) m.session ∙ on.current
 
 -- what is not in the list of commits has no number
-no_number : (L : Limits) (o : Opening) (v : World) (w : Machine) (name : TransactionName) → Mirrors L o v w → IsOnItsWay v name → w.store.commit_number name.client (w.session name.client).current name.txn ≡ None
+no_number : (L : Limits) (o : Opening) (v : World) (w : Machine) (name : TransactionName) → IsImage L o v w → IsOnItsWay v name → w.store.commit_number name.client (w.session name.client).current name.txn ≡ None
 no_number L o v w name m on = ap (λ (i : ℕ). w.store.commit_number name.client i name.txn) (now L o v w name m on)
     ∙ (ap (λ (s : Store). s.commit_number name.client name.incarnation name.txn) m.store ∙ go (v.server.store.commit_number name.client name.incarnation name.txn) refl)
   where
@@ -93,19 +92,19 @@ no_number L o v w name m on = ap (λ (i : ℕ). w.store.commit_number name.clien
     go (Some n) e = absurd (on.not_applied (name_of_commit v.server.commits name.client name.incarnation name.txn n (m.books.known name.client name.incarnation name.txn n e)))
 
 -- so a client that was applied or has T, has T
-not_applied : (L : Limits) (o : Opening) (v : World) (w : Machine) (name : TransactionName) (T : Cache → Type 0) → Mirrors L o v w → IsOnItsWay v name → (w.store.commit_number name.client name.incarnation name.txn ≢ None) ⊎ T (w.client name.client name.incarnation) → T (cache_at_session w name.client)
+not_applied : (L : Limits) (o : Opening) (v : World) (w : Machine) (name : TransactionName) (T : Cache → Type 0) → IsImage L o v w → IsOnItsWay v name → (w.store.commit_number name.client name.incarnation name.txn ≢ None) ⊎ T (w.client name.client name.incarnation) → T (cache_at_session w name.client)
 not_applied L o v w name T m on a = elim (subst (λ (i : ℕ). (w.store.commit_number name.client i name.txn ≢ None) ⊎ T (w.client name.client i)) (sym (now L o v w name m on)) a) [
   | inl n ↦ absurd (n (no_number L o v w name m on))
   | inr t ↦ t
 ]
 
 -- a page locked in the world, at its machine
-locks_there : (L : Limits) (o : Opening) (v : World) (w : Machine) (name : TransactionName) (p g r : ℕ) → Mirrors L o v w → HasFinished v name → HasLocked v name.client p g r
+locks_there : (L : Limits) (o : Opening) (v : World) (w : Machine) (name : TransactionName) (p g r : ℕ) → IsImage L o v w → HasFinished v name → HasLocked v name.client p g r
     → Awaits (w.client name.client name.incarnation) name.txn × Locks (w.client name.client name.incarnation) p g r
-locks_there L o v w name p g r m f l = subst (λ (i : ℕ). Awaits (w.client name.client i) name.txn × Locks (w.client name.client i) p g r) (ap (λ (n : ℕ → ℕ). n name.client) m.incarnation ∙ f.incarnation)
-    (subst (λ (k : Cache). Awaits k name.txn × Locks k p g r) (sym (m.cache name.client)) ((f.status, f.txn), record { locked = l.locked; held = l.held; version = l.version }))
+locks_there L o v w name p g r m f l = subst (λ (i : ℕ). Awaits (w.client name.client i) name.txn × Locks (w.client name.client i) p g r) (m.incarnation name.client (omega arith) ∙ f.incarnation)
+    (subst (λ (k : Cache). Awaits k name.txn × Locks k p g r) (sym (m.cache name.client (omega arith))) ((f.status, f.txn), record { locked = l.locked; held = l.held; version = l.version }))
 
-row_stands : (L : Limits) (o : Opening) (v : World) (w : Machine) (name : TransactionName) (p g r : ℕ) → Mirrors L o v w → AllRead w → AppliedOrLocks name.client name.incarnation name.txn p g r w → IsOnItsWay v name → RowStands v name.client p g r
+row_stands : (L : Limits) (o : Opening) (v : World) (w : Machine) (name : TransactionName) (p g r : ℕ) → IsImage L o v w → AllRead w → AppliedOrLocks name.client name.incarnation name.txn p g r w → IsOnItsWay v name → RowStands v name.client p g r
 row_stands L o v w name p g r m all a on =
     let k = not_applied L o v w name (λ (k : Cache). Awaits k name.txn × Locks k p g r) m on a in
     let z = stands name.client w.store (w.session name.client) (cache_at_session w name.client) name.txn p g r (m.safe.good name.client) (all name.client) k.0 k.1 (no_number L o v w name m on) in
@@ -116,13 +115,13 @@ row_stands L o v w name p g r m all a on =
 
 pub commits_keep_their_rows : (L : Limits) (cycle : DeadlockTest) → CommitsKeepTheirRows L cycle
 commits_keep_their_rows L cycle o finished ms name p g r sound reached f l plays on =
-    let a : MirrorsSome L o AllRead finished = reached_mirrors L cycle o AllRead read_kept (read_at_start L o) finished sound reached in
+    let a : ImageOfSome L o AllRead finished = image_of_reached L cycle o AllRead read_kept (read_at_start L o) finished sound reached in
     let P : Machine → Type 0 = λ w. AllRead w × AppliedOrLocks name.client name.incarnation name.txn p g r w in
-    let b : MirrorsSome L o P (world_after finished ms) = kept_along L cycle o P (λ w e h may q. (read_kept w e h may q.0, locks_kept name.client name.incarnation name.txn p g r w e h may q.1)) finished ms
+    let b : ImageOfSome L o P (world_after finished ms) = kept_along L cycle o P (λ w e h may q. (read_kept w e h may q.0, locks_kept name.client name.incarnation name.txn p g r w e h may q.1)) finished ms
     (a.0, a.1, (a.2, inr (locks_there L o finished a.0 name p g r a.1 f l))) plays in
     row_stands L o (world_after finished ms) b.0 name p g r b.1 b.2.0 b.2.1 on
 
-writes_backed : (L : Limits) (o : Opening) (v : World) (w : Machine) (name : TransactionName) (ws : List PageWrite) → Mirrors L o v w → AllRead w → AllSent w
+writes_backed : (L : Limits) (o : Opening) (v : World) (w : Machine) (name : TransactionName) (ws : List PageWrite) → IsImage L o v w → AllRead w → AllSent w
     → IsIn (record { client = name.client; incarnation = name.incarnation; body = Commit name.txn ws }) v.packets → IsOnItsWay v name → WritesAreBacked v name.client ws
 writes_backed L o v w name ws m all sent i on = record {
   row = λ p x e. subst (λ (t : ℕ → Session). (t name.client).row p ≡ Some x.grant) m.session (there p x e).0;
@@ -130,10 +129,10 @@ writes_backed L o v w name ws m all sent i on = record {
 }
   where
     came : WasSent w name.client (w.session name.client).current (Commit name.txn ws)
-    came = subst (λ (j : ℕ). WasSent w name.client j (Commit name.txn ws)) (sym (now L o v w name m on)) (m.packets _ i)
+    came = subst (λ (j : ℕ). WasSent w name.client j (Commit name.txn ws)) (sym (now L o v w name m on)) (m.packets _ (omega arith) i)
 
     awaits : Awaits (cache_at_session w name.client) name.txn
-    awaits = not_applied L o v w name (λ (k : Cache). Awaits k name.txn) m on (sent name.client name.incarnation name.txn ws (m.packets _ i))
+    awaits = not_applied L o v w name (λ (k : Cache). Awaits k name.txn) m on (sent name.client name.incarnation name.txn ws (m.packets _ (omega arith) i))
 
     listed : ((w.session name.client).ended < (cache_at_session w name.client).number) × ListsWrites ws (cache_at_session w name.client)
     listed = lists name.client w.store (w.session name.client) (cache_at_session w name.client) name.txn ws (all name.client) awaits (no_number L o v w name m on) (came_now w name.client (Commit name.txn ws) m.safe came)
@@ -144,5 +143,5 @@ writes_backed L o v w name ws m all sent i on = record {
 pub commits_find_their_rows : Always (λ o v. CommitsFindTheirRows v)
 commits_find_their_rows L cycle o v sound reached name ws i on =
     let P : Machine → Type 0 = λ w. AllRead w × AllSent w in
-    let a : MirrorsSome L o P v = reached_mirrors L cycle o P (λ w e h may q. (read_kept w e h may q.0, sent_kept w e h may q.1)) (read_at_start L o, λ c i x ws s. absurd s) v sound reached in
+    let a : ImageOfSome L o P v = image_of_reached L cycle o P (λ w e h may q. (read_kept w e h may q.0, sent_kept w e h may q.1)) (read_at_start L o, λ c i x ws s. absurd s) v sound reached in
     writes_backed L o v a.0 name ws a.1 a.2.0 a.2.1 i on

@@ -130,10 +130,10 @@ abbrev pub moments_of : Limits → World → List Line → List Moment
 moments_of L w [] = []
 moments_of L w (l ∷ ls) = let s = step L on_cycle w l.event l.let_go in record { event = l.event; answer = s.answer; world = s.world } ∷ moments_of L s.world ls
 
-and_left : (a b : Bool) → (a && b) ≡ true → a ≡ true
+pub and_left : (a b : Bool) → (a && b) ≡ true → a ≡ true
 and_left a b e = grind arith
 
-and_right : (a b : Bool) → (a && b) ≡ true → b ≡ true
+pub and_right : (a b : Bool) → (a && b) ≡ true → b ≡ true
 and_right a b e = grind arith
 
 or_then : (a b : Bool) → (not a || b) ≡ true → a ≡ true → b ≡ true
@@ -154,7 +154,7 @@ message_is L w (Some f) o e = λ i. choice_is L (w.client f.client) f.body o (or
     same : (f : Message) → f.incarnation ≡ w.incarnation f.client → (f.incarnation == w.incarnation f.client) ≡ true
     same f i = grind arith
 
-event_is : (L : Limits) (w : World) (x : Event) (o : Option ℕ) → event_choice L w x o ≡ true → EventChoiceAllowed L w x o
+pub event_is : (L : Limits) (w : World) (x : Event) (o : Option ℕ) → event_choice L w x o ≡ true → EventChoiceAllowed L w x o
 event_is L w (TakePacket n) o e = message_is L w (packet_at w.packets n) o e
 event_is L w _ o e = tt
 

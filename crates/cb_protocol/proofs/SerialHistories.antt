@@ -59,7 +59,7 @@ left_push : (m : ℕ → Bytes) (ts : List (List Operation)) (t : List Operation
 left_push m [] t = refl
 left_push m (u ∷ ts) t = left_push (after_operations m u) ts t
 
-committed_push : (e : CommittedTransaction) (es : List CommittedTransaction) → history_operations (e ∷ es) ≡ history_operations es ++ reverse e.operations ∷ []
+pub committed_push : (e : CommittedTransaction) (es : List CommittedTransaction) → history_operations (e ∷ es) ≡ history_operations es ++ reverse e.operations ∷ []
 committed_push e es = reverse-cons (reverse e.operations) (map (λ (x : CommittedTransaction). reverse x.operations) es)
 
 -- one more commit

@@ -35,7 +35,7 @@ differ : (d c : ℕ) → (d == c) ≡ false → d ≡ c → ⊥
 differ d c h e = grind arith
 
 -- what holds of each client's incarnation, after one is put
-put_both : (P : ℕ → ℕ → Cache → Type 0) (f : ℕ → ℕ → Cache) (c i : ℕ) (k : Cache) → P c i k → ((d j : ℕ) → (d ≡ c → j ≡ i → ⊥) → P d j (f d j)) → (d j : ℕ) → P d j (put_client f c i k d j)
+pub put_both : (P : ℕ → ℕ → Cache → Type 0) (f : ℕ → ℕ → Cache) (c i : ℕ) (k : Cache) → P c i k → ((d j : ℕ) → (d ≡ c → j ≡ i → ⊥) → P d j (f d j)) → (d j : ℕ) → P d j (put_client f c i k d j)
 put_both P f c i k a b d j = go (d == c) refl (j == i) refl
   where
     go : (r : Bool) → (d == c) ≡ r → (u : Bool) → (j == i) ≡ u → P d j (if r then (if u then k else f d j) else f d j)
@@ -134,7 +134,7 @@ pub kept_start : (L : Limits) (o : Opening) → Kept o.bytes (start L o)
 kept_start L o = record { legal = tt; leaves = λ p. refl }
 
 -- the transcript's operations are the entries'
-same_ops : (ls : List PerformedOperation) (es : List CommittedTransaction) → ((e : CommittedTransaction) → IsIn e es → transaction_operations ls e.client e.incarnation e.txn ≡ e.operations)
+pub same_ops : (ls : List PerformedOperation) (es : List CommittedTransaction) → ((e : CommittedTransaction) → IsIn e es → transaction_operations ls e.client e.incarnation e.txn ≡ e.operations)
     → map (λ (n : TransactionName). reverse (transaction_operations ls n.client n.incarnation n.txn)) (history_names es) ≡ map (λ (e : CommittedTransaction). reverse e.operations) es
 same_ops ls [] h = refl
 same_ops ls (e ∷ es) h = let a = h e (inl refl) in let b = same_ops ls es (λ d i. h d (inr i)) in cc

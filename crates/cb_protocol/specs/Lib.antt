@@ -18,6 +18,9 @@ pub mod Headline
 pub mod HelloLaws
 pub mod Laws
 pub mod LeavingLaws
+pub mod LifeLaws
+pub mod Lives
+pub mod LivesWorld
 pub mod Marks
 pub mod Messages
 pub mod Numbers

@@ -9,6 +9,7 @@
 pub mod alone;
 pub mod client;
 pub mod deadlock;
+pub mod lives;
 pub mod marks;
 pub mod numbers;
 pub mod passes;
