@@ -1,7 +1,6 @@
 -- What the protocol's steps make of copies.
 use Rattle.std.proofs.Common.{◌≡◌, ◌≢◌, ◌<◌, ℕ, Bool, true, false, max, List, [], ◌∷◌, ◌++◌, length, replicate, slice_set, Option, Some, None, unwrap_or, IfSome, Result, Ok, Err, IfOk, refl, sym, ◌∙◌, ap, arith}
 use Rattle.cb_pool.specs.PoolState.{PoolState, let_go, MayGo}
-use Rattle.cb_pool.specs.declared.pool.PoolFault.{PoolFault}
 use Rattle.cb_protocol.specs.Basics.{Bytes, update}
 use Rattle.cb_protocol.specs.Cache.{Abandon, Fill, Install, LetGo, MakeBare, RefuseGrant, TakePermission, WriteBytes}
 use Rattle.cb_protocol.specs.Client.{ChangeCache, Client, ClientStep, EndTransaction, LastOutcome, client_after}
@@ -131,7 +130,7 @@ fills v page grant bytes gone lt are may =
       limits = refl;
     }
 
-pub fill_result : (v w : CacheState) (page : ℕ) (bytes : Bytes) (result : Result (Option ℕ) PoolFault) (new : PoolState) → page < v.limits.pages → AreCopies v
+pub fill_result : (v w : CacheState) (page : ℕ) (bytes : Bytes) {F : Type 0} (result : Result (Option ℕ) F) (new : PoolState) → page < v.limits.pages → AreCopies v
     → IfOk result (λ gone. new ≡ record v.pool { pages = slice_set (let_go gone v.pool.pages) page (Some bytes) }) → IfOk result (MayGo v.pool page)
     → w ≡ record v { pool = new }
     → IfOk result (λ gone. (grant : ℕ) → BringsIn v page (ChangeCache (Fill page grant bytes)) gone w)

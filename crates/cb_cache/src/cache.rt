@@ -1,5 +1,5 @@
 ghost use Rattle.std.specs.Prelude.{◌≡◌, ℕ, ◌<◌, ◌≤◌, ◌↔◌, ◌||◌, [], ◌∷◌, length, true, false};
-ghost use Rattle.std.specs.Prelude.{Some, None, Ok, Err, IfOk, OnErr, IsTrue, MatchOption};
+ghost use Rattle.std.specs.Prelude.{Some, None, Ok, Err, IfErr, IfOk, OnErr, IsTrue, MatchOption};
 ghost use Rattle.std.specs.Option.{is_some, option_copied};
 ghost use Rattle.cb_page.specs.Bounds.{AreInRange};
 ghost use Rattle.cb_page.specs.Flags.{has};
@@ -195,26 +195,27 @@ impl<Q: Chooser> Cache<Q> {
     /// is bare now: a caller that doesn't read it lets it go by `let_go`.
     ///
     /// `Full` comes where the page isn't in the pool and there is no room, and `Memory` only where
-    /// a growth of the chooser was refused; nothing changes then.
+    /// a growth of the chooser was refused; nothing changes then, and the bytes come back.
     pub fn install(
         &mut self,
         page: PageNo,
         grant: GrantNo,
         version: Version,
         bytes: Page,
-    ) -> Result<Option<PageNo>, PoolFault>
+    ) -> Result<Option<PageNo>, (PoolFault, Page)>
         requires page { page < self.old.limits.pages }
         requires size { length bytes ≡ self.old.limits.page_size }
         ensures ok { IfOk result (λ gone.
             BringsIn self.old page (ChangeCache (Install page grant version bytes)) gone self.new) }
-        ensures full { (result ≡ Err PoolFault.Full)
+        ensures full { (result ≡ Err (PoolFault.Full, bytes))
             ↔ ((content_at self.old page ≡ None) × IsFull self.old) }
+        ensures back { IfErr result (λ refused. refused.1 ≡ bytes) }
         ensures here { is_some (content_at self.old page) ≡ true → result ≡ Ok None }
         ensures slot { has_free_slot self.old.pool ≡ true → IfOk result (λ gone. gone ≡ None) }
         ensures err { OnErr result (self.new ≡ self.old) }
         ensures limits { self.new.limits ≡ self.old.limits }
     {
-        let gone = self.pool.install(page, bytes)?;
+        let gone = self.pool.install_or_return(page, bytes)?;
         let copy = self.table.at(page);
         self.table.put(
             page,
@@ -229,20 +230,21 @@ impl<Q: Chooser> Cache<Q> {
     }
 
     /// Bytes come for a grant that is held. What is answered and refused is as for `install`.
-    pub fn fill(&mut self, page: PageNo, bytes: Page) -> Result<Option<PageNo>, PoolFault>
+    pub fn fill(&mut self, page: PageNo, bytes: Page) -> Result<Option<PageNo>, (PoolFault, Page)>
         requires held { is_some (copy_at self.old page).held ≡ true }
         requires page { page < self.old.limits.pages }
         requires size { length bytes ≡ self.old.limits.page_size }
         ensures ok { IfOk result (λ gone. (grant : ℕ)
             → BringsIn self.old page (ChangeCache (Fill page grant bytes)) gone self.new) }
-        ensures full { (result ≡ Err PoolFault.Full)
+        ensures full { (result ≡ Err (PoolFault.Full, bytes))
             ↔ ((content_at self.old page ≡ None) × IsFull self.old) }
+        ensures back { IfErr result (λ refused. refused.1 ≡ bytes) }
         ensures here { is_some (content_at self.old page) ≡ true → result ≡ Ok None }
         ensures slot { has_free_slot self.old.pool ≡ true → IfOk result (λ gone. gone ≡ None) }
         ensures err { OnErr result (self.new ≡ self.old) }
         ensures limits { self.new.limits ≡ self.old.limits }
     {
-        self.pool.install(page, bytes)
+        self.pool.install_or_return(page, bytes)
     }
 
     /// A grant is seen that isn't held.

@@ -24,7 +24,7 @@ use cb_commit::Store;
 use cb_holdings::Holdings;
 use cb_page::{ClientNo, Limits};
 use cb_tables::Tables;
-use cb_waits::{View, waits_by_place};
+use cb_waits::{View, closes_cycle, waits_by_place};
 use std::alloc::{AllocError, Global};
 use std::marker::Model;
 
@@ -98,7 +98,7 @@ impl Callbacks {
     {
         // The law that the view's cycles are the protocol's.
         waits_by_place();
-        self.view.closes_cycle(client)
+        closes_cycle(&self.view, client)
     }
 
     /// Whether an ask of the client waits, at any page.

@@ -1,10 +1,12 @@
 -- What the protocol's table says of a grant that comes.
-use Rattle.std.proofs.Common.{if◌then◌else◌, ◌≡◌, ◌≢◌, ◌<◌, ◌==◌, ℕ, nat_lt, Bool, true, false, true≢false, not, ◌&&◌, ◌||◌, List, [], ◌∷◌, ◌++◌, length, Option, Some, None, IfSome, option_to_list, unwrap_or, slice_set, refl, sym, ◌∙◌, ap, subst, arith}
+use Rattle.std.proofs.Common.{if◌then◌else◌, ◌≡◌, ◌≢◌, ◌<◌, ◌==◌, ℕ, nat_lt, Bool, true, false, true≢false, not, ◌&&◌, ◌||◌, List, [], ◌∷◌, ◌++◌, length, Option, Some, None, IfSome, IfErr, Result, Ok, Err, option_to_list, unwrap_or, slice_set, refl, sym, ◌∙◌, ap, subst, arith}
 use Rattle.std.specs.Option.{is_some}
 use Rattle.std.proofs.Math.ListN.{length-set}
 use Rattle.std.proofs.lemmas.Bool.Decides.{nat_tests}
 use Rattle.std.proofs.lemmas.List.{append-nil}
 use Rattle.cb_page.specs.Bounds.{Bounds}
+use Rattle.cb_pool.specs.declared.pool.PoolFault.{PoolFault}
+use Rattle.cb_pool.specs.declared.pool.PoolFault.TheVariants as pool
 use Rattle.cb_page.specs.Flags.{has}
 use Rattle.cb_frame_types.specs.declared.frame.Frame.{Frame}
 use Rattle.cb_outbox.specs.Messages.{messages_of}
@@ -168,6 +170,11 @@ refuses_keeps v p g x b copies is welcomed fits e d =
     let new : ClientState = record v { copies = copies } in
     keeps v new is d.limits refl refl refl refl refl refl is.same_txn (λ q. refl) (seen_alone v.copies copies p g d) (λ q e. e) (λ q e. sym (bytes_seen v.copies copies p g d q) ∙ e)
     (room_stays v copies _ is d (λ other h. room_same (limits_at v) _ _ (λ q. refl) (λ q. refl) h)) (takes_reach v new (Granted p g x b) (refuses v p g x b copies is welcomed e d) fits is.reached)
+
+-- so the pool is not refused as full, whatever bytes are handed in
+pub full_alone : (came : Result (Option ℕ) (PoolFault × Bytes)) (bytes : Bytes) → (came ≡ Err (pool.Full, bytes) → ⊥) → IfErr came (λ refused. refused.1 ≡ bytes) → IfErr came (λ refused. refused.0 ≢ pool.Full)
+full_alone (Ok _) bytes none back = tt
+full_alone (Err (fault, handed)) bytes none back = λ full. none (rw (full, back) refl)
 
 -- the pool has room for a page that was asked for
 pub not_full : (v : ClientState) (p : ℕ) → IsClient v → asks_to_read (ask_of v.ask) p ≡ true → IsFull v.copies → ⊥

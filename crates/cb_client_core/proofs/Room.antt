@@ -1,9 +1,9 @@
 -- The room that a client makes at a message.
-use Rattle.std.proofs.Common.{ℕ, ◌≡◌, true, false, refl, ◌∙◌}
+use Rattle.std.proofs.Common.{if◌then◌else◌, ℕ, ◌≡◌, Bool, true, false, List, refl, ◌∙◌}
 use Rattle.cb_frame_types.specs.declared.frame.ShortBody.{ShortBody}
 use Rattle.cb_frame_types.specs.declared.frame.ShortBody.TheVariants as short
 use Rattle.cb_outbox.specs.Messages.{short_of}
-use Rattle.cb_protocol.specs.Messages.{Body}
+use Rattle.cb_protocol.specs.Messages.{Body, Commit, PageWrite}
 use Rattle.cb_client_core.specs.ClientState.{ClientState}
 use Rattle.cb_client_core.specs.Room.{room_at, room_welcomed}
 
@@ -34,3 +34,11 @@ ignored_room v s e c d a w = welcomed_room v (short_of s) e ∙ by s c d a w
     by (short.AbortNow t) c d a w = absurd (a t refl)
     by (short.Downgraded p g t) c d a w = refl
     by (short.Downgrade p g t) c d a w = absurd (w p g t refl)
+
+-- a commit needs none, whether the client is welcomed or not
+pub commit_room : (v : ClientState) (t : ℕ) (writes : List PageWrite) → room_at v (Commit t writes) ≡ 0
+commit_room v t writes = by v.welcomed
+  where
+    by : (welcomed : Bool) → (if welcomed then room_welcomed v (Commit t writes) else 0) ≡ 0
+    by true = refl
+    by false = refl

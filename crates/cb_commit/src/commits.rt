@@ -1,6 +1,6 @@
 //! The commits of a server.
 ghost use Rattle.std.specs.Prelude.{◌≡◌, ℕ, ◌+◌, ◌<◌, ◌≤◌, ◌↔◌, ◌&&◌, nat_lt, List, map, Bool};
-ghost use Rattle.std.specs.Prelude.{length, IsTrue, IsSome, IfSome, IfOk, OnOk, OnErr};
+ghost use Rattle.std.specs.Prelude.{length, IsTrue, IsSome, IfErr, IfSome, IfOk, OnOk, OnErr};
 ghost use Rattle.std.specs.List.{All};
 ghost use Rattle.cb_page.specs.Flags.{has};
 ghost use Rattle.cb_page.specs.Numbers.{max_number};
@@ -13,7 +13,7 @@ ghost use Rattle.cb_commit.specs.History.{begun, done_of, dones_between, next_ba
 use crate::{Batch, BatchPage, Commit, Store};
 use cb_frame::{Frame, Writes};
 use cb_page::{ClientNo, CommitNo, Incarnation, Limits, Page, PageSet, TxnNo};
-use std::alloc::{AllocError, Global};
+use std::alloc::{AllocError, AllocFailed, Global};
 use std::marker::Model;
 
 /// A page store, the commits that made it from its opening state, and the number of the last commit
@@ -95,14 +95,14 @@ impl Commits {
     /// Adds a commit, writes it over the store, and answers its number. The list keeps the pages
     /// that are handed in.
     ///
-    /// `AllocError` only where memory was refused.
+    /// Refused only where memory was, and the pages come back; nothing changes then.
     pub fn apply(
         &mut self,
         client: ClientNo,
         incarnation: Incarnation,
         txn: TxnNo,
         writes: Writes,
-    ) -> Result<CommitNo, AllocError>
+    ) -> Result<CommitNo, AllocFailed<Writes>>
         requires number { self.old.store.number + 1 ≤ max_number }
         requires fit { FitsInto self.old.store writes }
         ensures number { IfOk result (λ number. number ≡ self.old.store.number + 1) }
@@ -114,8 +114,11 @@ impl Commits {
           writes = writes;
         })) }
         ensures err { OnErr result (self.new ≡ self.old) }
+        ensures back { IfErr result (λ failed. failed.value ≡ writes) }
     {
-        self.commits.reserve(1)?;
+        if self.commits.reserve(1).is_err() {
+            return Err(AllocFailed { value: writes });
+        }
         let number = CommitNo::new(self.store.number() + 1);
         self.store.write(number, writes.as_slice());
         mark(&mut self.changed, &writes);

@@ -19,6 +19,15 @@ pub struct StoredPage {
     pub bytes: Page,
 }
 
+impl From<(Version, Page)> for StoredPage {
+    ghost from_gives = { λ pair page. page ≡ record { version = pair.0; bytes = pair.1 } };
+
+    fn from(pair: (Version, Page)) -> StoredPage {
+        let (version, bytes) = pair;
+        StoredPage { version, bytes }
+    }
+}
+
 /// A fixed number of pages of one size, each with its version.
 ///
 /// No version is above the number of the last commit in the store.

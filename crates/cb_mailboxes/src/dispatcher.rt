@@ -17,7 +17,6 @@ ghost use Rattle.cb_protocol.specs.Messages.{Hello};
 ghost use Rattle.cb_server.specs.ServerState.{IsNew, IsServer, IsUnchanged as IsSame, commits_of};
 ghost use Rattle.cb_server.specs.Taking.{Does, Refuses, input_of, lacks_number_for};
 
-use crate::copying::copy_of;
 use crate::mailboxes::Mailboxes;
 use cb_commit::{Batch, Store};
 use cb_frame::{Frame, ShortBody, ShortFrame};
@@ -100,26 +99,25 @@ impl Dispatcher {
         ensures err { IfErr result (Refuses self.old.server frame.now) }
         ensures unchanged { OnErr result (IsUnchanged self.old self.new) }
     {
-        let Ok(copy) = self.make_ready_for(alloc, frame) else {
+        let Ok(()) = self.make_ready() else {
             return Err(self.refusal(frame));
         };
-        let said = self.server.take(alloc, copy)?;
+        let said = self.server.take(alloc, frame)?;
         self.mailboxes.put(said);
         // The server still arises by the protocol's steps.
         let _known = self.server.limits();
         Ok(())
     }
 
-    /// Makes ready to take a frame, and copies it for the server.
-    fn make_ready_for(&mut self, alloc: Global, frame: &Frame) -> Result<Frame, AllocError>
-        ensures copy { IfOk result (λ copy. copy ≡ frame.now) }
+    /// Makes ready for what the server says next.
+    fn make_ready(&mut self) -> Result<(), AllocError>
         ensures ready { OnOk result (self.new.mailboxes.late ≡ []) }
         ensures server { self.new.server ≡ self.old.server }
         ensures mailboxes { AsBefore (current_in (server_of self.old)) self.old.mailboxes
             self.new.mailboxes }
     {
         self.mailboxes.make_ready(self.server.holdings())?;
-        copy_of(alloc, frame)
+        Ok(())
     }
 
     /// Why a frame is refused for which a growth was refused: want of a number goes before want of
@@ -270,7 +268,7 @@ fn hello(
         incarnation,
         body: ShortBody::Hello,
     });
-    match server.take(alloc, frame) {
+    match server.take(alloc, &frame) {
         Ok(said) => Ok(said),
         Err(_) => Err(AllocError),
     }

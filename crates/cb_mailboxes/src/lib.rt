@@ -5,10 +5,8 @@
 //! mailboxes hold.
 #![tactic(auto)]
 
-mod copying;
 mod dispatcher;
 mod mailbox;
 mod mailboxes;
 
-pub use copying::copy_of;
 pub use dispatcher::Dispatcher;

@@ -1,5 +1,5 @@
 ghost use Rattle.std.specs.Prelude.{◌≡◌, ℕ, ◌<◌, ◌≤◌, ◌↔◌, [], length, replicate, slice_set};
-ghost use Rattle.std.specs.Prelude.{true, false, Some, None, IfOk, IfSome, OnErr, IsTrue};
+ghost use Rattle.std.specs.Prelude.{true, false, Some, None, IfErr, IfOk, IfSome, OnErr, IsTrue};
 ghost use Rattle.std.specs.Borrow.{sem};
 ghost use Rattle.std.specs.Option.{is_none, is_some, option_copied};
 ghost use Rattle.cb_twoq.specs.Pages.{has};
@@ -165,9 +165,37 @@ impl<Q: Chooser> Pool<Q> {
         ensures here { IsTrue (is_some (copy_of self.old page)) → result ≡ Ok None }
         ensures err { OnErr result (self.new ≡ self.old) }
     {
-        let gone = self.chooser.reference(page, self.copies.fixed())?;
-        self.copies.place(page, &gone, bytes);
-        Ok(gone)
+        match self.install_or_return(page, bytes) {
+            Ok(gone) => Ok(gone),
+            Err(refused) => Err(refused.0),
+        }
+    }
+
+    /// As `install`, and the bytes come back with the fault.
+    pub fn install_or_return(
+        &mut self,
+        page: PageNo,
+        bytes: Page,
+    ) -> Result<Option<PageNo>, (PoolFault, Page)>
+        requires below { page < length self.old.fixed }
+        requires size { length bytes ≡ self.old.page_size }
+        ensures pages { IfOk result (λ gone. self.new ≡ record self.old {
+          pages = slice_set (let_go gone self.old.pages) page (Some bytes);
+        }) }
+        ensures gone { IfOk result (MayGo self.old page) }
+        ensures full { (result ≡ Err (PoolFault.Full, bytes))
+            ↔ (IsTrue (is_none (copy_of self.old page)) × ¬ (HasRoom self.old)) }
+        ensures here { IsTrue (is_some (copy_of self.old page)) → result ≡ Ok None }
+        ensures back { IfErr result (λ refused. refused.1 ≡ bytes) }
+        ensures err { OnErr result (self.new ≡ self.old) }
+    {
+        match self.chooser.reference(page, self.copies.fixed()) {
+            Ok(gone) => {
+                self.copies.place(page, &gone, bytes);
+                Ok(gone)
+            }
+            Err(fault) => Err((PoolFault::from(fault), bytes)),
+        }
     }
 
     /// Whether a slot is free, so that `install` lets no page go.

@@ -6,6 +6,7 @@
 -- Rooms: room for settling, once a message is answered.
 -- Arising: a server arises by frames that fit, and what it says fits.
 -- Greeting: hello, by its incarnation, and every other message.
+-- PuttingOff: a commit that is put off until its pages are there.
 -- Committing: whether a commit is applied, and what is done.
 -- Serving: the server between two calls, and after each.
 -- LawsKept: what the protocol says of servers that arose, of each server.
@@ -17,6 +18,7 @@ pub mod DirectAnswers
 pub mod Rooms
 pub mod Arising
 pub mod Greeting
+pub mod PuttingOff
 pub mod Committing
 pub mod Serving
 pub mod LawsKept

@@ -25,6 +25,8 @@ use Rattle.cb_protocol.specs.Settling.{send_to, settle_pages}
 use Rattle.cb_protocol.specs.WaitsFor.{on_cycle}
 use Rattle.cb_protocol.specs.World.{messages_sent}
 use Rattle.cb_server.specs.declared.engine.Engine.{Engine}
+use Rattle.cb_server.specs.declared.engine.Met.{Met}
+use Rattle.cb_server.specs.declared.engine.Met.TheVariants as met
 use Rattle.cb_server.specs.declared.engine.answers.Begun.{Begun}
 use Rattle.cb_server.specs.declared.engine.answers.Begun.TheVariants as begun
 
@@ -123,6 +125,11 @@ applies server client txn writes =
     let begun = server_after server (begin_transaction server client txn) in
     may_proceed begun client txn && commit_allowed begun client writes
 
+-- the message is a commit that would be applied
+abbrev pub is_applied : Server → (client : ℕ) → protocol.Body → Bool
+is_applied server client (protocol.Commit txn writes) = applies server client txn writes
+is_applied server client _ = false
+
 -- Between two messages: nothing is to be sent yet, settling would do nothing, and each ask to read
 -- that waits can have a grant number.
 pub record IsReady (engine : Engine) : Type 0 where
@@ -150,6 +157,35 @@ pub record IsLeft (old new : Engine) : Type 0 where
 abbrev pub IsCurrent : Engine → (client incarnation : ℕ) → Type 0
 IsCurrent engine client incarnation =
     incarnation ≡ ((server_in engine).session client).current
+
+-- A commit of the client's current incarnation is to be applied: there is a number for it, and room
+-- for its answer and for settling.
+pub record Awaits (engine : Engine) (client incarnation txn : ℕ) (writes : List protocol.PageWrite)
+    : Type 0 where
+  pub current : IsCurrent engine client incarnation
+  pub room : CanAnswer engine (protocol.Commit txn writes)
+  pub number : LacksNumber engine client (protocol.Commit txn writes) false
+  pub allowed : applies (server_in engine) client txn writes ≡ true
+
+-- the message is such a commit
+abbrev pub AwaitsBody : Engine → (client incarnation : ℕ) → protocol.Body → Type 0
+AwaitsBody engine client incarnation (protocol.Commit txn writes) =
+    Awaits engine client incarnation txn writes
+AwaitsBody engine client incarnation _ = ⊥
+
+-- The message is such a commit, and nothing but room has changed.
+pub record IsPutOff (old : Engine) (client incarnation : ℕ) (message : protocol.Body)
+    (new : Engine) : Type 0 where
+  pub waits : AwaitsBody new client incarnation message
+  pub left : IsLeft old new
+  pub callbacks : new.callbacks ≡ old.callbacks
+
+-- the message was taken by these steps; or it is a commit that is still to be applied
+abbrev pub Meets : Engine → (Server → List ServerStep) → (client incarnation : ℕ) → protocol.Body
+    → Met → Engine → Type 0
+Meets old steps client incarnation message met.Taken new = Serves old steps new
+Meets old steps client incarnation message met.Applies new =
+    IsPutOff old client incarnation message new
 
 -- How a message's transaction stands once it has begun.
 abbrev pub Stands : Begun → Server → (client txn : ℕ) → Type 0

@@ -1,5 +1,5 @@
 //! What a server does for a message, step by step.
-ghost use Rattle.std.specs.Prelude.{◌≡◌, ◌==◌, ◌<◌, ◌≤◌, ◌∷◌, [], ℕ, false, true, IfErr, OnErr};
+ghost use Rattle.std.specs.Prelude.{◌≡◌, ◌==◌, ◌<◌, ◌≤◌, ◌∷◌, [], ℕ, false, true, IfErr, IfOk, OnErr};
 ghost use Rattle.std.specs.Prelude.{◌+◌, OnOk, max};
 ghost use Rattle.cb_tables.specs.Tables.{HasClient};
 ghost use Rattle.cb_tables.specs.Waits.{IsGreeted};
@@ -13,7 +13,7 @@ ghost use Rattle.cb_protocol.specs.ServerMessages.{server_take, take_current};
 ghost use Rattle.cb_protocol.specs.Settling.{settle_pages};
 ghost use Rattle.cb_protocol.specs.WaitsFor.{on_cycle};
 ghost use Rattle.cb_server.specs.Answering.{CanAnswer, CanSettle, FitsIn, IsCurrent, IsLeft};
-ghost use Rattle.cb_server.specs.Answering.{IsReady, LacksNumber, Makes, Serves, is_hello};
+ghost use Rattle.cb_server.specs.Answering.{IsReady, LacksNumber, Makes, Meets, Serves, is_hello};
 ghost use Rattle.cb_server.specs.Answering.{copies_for_body, messages_for_body};
 ghost use Rattle.cb_server.specs.Answering.{read_asks_in_all, server_in};
 ghost use Rattle.cb_server.specs.Taking.{is_exhaustion, may_want_memory};
@@ -21,6 +21,7 @@ ghost use Rattle.cb_server.specs.Taking.{is_exhaustion, may_want_memory};
 mod answers;
 mod asks;
 mod commit;
+mod copying;
 
 use crate::server_fault::ServerFault;
 use cb_callbacks::Callbacks;
@@ -30,6 +31,15 @@ use cb_outbox::Outbox;
 use cb_page::{ClientNo, Incarnation, Limits};
 use std::alloc::{AllocError, Global};
 
+/// What became of a message.
+#[derive(Clone, Copy)]
+pub(crate) enum Met {
+    /// It was taken.
+    Taken,
+    /// It is a commit that is to be applied. There is room for what follows; nothing else changed.
+    Applies,
+}
+
 /// The tables, and what is said while a message is taken.
 #[derive(Drop)]
 pub(crate) struct Engine {
@@ -38,15 +48,49 @@ pub(crate) struct Engine {
 }
 
 impl Engine {
-    /// Takes a message of the client's incarnation.
+    /// Takes a message of the client's incarnation. The pages of a commit that is applied are
+    /// copied.
     pub(crate) fn take(
         &mut self,
         alloc: Global,
         limits: &Limits,
         client: ClientNo,
         incarnation: Incarnation,
-        body: Body,
+        body: &Body,
     ) -> Result<(), ServerFault>
+        requires ready { IsReady self.old }
+        requires of { AreOf limits.now self.old.callbacks.tables.holdings }
+        requires client { HasClient self.old.callbacks.tables client }
+        requires fits { FitsIn self.old body.now }
+        ensures ok { OnOk result (Serves self.old (λ server.
+            server_take on_cycle server client incarnation (body_of body.now)) self.new) }
+        ensures taken { OnOk result
+            (is_exhausted (server_in self.old) client incarnation (body_of body.now) ≡ false) }
+        ensures err { IfErr result (λ fault.
+            is_exhausted (server_in self.old) client incarnation (body_of body.now)
+            ≡ is_exhaustion fault) }
+        ensures needed { OnErr result
+            (may_want_memory (server_in self.old) client incarnation (body_of body.now)
+            ≡ true) }
+        ensures left { OnErr result (IsLeft self.old self.new) }
+    {
+        let met = self.meet(alloc, limits, client, incarnation, body)?;
+        match met {
+            Met::Taken => Ok(()),
+            Met::Applies => Ok(self.apply_copy(alloc, client, incarnation, body)?),
+        }
+    }
+
+    /// As `take`; the pages of a commit that is applied are moved, and the body comes back with the
+    /// fault.
+    pub(crate) fn take_owned(
+        &mut self,
+        alloc: Global,
+        limits: &Limits,
+        client: ClientNo,
+        incarnation: Incarnation,
+        body: Body,
+    ) -> Result<(), (ServerFault, Body)>
         requires ready { IsReady self.old }
         requires of { AreOf limits.now self.old.callbacks.tables.holdings }
         requires client { HasClient self.old.callbacks.tables client }
@@ -55,55 +99,94 @@ impl Engine {
             (λ server. server_take on_cycle server client incarnation (body_of body)) self.new) }
         ensures taken { OnOk result
             (is_exhausted (server_in self.old) client incarnation (body_of body) ≡ false) }
-        ensures err { IfErr result (λ fault.
+        ensures err { IfErr result (λ refused.
             is_exhausted (server_in self.old) client incarnation (body_of body)
-            ≡ is_exhaustion fault) }
+            ≡ is_exhaustion refused.0) }
+        ensures back { IfErr result (λ refused. refused.1 ≡ body) }
         ensures needed { OnErr result
             (may_want_memory (server_in self.old) client incarnation (body_of body) ≡ true) }
         ensures left { OnErr result (IsLeft self.old self.new) }
     {
-        if is_hello(&body) {
-            self.hello(alloc, limits, client, incarnation)?;
-            return Ok(());
+        match self.meet(alloc, limits, client, incarnation, &body) {
+            Err(fault) => Err((fault, body)),
+            Ok(Met::Taken) => Ok(()),
+            Ok(Met::Applies) => self.apply_body(client, incarnation, body),
         }
-        if !self.is_current(client, incarnation) {
-            return Ok(());
-        }
-        self.take_current(alloc, limits, client, incarnation, body)
     }
 
-    /// Takes another message than Hello, of the current incarnation.
-    fn take_current(
+    /// Takes a message of the client's incarnation, unless it is a commit that is to be applied.
+    fn meet(
         &mut self,
         alloc: Global,
         limits: &Limits,
         client: ClientNo,
         incarnation: Incarnation,
-        body: Body,
-    ) -> Result<(), ServerFault>
+        body: &Body,
+    ) -> Result<Met, ServerFault>
+        requires ready { IsReady self.old }
+        requires of { AreOf limits.now self.old.callbacks.tables.holdings }
+        requires client { HasClient self.old.callbacks.tables client }
+        requires fits { FitsIn self.old body.now }
+        ensures ok { IfOk result (λ met. Meets self.old (λ server.
+            server_take on_cycle server client incarnation (body_of body.now))
+            client incarnation (body_of body.now) met self.new) }
+        ensures taken { OnOk result
+            (is_exhausted (server_in self.old) client incarnation (body_of body.now) ≡ false) }
+        ensures err { IfErr result (λ fault.
+            is_exhausted (server_in self.old) client incarnation (body_of body.now)
+            ≡ is_exhaustion fault) }
+        ensures needed { OnErr result
+            (may_want_memory (server_in self.old) client incarnation (body_of body.now)
+            ≡ true) }
+        ensures left { OnErr result (IsLeft self.old self.new) }
+    {
+        if is_hello(body) {
+            self.hello(alloc, limits, client, incarnation)?;
+            return Ok(Met::Taken);
+        }
+        if !self.is_current(client, incarnation) {
+            return Ok(Met::Taken);
+        }
+        self.meet_current(alloc, limits, client, incarnation, body)
+    }
+
+    /// Takes another message than Hello, of the current incarnation, unless it is a commit that is
+    /// to be applied.
+    fn meet_current(
+        &mut self,
+        alloc: Global,
+        limits: &Limits,
+        client: ClientNo,
+        incarnation: Incarnation,
+        body: &Body,
+    ) -> Result<Met, ServerFault>
         requires ready { IsReady self.old }
         requires of { AreOf limits.now self.old.callbacks.tables.holdings }
         requires client { HasClient self.old.callbacks.tables client }
         requires current { IsCurrent self.old client incarnation }
-        requires fits { FitsIn self.old body }
-        ensures ok { OnOk result (Serves self.old
-            (λ server. take_current on_cycle server client (body_of body)) self.new) }
-        ensures taken { OnOk result (LacksNumber self.old client (body_of body) false) }
+        requires fits { FitsIn self.old body.now }
+        ensures ok { IfOk result (λ met. Meets self.old
+            (λ server. take_current on_cycle server client (body_of body.now))
+            client incarnation (body_of body.now) met self.new) }
+        ensures taken { OnOk result (LacksNumber self.old client (body_of body.now) false) }
         ensures err { IfErr result (λ fault.
-            LacksNumber self.old client (body_of body) (is_exhaustion fault)) }
-        ensures needed { OnErr result (to_server (body_of body) ≡ true) }
+            LacksNumber self.old client (body_of body.now) (is_exhaustion fault)) }
+        ensures needed { OnErr result (to_server (body_of body.now) ≡ true) }
         ensures left { OnErr result (IsLeft self.old self.new) }
     {
-        if self.lacks_number(client, &body) {
+        if self.lacks_number(client, body) {
             return Err(ServerFault::Exhausted);
         }
-        if !is_for_server(&body) {
-            return Ok(());
+        if !is_for_server(body) {
+            return Ok(Met::Taken);
         }
-        self.reserve(alloc, limits, &body)?;
+        self.reserve(alloc, limits, body)?;
+        if self.is_applied(client, body) {
+            return Ok(Met::Applies);
+        }
         self.answer(client, incarnation, body)?;
         self.settle();
-        Ok(())
+        Ok(Met::Taken)
     }
 
     /// Whether no number is left for a message of the client's incarnation.
@@ -223,7 +306,7 @@ impl Engine {
     }
 
     /// Every page with asks is settled.
-    fn settle(&mut self)
+    pub(crate) fn settle(&mut self)
         requires { CanSettle self.old }
         ensures { Makes self.old (λ server. settle_pages on_cycle server server.pages) self.new }
     {

@@ -33,7 +33,8 @@ use std::marker::Model;
 
 /// A page server over its store.
 ///
-/// `new`, `take`, `take_bytes`, `again`, `batch` and `flushed` take memory; no other call does.
+/// `new`, `take`, `take_owned`, `take_bytes`, `again`, `batch` and `flushed` take memory; no other
+/// call does.
 pub struct Server {
     limits: Limits,
     /// Its outbox is empty between two calls.
@@ -102,18 +103,57 @@ impl Server {
     /// would be applied. `Memory` only where a growth was refused, so never for a frame that is let
     /// go: of another incarnation than the current one, but for a greater one's Hello, or of a kind
     /// that goes to clients. Nothing changes then.
-    pub fn take(&mut self, alloc: Global, frame: Frame) -> Result<Vec<Frame>, ServerFault>
-        requires { Fits self.old.limits frame }
-        ensures ok { IfOk result (λ said. Takes self.old frame (messages_of said.items) self.new) }
+    ///
+    /// The pages of a commit that is applied are copied, since the list of commits keeps them; no
+    /// others are.
+    pub fn take(&mut self, alloc: Global, frame: &Frame) -> Result<Vec<Frame>, ServerFault>
+        requires { Fits self.old.limits frame.now }
+        ensures ok { IfOk result (λ said.
+            Takes self.old frame.now (messages_of said.items) self.new) }
         ensures fits { IfOk result (λ said. AllByRecursion (Fits self.old.limits) said.items) }
-        ensures err { IfErr result (Refuses self.old frame) }
-        ensures needed { OnErr result (MayWantMemory self.old frame) }
+        ensures err { IfErr result (Refuses self.old frame.now) }
+        ensures needed { OnErr result (MayWantMemory self.old frame.now) }
         ensures unchanged { OnErr result (IsUnchanged self.old self.new) }
     {
         let (client, incarnation) = (frame.client, frame.incarnation);
         self.engine
-            .take(alloc, &self.limits, client, incarnation, frame.body)?;
+            .take(alloc, &self.limits, client, incarnation, &frame.body)?;
         Ok(self.engine.outbox.take(alloc))
+    }
+
+    /// As `take`, of a frame that is handed over: the pages of a commit that is applied are moved,
+    /// and the frame comes back with the fault.
+    pub fn take_owned(
+        &mut self,
+        alloc: Global,
+        frame: Frame,
+    ) -> Result<Vec<Frame>, (ServerFault, Frame)>
+        requires { Fits self.old.limits frame }
+        ensures ok { IfOk result (λ said. Takes self.old frame (messages_of said.items) self.new) }
+        ensures fits { IfOk result (λ said. AllByRecursion (Fits self.old.limits) said.items) }
+        ensures err { IfErr result (λ refused. Refuses self.old frame refused.0) }
+        ensures back { IfErr result (λ refused. refused.1 ≡ frame) }
+        ensures needed { OnErr result (MayWantMemory self.old frame) }
+        ensures unchanged { OnErr result (IsUnchanged self.old self.new) }
+    {
+        let Frame {
+            client,
+            incarnation,
+            body,
+        } = frame;
+        let (fault, body) = match self
+            .engine
+            .take_owned(alloc, &self.limits, client, incarnation, body)
+        {
+            Ok(()) => return Ok(self.engine.outbox.take(alloc)),
+            Err(refused) => refused,
+        };
+        let frame = Frame {
+            client,
+            incarnation,
+            body,
+        };
+        Err((fault, frame))
     }
 
     /// Whether no number is left for the frame: exactly then `take` answers `Exhausted`.
@@ -146,9 +186,9 @@ impl Server {
     {
         match decode(alloc, &self.limits, bytes) {
             Err(fault) => Err(BytesFault::Frame(fault)),
-            Ok((frame, used)) => match self.take(alloc, frame) {
+            Ok((frame, used)) => match self.take_owned(alloc, frame) {
                 Ok(said) => Ok((said, used)),
-                Err(fault) => Err(BytesFault::Taker(fault)),
+                Err(refused) => Err(BytesFault::Taker(refused.0)),
             },
         }
     }

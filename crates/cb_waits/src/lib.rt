@@ -14,4 +14,4 @@ mod laws;
 mod view;
 
 pub use laws::waits_by_place;
-pub use view::View;
+pub use view::{View, closes_cycle};

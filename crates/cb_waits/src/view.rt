@@ -40,19 +40,6 @@ impl View {
         self.rows[client.index()]
     }
 
-    /// Whether the client waits, in one or more steps, for itself.
-    pub fn closes_cycle(&self, client: ClientNo) -> bool
-        ensures { IsTrue result ↔ LiesOnCycle (Waits self.now) client }
-    {
-        let mut reached = self.row(client);
-        let mut followed = ClientSet::empty();
-        while let Some(next) = reached.difference(followed).first() {
-            followed.insert(next);
-            reached = reached.union(self.row(next));
-        }
-        reached.contains(client)
-    }
-
     /// The client waits for the others of the set, and for nobody else.
     pub fn put_row(&mut self, client: ClientNo, others: ClientSet)
         ensures row { (other : ℕ)
@@ -82,4 +69,17 @@ impl View {
             waited_for = ahead;
         }
     }
+}
+
+/// Whether the client waits, in one or more steps, for itself.
+pub fn closes_cycle(view: &View, client: ClientNo) -> bool
+    ensures { IsTrue result ↔ LiesOnCycle (Waits view.now) client }
+{
+    let mut reached = view.row(client);
+    let mut followed = ClientSet::empty();
+    while let Some(next) = reached.difference(followed).first() {
+        followed.insert(next);
+        reached = reached.union(view.row(next));
+    }
+    reached.contains(client)
 }

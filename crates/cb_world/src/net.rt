@@ -3,7 +3,7 @@
 //! In contracts a [`Net`] is server, clients and packets of a world of the protocol: each event
 //! makes of it what the protocol's step makes of that world.
 ghost use Rattle.std.specs.Prelude.{◌≡◌, ◌<◌, ◌≤◌, ◌+◌, ℕ, false, true, [], IfOk, OnErr, length};
-ghost use Rattle.std.specs.Prelude.{take};
+ghost use Rattle.std.specs.Prelude.{take, IfErr};
 ghost use Rattle.std.specs.List.{AllByRecursion};
 ghost use Rattle.cb_commit.specs.Stores.{IsOf};
 ghost use Rattle.cb_cache.specs.CacheState.{limits_of};
@@ -17,8 +17,9 @@ ghost use Rattle.cb_world_clients.specs.Packets.{IsFrameAt};
 ghost use Rattle.cb_protocol.specs.World.{Event as WorldEvent};
 ghost use Rattle.cb_protocol.specs.World.{ClientCalls, FlushAll, Restart as RestartEvent};
 ghost use Rattle.cb_protocol.specs.World.{ServerAgain, TakePacket, new_world};
-ghost use Rattle.cb_server.specs.ServerState.{commits_of};
-ghost use Rattle.cb_server.specs.Taking.{lacks_number_for};
+ghost use Rattle.cb_outbox.specs.Messages.{messages_of};
+ghost use Rattle.cb_server.specs.ServerState.{IsUnchanged, commits_of};
+ghost use Rattle.cb_server.specs.Taking.{Refuses, Takes, lacks_number_for};
 ghost use Rattle.cb_transcript.specs.ProtocolEvents.{call_of, event_of};
 
 use cb_commit::Store;
@@ -194,7 +195,7 @@ impl<Q: Chooser> Net<Q> {
         ensures err { OnErr result (self.new.packets ≡ self.old.packets) }
         ensures fails { OnErr result (lacks_number_for self.old.server frame ≡ false) }
     {
-        match self.server.take(alloc, frame) {
+        match take_decoded(&mut self.server, alloc, frame) {
             Ok(said) => self.answer(alloc, AnswerWord::Taken, said.as_slice()),
             Err(ServerFault::Exhausted) => Ok(Answer::silent(alloc, AnswerWord::ServerExhausted)),
             Err(ServerFault::Memory) => Err(AllocError),
@@ -303,4 +304,18 @@ fn numbered(alloc: Global, end: usize, frames: &[Frame]) -> Result<SentPackets, 
         })?;
     }
     Ok(SentPackets::from_vec(list))
+}
+
+/// The server takes a frame that was decoded from its packet, which stays: a refused one goes.
+fn take_decoded(server: &mut Server, alloc: Global, frame: Frame) -> Result<Vec<Frame>, ServerFault>
+    requires { Fits server.old.limits frame }
+    ensures ok { IfOk result (λ said. Takes server.old frame (messages_of said.items) server.new) }
+    ensures fits { IfOk result (λ said. AllByRecursion (Fits server.old.limits) said.items) }
+    ensures err { IfErr result (Refuses server.old frame) }
+    ensures unchanged { OnErr result (IsUnchanged server.old server.new) }
+{
+    match server.take_owned(alloc, frame) {
+        Ok(said) => Ok(said),
+        Err(refused) => Err(refused.0),
+    }
 }

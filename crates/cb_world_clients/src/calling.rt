@@ -61,9 +61,9 @@ pub(crate) fn deliver<Q: Chooser>(
     ensures none { room_to_take client.old frame ≡ 0 → brings_page client.old frame ≡ false
         → IsOk result }
 {
-    match client.take(alloc, frame) {
+    match client.take_owned(alloc, frame) {
         Ok(said) => Ok(said),
-        Err(_) => Err(AllocError),
+        Err(_refused) => Err(AllocError),
     }
 }
 

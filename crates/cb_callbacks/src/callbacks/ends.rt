@@ -1,5 +1,5 @@
 //! Transactions and incarnations end: their asks and marks go.
-ghost use Rattle.std.specs.Prelude.{◌≡◌, ◌∷◌, ◌<◌, ◌+◌, [], true, IfOk, OnOk, OnErr};
+ghost use Rattle.std.specs.Prelude.{◌≡◌, ◌∷◌, ◌<◌, ◌+◌, [], true, IfErr, IfOk, OnOk, OnErr};
 ghost use Rattle.cb_callbacks.specs.Callbacks.{Changes};
 ghost use Rattle.cb_callbacks.specs.Following.{FollowsAll, FollowsPages};
 ghost use Rattle.cb_tables.specs.Tables.{AreTables, HasClient, server_of};
@@ -19,7 +19,7 @@ use cb_frame::{Frame, Writes};
 use cb_page::{ClientNo, ClientSet, CommitNo, Incarnation, TxnNo};
 use cb_tables::Tables;
 use cb_waits::View;
-use std::alloc::{AllocError, Global};
+use std::alloc::{AllocError, AllocFailed, Global};
 
 impl Callbacks {
     /// A greater incarnation of the client becomes current: all of the old one goes.
@@ -66,14 +66,14 @@ impl Callbacks {
     /// The client's live transaction, which is handed in, ends by the next commit, whose number is
     /// answered. The commit keeps the pages that are handed in.
     ///
-    /// `AllocError` only where memory was refused.
+    /// Refused only where memory was, and the pages come back; nothing changes then.
     pub fn apply_commit(
         &mut self,
         client: ClientNo,
         incarnation: Incarnation,
         txn: TxnNo,
         writes: Writes,
-    ) -> Result<CommitNo, AllocError>
+    ) -> Result<CommitNo, AllocFailed<Writes>>
         requires client { HasClient self.old.tables client }
         requires current { incarnation ≡ ((server_of self.old.tables).session client).current }
         requires txn { txn ≡ ((server_of self.old.tables).session client).txn }
@@ -87,6 +87,7 @@ impl Callbacks {
             ∷ ChangeSession client (ApplyCommit txn (page_writes writes)) ∷ [])
             self.new.tables) }
         ensures err { OnErr result (self.new ≡ self.old) }
+        ensures back { IfErr result (λ failed. failed.value ≡ writes) }
     {
         let number = self
             .tables
@@ -101,14 +102,14 @@ impl Callbacks {
     /// answered; the one before it, if it lives, ends as dropped. The commit keeps the pages that
     /// are handed in.
     ///
-    /// `AllocError` only where memory was refused; then no transaction begins.
+    /// Refused only where memory was, and the pages come back; then no transaction begins.
     pub fn commit_later(
         &mut self,
         client: ClientNo,
         incarnation: Incarnation,
         txn: TxnNo,
         writes: Writes,
-    ) -> Result<CommitNo, AllocError>
+    ) -> Result<CommitNo, AllocFailed<Writes>>
         requires client { HasClient self.old.tables client }
         requires current { incarnation ≡ ((server_of self.old.tables).session client).current }
         requires later { ((server_of self.old.tables).session client).txn < txn }
@@ -122,6 +123,7 @@ impl Callbacks {
             ∷ ChangeSession client (ApplyCommit txn (page_writes writes)) ∷ [])
             self.new.tables) }
         ensures err { OnErr result (self.new ≡ self.old) }
+        ensures back { IfErr result (λ failed. failed.value ≡ writes) }
     {
         let commit = self
             .tables

@@ -26,13 +26,39 @@ impl<Q: Chooser> Client<Q> {
     ///
     /// `Memory` only where a growth was refused. It makes room for the frames that it may say and
     /// no more: for none where a page comes in and a slot is free. It is not refused where these
-    /// are none and no page comes in, whose pool may need memory of its own: so not at a frame that
-    /// is ignored.
-    pub fn take(&mut self, alloc: Global, frame: Frame) -> Result<Vec<Frame>, ClientFault>
+    /// are none and no page comes in, for which memory is needed: so not at a frame that is
+    /// ignored. The bytes of a page that comes in are copied, and no others.
+    pub fn take(&mut self, alloc: Global, frame: &Frame) -> Result<Vec<Frame>, ClientFault>
+        requires { Fits self.old.copies.limits frame.now }
+        ensures ok { IfOk result (λ said. TakesFrame self.old frame.now (messages_of said.items)
+            self.new) }
+        ensures err { IfErr result (λ fault. fault ≡ Memory) }
+        ensures unchanged { OnErr result (self.new ≡ self.old) }
+        ensures room { IfOk result (λ said. vec_capacity said
+            ≡ room_to_take self.old frame.now) }
+        ensures none { room_to_take self.old frame.now ≡ 0
+            → brings_page self.old frame.now ≡ false → IsOk result }
+        ensures fits { IfOk result (λ said.
+            AllByRecursion (Fits self.old.copies.limits) said.items) }
+    {
+        if !self.is_addressed(frame.client, frame.incarnation) {
+            return Ok(Vec::new(alloc));
+        }
+        Ok(self.core.take_body(alloc, &frame.body)?)
+    }
+
+    /// As `take`, of a frame that is handed over: the bytes of a page that comes in are moved, and
+    /// the frame comes back with the fault.
+    pub fn take_owned(
+        &mut self,
+        alloc: Global,
+        frame: Frame,
+    ) -> Result<Vec<Frame>, (ClientFault, Frame)>
         requires { Fits self.old.copies.limits frame }
         ensures ok { IfOk result (λ said. TakesFrame self.old frame (messages_of said.items)
             self.new) }
-        ensures err { IfErr result (λ fault. fault ≡ Memory) }
+        ensures err { IfErr result (λ refused. refused.0 ≡ Memory) }
+        ensures back { IfErr result (λ refused. refused.1 ≡ frame) }
         ensures unchanged { OnErr result (self.new ≡ self.old) }
         ensures room { IfOk result (λ said. vec_capacity said ≡ room_to_take self.old frame) }
         ensures none { room_to_take self.old frame ≡ 0 → brings_page self.old frame ≡ false
@@ -48,7 +74,16 @@ impl<Q: Chooser> Client<Q> {
         if !self.is_addressed(client, incarnation) {
             return Ok(Vec::new(alloc));
         }
-        Ok(self.core.take_body(alloc, body)?)
+        let failed = match self.core.take_owned(alloc, body) {
+            Ok(said) => return Ok(said),
+            Err(failed) => failed,
+        };
+        let frame = Frame {
+            client,
+            incarnation,
+            body: failed.value,
+        };
+        Err((ClientFault::Memory, frame))
     }
 
     /// Takes the frame that the bytes begin with, whatever follows it, and answers what the client
@@ -69,9 +104,9 @@ impl<Q: Chooser> Client<Q> {
     {
         match decode(alloc, self.core.copies.limits(), bytes) {
             Err(fault) => Err(BytesFault::Frame(fault)),
-            Ok((frame, used)) => match self.take(alloc, frame) {
+            Ok((frame, used)) => match self.take_owned(alloc, frame) {
                 Ok(said) => Ok((said, used)),
-                Err(fault) => Err(BytesFault::Taker(fault)),
+                Err(refused) => Err(BytesFault::Taker(refused.0)),
             },
         }
     }

@@ -1,6 +1,6 @@
 //! A copy that comes, and the page that goes for it.
 ghost use Rattle.std.specs.Prelude.{◌≡◌, ◌<◌, ◌≤◌, ◌≢◌, ◌==◌, ◌&&◌, not, nat_lt, true, false};
-ghost use Rattle.std.specs.Prelude.{unwrap_or, length, option_to_list, None, Ok, Err, IfOk};
+ghost use Rattle.std.specs.Prelude.{unwrap_or, length, option_to_list, List, ℕ, None, Ok, IfErr, IfOk};
 ghost use Rattle.std.specs.Prelude.{IfSome, IsErr, IsOk, OnErr};
 ghost use Rattle.std.specs.Option.{is_some};
 ghost use Rattle.cb_page.specs.Flags.{has};
@@ -28,7 +28,7 @@ use cb_locks::ReadLocks;
 use cb_page::{GrantNo, Page, PageNo, Version};
 use cb_pool::PoolFault;
 use cb_twoq::Chooser;
-use std::alloc::AllocError;
+use std::alloc::AllocFailed;
 
 /// What becomes of a grant that comes.
 #[derive(Clone, Copy)]
@@ -41,6 +41,18 @@ pub(super) enum GrantCase {
     Filled,
     /// It is a new copy.
     Installed,
+}
+
+impl GrantCase {
+    /// Whether the page comes into the pool.
+    pub(super) fn comes_in(self) -> bool
+        ensures { result ≡ comes_in self }
+    {
+        match self {
+            GrantCase::Ignored | GrantCase::Refused => false,
+            GrantCase::Filled | GrantCase::Installed => true,
+        }
+    }
 }
 
 impl<Q: Chooser> ClientCore<Q> {
@@ -104,37 +116,72 @@ impl<Q: Chooser> ClientCore<Q> {
         }
     }
 
-    /// A grant comes with the page's bytes. Answers the frame that gives it, or the copy of the
-    /// page that went for it, back.
-    pub(super) fn take_granted(
+    /// A grant comes whose page doesn't come in, whatever its bytes. Answers the frame that gives it
+    /// back.
+    pub(super) fn turn_away(
+        &mut self,
+        case: GrantCase,
+        page: PageNo,
+        grant: GrantNo,
+    ) -> Option<Frame>
+        requires sound { IsClient (client_in self.old) }
+        requires welcomed { self.old.welcomed ≡ true }
+        requires page { page < self.old.copies.limits.pages }
+        requires grant { IsNumber grant }
+        requires stays_out { comes_in case ≡ false }
+        ensures takes { (version : ℕ) (bytes : List ℕ)
+            → case ≡ case_at (client_in self.old) page grant version
+            → Takes (client_in self.old) (Granted page grant version bytes)
+            (messages_of (option_to_list result)) (client_in self.new) }
+        ensures sound { (version : ℕ) (bytes : List ℕ)
+            → case ≡ case_at (client_in self.old) page grant version
+            → BodyFits (limits_at (client_in self.old)) (Granted page grant version bytes)
+            → IsClient (client_in self.new) }
+        ensures room { length (option_to_list result)
+            ≤ room_of_grant (has_free_slot self.old.copies.pool) case }
+    {
+        match case {
+            GrantCase::Ignored => None,
+            GrantCase::Refused => {
+                let due = self.locks.called(page, grant);
+                self.copies.refuse(page, grant);
+                Some(due.give_back())
+            }
+            GrantCase::Filled => unreachable!(),
+            GrantCase::Installed => unreachable!(),
+        }
+    }
+
+    /// A grant comes whose page comes in. Answers the frame that gives the copy of the page that
+    /// went for it back.
+    ///
+    /// Refused only where a growth was; nothing changes then, and the bytes come back.
+    pub(super) fn take_in(
         &mut self,
         case: GrantCase,
         page: PageNo,
         grant: GrantNo,
         version: Version,
         bytes: Page,
-    ) -> Result<Option<Frame>, AllocError>
+    ) -> Result<Option<Frame>, AllocFailed<Page>>
         requires sound { IsClient (client_in self.old) }
         requires welcomed { self.old.welcomed ≡ true }
         requires fits { BodyFits (limits_at (client_in self.old))
             (Granted page grant version bytes) }
         requires case { case ≡ case_at (client_in self.old) page grant version }
+        requires comes_in { comes_in case ≡ true }
         ensures ok { IfOk result (λ frame. Takes (client_in self.old)
             (Granted page grant version bytes)
             (messages_of (option_to_list frame)) (client_in self.new)) }
         ensures room { IfOk result (λ frame. length (option_to_list frame)
             ≤ room_of_grant (has_free_slot self.old.copies.pool) case) }
-        ensures none { comes_in case ≡ false → IsOk result }
         ensures err { OnErr result (self.new ≡ self.old) }
+        ensures back { IfErr result (λ failed. failed.value ≡ bytes) }
         ensures sound { IsClient (client_in self.new) }
     {
         match case {
-            GrantCase::Ignored => Ok(None),
-            GrantCase::Refused => {
-                let due = self.locks.called(page, grant);
-                self.copies.refuse(page, grant);
-                Ok(Some(due.give_back()))
-            }
+            GrantCase::Ignored => unreachable!(),
+            GrantCase::Refused => unreachable!(),
             GrantCase::Filled => {
                 let gone = come_in(self.copies.fill(page, bytes))?;
                 self.ask = PendingAsk::Nothing;
@@ -151,16 +198,19 @@ impl<Q: Chooser> ClientCore<Q> {
     }
 }
 
-/// The page that went for one that came in, where there was room.
-fn come_in(came: Result<Option<PageNo>, PoolFault>) -> Result<Option<PageNo>, AllocError>
-    requires { came ≢ Err Full }
+/// The page that went for one that came in, where there was room; else its bytes.
+fn come_in(
+    came: Result<Option<PageNo>, (PoolFault, Page)>,
+) -> Result<Option<PageNo>, AllocFailed<Page>>
+    requires { IfErr came (λ refused. refused.0 ≢ Full) }
     ensures ok { IfOk result (λ gone. came ≡ Ok gone) }
     ensures err { IsErr result → IsErr came }
+    ensures back { IfErr result (λ failed. IfErr came (λ refused. failed.value ≡ refused.1)) }
 {
     match came {
         Ok(gone) => Ok(gone),
-        Err(PoolFault::Memory) => Err(AllocError),
-        Err(PoolFault::Full) => unreachable!(),
+        Err((PoolFault::Memory, bytes)) => Err(AllocFailed { value: bytes }),
+        Err((PoolFault::Full, _)) => unreachable!(),
     }
 }
 

@@ -1,49 +1,186 @@
 //! What a frame of its server's makes of a client, by the frame's kind.
-ghost use Rattle.std.specs.Prelude.{◌≡◌, true, false, IfOk, IsOk, OnErr};
+ghost use Rattle.std.specs.Prelude.{◌≡◌, ◌<◌, ℕ, List, true, false, IfErr, IfOk, IsOk, OnErr};
 ghost use Rattle.std.specs.Vec.{vec_capacity};
 ghost use Rattle.cb_client_core.specs.ByTable.{Takes, limits_at};
 ghost use Rattle.cb_client_core.specs.ClientState.{IsClient};
+ghost use Rattle.cb_client_core.specs.Meeting.{BringsSo, IfBrings, IsBrought, Meets};
 ghost use Rattle.cb_client_core.specs.Parts.{client_in};
 ghost use Rattle.cb_client_core.specs.Room.{brings_in, room_at};
 ghost use Rattle.cb_frame_types.specs.Grammar.{BodyFits, ShortFits};
+ghost use Rattle.cb_page.specs.Numbers.{IsNumber};
 ghost use Rattle.cb_outbox.specs.Messages.{body_of, messages_of, short_of};
 ghost use Rattle.cb_protocol.specs.Messages.{Downgrade, Granted};
 ghost use Rattle.cb_protocol.specs.Ranges.{BodyFits as MessageFits};
 
 use crate::client_core::ClientCore;
+use crate::client_core::granted::GrantCase;
 use cb_frame::{Body, Frame, ShortBody};
 use cb_page::{GrantNo, Page, PageNo, TxnNo, Version};
 use cb_twoq::Chooser;
-use std::alloc::{AllocError, Global};
+use std::alloc::{AllocError, AllocFailed, Global};
+
+/// What became of a message.
+pub(super) enum Met {
+    /// It was taken, and the client says this.
+    Said(Vec<Frame>),
+    /// It brings a page into the pool. Nothing has changed.
+    Brings(GrantCase),
+}
 
 impl<Q: Chooser> ClientCore<Q> {
     /// Takes the body of a frame of its own number and incarnation, and answers what the client
-    /// says to it. One for the server is ignored and, before the Welcome, all others.
+    /// says to it. One for the server is ignored and, before the Welcome, all others. The bytes of
+    /// a page that comes in are copied.
     ///
     /// `AllocError` only where a growth was refused; nothing changes then. It makes room for the
     /// frames that the message may need and no more, and is not refused where these are none and
-    /// no page comes into the pool, whose chooser may need memory of its own for it.
-    pub fn take_body(&mut self, alloc: Global, body: Body) -> Result<Vec<Frame>, AllocError>
+    /// no page comes into the pool, for which memory is needed.
+    pub fn take_body(&mut self, alloc: Global, body: &Body) -> Result<Vec<Frame>, AllocError>
+        requires sound { IsClient (client_in self.old) }
+        requires body { BodyFits self.old.copies.limits body.now }
+        ensures ok { IfOk result (λ said. Takes (client_in self.old) (body_of body.now)
+            (messages_of said.items) (client_in self.new)) }
+        ensures err { OnErr result (self.new ≡ self.old) }
+        ensures room { IfOk result (λ said. vec_capacity said
+            ≡ room_at (client_in self.old) (body_of body.now)) }
+        ensures none { room_at (client_in self.old) (body_of body.now) ≡ 0
+            → brings_in (client_in self.old) (body_of body.now) ≡ false → IsOk result }
+        ensures sound { IsClient (client_in self.new) }
+    {
+        match self.meet(alloc, body)? {
+            Met::Said(said) => Ok(said),
+            Met::Brings(case) => {
+                let Body::Granted {
+                    page,
+                    grant,
+                    version,
+                    bytes,
+                } = body
+                else {
+                    unreachable!()
+                };
+                let copy = Page::copy_of(alloc, bytes.as_slice())?;
+                Ok(self.bring_in(alloc, case, *page, *grant, *version, copy)?)
+            }
+        }
+    }
+
+    /// As `take_body`; the bytes of a page that comes in are moved, and the body comes back where a
+    /// growth was refused.
+    pub fn take_owned(&mut self, alloc: Global, body: Body) -> Result<Vec<Frame>, AllocFailed<Body>>
         requires sound { IsClient (client_in self.old) }
         requires body { BodyFits self.old.copies.limits body }
         ensures ok { IfOk result (λ said. Takes (client_in self.old) (body_of body)
             (messages_of said.items) (client_in self.new)) }
         ensures err { OnErr result (self.new ≡ self.old) }
+        ensures back { IfErr result (λ failed. failed.value ≡ body) }
         ensures room { IfOk result (λ said. vec_capacity said
             ≡ room_at (client_in self.old) (body_of body)) }
         ensures none { room_at (client_in self.old) (body_of body) ≡ 0
             → brings_in (client_in self.old) (body_of body) ≡ false → IsOk result }
         ensures sound { IsClient (client_in self.new) }
     {
+        match self.meet(alloc, &body) {
+            Err(_) => Err(AllocFailed { value: body }),
+            Ok(Met::Said(said)) => Ok(said),
+            Ok(Met::Brings(case)) => self.bring_body_in(alloc, case, body),
+        }
+    }
+
+    /// Takes the body, unless it brings a page in.
+    fn meet(&mut self, alloc: Global, body: &Body) -> Result<Met, AllocError>
+        requires sound { IsClient (client_in self.old) }
+        requires body { BodyFits self.old.copies.limits body.now }
+        ensures meets { IfOk result (λ met.
+            Meets (client_in self.old) (body_of body.now) met (client_in self.new)) }
+        ensures brings { IfOk result (λ met. IfBrings met (self.new ≡ self.old)) }
+        ensures err { OnErr result (self.new ≡ self.old) }
+        ensures none { room_at (client_in self.old) (body_of body.now) ≡ 0 → IsOk result }
+        ensures sound { IsClient (client_in self.new) }
+    {
         match body {
-            Body::Short(body) => self.take_short(alloc, body),
-            Body::Commit { .. } => Ok(Vec::new(alloc)),
+            Body::Short(body) => Ok(Met::Said(self.take_short(alloc, *body)?)),
+            Body::Commit { .. } => Ok(Met::Said(Vec::new(alloc))),
             Body::Granted {
                 page,
                 grant,
                 version,
-                bytes,
-            } => self.say_granted(alloc, page, grant, version, bytes),
+                ..
+            } => self.meet_granted(alloc, *page, *grant, *version),
+        }
+    }
+
+    /// Takes a Granted, whatever its bytes, unless it brings its page in.
+    fn meet_granted(
+        &mut self,
+        alloc: Global,
+        page: PageNo,
+        grant: GrantNo,
+        version: Version,
+    ) -> Result<Met, AllocError>
+        requires sound { IsClient (client_in self.old) }
+        requires page { page < self.old.copies.limits.pages }
+        requires grant { IsNumber grant }
+        ensures meets { IfOk result (λ met. (bytes : List ℕ) → Meets (client_in self.old)
+            (Granted page grant version bytes) met (client_in self.new)) }
+        ensures brings { IfOk result (λ met. IfBrings met (self.new ≡ self.old)) }
+        ensures err { OnErr result (self.new ≡ self.old) }
+        ensures none { (bytes : List ℕ)
+            → room_at (client_in self.old) (Granted page grant version bytes) ≡ 0 → IsOk result }
+        ensures sound { (bytes : List ℕ) → MessageFits (limits_at (client_in self.old))
+            (Granted page grant version bytes) → IsClient (client_in self.new) }
+    {
+        if !self.welcomed {
+            return Ok(Met::Said(Vec::new(alloc)));
+        }
+        let case = self.case_of(page, grant, version);
+        if case.comes_in() {
+            return Ok(Met::Brings(case));
+        }
+        let mut frames = Vec::with_capacity(alloc, self.room_of_grant(case))?;
+        if let Some(frame) = self.turn_away(case, page, grant) {
+            frames.push_reserved(frame);
+        }
+        Ok(Met::Said(frames))
+    }
+
+    /// Takes the body of a Granted whose page comes in.
+    fn bring_body_in(
+        &mut self,
+        alloc: Global,
+        case: GrantCase,
+        body: Body,
+    ) -> Result<Vec<Frame>, AllocFailed<Body>>
+        requires sound { IsClient (client_in self.old) }
+        requires body { BodyFits self.old.copies.limits body }
+        requires brings { BringsSo (client_in self.old) (body_of body) case }
+        ensures ok { IfOk result (λ said. Takes (client_in self.old) (body_of body)
+            (messages_of said.items) (client_in self.new)) }
+        ensures err { OnErr result (self.new ≡ self.old) }
+        ensures back { IfErr result (λ failed. failed.value ≡ body) }
+        ensures room { IfOk result (λ said. vec_capacity said
+            ≡ room_at (client_in self.old) (body_of body)) }
+        ensures sound { IsClient (client_in self.new) }
+    {
+        let Body::Granted {
+            page,
+            grant,
+            version,
+            bytes,
+        } = body
+        else {
+            unreachable!()
+        };
+        match self.bring_in(alloc, case, page, grant, version, bytes) {
+            Ok(said) => Ok(said),
+            Err(failed) => Err(AllocFailed {
+                value: Body::Granted {
+                    page,
+                    grant,
+                    version,
+                    bytes: failed.value,
+                },
+            }),
         }
     }
 
@@ -112,35 +249,33 @@ impl<Q: Chooser> ClientCore<Q> {
         Ok(frames)
     }
 
-    /// Takes a Granted, where the client is welcomed.
-    fn say_granted(
+    /// Takes a Granted whose page comes in.
+    fn bring_in(
         &mut self,
         alloc: Global,
+        case: GrantCase,
         page: PageNo,
         grant: GrantNo,
         version: Version,
         bytes: Page,
-    ) -> Result<Vec<Frame>, AllocError>
+    ) -> Result<Vec<Frame>, AllocFailed<Page>>
         requires sound { IsClient (client_in self.old) }
         requires fits { MessageFits (limits_at (client_in self.old))
             (Granted page grant version bytes) }
+        requires brings { IsBrought (client_in self.old) page grant version case }
         ensures ok { IfOk result (λ said. Takes (client_in self.old)
             (Granted page grant version bytes)
             (messages_of said.items) (client_in self.new)) }
         ensures err { OnErr result (self.new ≡ self.old) }
+        ensures back { IfErr result (λ failed. failed.value ≡ bytes) }
         ensures room { IfOk result (λ said. vec_capacity said
             ≡ room_at (client_in self.old) (Granted page grant version bytes)) }
-        ensures none { room_at (client_in self.old) (Granted page grant version bytes) ≡ 0
-            → brings_in (client_in self.old) (Granted page grant version bytes) ≡ false
-            → IsOk result }
         ensures sound { IsClient (client_in self.new) }
     {
-        if !self.welcomed {
-            return Ok(Vec::new(alloc));
-        }
-        let case = self.case_of(page, grant, version);
-        let mut frames = Vec::with_capacity(alloc, self.room_of_grant(case))?;
-        if let Some(frame) = self.take_granted(case, page, grant, version, bytes)? {
+        let Ok(mut frames) = Vec::with_capacity(alloc, self.room_of_grant(case)) else {
+            return Err(AllocFailed { value: bytes });
+        };
+        if let Some(frame) = self.take_in(case, page, grant, version, bytes)? {
             frames.push_reserved(frame);
         }
         Ok(frames)

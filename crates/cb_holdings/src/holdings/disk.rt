@@ -1,6 +1,6 @@
 //! Commits: which may be applied, applying one, and what reaches the disk.
 ghost use Rattle.std.specs.Prelude.{◌≡◌, ℕ, ◌<◌, ◌+◌, ◌&&◌, true, [], ◌∷◌, IfOk, IfSome, OnOk};
-ghost use Rattle.std.specs.Prelude.{OnErr};
+ghost use Rattle.std.specs.Prelude.{IfErr, OnErr};
 ghost use Rattle.std.specs.List.{All};
 ghost use Rattle.std.specs.Option.{option_map};
 ghost use Rattle.cb_commit.specs.History.{AreCommits, CatchesUp, FitsInto};
@@ -20,7 +20,7 @@ use crate::Holdings;
 use cb_commit::{Batch, Commit, Store};
 use cb_frame::{Frame, Write, Writes};
 use cb_page::{ClientNo, CommitNo, Incarnation, TxnNo};
-use std::alloc::{AllocError, Global};
+use std::alloc::{AllocError, AllocFailed, Global};
 
 impl Holdings {
     /// Whether the client has the write permission of each page, and the copy that the commit
@@ -66,14 +66,14 @@ impl Holdings {
     /// The client's live transaction, which is handed in, ends by the next commit, whose number is
     /// answered. The commit keeps the pages that are handed in.
     ///
-    /// `AllocError` only where memory was refused.
+    /// Refused only where memory was, and the pages come back; nothing changes then.
     pub fn apply_commit(
         &mut self,
         client: ClientNo,
         incarnation: Incarnation,
         txn: TxnNo,
         writes: Writes,
-    ) -> Result<CommitNo, AllocError>
+    ) -> Result<CommitNo, AllocFailed<Writes>>
         requires client { HasClient self.old client }
         requires current { incarnation ≡ ((server_of self.old).session client).current }
         requires txn { txn ≡ ((server_of self.old).session client).txn }
@@ -86,6 +86,7 @@ impl Holdings {
             (ForgetTransaction client
             ∷ ChangeSession client (ApplyCommit txn (page_writes writes)) ∷ []) self.new) }
         ensures err { OnErr result (self.new ≡ self.old) }
+        ensures back { IfErr result (λ failed. failed.value ≡ writes) }
     {
         let number = self.commits.apply(client, incarnation, txn, writes)?;
         if !self.keep_write {
@@ -99,14 +100,14 @@ impl Holdings {
     /// answered; the one before it, if it lives, ends as dropped. The commit keeps the pages that
     /// are handed in.
     ///
-    /// `AllocError` only where memory was refused; then no transaction begins.
+    /// Refused only where memory was, and the pages come back; then no transaction begins.
     pub fn commit_later(
         &mut self,
         client: ClientNo,
         incarnation: Incarnation,
         txn: TxnNo,
         writes: Writes,
-    ) -> Result<CommitNo, AllocError>
+    ) -> Result<CommitNo, AllocFailed<Writes>>
         requires client { HasClient self.old client }
         requires current { incarnation ≡ ((server_of self.old).session client).current }
         requires later { ((server_of self.old).session client).txn < txn }
@@ -119,6 +120,7 @@ impl Holdings {
             ∷ ForgetTransaction client
             ∷ ChangeSession client (ApplyCommit txn (page_writes writes)) ∷ []) self.new) }
         ensures err { OnErr result (self.new ≡ self.old) }
+        ensures back { IfErr result (λ failed. failed.value ≡ writes) }
     {
         let commit = self.commits.apply(client, incarnation, txn, writes)?;
         let lives = self.sessions.session(client).transaction.is_live();

@@ -7,8 +7,8 @@ ghost use Rattle.cb_protocol.specs.Ranges.{BodyFits};
 ghost use Rattle.cb_protocol.specs.Server.{Server, has_not_ended};
 ghost use Rattle.cb_protocol.specs.WaitsFor.{on_cycle};
 ghost use Rattle.cb_server.specs.Answering.{Begins, CanSay, CanSayTo, FitsIn, HasBegunTold};
-ghost use Rattle.cb_server.specs.Answering.{IsCurrent, IsLeft, LacksNumber, Makes, Stands};
-ghost use Rattle.cb_server.specs.Answering.{answer_to, limits_in, server_in};
+ghost use Rattle.cb_server.specs.Answering.{IsCurrent, IsLeft, Makes, Stands};
+ghost use Rattle.cb_server.specs.Answering.{answer_to, is_applied, limits_in, server_in};
 
 use crate::engine::Engine;
 use cb_frame::{Body, ShortBody};
@@ -43,26 +43,26 @@ impl Begun {
 impl Engine {
     /// The message's transaction begins where it is a later one, and the message is answered.
     ///
-    /// `AllocError` only where memory was refused for an ask's place or for a commit; then nothing
-    /// has begun either.
+    /// `AllocError` only where memory was refused for an ask's place; then nothing has begun
+    /// either. A commit that is applied is for `apply`.
     pub(crate) fn answer(
         &mut self,
         client: ClientNo,
         incarnation: Incarnation,
-        body: Body,
+        body: &Body,
     ) -> Result<(), AllocError>
         requires client { HasClient self.old.callbacks.tables client }
         requires current { IsCurrent self.old client incarnation }
-        requires fits { FitsIn self.old body }
-        requires room { CanSayTo (body_of body) self.old }
-        requires number { LacksNumber self.old client (body_of body) false }
-        ensures ok { OnOk result (Makes self.old (answer_to on_cycle client (body_of body))
+        requires fits { FitsIn self.old body.now }
+        requires room { CanSayTo (body_of body.now) self.old }
+        requires not { is_applied (server_in self.old) client (body_of body.now) ≡ false }
+        ensures ok { OnOk result (Makes self.old (answer_to on_cycle client (body_of body.now))
             self.new) }
         ensures left { OnErr result (IsLeft self.old self.new) }
     {
         match body {
-            Body::Short(body) => self.answer_short(client, incarnation, body),
-            Body::Commit { txn, writes } => self.commit(client, incarnation, txn, writes),
+            Body::Short(body) => self.answer_short(client, incarnation, *body),
+            Body::Commit { txn, .. } => Ok(self.pass_over(client, incarnation, *txn)),
             Body::Granted { .. } => Ok(()),
         }
     }

@@ -1,21 +1,24 @@
 //! Commits.
-ghost use Rattle.std.specs.Prelude.{◌≡◌, false, true, List, OnErr, OnOk};
+ghost use Rattle.std.specs.Prelude.{◌≡◌, false, true, IfErr, List, OnErr, OnOk};
 ghost use Rattle.cb_tables.specs.Tables.{HasClient};
 ghost use Rattle.cb_commit.specs.History.{FitsInto};
-ghost use Rattle.cb_outbox.specs.Messages.{page_writes};
+ghost use Rattle.cb_outbox.specs.Messages.{body_of, page_writes};
 ghost use Rattle.cb_protocol.specs.Messages.{Commit, PageWrite};
 ghost use Rattle.cb_protocol.specs.Server.{has_not_ended};
-ghost use Rattle.cb_protocol.specs.ServerMessages.{take_commit};
+ghost use Rattle.cb_protocol.specs.ServerMessages.{take_commit, take_current};
 ghost use Rattle.cb_protocol.specs.WaitsFor.{on_cycle};
-ghost use Rattle.cb_server.specs.Answering.{CanSay, IsCurrent, IsLeft, LacksNumber, Makes};
-ghost use Rattle.cb_server.specs.Answering.{answer_to, applies, server_in};
+ghost use Rattle.cb_server.specs.Answering.{Awaits, AwaitsBody, CanSay, FitsIn, IsCurrent, IsLeft};
+ghost use Rattle.cb_server.specs.Answering.{LacksNumber, Makes, answer_to, applies, is_applied};
+ghost use Rattle.cb_server.specs.Answering.{server_in};
 
 use crate::engine::Engine;
 use crate::engine::answers::Begun;
-use cb_frame::{ShortBody, Writes};
+use crate::engine::copying::copy_of;
+use crate::server_fault::ServerFault;
+use cb_frame::{Body, ShortBody, Writes};
 use cb_links::Standing;
 use cb_page::{ClientNo, Incarnation, TxnNo};
-use std::alloc::AllocError;
+use std::alloc::{AllocError, AllocFailed, Global};
 
 impl Engine {
     /// Whether a commit would be applied, and no commit number is left for it.
@@ -45,43 +48,121 @@ impl Engine {
         }
     }
 
-    /// Commit: it is applied where its transaction lives and may write its pages. Of the
+    /// Whether the message is a commit that is to be applied.
+    pub(crate) fn is_applied(&self, client: ClientNo, body: &Body) -> bool
+        requires client { HasClient self.now.callbacks.tables client }
+        requires fits { FitsIn self.now body.now }
+        ensures { result ≡ is_applied (server_in self.now) client (body_of body.now) }
+    {
+        match body {
+            Body::Commit { txn, writes } => self.applies(client, *txn, writes),
+            Body::Short(_) => false,
+            Body::Granted { .. } => false,
+        }
+    }
+
+    /// A commit that isn't applied: its transaction begins where it is a later one. Of the
     /// transaction that ended last it is a repetition.
-    pub(crate) fn commit(
-        &mut self,
-        client: ClientNo,
-        incarnation: Incarnation,
-        txn: TxnNo,
-        writes: Writes,
-    ) -> Result<(), AllocError>
+    pub(crate) fn pass_over(&mut self, client: ClientNo, incarnation: Incarnation, txn: TxnNo)
         requires client { HasClient self.old.callbacks.tables client }
         requires current { IsCurrent self.old client incarnation }
-        requires fits { FitsInto self.old.callbacks.tables.holdings.commits.store writes }
         requires room { CanSay self.old }
-        requires number { LacksNumber self.old client (Commit txn (page_writes writes)) false }
-        ensures ok { OnOk result (Makes self.old
-            (answer_to on_cycle client (Commit txn (page_writes writes))) self.new) }
-        ensures left { OnErr result (IsLeft self.old self.new) }
+        ensures { (writes : List PageWrite) → applies (server_in self.old) client txn writes ≡ false
+            → Makes self.old (answer_to on_cycle client (Commit txn writes)) self.new }
     {
-        if self.applies(client, txn, &writes) {
-            return self.apply(client, incarnation, txn, writes);
-        }
         match self.begin_or_abort(client, incarnation, txn) {
             Begun::Live => {}
             Begun::Doomed => {}
             Begun::Ended => self.done_again(client, incarnation, txn),
         }
-        Ok(())
     }
 
-    /// The commit is applied, and its transaction ends; a later one begins first.
-    fn apply(
+    /// A commit of which `meet` said that it is to be applied is applied, and all pages are settled.
+    ///
+    /// Refused only where memory was, and the pages come back; nothing changes then.
+    pub(crate) fn apply(
         &mut self,
         client: ClientNo,
         incarnation: Incarnation,
         txn: TxnNo,
         writes: Writes,
+    ) -> Result<(), AllocFailed<Writes>>
+        requires client { HasClient self.old.callbacks.tables client }
+        requires fits { FitsInto self.old.callbacks.tables.holdings.commits.store writes }
+        requires waits { Awaits self.old client incarnation txn (page_writes writes) }
+        ensures ok { OnOk result (Makes self.old (λ server.
+            take_current on_cycle server client (Commit txn (page_writes writes))) self.new) }
+        ensures left { OnErr result (IsLeft self.old self.new) }
+        ensures back { IfErr result (λ failed. failed.value ≡ writes) }
+    {
+        self.commit(client, incarnation, txn, writes)?;
+        self.settle();
+        Ok(())
+    }
+
+    /// The same of a commit's body that is lent: its pages are copied.
+    ///
+    /// `AllocError` only where memory was refused; nothing changes then.
+    pub(crate) fn apply_copy(
+        &mut self,
+        alloc: Global,
+        client: ClientNo,
+        incarnation: Incarnation,
+        body: &Body,
     ) -> Result<(), AllocError>
+        requires client { HasClient self.old.callbacks.tables client }
+        requires fits { FitsIn self.old body.now }
+        requires waits { AwaitsBody self.old client incarnation (body_of body.now) }
+        ensures ok { OnOk result (Makes self.old
+            (λ server. take_current on_cycle server client (body_of body.now)) self.new) }
+        ensures left { OnErr result (IsLeft self.old self.new) }
+    {
+        let Body::Commit { txn, writes } = body else {
+            unreachable!()
+        };
+        let copy = copy_of(alloc, writes.as_slice())?;
+        Ok(self.apply(client, incarnation, *txn, copy)?)
+    }
+
+    /// The same of a commit's body that is handed over: it comes back where memory is refused.
+    pub(crate) fn apply_body(
+        &mut self,
+        client: ClientNo,
+        incarnation: Incarnation,
+        body: Body,
+    ) -> Result<(), (ServerFault, Body)>
+        requires client { HasClient self.old.callbacks.tables client }
+        requires fits { FitsIn self.old body }
+        requires waits { AwaitsBody self.old client incarnation (body_of body) }
+        ensures ok { OnOk result (Makes self.old
+            (λ server. take_current on_cycle server client (body_of body)) self.new) }
+        ensures err { IfErr result (λ refused. refused.0 ≡ ServerFault.Memory) }
+        ensures left { OnErr result (IsLeft self.old self.new) }
+        ensures back { IfErr result (λ refused. refused.1 ≡ body) }
+    {
+        let Body::Commit { txn, writes } = body else {
+            unreachable!()
+        };
+        match self.apply(client, incarnation, txn, writes) {
+            Ok(()) => Ok(()),
+            Err(failed) => Err((
+                ServerFault::Memory,
+                Body::Commit {
+                    txn,
+                    writes: failed.value,
+                },
+            )),
+        }
+    }
+
+    /// The commit is applied, and its transaction ends; a later one begins first.
+    fn commit(
+        &mut self,
+        client: ClientNo,
+        incarnation: Incarnation,
+        txn: TxnNo,
+        writes: Writes,
+    ) -> Result<(), AllocFailed<Writes>>
         requires client { HasClient self.old.callbacks.tables client }
         requires current { IsCurrent self.old client incarnation }
         requires fits { FitsInto self.old.callbacks.tables.holdings.commits.store writes }
@@ -90,6 +171,7 @@ impl Engine {
         ensures ok { OnOk result (Makes self.old
             (answer_to on_cycle client (Commit txn (page_writes writes))) self.new) }
         ensures left { OnErr result (IsLeft self.old self.new) }
+        ensures back { IfErr result (λ failed. failed.value ≡ writes) }
     {
         match self.callbacks.holdings().standing(client, txn) {
             Standing::Later => {

@@ -67,7 +67,7 @@ fn taken<Q: Chooser>(alloc: Global, client: &mut Client<Q>, body: Body) -> Vec<F
     if !frame.fits(client.limits()) {
         return Vec::new(alloc);
     }
-    match client.take(alloc, frame) {
+    match client.take(alloc, &frame) {
         Ok(frames) => frames,
         Err(_) => Vec::new(alloc),
     }

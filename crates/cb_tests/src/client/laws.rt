@@ -34,7 +34,7 @@ pub(crate) fn called<Q: Chooser>(
     if !frame.fits(client.limits()) {
         return None;
     }
-    match client.take(alloc, frame) {
+    match client.take(alloc, &frame) {
         Ok(said) => Some(said),
         Err(_) => None,
     }

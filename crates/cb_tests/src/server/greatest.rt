@@ -19,7 +19,7 @@ fn said(alloc: Global, server: &mut Server, client: ClientNo, body: ShortBody) -
     if !frame.fits(server.limits()) {
         return None;
     }
-    Some(server.take(alloc, frame).ok()?.len())
+    Some(server.take(alloc, &frame).ok()?.len())
 }
 
 /// The same of the bytes of a commit.

@@ -5,9 +5,7 @@ ghost use Rattle.cb_worker.specs.Turns.{Collects, TakesCollected, Turns};
 use crate::said::Said;
 use crate::worker::Worker;
 use crate::worker_fault::WorkerFault;
-use cb_client::ClientFault;
 use cb_frame::Frame;
-use cb_mailboxes::copy_of;
 use cb_station::{OfficeFault, Station};
 use cb_twoq::Chooser;
 use std::alloc::Global;
@@ -61,19 +59,23 @@ impl<Q: Chooser> Worker<Q> {
         ensures { IfSome self.old.collected (λ frame.
             TakesCollected self.old frame result self.new) }
     {
-        let Some(frame) = &self.collected else {
+        let Some(frame) = self.collected.take() else {
             unreachable!()
         };
         if !frame.fits(self.client.limits()) {
+            self.collected = Some(frame);
             return Err(WorkerFault::Office(OfficeFault::Foreign));
         }
-        let Ok(copy) = copy_of(alloc, frame) else {
-            return Err(WorkerFault::Client(ClientFault::Memory));
-        };
-        let said = self.client.take(alloc, copy)?;
-        self.said = Said::of(said);
-        self.collected = None;
-        Ok(true)
+        match self.client.take_owned(alloc, frame) {
+            Ok(said) => {
+                self.said = Said::of(said);
+                Ok(true)
+            }
+            Err((fault, frame)) => {
+                self.collected = Some(frame);
+                Err(WorkerFault::Client(fault))
+            }
+        }
     }
 
     /// Collects a frame, and lets the client take it.

@@ -6,7 +6,7 @@ use Rattle.cb_world_clients.proofs.Worlds.{takes_stays}
 use Rattle.cb_world_clients.proofs.calling.deliver.Goals as goal
 
 pub returns-in-Ok-clause-stays : goal.returns-in-Ok-clause-stays
-returns-in-Ok-clause-stays g c = takes_stays c.args.client.now c.take.new.self _ _ c.in-Ok.ensures.ok
+returns-in-Ok-clause-stays g c = takes_stays c.args.client.now c.take_owned.new.self _ _ c.in-Ok.ensures.ok
 
 pub returns-in-Err-clause-stays : goal.returns-in-Err-clause-stays
 returns-in-Err-clause-stays g c =

@@ -12,13 +12,13 @@ take-requires-clause-ready c = ready c.self.inside.limits c.self.inside.engine c
 
 pub invariant_of-self-2 : goal.invariant_of-self-2
 invariant_of-self-2 c =
-    rests c.self.inside.limits c.self.inside.engine c.take.new.self c.take-2.new.self (input_of c.args.frame) c.self.invariant
-    (input_taken c.self.inside.limits c.self.inside.engine c.args.frame (subst (λ (v : ServerState). Fits v.limits c.args.frame) (sym c.self.view_is) c.requires) c.in_ok-take.ensures.taken)
+    rests c.self.inside.limits c.self.inside.engine c.take.new.self c.take-2.new.self (input_of c.args.frame.now) c.self.invariant
+    (input_taken c.self.inside.limits c.self.inside.engine c.args.frame.now (subst (λ (v : ServerState). Fits v.limits c.args.frame.now) (sym c.self.view_is) c.requires) c.in_ok-take.ensures.taken)
     c.in_ok-take.ensures.ok c.take-2.ensures.left c.take-2.ensures.page_size c.take-2.ensures.spare
 
 pub returns-clause-fits : goal.returns-clause-fits
 returns-clause-fits c =
     subst (λ (v : ServerState). AllByRecursion (Fits v.limits) c.take-2.result.items) c.self.view_is
-    (fits_said c.self.inside.limits c.self.inside.engine c.take.new.self (input_of c.args.frame) c.take-2.result.items c.self.invariant
-    (input_taken c.self.inside.limits c.self.inside.engine c.args.frame (subst (λ (v : ServerState). Fits v.limits c.args.frame) (sym c.self.view_is) c.requires) c.in_ok-take.ensures.taken)
+    (fits_said c.self.inside.limits c.self.inside.engine c.take.new.self (input_of c.args.frame.now) c.take-2.result.items c.self.invariant
+    (input_taken c.self.inside.limits c.self.inside.engine c.args.frame.now (subst (λ (v : ServerState). Fits v.limits c.args.frame.now) (sym c.self.view_is) c.requires) c.in_ok-take.ensures.taken)
     c.in_ok-take.ensures.ok c.take-2.ensures.frames)

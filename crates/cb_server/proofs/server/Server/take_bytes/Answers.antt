@@ -2,8 +2,8 @@
 use Rattle.std.proofs.Common.{rules}
 use Rattle.cb_server.proofs.server.Server.take_bytes.Goals as goal
 
-pub returns-in-Ok-take-clause-ok : goal.returns-in-Ok-take-clause-ok
-returns-in-Ok-take-clause-ok c = search rules
+pub returns-in-Ok-take_owned-clause-ok : goal.returns-in-Ok-take_owned-clause-ok
+returns-in-Ok-take_owned-clause-ok c = search rules
 
-pub returns-in-Err-take-clause-memory : goal.returns-in-Err-take-clause-memory
-returns-in-Err-take-clause-memory c = λ plain same. absurd cc
+pub returns-in-Err-take_owned-clause-memory : goal.returns-in-Err-take_owned-clause-memory
+returns-in-Err-take_owned-clause-memory c = λ plain same. absurd cc

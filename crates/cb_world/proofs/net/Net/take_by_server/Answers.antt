@@ -22,15 +22,15 @@ returns-in-Ok-clause-ok g c =
     let at = subst (λ (n : NetState). IsFrameAt n.packets c.args.packet c.args.frame) (sym c.self.view_is) c.requires.packet in
     let fits = subst (λ (limits : Bounds). AllByRecursion (Fits limits) frames) c.self.invariant.server c.in-Ok.ensures.fits in
     subst (λ (n : NetState). IfOk c.answer.result (λ a. NetBecomes n event a c.answer.new.self)) c.self.view_is
-    (with_sends (record net { server = c.take.new.self }) word.Taken c.as_slice.result.now frames c.answer.result c.answer.new.self (λ a m. NetBecomes net event a m) c.as_slice.ensures.value
-    (λ a said sent. server_becomes net c.args.packet c.args.frame c.take.new.self frames a c.self.invariant at (sym (way c.args.frame.body) ∙ c.requires.way) c.in-Ok.ensures.ok fits said sent) c.answer.ensures.ok)
+    (with_sends (record net { server = c.take_decoded.new.server }) word.Taken c.as_slice.result.now frames c.answer.result c.answer.new.self (λ a m. NetBecomes net event a m) c.as_slice.ensures.value
+    (λ a said sent. server_becomes net c.args.packet c.args.frame c.take_decoded.new.server frames a c.self.invariant at (sym (way c.args.frame.body) ∙ c.requires.way) c.in-Ok.ensures.ok fits said sent) c.answer.ensures.ok)
 
 pub returns-in-Err-Exhausted-clause-ok : goal.returns-in-Err-Exhausted-clause-ok
 returns-in-Err-Exhausted-clause-ok g c =
     let net : NetState = record { server = c.self.inside.server; world_clients = c.self.inside.world_clients; packets = c.self.inside.packets } in
     let event = TakePacket c.args.packet in
     let at = subst (λ (n : NetState). IsFrameAt n.packets c.args.packet c.args.frame) (sym c.self.view_is) c.requires.packet in
-    subst (λ (n : NetState). NetBecomes n event c.silent.result (record { server = c.take.new.self; world_clients = c.self.inside.world_clients; packets = c.self.inside.packets })) c.self.view_is
-    (unchanged_becomes net c.take.new.self event c.silent.result c.in-Err-Exhausted.ensures.unchanged
+    subst (λ (n : NetState). NetBecomes n event c.silent.result (record { server = c.take_decoded.new.server; world_clients = c.self.inside.world_clients; packets = c.self.inside.packets })) c.self.view_is
+    (unchanged_becomes net c.take_decoded.new.server event c.silent.result c.in-Err-Exhausted.ensures.unchanged
     (exhausted_becomes net c.args.packet c.args.frame c.silent.result c.self.invariant at (sym (way c.args.frame.body) ∙ c.requires.way) (c.in-Err-Exhausted.ensures.err ∙ ap is_exhaustion c.in-Err-Exhausted.field-0-is)
     (ap (λ (a : Answer). word_of a.word) c.silent.ensures) (ap (λ (a : Answer). a.sent) c.silent.ensures)))

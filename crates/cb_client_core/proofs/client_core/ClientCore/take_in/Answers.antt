@@ -1,24 +1,16 @@
--- Goals of `ClientCore::take_granted`.
-use Rattle.std.proofs.Common.{sym, ◌∙◌, rules}
-use Rattle.cb_client_core.proofs.Granting.{filled_of, fills, fills_keeps, gone_page, gone_unwritten, ignores, installed_of, installs, installs_keeps, none_here, not_full, refuses, refuses_keeps}
+-- Goals of `ClientCore::take_in`.
+use Rattle.std.proofs.Common.{sym, ◌∙◌}
+use Rattle.cb_client_core.proofs.Granting.{filled_of, fills, fills_keeps, gone_page, gone_unwritten, installed_of, installs, installs_keeps, none_here, not_full, full_alone}
 use Rattle.cb_cache.specs.ByTable.{Filled, Installed}
-use Rattle.cb_client_core.proofs.client_core.ClientCore.take_granted.Goals as goal
-
-pub returns-in-Refused-clause-sound : goal.returns-in-Refused-clause-sound
-returns-in-Refused-clause-sound g c = refuses_keeps _ c.args.page c.args.grant c.args.version c.args.bytes _ c.requires.sound c.requires.welcomed c.requires.fits (search rules) c.refuse.ensures
-
-pub returns-in-Ignored-clause-ok : goal.returns-in-Ignored-clause-ok
-returns-in-Ignored-clause-ok g c = ignores _ c.args.page c.args.grant c.args.version c.args.bytes c.requires.welcomed (search rules)
-
-pub returns-in-Refused-clause-ok : goal.returns-in-Refused-clause-ok
-returns-in-Refused-clause-ok g c = rw (c.give_back.ensures, c.called-due.ensures)
-    (refuses _ c.args.page c.args.grant c.args.version c.args.bytes _ c.requires.sound c.requires.welcomed (search rules) c.refuse.ensures)
+use Rattle.cb_client_core.proofs.client_core.ClientCore.take_in.Goals as goal
 
 pub come_in-requires : goal.come_in-requires
-come_in-requires g c = λ full. not_full _ c.args.page c.requires.sound (filled_of _ c.requires.sound c.args.page c.args.grant c.args.version (sym c.requires.case ∙ c.in-Filled.is)).asked ((c.fill.ensures.full.0 full).1)
+come_in-requires g c = full_alone c.fill.result c.args.bytes
+    (λ full. not_full _ c.args.page c.requires.sound (filled_of _ c.requires.sound c.args.page c.args.grant c.args.version (sym c.requires.case ∙ c.in-Filled.is)).asked ((c.fill.ensures.full.0 full).1)) c.fill.ensures.back
 
 pub come_in-requires-in-Installed : goal.come_in-requires-in-Installed
-come_in-requires-in-Installed g c = λ full. not_full _ c.args.page c.requires.sound (installed_of _ c.requires.sound c.args.page c.args.grant c.args.version (sym c.requires.case ∙ c.in-Installed.is)).asked ((c.install.ensures.full.0 full).1)
+come_in-requires-in-Installed g c = full_alone c.install.result c.args.bytes
+    (λ full. not_full _ c.args.page c.requires.sound (installed_of _ c.requires.sound c.args.page c.args.grant c.args.version (sym c.requires.case ∙ c.in-Installed.is)).asked ((c.install.ensures.full.0 full).1)) c.install.ensures.back
 
 pub give_gone-requires-clause-page : goal.give_gone-requires-clause-page
 give_gone-requires-clause-page g c =
