@@ -1,1 +1,6 @@
+pub mod Agreement
 pub mod Hands
+pub mod Joined
+pub mod OwnHand
+pub mod OwnStays
+pub mod Running

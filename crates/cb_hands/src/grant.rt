@@ -20,6 +20,14 @@ pub struct Shown {
     pub may_write: bool,
 }
 
+impl From<Shown> for (GrantNo, Version, bool) {
+    ghost from_gives = { λ shown triple. triple ≡ (shown.grant, shown.version, shown.may_write) };
+
+    fn from(shown: Shown) -> (GrantNo, Version, bool) {
+        (shown.grant, shown.version, shown.may_write)
+    }
+}
+
 /// The permission to read one page. It can't be copied or let go: a hand gets it when the server's
 /// grant comes, and spends it when the copy goes.
 pub struct Grant {

@@ -13,7 +13,8 @@ use std::marker::Model;
 /// What a client holds: a grant of each page of which it has a copy, and which of them its
 /// transaction was told that it may write.
 ///
-/// It can't be copied or let go; `abandon` ends it. Only `new` takes memory.
+/// It can't be copied or let go. [`JoinedHands`](crate::JoinedHands) alone makes and changes it,
+/// with what is stored of it; `abandon` ends it. No call takes memory.
 pub struct Hand {
     client: ClientNo,
     incarnation: Incarnation,
@@ -43,7 +44,7 @@ impl Hand {
     /// The hand of a client's incarnation over a store of so many pages. It holds nothing.
     ///
     /// `AllocError` only where memory was refused.
-    pub fn new(
+    pub(crate) fn new(
         alloc: Global,
         client: ClientNo,
         incarnation: Incarnation,
@@ -112,7 +113,7 @@ impl Hand {
     }
 
     /// A copy of the page comes, which may not be written yet; one that was held is spent.
-    pub fn receive(&mut self, page: PageNo, held: Held)
+    pub(crate) fn receive(&mut self, page: PageNo, held: Held)
         requires { page < length self.old.held }
         ensures { self.new ≡ with_copy self.old page held }
     {
@@ -121,7 +122,7 @@ impl Hand {
     }
 
     /// The copy of the page goes, and with it what was told of writing it.
-    pub fn give_back(&mut self, page: PageNo)
+    pub(crate) fn give_back(&mut self, page: PageNo)
         requires { page < length self.old.held }
         ensures { self.new ≡ without_copy self.old page }
     {
@@ -130,7 +131,7 @@ impl Hand {
     }
 
     /// The transaction is told that it may write the page.
-    pub fn permit(&mut self, page: PageNo, txn: TxnNo)
+    pub(crate) fn permit(&mut self, page: PageNo, txn: TxnNo)
         requires { page < length self.old.held }
         ensures { self.new ≡ permitted self.old page txn }
     {
@@ -139,7 +140,7 @@ impl Hand {
     }
 
     /// The transaction has ended: no page may be written.
-    pub fn end_permissions(&mut self)
+    pub(crate) fn end_permissions(&mut self)
         ensures { self.new ≡ without_permissions self.old }
     {
         self.writable.clear();
@@ -147,7 +148,7 @@ impl Hand {
     }
 
     /// What is held of the page is of that version now, under the same grant.
-    pub fn restamp(&mut self, page: PageNo, version: Version)
+    pub(crate) fn restamp(&mut self, page: PageNo, version: Version)
         requires { page < length self.old.held }
         ensures { self.new ≡ restamped self.old page version }
     {
@@ -157,7 +158,7 @@ impl Hand {
     }
 
     /// The client's next incarnation begins: it holds nothing.
-    pub fn renew(&mut self, incarnation: Incarnation)
+    pub(crate) fn renew(&mut self, incarnation: Incarnation)
         ensures { self.new ≡ empty_hand self.old.client incarnation (length self.old.held) }
     {
         self.grants.clear();

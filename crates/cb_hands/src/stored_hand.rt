@@ -1,6 +1,6 @@
 //! What is stored of a client's hand.
 ghost use Rattle.std.specs.Prelude.{◌≡◌, ◌↔◌, ◌<◌, ◌≤◌, IsTrue, length, IfOk};
-ghost use Rattle.cb_hands.specs.Hands.{empty_hand, held_at, permitted, restamped, with_copy};
+ghost use Rattle.cb_hands.specs.Hands.{empty_hand, permitted, restamped, with_copy};
 ghost use Rattle.cb_hands.specs.Hands.{without_copy, without_permissions};
 
 use crate::grant::Held;
@@ -12,7 +12,7 @@ use std::marker::Model;
 
 /// What is stored of a client's hand: it changes as the hand does, and tells whether a hand is that
 /// one. Only `new` takes memory.
-pub struct StoredHand {
+pub(crate) struct StoredHand {
     client: ClientNo,
     incarnation: Incarnation,
     txn: Option<TxnNo>,
@@ -54,7 +54,7 @@ impl StoredHand {
     /// What is stored of a hand that holds nothing, of a client's incarnation over so many pages.
     ///
     /// `AllocError` only where memory was refused.
-    pub fn new(
+    pub(crate) fn new(
         alloc: Global,
         client: ClientNo,
         incarnation: Incarnation,
@@ -72,37 +72,9 @@ impl StoredHand {
         })
     }
 
-    /// Whose hand it is.
-    pub fn client(&self) -> ClientNo
-        ensures { result ≡ self.now.client }
-    {
-        self.client
-    }
-
-    /// Of which incarnation.
-    pub fn incarnation(&self) -> Incarnation
-        ensures { result ≡ self.now.incarnation }
-    {
-        self.incarnation
-    }
-
-    /// The transaction that was told that it may write some page, if any.
-    pub fn txn(&self) -> Option<TxnNo>
-        ensures { result ≡ self.now.txn }
-    {
-        self.txn
-    }
-
-    /// What is held of a page; nothing of one past the end.
-    pub fn held(&self, page: PageNo) -> Option<Held>
-        ensures { result ≡ held_at self.now.held page }
-    {
-        self.held.at(page)
-    }
-
     /// Whether the hand is the one that is stored: of the same client and incarnation, with the
     /// same copies and the same permissions to write.
-    pub fn is_of(&self, hand: &Hand) -> bool
+    pub(crate) fn is_of(&self, hand: &Hand) -> bool
         ensures { IsTrue result ↔ (self.now ≡ hand.now) }
     {
         self.client == hand.client()
@@ -113,7 +85,7 @@ impl StoredHand {
     }
 
     /// As [`Hand::receive`].
-    pub fn receive(&mut self, page: PageNo, held: Held)
+    pub(crate) fn receive(&mut self, page: PageNo, held: Held)
         requires { page < length self.old.held }
         ensures { self.new ≡ with_copy self.old page held }
     {
@@ -122,7 +94,7 @@ impl StoredHand {
     }
 
     /// As [`Hand::give_back`].
-    pub fn give_back(&mut self, page: PageNo)
+    pub(crate) fn give_back(&mut self, page: PageNo)
         requires { page < length self.old.held }
         ensures { self.new ≡ without_copy self.old page }
     {
@@ -131,7 +103,7 @@ impl StoredHand {
     }
 
     /// As [`Hand::permit`].
-    pub fn permit(&mut self, page: PageNo, txn: TxnNo)
+    pub(crate) fn permit(&mut self, page: PageNo, txn: TxnNo)
         requires { page < length self.old.held }
         ensures { self.new ≡ permitted self.old page txn }
     {
@@ -140,7 +112,7 @@ impl StoredHand {
     }
 
     /// As [`Hand::end_permissions`].
-    pub fn end_permissions(&mut self)
+    pub(crate) fn end_permissions(&mut self)
         ensures { self.new ≡ without_permissions self.old }
     {
         self.writable.clear();
@@ -148,7 +120,7 @@ impl StoredHand {
     }
 
     /// As [`Hand::restamp`].
-    pub fn restamp(&mut self, page: PageNo, version: Version)
+    pub(crate) fn restamp(&mut self, page: PageNo, version: Version)
         requires { page < length self.old.held }
         ensures { self.new ≡ restamped self.old page version }
     {
@@ -158,7 +130,7 @@ impl StoredHand {
     }
 
     /// As [`Hand::renew`].
-    pub fn renew(&mut self, incarnation: Incarnation)
+    pub(crate) fn renew(&mut self, incarnation: Incarnation)
         ensures { self.new ≡ empty_hand self.old.client incarnation (length self.old.held) }
     {
         self.held.clear();

@@ -30,8 +30,7 @@
 mod example;
 
 pub use cb_commit::Store;
-pub use cb_hands::{Grant, Hand};
-pub use cb_joined::Entry;
+pub use cb_hands::{Entry, Grant, Hand};
 pub use cb_jobs::{Gate, Tally, Turn, counter_sum};
 pub use cb_page::{ClientNo, CommitNo, Limits, PageNo};
 pub use cb_run::{FlushStop, flush_again, flush_loop, run_on, work};

@@ -1,8 +1,7 @@
 -- Why a flusher stops, and where it has nothing to write.
 use Rattle.std.specs.Prelude.{◌≡◌, ◌==◌, ◌-◌, ◌&&◌, ◌↔◌, if◌then◌else◌, not, ℕ, Option, Some, None, IfSome}
 use Rattle.cb_commit.specs.Batches.{BatchState}
-use Rattle.cb_station.specs.Shared.{SharedState}
-use Rattle.cb_station.specs.Stations.{server_of}
+use Rattle.cb_station.specs.Stations.{StationState, server_of}
 use Rattle.cb_page.specs.Bounds.{Bounds}
 use Rattle.cb_protocol.specs.Flush.{next_batch}
 use Rattle.cb_sql.specs.declared.fault.ShelfFault.TheVariants.{Shape, Memory}
@@ -28,5 +27,5 @@ tries_left stop last left =
     if (number_of stop.batch == last) && not stop.wrote then left - 1 else 2
 
 -- Nothing is left to write: every commit is on disk.
-abbrev pub IsWritten : SharedState → Type 0
-IsWritten shared = next_batch (server_of shared.station) ≡ None
+abbrev pub IsWritten : StationState → Type 0
+IsWritten station = next_batch (server_of station) ≡ None

@@ -1,18 +1,18 @@
 //! The loop, and its stops.
-ghost use Rattle.std.specs.Prelude.{◌≡◌, ◌↔◌, true, false, Err, IfErr, IfSome, None, Ok, OnErr, OnOk};
-ghost use Rattle.std.specs.Prelude.{Some};
+ghost use Rattle.std.specs.Prelude.{◌≡◌, ◌↔◌, true, false, Err, IfErr, IfSome, None, Ok, OnErr};
+ghost use Rattle.std.specs.Prelude.{OnOk, Some};
 ghost use Rattle.sqlite.specs.Held.{state};
 ghost use Rattle.sqlite.specs.State.{Survives};
+ghost use Rattle.cb_station.specs.Flags.{is_over};
 ghost use Rattle.cb_run.specs.Flushing.{LeavesFirst, LeavesSome, MadeFirst, MadeSome, WritesFirst};
 ghost use Rattle.cb_run.specs.Flushing.{WritesOne, WritesOrStays, WritesSome};
-ghost use Rattle.cb_station.specs.Shared.{is_over};
 ghost use Rattle.cb_run.specs.Stopping.{IsWritten, Stops};
 ghost use Rattle.cb_sql.specs.Writing.{Fits, Wrote};
 
 use cb_commit::Batch;
 use cb_jobs::Watch;
 use cb_shelf::{Shelf, ShelfFault};
-use cb_station::{Office, SharedStation};
+use cb_station::{Office, Station};
 use sqlite::Alter;
 use std::alloc::Global;
 use std::sync::Wait;
@@ -28,15 +28,17 @@ pub struct FlushStop {
 
 /// The next batch, or `None` once nothing is left and no call of `work` commits any more; nothing
 /// where that is to be waited for.
-fn batch_at(alloc: Global, shared: &SharedStation) -> Option<Result<Option<Batch>, ShelfFault>>
+fn batch_at(alloc: Global, station: &Station) -> Option<Result<Option<Batch>, ShelfFault>>
     ensures fault { IfSome result (λ next. IfErr next (λ fault. fault ≡ ShelfFault.Memory)) }
-    ensures ends { result ≡ Some (Ok None) → (is_over shared.now ≡ true) × IsWritten shared.now }
-    ensures waits { result ≡ None → (is_over shared.now ≡ false) × IsWritten shared.now }
+    ensures ends { result ≡ Some (Ok None)
+        → (is_over station.now.flags ≡ true) × IsWritten station.now }
+    ensures waits { result ≡ None
+        → (is_over station.now.flags ≡ false) × IsWritten station.now }
 {
-    let Ok(batch) = shared.station().batch(alloc) else {
+    let Ok(batch) = station.batch(alloc) else {
         return Some(Err(ShelfFault::Memory));
     };
-    if batch.is_some() || shared.is_over() {
+    if batch.is_some() || station.is_over() {
         return Some(Ok(batch));
     }
     None
@@ -52,13 +54,13 @@ fn next_batch<R: Wait, W: Watch>(
 ) -> Result<Option<Batch>, ShelfFault>
     ensures { IfErr result (λ fault. fault ≡ ShelfFault.Memory) }
 {
-    let mut shared = office.lock(rt);
+    let mut station = office.lock(rt);
     for _ in rt.forever() {
-        if let Some(next) = batch_at(alloc, &shared) {
+        if let Some(next) = batch_at(alloc, &station) {
             return next;
         }
         watch.waits();
-        shared = office.wait(rt, shared);
+        station = office.wait(rt, station);
     }
     unreachable!()
 }
@@ -84,10 +86,10 @@ fn write_and_report<R: Wait, S: Alter, W: Watch>(
         (Wrote S.Store batch.now shelf.old.conn) }
 {
     shelf.write(batch)?;
-    let mut shared = office.lock(rt);
-    let reported = shared.station_mut().flushed(alloc, batch.number());
-    office.tell_clients(&shared);
-    drop(shared);
+    let mut station = office.lock(rt);
+    let reported = station.flushed(alloc, batch.number());
+    office.tell_clients(&station);
+    drop(station);
     match reported {
         Ok(()) => {
             watch.flushed(batch.number());
@@ -99,7 +101,8 @@ fn write_and_report<R: Wait, S: Alter, W: Watch>(
 
 /// Writes what is committed, a batch at a time, until nothing is left and no call of `work` commits
 /// any more: the office is halted, or it is closed and none is going on. So what a call of `work`
-/// commits in a closed office is written too. Where nobody works, an office that is closed is enough.
+/// commits in a closed office is written too. Where nobody works, an office that is closed is
+/// enough.
 ///
 /// It holds no lock while it writes. Which batches those are no contract says, since it takes the
 /// lock itself.

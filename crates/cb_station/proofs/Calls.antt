@@ -3,8 +3,8 @@ use Rattle.std.proofs.Common.{◌≡◌, ◌≢◌, true≢false, ◌<◌, ◌�
 use Rattle.std.proofs.lemmas.Bool.{cases_eq, cases_lt}
 use Rattle.std.proofs.lemmas.List.{get_or_past, get_or-replicate, get_or-set_other, get_or-set_same, length-replicate, length-set}
 use Rattle.std.specs.List.{AllByRecursion}
-use Rattle.cb_joined.proofs.Agreeing.{hands_meet}
-use Rattle.cb_joined.specs.Agreement.{Meet}
+use Rattle.cb_hands.proofs.Agreeing.{hands_meet}
+use Rattle.cb_hands.specs.Agreement.{Meet}
 use Rattle.cb_commit.specs.History.{CommitsState}
 use Rattle.cb_commit.specs.Stores.{StoreState}
 use Rattle.cb_frame_types.specs.declared.frame.Body.{Body}
@@ -14,16 +14,17 @@ use Rattle.cb_frame_types.specs.declared.frame.ShortBody.TheVariants as short
 use Rattle.cb_frame_types.specs.declared.writes.Write.{Write}
 use Rattle.cb_hands.specs.Hands.{HandState, empty_hand, held_at}
 use Rattle.cb_hands.specs.declared.grant.Held.{Held}
-use Rattle.cb_joined.proofs.Noting.{new_server_is_noted}
-use Rattle.cb_joined.specs.Running.{Replays}
-use Rattle.cb_joined.specs.declared.entry.Entry.{Entry}
+use Rattle.cb_hands.proofs.Noting.{new_server_is_noted}
+use Rattle.cb_hands.specs.Running.{Replays}
+use Rattle.cb_hands.specs.declared.entry.Entry.{Entry}
 use Rattle.cb_holdings.specs.Holdings.{HoldingsState, limits_of, opening_of as opening_in, server_of as holdings_in}
-use Rattle.cb_joined.specs.Joined.{Follow, IsHeld, stored_at}
+use Rattle.cb_hands.specs.Joined.{Follow, IsHeld, stored_at}
 use Rattle.cb_station.proofs.Following.{follow_length, has_place}
 use Rattle.cb_station.proofs.Keeping.{Step, commit_others_stored, commit_stored, follow_stored, goes_stored, new_stored, others_stored, own_stored_by, received_stored, told_stored}
 use Rattle.cb_server.proofs.LawsKept.{rules_kept}
 use Rattle.cb_station.proofs.Stations.{Steps, all_permitted, commits_station, keeps_station, may_be_applied}
 use Rattle.cb_station.specs.Commits.{is_live}
+use Rattle.cb_station.specs.Flags.{AreFlags}
 use Rattle.cb_station.specs.Moves.{IsEntryOf, MayWriteAll, collected, committed, ended_if_over, given_back, is_by, is_plain, is_stray, received_of}
 use Rattle.cb_station.specs.Stations.{IsStation, IsStored, StationState, server_of}
 use Rattle.cb_outbox.specs.Messages.{body_of, page_writes}
@@ -45,14 +46,15 @@ use Rattle.cb_server.specs.Taking.{Does}
 
 -- a new station
 pub new_station : (limits : Bounds) (store : StoreState) (station : StationState) → IsNew limits store station.dispatcher.server → IsServer station.dispatcher.server → limits.keep_write ≡ false
-    → station.hands ≡ replicate limits.clients None → station.history ≡ [] → IsStation station
-new_station limits store station new arisen plain hands history = record {
+    → station.hands ≡ replicate limits.clients None → station.history ≡ [] → AreFlags station.flags → IsStation station
+new_station limits store station new arisen plain hands history flags = record {
   arisen = arisen;
   plain = ap (λ (b : Bounds). b.keep_write) new.limits ∙ plain;
   clients = ap length hands ∙ length-replicate limits.clients None ∙ sym (ap (λ (b : Bounds). b.clients) new.limits);
   legal = rw history tt;
   replays = rw history (subst (λ (o : StoreState). Replays (opening_in o) [] (server_of station)) (sym (ap (λ (k : CommitsState). k.opening) new.commits))
       (subst (λ (s : Server). Replays (opening_in store) [] s) (sym new.server) (new_server_is_noted (limits_of limits) (opening_in store))));
+  flags = flags;
   hand = λ client hand e. absurd (nobody client hand (ap (λ (l : List (Option HandState)). stored_at l client) (sym hands) ∙ e) (cases_lt client limits.clients));
 }
   where
@@ -188,30 +190,30 @@ module _ (old new : StationState) (is : IsStation old) (arises : IsServer new.di
     rest : (d : ℕ) (hand : HandState) → d ≢ c → stored_at old.hands d ≡ Some hand → P d hand
     rest d hand n e = pages_same does.limits d hand (others_stored old.dispatcher.server new.dispatcher.server old.dispatcher.server.limits.pages d hand (step_of does.opening) same_commits (keeps d n) (is.hand d hand e))
 
-    steps : length new.hands ≡ length old.hands → Steps old new
-    steps e = record { step = step_of does.opening; limits = does.limits; hands = e }
+    steps : length new.hands ≡ length old.hands → new.flags ≡ old.flags → Steps old new
+    steps e flags = record { step = step_of does.opening; limits = does.limits; hands = e; flags = flags }
 
-    after_message : (entry : Option HandState) → new.hands ≡ slice_set old.hands c entry → c < length old.hands → new.history ≡ old.history → ((hand : HandState) → entry ≡ Some hand → P c hand) → IsStation new
-    after_message entry set lt history own = keeps_station old new is (steps (ap length set ∙ length-set old.hands c entry)) same_commits history (set_stored P old.hands new.hands c entry set lt own rest)
+    after_message : (entry : Option HandState) → new.hands ≡ slice_set old.hands c entry → c < length old.hands → new.history ≡ old.history → new.flags ≡ old.flags → ((hand : HandState) → entry ≡ Some hand → P c hand) → IsStation new
+    after_message entry set lt history flags own = keeps_station old new is (steps (ap length set ∙ length-set old.hands c entry) flags) same_commits history (set_stored P old.hands new.hands c entry set lt own rest)
 
   -- a greater Hello, with which the client's hand holds nothing
   pub enters_station : (c i : ℕ) (messages : List Message) (hand : HandState) → Does old.dispatcher.server (MessageComes c i Hello) messages new.dispatcher.server → (s.session c).current < i
-      → hand ≡ empty_hand c i old.dispatcher.server.limits.pages → new.hands ≡ slice_set old.hands c (Some hand) → c < length old.hands → new.history ≡ old.history → IsStation new
-  enters_station c i messages hand does greater empty set lt history =
-      after_message c i Hello messages does (λ n ws e. let z : Hello ≡ Commit n ws = e in cc) (Some hand) set lt history
+      → hand ≡ empty_hand c i old.dispatcher.server.limits.pages → new.hands ≡ slice_set old.hands c (Some hand) → c < length old.hands → new.history ≡ old.history → new.flags ≡ old.flags → IsStation new
+  enters_station c i messages hand does greater empty set lt history flags =
+      after_message c i Hello messages does (λ n ws e. let z : Hello ≡ Commit n ws = e in cc) (Some hand) set lt history flags
       (λ other e. let same : hand ≡ other = (let z : Some hand ≡ Some other = e in cc) in
       subst (λ (h : HandState). P c h) (sym empty ∙ same)
       (pages_same does.limits c _ (new_stored t c i old.dispatcher.server.limits.pages (ap (λ (k : Server). (k.session c).current) does.becomes ∙ (greater_hello on_cycle s c i greater).0.current))))
 
   -- or it has none
   pub leaves_station : (c i : ℕ) (messages : List Message) → Does old.dispatcher.server (MessageComes c i Hello) messages new.dispatcher.server
-      → new.hands ≡ slice_set old.hands c None → c < length old.hands → new.history ≡ old.history → IsStation new
-  leaves_station c i messages does set lt history =
-      after_message c i Hello messages does (λ n ws e. let z : Hello ≡ Commit n ws = e in cc) None set lt history (λ other e. absurd (let z : None ≡ Some other = e in cc))
+      → new.hands ≡ slice_set old.hands c None → c < length old.hands → new.history ≡ old.history → new.flags ≡ old.flags → IsStation new
+  leaves_station c i messages does set lt history flags =
+      after_message c i Hello messages does (λ n ws e. let z : Hello ≡ Commit n ws = e in cc) None set lt history flags (λ other e. absurd (let z : None ≡ Some other = e in cc))
 
   -- commits reach the disk
-  pub flushed_station : (number : ℕ) (messages : List Message) → Does old.dispatcher.server (ReachesDisk number) messages new.dispatcher.server → new.hands ≡ old.hands → new.history ≡ old.history → IsStation new
-  flushed_station number messages does hands history = keeps_station old new is (record { step = step_of does.opening; limits = does.limits; hands = ap length hands }) commits history
+  pub flushed_station : (number : ℕ) (messages : List Message) → Does old.dispatcher.server (ReachesDisk number) messages new.dispatcher.server → new.hands ≡ old.hands → new.history ≡ old.history → new.flags ≡ old.flags → IsStation new
+  flushed_station number messages does hands history flags = keeps_station old new is (record { step = step_of does.opening; limits = does.limits; hands = ap length hands; flags = flags }) commits history
       (λ d hand e. pages_same does.limits d hand (others_stored old.dispatcher.server new.dispatcher.server old.dispatcher.server.limits.pages d hand (step_of does.opening) commits
       (subst (λ (k : Server). KeepsClient s k d) (sym does.becomes) ((others_keep_rows_and_permissions on_cycle s).2 number d))
       (is.hand d hand (ap (λ (l : List (Option HandState)). stored_at l d) (sym hands) ∙ e))))
@@ -222,10 +224,10 @@ module _ (old new : StationState) (is : IsStation old) (arises : IsServer new.di
   -- a frame that `take` takes
   pub takes_station : (frame : Frame) (messages : List Message) (hand other : HandState) → Does old.dispatcher.server (MessageComes frame.client frame.incarnation (body_of frame.body)) messages new.dispatcher.server
       → IsHeld old.hands hand → frame.client ≡ hand.client → is_plain frame.body ≡ true → is_stray hand frame.body ≡ false
-      → other ≡ ended_if_over t (given_back hand frame.body) → Follow old.hands new.hands hand other → new.history ≡ old.history → IsStation new
-  takes_station frame messages hand other does held name plain there becomes follow history =
+      → other ≡ ended_if_over t (given_back hand frame.body) → Follow old.hands new.hands hand other → new.history ≡ old.history → new.flags ≡ old.flags → IsStation new
+  takes_station frame messages hand other does held name plain there becomes follow history flags =
       after_message frame.client frame.incarnation b messages does (not_commit frame.body plain) (Some other)
-      (subst (λ (k : ℕ). new.hands ≡ slice_set old.hands k (Some other)) (sym name) follow.hands) (subst (λ (k : ℕ). k < length old.hands) (sym name) (has_place old.hands hand.client hand held)) history
+      (subst (λ (k : ℕ). new.hands ≡ slice_set old.hands k (Some other)) (sym name) follow.hands) (subst (λ (k : ℕ). k < length old.hands) (sym name) (has_place old.hands hand.client hand held)) history flags
       (λ h e. let same : other ≡ h = (let z : Some other ≡ Some h = e in cc) in subst (λ (k : HandState). P frame.client k) (sym becomes ∙ same) (pages_same does.limits frame.client _ own))
     where
       b : protocol.Body
@@ -244,9 +246,9 @@ module _ (old new : StationState) (is : IsStation old) (arises : IsServer new.di
       → Does old.dispatcher.server (MessageComes frame.client frame.incarnation (Commit txn (page_writes writes))) messages new.dispatcher.server
       → IsHeld old.hands hand → frame.client ≡ hand.client → frame.incarnation ≡ hand.incarnation → 1 ≤ txn → is_live s hand.client txn ≡ true → MayWriteAll hand txn writes
       → other ≡ committed hand writes (s.store.last_commit + 1) → Follow old.hands new.hands hand other → IsEntryOf hand txn writes flags entry → new.history ≡ old.history ++ entry ∷ []
-      → IsStation new × IsApplied s t hand.client hand.incarnation txn (page_writes writes)
-  commits_by frame txn writes messages hand other flags entry does held name incarnation least live may becomes follow entered history = (
-    commits_station old new hand txn writes flags entry is (record { step = step; limits = does.limits; hands = follow_length old.hands new.hands hand other follow }) stored.agrees.rows applied entered history
+      → new.flags ≡ old.flags → IsStation new × IsApplied s t hand.client hand.incarnation txn (page_writes writes)
+  commits_by frame txn writes messages hand other flags entry does held name incarnation least live may becomes follow entered history as_it_was = (
+    commits_station old new hand txn writes flags entry is (record { step = step; limits = does.limits; hands = follow_length old.hands new.hands hand other follow; flags = as_it_was }) stored.agrees.rows applied entered history
         (follow_stored P old.hands new.hands hand other follow (has_place old.hands hand.client hand held) (subst (λ (h : HandState). P hand.client h) (sym becomes) (pages_same does.limits hand.client _ own)) others),
     applied,
   )
@@ -279,13 +281,14 @@ module _ (old new : StationState) (is : IsStation old) (arises : IsServer new.di
           (is.hand d h e))
 
 -- the server is the same, and a hand has become another that is as the server has it
-pub hand_station : (old new : StationState) (hand other : HandState) → IsStation old → new.dispatcher.server ≡ old.dispatcher.server → new.history ≡ old.history → IsHeld old.hands hand → Follow old.hands new.hands hand other
+pub hand_station : (old new : StationState) (hand other : HandState) → IsStation old → new.dispatcher.server ≡ old.dispatcher.server → new.history ≡ old.history → new.flags ≡ old.flags → IsHeld old.hands hand → Follow old.hands new.hands hand other
     → IsStored (server_of old) old.dispatcher.server.limits.pages hand.client other → IsStation new
-hand_station old new hand other is same history held follow stored = keeps_station old new is
+hand_station old new hand other is same history flags held follow stored = keeps_station old new is
     (record {
       step = record { arose = is.arisen; arises = subst IsServer (sym same) is.arisen; opening = ap (λ (x : ServerState). (commits_of x).opening) same };
       limits = ap (λ (x : ServerState). x.limits) same;
       hands = follow_length old.hands new.hands hand other follow;
+      flags = flags;
     })
     (ap (λ (x : ServerState). (server_in x).commits) same) history
     (subst (λ (x : ServerState). (d : ℕ) (h : HandState) → stored_at new.hands d ≡ Some h → IsStored (server_in x) x.limits.pages d h) (sym same)

@@ -1,12 +1,12 @@
 -- A hand and what is stored of it, through several changes.
 use Rattle.std.proofs.Common.{◌≡◌, ◌<◌, ℕ, suc, ◌+◌, List, ◌∷◌, length, drop, drop-cons, sym, ◌∙◌, ap, arith, Option, Some, None, inl, inr, slice_set, get_or}
 use Rattle.std.proofs.lemmas.Bool.{cases_lt}
-use Rattle.std.proofs.lemmas.List.{get_or_past, length-set, set-get_or, set-set}
-use Rattle.cb_joined.specs.OwnHand.{all_restamped, pages_written}
+use Rattle.std.proofs.lemmas.List.{get_or_past, get_or-set_same, length-set, set-get_or, set-set}
+use Rattle.cb_hands.specs.OwnHand.{all_restamped, pages_written}
 use Rattle.cb_frame_types.specs.declared.writes.Write.{Write}
 use Rattle.cb_hands.specs.Hands.{HandState, held_at, restamped}
 use Rattle.cb_hands.specs.declared.grant.Held.{Held}
-use Rattle.cb_joined.specs.Joined.{Follow, IsHeld, stored_at}
+use Rattle.cb_hands.specs.Joined.{Follow, IsHeld, stored_at}
 use Rattle.cb_outbox.specs.Messages.{page_writes}
 
 -- who is stored has a place
@@ -30,6 +30,19 @@ follow_then a b c one two three first second name = record {
       ∙ set-set a one.client (Some two) (Some three);
   held = second.held;
 }
+
+-- who has just joined is stored
+pub joined_held : (old new : List (Option HandState)) (client : ℕ) (hand : HandState) → hand.client ≡ client → client < length old → new ≡ slice_set old client (Some hand) → IsHeld new hand
+joined_held old new client hand name lt joined =
+    ap (λ (l : List (Option HandState)). stored_at l hand.client) joined ∙ ap (λ (k : ℕ). stored_at (slice_set old client (Some hand)) k) name
+    ∙ get_or-set_same old client (Some hand) None lt
+
+-- and where it leaves again, all is as it was
+pub left_again : (old mid new : List (Option HandState)) (client : ℕ) (hand : HandState) → hand.client ≡ client → stored_at old client ≡ None → mid ≡ slice_set old client (Some hand) → new ≡ slice_set mid hand.client None → new ≡ old
+left_again old mid new client hand name none joined left =
+    let nobody : Option HandState = None in
+    left ∙ ap (λ (k : ℕ). slice_set mid k nobody) name ∙ ap (λ (l : List (Option HandState)). slice_set l client nobody) joined ∙ set-set old client (Some hand) nobody
+    ∙ ap (λ (o : Option HandState). slice_set old client o) (sym none) ∙ set-get_or old client None
 
 -- as many clients
 pub follow_length : (a b : List (Option HandState)) (one two : HandState) → Follow a b one two → length b ≡ length a

@@ -3,18 +3,18 @@ use Rattle.std.proofs.Common.{◌≡◌, ◌≢◌, true≢false, ◌<◌, ◌+�
 use Rattle.std.proofs.lemmas.Bool.{cases_eq, cases_lt}
 use Rattle.std.proofs.lemmas.Bool.Decides.{nat_tests}
 use Rattle.std.proofs.lemmas.List.{get_or_past, get_or-replicate, length-replicate, length-set, get_or-set_other, get_or-set_same}
-use Rattle.cb_joined.proofs.Agreeing.{commit_leaves_others, copy_comes, copy_goes, empty_hand as empty_agrees, others_stay, permission_comes, permissions_end}
-use Rattle.cb_joined.proofs.Own.{own_stays}
-use Rattle.cb_joined.proofs.OwnHand.{own_commit, own_message}
-use Rattle.cb_joined.specs.Agreement.{Agrees, HasRows, IsRow}
-use Rattle.cb_joined.specs.OwnHand.{all_restamped, pages_written}
-use Rattle.cb_joined.specs.OwnStays.{KeepsOwn}
+use Rattle.cb_hands.proofs.Agreeing.{commit_leaves_others, copy_comes, copy_goes, empty_hand as empty_agrees, others_stay, permission_comes, permissions_end}
+use Rattle.cb_hands.proofs.Own.{own_stays}
+use Rattle.cb_hands.proofs.OwnHand.{own_commit, own_message}
+use Rattle.cb_hands.specs.Agreement.{Agrees, HasRows, IsRow}
+use Rattle.cb_hands.specs.OwnHand.{all_restamped, pages_written}
+use Rattle.cb_hands.specs.OwnStays.{KeepsOwn}
 use Rattle.cb_commit.specs.Stores.{StoreState}
 use Rattle.cb_frame_types.specs.declared.writes.Write.{Write}
 use Rattle.cb_hands.specs.Hands.{HandState, IsHand, at_version, empty_hand, held_at, permitted, restamped, with_copy, without_copy, without_permissions}
 use Rattle.cb_hands.specs.declared.grant.Held.{Held}
 use Rattle.cb_holdings.specs.Holdings.{opening_of}
-use Rattle.cb_joined.specs.Joined.{Follow, stored_at}
+use Rattle.cb_hands.specs.Joined.{Follow, stored_at}
 use Rattle.cb_station.proofs.Onward.{Onward, goes_on}
 use Rattle.cb_station.proofs.Reached.{in_order, keeps_none}
 use Rattle.cb_server.proofs.LawsKept.{rules_kept}

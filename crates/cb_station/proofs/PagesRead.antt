@@ -4,7 +4,7 @@ use Rattle.std.proofs.lemmas.Bool.{cases_eq, cases_lt}
 use Rattle.std.proofs.lemmas.List.{append-nil, get_or_past}
 use Rattle.cb_hands.specs.Hands.{HandState, held_at}
 use Rattle.cb_hands.specs.declared.grant.Held.{Held}
-use Rattle.cb_joined.specs.declared.entry.Read.{Read}
+use Rattle.cb_hands.specs.declared.entry.Read.{Read}
 use Rattle.cb_station.specs.Moves.{HoldsAll, read_of, reads_below}
 use Rattle.cb_page.specs.Flags.{has}
 

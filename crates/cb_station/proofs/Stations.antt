@@ -3,20 +3,21 @@ use Rattle.std.proofs.Common.{◌≡◌, true≢false, ◌<◌, ◌≤◌, ◌&&
 use Rattle.std.proofs.lemmas.Bool.{cases_lt}
 use Rattle.std.proofs.lemmas.Bool.Decides.{nat_tests}
 use Rattle.std.proofs.lemmas.List.{get_or_past, reverse-append}
-use Rattle.cb_joined.specs.Agreement.{HasRows}
+use Rattle.cb_hands.specs.Agreement.{HasRows}
 use Rattle.cb_commit.specs.Stores.{StoreState}
 use Rattle.cb_frame_types.specs.Grammar.{page_of}
 use Rattle.cb_frame_types.specs.declared.writes.Write.{Write}
 use Rattle.cb_hands.specs.Hands.{HandState, held_at}
 use Rattle.cb_hands.specs.declared.grant.Held.{Held}
-use Rattle.cb_joined.proofs.Noting.{no_other_changes, noted_commit_follows}
-use Rattle.cb_joined.specs.Running.{IsLegal, Replays, noted, pages_of}
-use Rattle.cb_joined.specs.declared.entry.Entry.{Entry}
-use Rattle.cb_joined.specs.declared.entry.Read.{Read}
+use Rattle.cb_hands.proofs.Noting.{no_other_changes, noted_commit_follows}
+use Rattle.cb_hands.specs.Running.{IsLegal, Replays, noted, pages_of}
+use Rattle.cb_hands.specs.declared.entry.Entry.{Entry}
+use Rattle.cb_hands.specs.declared.entry.Read.{Read}
 use Rattle.cb_holdings.specs.Holdings.{AreOf, HoldingsState, limits_of, opening_of as opening_in}
-use Rattle.cb_joined.specs.Joined.{stored_at}
+use Rattle.cb_hands.specs.Joined.{stored_at}
 use Rattle.cb_station.proofs.Keeping.{Step, ledgers}
 use Rattle.cb_station.specs.Commits.{is_live}
+use Rattle.cb_station.specs.Flags.{AreFlags}
 use Rattle.cb_station.specs.Moves.{IsEntryOf, MayWrite, MayWriteAll, is_by, read_of, reads_below}
 use Rattle.cb_station.specs.Stations.{IsStation, IsStored, IsUnchanged, StationState, opening_of, server_of}
 use Rattle.cb_outbox.specs.Messages.{page_writes}
@@ -38,6 +39,7 @@ pub record Steps (old new : StationState) : Type 0 where
   pub step : Step old.dispatcher.server new.dispatcher.server
   pub limits : new.dispatcher.server.limits ≡ old.dispatcher.server.limits
   pub hands : length new.hands ≡ length old.hands
+  pub flags : new.flags ≡ old.flags
 
 -- all hands that are stored are as the server has it
 abbrev pub AreStored : StationState → Type 0
@@ -55,6 +57,7 @@ keeps_station old new is steps commits history stored = record {
       (subst (λ (h : List Entry). Replays (opening_of old) (reverse h) (server_of new)) (sym history)
       (let l = ledgers old.dispatcher.server new.dispatcher.server steps.step in no_other_changes (opening_of old) (server_of old) (server_of new) (reverse old.history) l.0 l.1 commits is.replays));
   hand = stored;
+  flags = subst AreFlags (sym steps.flags) is.flags;
 }
 
 -- where nothing changes but room
@@ -74,6 +77,7 @@ unchanged_station old new is same = keeps_station old new is
       step = record { arose = is.arisen; arises = arises_unchanged old.dispatcher.server new.dispatcher.server is.arisen same.dispatcher.server; opening = ap (λ (h : HoldingsState). h.commits.opening) same.dispatcher.server.holdings };
       limits = same.dispatcher.server.limits;
       hands = ap length same.hands;
+      flags = same.flags;
     })
     (ap (λ (s : Server). s.commits) same.dispatcher.server.server) same.history
     (λ client hand e. subst (λ (l : Bounds). IsStored (server_of new) l.pages client hand) (sym same.dispatcher.server.limits)
@@ -127,6 +131,7 @@ commits_station old new hand txn writes flags entry is steps rows applied entere
   replays = subst (λ (o : StoreState). Replays (opening_in o) (reverse new.history) (server_of new)) (sym steps.step.opening)
       (subst (λ (h : List Entry). Replays (opening_of old) h (server_of new)) (sym newest) follows.0);
   hand = stored;
+  flags = subst AreFlags (sym steps.flags) is.flags;
 }
   where
     newest : reverse new.history ≡ entry ∷ reverse old.history

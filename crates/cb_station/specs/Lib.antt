@@ -1,5 +1,4 @@
+pub mod Flags
 pub mod Stations
 pub mod Moves
 pub mod Commits
-pub mod Shared
-pub mod Lending

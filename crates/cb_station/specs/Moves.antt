@@ -2,7 +2,7 @@
 use Rattle.std.specs.Prelude.{◌≡◌, ◌==◌, ◌&&◌, ◌++◌, ℕ, Bool, true, false, not, nat_lt, List, []}
 use Rattle.std.specs.Prelude.{◌∷◌, if◌then◌else◌, length, map, Option, Some, None, zero, suc}
 use Rattle.std.specs.List.{AllByRecursion}
-use Rattle.cb_joined.specs.OwnHand.{all_restamped, pages_written}
+use Rattle.cb_hands.specs.OwnHand.{all_restamped, pages_written}
 use Rattle.cb_frame_types.specs.Grammar.{Fits, page_of}
 use Rattle.cb_frame_types.specs.declared.frame.Body.{Body}
 use Rattle.cb_frame_types.specs.declared.frame.Body.TheVariants as body
@@ -14,9 +14,9 @@ use Rattle.cb_hands.specs.Hands.{HandState, held_at, permitted, with_copy}
 use Rattle.cb_hands.specs.Hands.{without_copy}
 use Rattle.cb_hands.specs.Hands.{without_permissions}
 use Rattle.cb_hands.specs.declared.grant.Held.{Held}
-use Rattle.cb_joined.specs.declared.entry.Entry.{Entry}
-use Rattle.cb_joined.specs.declared.entry.Read.{Read}
-use Rattle.cb_joined.specs.Joined.{IsHeld}
+use Rattle.cb_hands.specs.declared.entry.Entry.{Entry}
+use Rattle.cb_hands.specs.declared.entry.Read.{Read}
+use Rattle.cb_hands.specs.Joined.{IsHeld}
 use Rattle.cb_station.specs.Stations.{StationState}
 use Rattle.cb_outbox.specs.Messages.{page_writes}
 use Rattle.cb_page.specs.Flags.{has}

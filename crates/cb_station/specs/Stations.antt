@@ -1,24 +1,27 @@
 -- A station as the owner of it sees it, and what holds of every station whenever nobody has it.
 use Rattle.std.specs.Prelude.{◌≡◌, ◌<◌, ℕ, true, false, List, length, reverse, Option, Some, IsSome}
-use Rattle.cb_joined.specs.Agreement.{Agrees}
+use Rattle.cb_hands.specs.Agreement.{Agrees}
 use Rattle.cb_mailboxes.specs.Dispatching as dispatching
 use Rattle.cb_mailboxes.specs.Dispatching.{DispatcherState}
 use Rattle.cb_frame_types.specs.declared.frame.Frame.{Frame}
 use Rattle.cb_hands.specs.Hands.{HandState, IsHand}
-use Rattle.cb_joined.specs.Running.{IsLegal, Replays}
-use Rattle.cb_joined.specs.declared.entry.Entry.{Entry}
-use Rattle.cb_joined.specs.Joined.{stored_at}
+use Rattle.cb_hands.specs.Running.{IsLegal, Replays}
+use Rattle.cb_hands.specs.declared.entry.Entry.{Entry}
+use Rattle.cb_hands.specs.Joined.{stored_at}
+use Rattle.cb_station.specs.Flags.{AreFlags}
+use Rattle.cb_station.specs.declared.station.flags.Flags.{Flags}
 use Rattle.cb_page.specs.Flags.{has}
 use Rattle.cb_protocol.specs.Server.{Server}
 use Rattle.cb_protocol.specs.World.{Opening}
 use Rattle.cb_server.specs.ServerState.{IsServer, opening_at}
 
--- the server with its mailboxes, what is stored of each client's hand, and the history of commits,
--- the first one first
+-- the server with its mailboxes, what is stored of each client's hand, the history of commits, the
+-- first one first, and what the threads that share it tell each other
 pub record StationState : Type 0 where
   pub dispatcher : DispatcherState
   pub hands : List (Option HandState)
   pub history : List Entry
+  pub flags : Flags
 
 -- the protocol's server that it has, and the store before the first commit
 abbrev pub server_of : StationState → Server
@@ -36,6 +39,7 @@ pub record IsUnchanged (old new : StationState) : Type 0 where
   pub dispatcher : dispatching.IsUnchanged old.dispatcher new.dispatcher
   pub hands : new.hands ≡ old.hands
   pub history : new.history ≡ old.history
+  pub flags : new.flags ≡ old.flags
 
 -- What holds of each hand that is stored: it is its client's, of the incarnation that is current,
 -- over the store's pages. What it holds the server has in its rows, at the store's versions; where
@@ -53,7 +57,7 @@ pub record IsStored (server : Server) (pages client : ℕ) (hand : HandState) : 
 
 -- What holds of every station. The server arose by the protocol's steps, and keeps no write
 -- permission after a commit; the history is legal and replays to the server; every stored hand is
--- as the server has it (this project's).
+-- as the server has it; a halted one is closed (this project's).
 pub record IsStation (station : StationState) : Type 0 where
   pub arisen : IsServer station.dispatcher.server
   pub plain : station.dispatcher.server.limits.keep_write ≡ false
@@ -62,3 +66,4 @@ pub record IsStation (station : StationState) : Type 0 where
   pub replays : Replays (opening_of station) (reverse station.history) (server_of station)
   pub hand : (client : ℕ) (hand : HandState) → stored_at station.hands client ≡ Some hand
       → IsStored (server_of station) station.dispatcher.server.limits.pages client hand
+  pub flags : AreFlags station.flags

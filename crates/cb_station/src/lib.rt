@@ -7,16 +7,14 @@
 //!
 //! An [`Office`] is the station under one lock, with conditions on which threads wait until it has
 //! changed: one for each client, for its frames, and one for all else. What holds of the station
-//! whenever the lock is free, and of the flags beside it, `lock` says.
+//! whenever the lock is free, `lock` says.
 #![tactic(auto)]
 
 mod office;
 mod office_fault;
 mod reading;
-mod shared_station;
 mod station;
 
 pub use office::Office;
 pub use office_fault::OfficeFault;
-pub use shared_station::SharedStation;
 pub use station::Station;

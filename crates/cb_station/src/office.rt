@@ -1,9 +1,7 @@
 //! The lock.
 ghost use Rattle.std.specs.Sync.Mutex.{mutex_guard_value};
 ghost use Rattle.cb_station.specs.Stations.{IsStation};
-ghost use Rattle.cb_station.specs.Shared.{AreFlags};
 
-use crate::shared_station::SharedStation;
 use crate::station::Station;
 use cb_page::ClientNo;
 use std::array;
@@ -19,29 +17,30 @@ const CLIENTS: usize = 32;
 /// tests.
 #[derive(Drop)]
 pub struct Office {
-    shared: Mutex<SharedStation>,
+    station: Mutex<Station>,
     changed: Condvar,
     frames: [Condvar; CLIENTS],
 }
 
 impl Office {
-    /// An office over a station. The last of so many calls of `work` to end closes it.
-    pub fn new(station: Station, workers: usize) -> Office {
+    /// An office over a station. The last of so many calls of `work` to end closes it; with none it
+    /// is closed.
+    pub fn new(mut station: Station, workers: usize) -> Office {
+        station.expect_workers(workers);
         Office {
-            shared: Mutex::new(SharedStation::new(station, workers)),
+            station: Mutex::new(station),
             changed: Condvar::new(),
             frames: array::from_fn(|_client| Condvar::new()),
         }
     }
 
-    /// Takes the lock, and lends what lies under it until the guard is let go. Whatever threads did
-    /// before, the station is one: its history is legal and is what its server did, and what it has
-    /// stored of each hand the server has.
-    pub fn lock<R: Wait>(&self, rt: &R) -> MutexGuard<'_, SharedStation>
-        ensures sound { IsStation (mutex_guard_value result).station }
-        ensures flags { AreFlags (mutex_guard_value result) }
+    /// Takes the lock, and lends the station until the guard is let go. Whatever threads did
+    /// before, the station is one: its history is legal and is what its server did, what it has
+    /// stored of each hand the server has, and where it is halted it is closed.
+    pub fn lock<R: Wait>(&self, rt: &R) -> MutexGuard<'_, Station>
+        ensures sound { IsStation (mutex_guard_value result) }
     {
-        sound(self.shared.lock(rt))
+        sound(self.station.lock(rt))
     }
 
     /// Lets the lock go until somebody tells of a commit or of the end of a call of `work`, closes
@@ -49,12 +48,11 @@ impl Office {
     pub fn wait<'a, R: Wait>(
         &'a self,
         rt: &R,
-        shared: MutexGuard<'a, SharedStation>,
-    ) -> MutexGuard<'a, SharedStation>
-        ensures sound { IsStation (mutex_guard_value result).station }
-        ensures flags { AreFlags (mutex_guard_value result) }
+        station: MutexGuard<'a, Station>,
+    ) -> MutexGuard<'a, Station>
+        ensures sound { IsStation (mutex_guard_value result) }
     {
-        sound(self.changed.wait(rt, shared))
+        sound(self.changed.wait(rt, station))
     }
 
     /// Lets the lock go until there may be a frame to that client, or the office is halted, and
@@ -62,18 +60,16 @@ impl Office {
     pub fn wait_for_frame<'a, R: Wait>(
         &'a self,
         rt: &R,
-        shared: MutexGuard<'a, SharedStation>,
+        station: MutexGuard<'a, Station>,
         client: ClientNo,
-    ) -> MutexGuard<'a, SharedStation>
-        ensures sound { IsStation (mutex_guard_value result).station }
-        ensures flags { AreFlags (mutex_guard_value result) }
+    ) -> MutexGuard<'a, Station>
+        ensures sound { IsStation (mutex_guard_value result) }
     {
-        sound(self.frames[client.index()].wait(rt, shared))
+        sound(self.frames[client.index()].wait(rt, station))
     }
 
     /// Tells those clients to which there is a frame; the lock is held.
-    pub fn tell_clients(&self, shared: &SharedStation) {
-        let station = shared.station();
+    pub fn tell_clients(&self, station: &Station) {
         for client in 0..CLIENTS as u16 {
             let client = ClientNo::new(client);
             if station.has_frame_for(client) {
@@ -95,9 +91,9 @@ impl Office {
         }
     }
 
-    /// No call of `work` begins any more: one that would takes no job. Those that are going on do all
-    /// their jobs, and the flusher ends when none is left and all is written; at once, where nobody
-    /// works and all is.
+    /// No call of `work` begins any more: one that would takes no job. Those that are going on do
+    /// all their jobs, and the flusher ends when none is left and all is written; at once, where
+    /// nobody works and all is.
     ///
     /// Whoever commits without `work`, and isn't counted by `begin_work`, isn't waited for: what he
     /// commits after the flusher has ended is in memory alone.
@@ -114,12 +110,11 @@ impl Office {
     }
 }
 
-/// What lies under the lock, with what always holds of it.
-fn sound(shared: MutexGuard<'_, SharedStation>) -> MutexGuard<'_, SharedStation>
-    ensures sound { IsStation (mutex_guard_value result).station }
-    ensures flags { AreFlags (mutex_guard_value result) }
+/// The station under the lock, with what always holds of it.
+fn sound(station: MutexGuard<'_, Station>) -> MutexGuard<'_, Station>
+    ensures { IsStation (mutex_guard_value result) }
 {
-    // What holds of every station under the lock, `station` says.
-    let _known = shared.station();
-    shared
+    // What holds of every station, its history says.
+    let _known = station.history();
+    station
 }

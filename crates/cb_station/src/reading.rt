@@ -5,8 +5,7 @@ ghost use Rattle.cb_station.specs.Moves.{HoldsAll, MayWrite, MayWriteAll, read_o
 ghost use Rattle.cb_station.specs.Moves.{reads_below};
 
 use cb_frame::Write;
-use cb_hands::Hand;
-use cb_joined::Read;
+use cb_hands::{Hand, Read};
 use cb_page::{PageNo, PageSet, TxnNo};
 use std::alloc::{AllocError, Global};
 

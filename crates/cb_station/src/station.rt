@@ -2,11 +2,11 @@
 ghost use Rattle.std.specs.Prelude.{◌≡◌, ◌≢◌, ◌↔◌, ◌<◌, ℕ, [], true, false, IfErr, IfOk, IfSome};
 ghost use Rattle.std.specs.Prelude.{IsTrue, None, OnOk, Ok, replicate};
 ghost use Rattle.std.specs.Option.{option_map};
-ghost use Rattle.cb_joined.specs.Agreement.{Meet};
+ghost use Rattle.cb_hands.specs.Agreement.{Meet};
 ghost use Rattle.cb_commit.specs.History.{CatchesUp};
 ghost use Rattle.cb_commit.specs.Stores.{IsOf};
 ghost use Rattle.cb_holdings.specs.Commits.{batch_of};
-ghost use Rattle.cb_joined.specs.Joined.{IsHeld};
+ghost use Rattle.cb_hands.specs.Joined.{IsHeld};
 ghost use Rattle.cb_station.specs.Moves.{IsOwn};
 ghost use Rattle.cb_station.specs.Stations.{IsStation, mailbox_of, server_of};
 ghost use Rattle.cb_station.specs.declared.office_fault.OfficeFault.TheVariants as office;
@@ -16,27 +16,39 @@ ghost use Rattle.cb_server.specs.ServerState.{IsNew, commits_of};
 mod collecting;
 mod committing;
 mod entering;
+mod flags;
 mod taking;
 
 use crate::office_fault::OfficeFault;
+use crate::station::flags::Flags;
 use cb_commit::{Batch, Store};
 use cb_frame::Frame;
-use cb_hands::Hand;
-use cb_joined::{Entry, JoinedHands};
+use cb_hands::{Entry, Hand, JoinedHands};
 use cb_mailboxes::Dispatcher;
 use cb_page::{ClientNo, Limits};
 use std::alloc::{AllocError, Global};
 use std::marker::Model;
 
 /// A server that several clients share, with what each joined client's hand shows, what is to be
-/// sent to each, and the history of commits.
+/// sent to each, the history of commits, and what the threads that share it tell each other:
+/// whether it is closed, whether it is halted, how many calls of `work` are still to end, and how
+/// many are going on.
 ///
-/// What holds of it whenever nobody has it, `history` says. Every call but `meet`, `history` and
-/// `has_frame_for` takes memory.
+/// Once it is closed no call of `work` begins. Those that are going on do their jobs to the end,
+/// and the flusher ends when none is left and all is written. A halted one is closed, and every
+/// call that waits for it gives up.
+///
+/// Who commits without `work` is counted in its place by `begin_work` and `end_work`. A commit that
+/// nobody was counted for may come after the flusher has ended; it is in memory then, and never on
+/// disk.
+///
+/// What holds of it whenever nobody has it, `history` says. Of the calls that take a frame, a hand,
+/// a client or a batch all but `meet` and `has_frame_for` take memory.
 pub struct Station {
     dispatcher: Dispatcher,
     hands: JoinedHands,
     history: Vec<Entry>,
+    flags: Flags,
 }
 
 // By hand, so that who owns a station proves this drop alone, and not those of all its parts.
@@ -46,6 +58,7 @@ impl Drop for Station {
             dispatcher: _,
             hands: _,
             history: _,
+            flags: _,
         } = self;
     }
 }
@@ -59,17 +72,20 @@ impl Model for Station {
       dispatcher = station.dispatcher;
       hands = station.hands;
       history = station.history.items;
+      flags = station.flags;
     } };
 
     ghost invariant = { λ station. IsStation (record {
       dispatcher = station.dispatcher;
       hands = station.hands;
       history = station.history.items;
+      flags = station.flags;
     }) };
 }
 
 impl Station {
-    /// A station over a store; nobody has joined. Write permissions may not be kept.
+    /// A station over a store; nobody has joined. Write permissions may not be kept. It is open,
+    /// and one call of `work` will use it, where `Office::new` doesn't say how many.
     ///
     /// `AllocError` only where memory was refused.
     pub fn new(alloc: Global, limits: &Limits, store: Store) -> Result<Station, AllocError>
@@ -82,16 +98,23 @@ impl Station {
         ensures hands { IfOk result (λ station.
             station.hands ≡ replicate limits.now.clients None) }
         ensures history { IfOk result (λ station. station.history ≡ []) }
+        ensures flags { IfOk result (λ station. station.flags ≡ record {
+          closed = false;
+          halted = false;
+          left = 1;
+          working = 0;
+        }) }
     {
         Ok(Station {
             dispatcher: Dispatcher::new(alloc, limits, store)?,
             hands: JoinedHands::new(alloc, limits.clients())?,
             history: Vec::new(alloc),
+            flags: Flags::new(),
         })
     }
 
     /// The commits, the first one first. With what is stored of the hands, they are as the server
-    /// has it.
+    /// has it; a halted station is closed.
     pub fn history(&self) -> &[Entry]
         ensures value { result.now ≡ self.now.history }
         ensures sound { IsStation self.now }

@@ -7,7 +7,7 @@ use Rattle.std.specs.Option.{is_some}
 use Rattle.cb_cache.specs.CacheState.{content_at}
 use Rattle.cb_frame_types.specs.declared.frame.Frame.{Frame}
 use Rattle.cb_hands.specs.Hands.{HandState}
-use Rattle.cb_joined.specs.Joined.{IsHeld}
+use Rattle.cb_hands.specs.Joined.{IsHeld}
 use Rattle.cb_station.specs.Stations.{StationState}
 use Rattle.cb_station.specs.declared.office_fault.OfficeFault.{OfficeFault}
 use Rattle.cb_station.specs.declared.office_fault.OfficeFault.TheVariants as office

@@ -1,5 +1,5 @@
 -- Turns, one after another.
-use Rattle.std.proofs.Common.{◌≡◌, ◌≢◌, inl, inr, Bool, true, false, List, [], ◌∷◌, Option, Result, Ok, Err, refl, ◌∙◌, subst}
+use Rattle.std.proofs.Common.{◌≡◌, ◌≢◌, inl, inr, Bool, true, false, List, [], ◌∷◌, Option, Some, None, Result, Ok, Err, refl, ap, ◌∙◌, subst}
 use Rattle.std.specs.Prelude.{⊤, ◌⊎◌}
 use Rattle.cb_frame_types.specs.declared.frame.Frame.{Frame}
 use Rattle.cb_station.specs.Stations.{StationState}
@@ -21,34 +21,41 @@ pub none : (Does : Turning) (old : WorkerState) (before : StationState) → Turn
 none Does old before = record { at = []; turns = (refl, refl) }
 
 -- one more was made
-pub more : (Does : Turning) (old mid new : WorkerState) (before between lent after : StationState) (b : Bool) → lent ≡ between → b ≡ true → Turned Does old before mid between → Does mid lent (Ok b) new after
+pub more : (Does : Turning) (old mid new : WorkerState) (before between after : StationState) (b : Bool) → b ≡ true → Turned Does old before mid between → Does mid between (Ok b) new after
     → Turned Does old before new after
-more Does old mid new before between lent after b e f t d =
-    let did : Does mid between (Ok true) new after = subst (λ (s : StationState). Does mid s (Ok true) new after) e (subst (λ (x : Bool). Does mid lent (Ok x) new after) f d) in
-    record { at = (mid, between) ∷ t.at; turns = (t.turns, did) }
+more Does old mid new before between after b f t d =
+    record { at = (mid, between) ∷ t.at; turns = (t.turns, subst (λ (x : Bool). Does mid between (Ok x) new after) f d) }
 
 -- and a last one
-pub last : (Does : Turning) (old mid new : WorkerState) (before between lent after : StationState) (r : Result Bool WorkerFault) → lent ≡ between → Turned Does old before mid between → Does mid lent r new after
+pub last : (Does : Turning) (old mid new : WorkerState) (before between after : StationState) (r : Result Bool WorkerFault) → Turned Does old before mid between → Does mid between r new after
     → TurnsThen Does old before r new after
-last Does old mid new before between lent after r e t d =
-    record { at = t.at; worker = mid; station = between; turns = t.turns; last = subst (λ (s : StationState). Does mid s r new after) e d }
+last Does old mid new before between after r t d = record { at = t.at; worker = mid; station = between; turns = t.turns; last = d }
 
 -- which had nothing to do
-pub ends : (old mid new : WorkerState) (before between lent after : StationState) (b : Bool) → lent ≡ between → b ≡ false → Turned Turns old before mid between → Turns mid lent (Ok b) new after
+pub ends : (old mid new : WorkerState) (before between after : StationState) (b : Bool) → b ≡ false → Turned Turns old before mid between → Turns mid between (Ok b) new after
     → TurnsThen Turns old before (Ok false) new after
-ends old mid new before between lent after b e f t d =
-    subst (λ (x : Bool). TurnsThen Turns old before (Ok x) new after) f (last Turns old mid new before between lent after (Ok b) e t d)
+ends old mid new before between after b f t d =
+    subst (λ (x : Bool). TurnsThen Turns old before (Ok x) new after) f (last Turns old mid new before between after (Ok b) t d)
 
 -- or was refused
-pub stops : (old mid new : WorkerState) (before between lent after : StationState) (f : WorkerFault) → lent ≡ between → Turned Turns old before mid between → Turns mid lent (Err f) new after → Serves old before (Err f) new after
-stops old mid new before between lent after (worker.Client f) e t d = last Turns old mid new before between lent after (Err (worker.Client f)) e t d
-stops old mid new before between lent after (worker.Office f) e t d = last Turns old mid new before between lent after (Err (worker.Office f)) e t d
-stops old mid new before between lent after worker.Halted e t d = absurd (no_halt mid new lent after worker.Halted d refl)
+pub stops : (old mid new : WorkerState) (before between after : StationState) (f : WorkerFault) → Turned Turns old before mid between → Turns mid between (Err f) new after → Serves old before (Err f) new after
+stops old mid new before between after (worker.Client f) t d = last Turns old mid new before between after (Err (worker.Client f)) t d
+stops old mid new before between after (worker.Office f) t d = last Turns old mid new before between after (Err (worker.Office f)) t d
+stops old mid new before between after worker.Halted t d = absurd (no_halt mid new between after worker.Halted d refl)
 
 -- none is made in an office that is halted
 pub unturned : {A : Type 0} (halted : Bool) → A ⊎ (halted ≡ false) → true ≡ halted → A
 unturned halted (inl a) e = a
 unturned halted (inr f) e = absurd (let z : true ≡ false = e ∙ f in cc)
+
+-- a turn leaves the station as halted as it was
+pub halted_stays : (old new : WorkerState) (before after : StationState) (r : Result Bool WorkerFault) → Turns old before r new after → after.flags.halted ≡ before.flags.halted
+halted_stays old new before after r turns = by old.said old.collected turns
+  where
+    by : (said : List Frame) (kept : Option Frame) → TurnsBy said kept old before r new after → after.flags.halted ≡ before.flags.halted
+    by (frame ∷ rest) kept h = λ i. (h.took.flags i).halted
+    by [] (Some frame) h = ap (λ (s : StationState). s.flags.halted) h.1
+    by [] None h = λ i. (h.collected.flags i).halted
 
 -- where a frame is kept, a turn that isn't refused does something
 pub does : (old new : WorkerState) (before after : StationState) (b : Bool) → old.said ≢ [] → Turns old before (Ok b) new after → b ≡ true

@@ -4,8 +4,8 @@ use Rattle.std.specs.Prelude.{Option, Result, Err, IfErr, IfOk, OnErr, OnOk, sli
 use Rattle.cb_mailboxes.specs.Dispatching.{Everybody, Posts, without_oldest}
 use Rattle.cb_frame_types.specs.declared.frame.Frame.{Frame}
 use Rattle.cb_hands.specs.Hands.{HandState}
-use Rattle.cb_joined.specs.declared.entry.Entry.{Entry}
-use Rattle.cb_joined.specs.Joined.{Follow, IsHeld}
+use Rattle.cb_hands.specs.declared.entry.Entry.{Entry}
+use Rattle.cb_hands.specs.Joined.{Follow, IsHeld}
 use Rattle.cb_station.specs.Commits.{IsLive, IsOwnCommit, IsPermitted, txn_of, writes_of}
 use Rattle.cb_station.specs.Moves.{IsEntryOf, IsOwn, collected, committed, ended_if_over}
 use Rattle.cb_station.specs.Moves.{given_back, is_plain, is_stray}
@@ -37,6 +37,7 @@ pub record Took (before : StationState) (frame : Frame) (hand : HandState)
       → next ≡ ended_if_over (server_of after) (given_back hand frame.body))
   pub stored : OnOk result (Follow before.hands after.hands hand next)
   pub history : after.history ≡ before.history
+  pub flags : after.flags ≡ before.flags
 
 -- The oldest frame of the mailbox was collected into the hand: what that made of both.
 pub record Collected (before : StationState) (hand : HandState)
@@ -52,6 +53,7 @@ pub record Collected (before : StationState) (hand : HandState)
   pub moved : IfOk result (λ frame. next ≡ collected (server_of before) hand frame)
   pub stored : OnOk result (Follow before.hands after.hands hand next)
   pub history : after.history ≡ before.history
+  pub flags : after.flags ≡ before.flags
 
 -- A commit was handed in with these reads: one entry more, of that frame and these reads, what that
 -- made of both, and why it was refused.
@@ -80,3 +82,4 @@ pub record Committed (before : StationState) (frame : Frame) (reads : List Bool)
       hand.incarnation (txn_of frame) (page_writes (writes_of frame)))
   pub moved : IfOk result (λ number. next ≡ committed hand (writes_of frame) number)
   pub stored : OnOk result (Follow before.hands after.hands hand next)
+  pub flags : after.flags ≡ before.flags

@@ -5,12 +5,11 @@ use Rattle.std.specs.Option.{is_some}
 use Rattle.cb_client.specs.ByTable.{IsRefusal, IsRefused}
 use Rattle.cb_client.specs.declared.client_fault.ClientFault.TheVariants as client
 use Rattle.cb_cache.specs.CacheState.{content_at}
-use Rattle.cb_joined.specs.Joined.{IsHeld}
+use Rattle.cb_hands.specs.Joined.{IsHeld}
 use Rattle.cb_station.specs.Stations.{StationState}
 use Rattle.cb_station.specs.declared.office_fault.OfficeFault.TheVariants as office
 use Rattle.cb_page.specs.Numbers.{max_number}
 use Rattle.cb_protocol.specs.ClientCalls.{Call, CallDrop, CallRead, CallWant}
-use Rattle.cb_station.specs.Shared.{SharedState}
 use Rattle.cb_worker.specs.Committing.{CommitsAt}
 use Rattle.cb_worker.specs.Turns.{Turns}
 use Rattle.cb_worker.specs.Waiting.{LacksTransaction}
@@ -34,14 +33,14 @@ pub record RefusesTurn (new : WorkerState) (after : StationState) (fault : Worke
     pub before : StationState
     pub turns : Turns old before (Err fault) new after
 
--- serving was refused: the office is halted, or a turn was refused
-abbrev pub RefusesServing : (new : WorkerState) → (shared : SharedState) → WorkerFault → Type 0
-RefusesServing new shared worker.Halted = shared.halted ≡ true
-RefusesServing new shared fault = RefusesTurn new shared.station fault
+-- serving was refused: the station is halted, or a turn was refused
+abbrev pub RefusesServing : (new : WorkerState) → StationState → WorkerFault → Type 0
+RefusesServing new station worker.Halted = station.flags.halted ≡ true
+RefusesServing new station fault = RefusesTurn new station fault
 
 -- so at what lay under the lock
 abbrev pub StopsServing : (new : WorkerState) → WorkerFault → Type 0
-StopsServing new fault = (shared : SharedState) × RefusesServing new shared fault
+StopsServing new fault = (station : StationState) × RefusesServing new station fault
 
 -- a transaction is lacking, and nothing changes; or serving was refused
 abbrev pub RefusesAny : (old new : WorkerState) → WorkerFault → Type 0

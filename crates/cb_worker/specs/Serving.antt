@@ -32,7 +32,7 @@ pub record TurnsThen (Does : Turning) (old : WorkerState) (before : StationState
   pub turns : TurnsAt Does at old before worker station
   pub last : Does worker station result new after
 
--- turns until there is nothing to do, or one is refused; none where the office is halted
+-- turns until there is nothing to do, or one is refused; none where the station is halted
 abbrev pub Serves : (old : WorkerState) → (before : StationState) → Result ⊤ WorkerFault
     → (new : WorkerState) → (after : StationState) → Type 0
 Serves old before (Ok done) new after = TurnsThen Turns old before (Ok false) new after

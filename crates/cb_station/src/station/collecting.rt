@@ -4,7 +4,7 @@ ghost use Rattle.std.specs.Prelude.{length, IfErr, IfOk, OnErr, OnOk, slice_get}
 ghost use Rattle.cb_mailboxes.specs.Dispatching.{without_oldest};
 ghost use Rattle.cb_holdings.specs.Holdings.{HasClient, HasPage};
 ghost use Rattle.cb_holdings.specs.Holdings.{server_of as server_in};
-ghost use Rattle.cb_joined.specs.Joined.{Follow, IsHeld};
+ghost use Rattle.cb_hands.specs.Joined.{Follow, IsHeld};
 ghost use Rattle.cb_station.specs.Moves.{collected, is_lasting, received, received_of};
 ghost use Rattle.cb_station.specs.Moves.{told};
 ghost use Rattle.cb_station.specs.Stations.{IsUnchanged, mailbox_of, server_of};
@@ -14,9 +14,8 @@ ghost use Rattle.cb_protocol.specs.Server.{is_write_holder};
 use crate::office_fault::OfficeFault;
 use crate::station::Station;
 use cb_frame::{Body, Frame, ShortBody};
-use cb_hands::Hand;
+use cb_hands::{Hand, JoinedHands};
 use cb_holdings::Holdings;
-use cb_joined::JoinedHands;
 use cb_links::Standing;
 use cb_page::{ClientNo, GrantNo, PageNo, TxnNo};
 
@@ -42,6 +41,7 @@ impl Station {
             hand.new ≡ collected (server_of self.old) hand.old frame) }
         ensures stored { OnOk result (Follow self.old.hands self.new.hands hand.old hand.new) }
         ensures history { self.new.history ≡ self.old.history }
+        ensures flags { self.new.flags ≡ self.old.flags }
     {
         if !self.hands.knows(hand) {
             return Err(OfficeFault::Foreign);

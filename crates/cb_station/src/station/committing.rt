@@ -3,10 +3,10 @@ ghost use Rattle.std.specs.Prelude.{◌≡◌, ◌↔◌, ◌⊎◌, ◌+◌, �
 ghost use Rattle.std.specs.Prelude.{false, Err, IfErr, IfOk, OnErr, OnOk, length, vec_len};
 ghost use Rattle.std.specs.Prelude.{vec_capacity};
 ghost use Rattle.std.specs.List.{All};
-ghost use Rattle.cb_joined.specs.OwnHand.{all_restamped, pages_written};
+ghost use Rattle.cb_hands.specs.OwnHand.{all_restamped, pages_written};
 ghost use Rattle.cb_mailboxes.specs.Dispatching.{Everybody, Posts};
-ghost use Rattle.cb_joined.specs.declared.entry.Entry.{Entry as Noted};
-ghost use Rattle.cb_joined.specs.Joined.{Follow, IsHeld};
+ghost use Rattle.cb_hands.specs.declared.entry.Entry.{Entry as Noted};
+ghost use Rattle.cb_hands.specs.Joined.{Follow, IsHeld};
 ghost use Rattle.cb_station.specs.Commits.{AllowsCommit, IsLive, IsOwnCommit, IsPermitted};
 ghost use Rattle.cb_station.specs.Commits.{RefusesCommit, is_live, txn_of, writes_of};
 ghost use Rattle.cb_station.specs.Moves.{IsEntryOf, committed};
@@ -21,8 +21,7 @@ use crate::office_fault::OfficeFault;
 use crate::reading::{holds_all, may_write_all, pages_of, reads_of};
 use crate::station::Station;
 use cb_frame::{Body, Frame, Write};
-use cb_hands::Hand;
-use cb_joined::{Entry, JoinedHands};
+use cb_hands::{Entry, Hand, JoinedHands};
 use cb_links::Standing;
 use cb_page::{ClientNo, CommitNo, PageSet, TxnNo, Version};
 use std::alloc::{AllocError, Global};
@@ -74,6 +73,7 @@ impl Station {
         ensures hand { IfOk result (λ number.
             hand.new ≡ committed hand.old (writes_of frame.now) number) }
         ensures stored { OnOk result (Follow self.old.hands self.new.hands hand.old hand.new) }
+        ensures flags { self.new.flags ≡ self.old.flags }
     {
         let number = self.number_for(frame, reads, hand)?;
         let Body::Commit { txn, writes } = &frame.body else {

@@ -4,7 +4,7 @@ ghost use Rattle.std.specs.Prelude.{◌⊎◌, [], IfErr, IfOk, OnErr, OnOk, sli
 ghost use Rattle.std.specs.Option.{is_some};
 ghost use Rattle.cb_mailboxes.specs.Dispatching.{Everybody, Others, Posts, emptied};
 ghost use Rattle.cb_hands.specs.Hands.{empty_hand};
-ghost use Rattle.cb_joined.specs.Joined.{Follow, IsHeld, stored_at};
+ghost use Rattle.cb_hands.specs.Joined.{Follow, IsHeld, stored_at};
 ghost use Rattle.cb_station.specs.Stations.{IsUnchanged, mailbox_of, server_of};
 ghost use Rattle.cb_station.specs.declared.office_fault.OfficeFault.TheVariants as office;
 ghost use Rattle.cb_page.specs.Numbers.{max_number};
@@ -13,7 +13,7 @@ ghost use Rattle.cb_protocol.specs.Messages.{Hello};
 
 use crate::office_fault::OfficeFault;
 use crate::station::Station;
-use cb_hands::{Hand, StoredHand};
+use cb_hands::Hand;
 use cb_page::{ClientNo, Incarnation};
 use std::alloc::Global;
 
@@ -43,6 +43,7 @@ impl Station {
         ensures hands { IfOk result (λ hand.
             self.new.hands ≡ slice_set self.old.hands client (Some hand)) }
         ensures history { self.new.history ≡ self.old.history }
+        ensures flags { self.new.flags ≡ self.old.flags }
     {
         let limits = self.dispatcher.limits();
         if !limits.has_client(client.get()) {
@@ -53,13 +54,11 @@ impl Station {
         }
         let pages = limits.pages() as usize;
         let incarnation = self.next_incarnation(client)?;
-        let stored = StoredHand::new(alloc, client, incarnation, pages)?;
-        let hand = Hand::new(alloc, client, incarnation, pages)?;
+        let hand = self.hands.join(alloc, client, incarnation, pages)?;
         if self.dispatcher.greet(alloc, client, incarnation).is_err() {
-            hand.abandon();
+            self.hands.leave(hand);
             return Err(OfficeFault::Memory);
         }
-        self.hands.put(stored);
         Ok(hand)
     }
 
@@ -109,6 +108,7 @@ impl Station {
             (emptied (mailbox_of self.old) hand.client) Everybody self.new.dispatcher) }
         ensures stored { IfOk result (λ next. Follow self.old.hands self.new.hands hand next) }
         ensures history { self.new.history ≡ self.old.history }
+        ensures flags { self.new.flags ≡ self.old.flags }
     {
         if !self.hands.knows(&hand) {
             return Err((OfficeFault::Foreign, hand));
@@ -151,6 +151,7 @@ impl Station {
         ensures hands { OnOk result
             (self.new.hands ≡ slice_set self.old.hands hand.client None) }
         ensures history { self.new.history ≡ self.old.history }
+        ensures flags { self.new.flags ≡ self.old.flags }
     {
         if !self.hands.knows(&hand) {
             return Err((OfficeFault::Foreign, hand));
@@ -162,8 +163,7 @@ impl Station {
         if self.dispatcher.dismiss(alloc, client, incarnation).is_err() {
             return Err((OfficeFault::Memory, hand));
         }
-        self.hands.remove(client);
-        hand.abandon();
+        self.hands.leave(hand);
         Ok(())
     }
 }

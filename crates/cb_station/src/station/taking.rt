@@ -4,7 +4,7 @@ ghost use Rattle.std.specs.Prelude.{Err, OnErr, OnOk};
 ghost use Rattle.cb_mailboxes.specs.Dispatching.{Everybody, Posts};
 ghost use Rattle.cb_holdings.specs.Holdings.{HasClient};
 ghost use Rattle.cb_holdings.specs.Holdings.{server_of as server_in};
-ghost use Rattle.cb_joined.specs.Joined.{Follow, IsHeld};
+ghost use Rattle.cb_hands.specs.Joined.{Follow, IsHeld};
 ghost use Rattle.cb_station.specs.Moves.{IsOwn, ended_if_over, given_back, is_plain, is_stray};
 ghost use Rattle.cb_station.specs.Stations.{IsUnchanged, mailbox_of, server_of};
 ghost use Rattle.cb_station.specs.declared.office_fault.OfficeFault.TheVariants as office;
@@ -15,9 +15,8 @@ ghost use Rattle.cb_server.specs.Taking.{input_of, lacks_number_for};
 use crate::office_fault::OfficeFault;
 use crate::station::Station;
 use cb_frame::{Body, Frame, ShortBody};
-use cb_hands::Hand;
+use cb_hands::{Hand, JoinedHands};
 use cb_holdings::Holdings;
-use cb_joined::JoinedHands;
 use cb_links::Standing;
 use cb_page::CommitNo;
 use cb_server::ServerFault;
@@ -52,6 +51,7 @@ impl Station {
             ≡ ended_if_over (server_of self.new) (given_back hand.old frame.now.body)) }
         ensures stored { OnOk result (Follow self.old.hands self.new.hands hand.old hand.new) }
         ensures history { self.new.history ≡ self.old.history }
+        ensures flags { self.new.flags ≡ self.old.flags }
     {
         if !is_plain(&frame.body) || !self.is_own(frame, hand) {
             return Err(OfficeFault::Foreign);
@@ -83,6 +83,7 @@ impl Station {
         ensures err { OnErr result (IsUnchanged self.old self.new) }
         ensures hands { self.new.hands ≡ self.old.hands }
         ensures history { self.new.history ≡ self.old.history }
+        ensures flags { self.new.flags ≡ self.old.flags }
     {
         if !self.dispatcher.can_flush(number) {
             return Ok(());

@@ -37,15 +37,15 @@ fn writes<Q: Chooser, R: Wait>(
 ) -> Result<bool, WorkerFault> {
     let first = CommitNo::new(1);
     worker.write(PageNo::new(0), &[7; 16])?;
-    let committed = worker.commit_at(alloc, office.lock(rt).station_mut());
-    let flushed = office.lock(rt).station_mut().flushed(alloc, first);
+    let committed = worker.commit_at(alloc, &mut office.lock(rt));
+    let flushed = office.lock(rt).flushed(alloc, first);
     let finished = worker.finish(rt, alloc, office)? == Finished::Committed(first);
     Ok(committed == Ok(first) && flushed.is_ok() && finished)
 }
 
 /// Whether the client can join again.
 pub(crate) fn may_come_back<R: Wait>(rt: &R, alloc: Global, office: &Office) -> bool {
-    let joined = office.lock(rt).station_mut().join(alloc, ClientNo::new(0));
+    let joined = office.lock(rt).join(alloc, ClientNo::new(0));
     match joined {
         Ok(hand) => {
             hand.abandon();

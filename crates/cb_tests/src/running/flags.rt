@@ -1,7 +1,7 @@
 //! Closing, halting, and waiting for it.
 use crate::running::trials::{Trial, goes_well};
 use cb_page::ClientNo;
-use cb_station::{Office, SharedStation};
+use cb_station::{Office, Station};
 use std::alloc::Global;
 use std::sync::Wait;
 use std::sync::atomic::{AtomicU64, Ordering};
@@ -32,10 +32,10 @@ pub(crate) enum Moment {
 /// The client joins, so that there is a Welcome to it, and is told; its number stays joined. Where
 /// it can't join the office is halted.
 pub(crate) fn greet<R: Wait>(rt: &R, alloc: Global, office: &Office, client: ClientNo) {
-    let mut shared = office.lock(rt);
-    let joined = shared.station_mut().join(alloc, client);
-    office.tell_clients(&shared);
-    drop(shared);
+    let mut station = office.lock(rt);
+    let joined = station.join(alloc, client);
+    office.tell_clients(&station);
+    drop(station);
     match joined {
         Ok(hand) => hand.abandon(),
         Err(_) => office.halt(rt),
@@ -55,8 +55,8 @@ fn happens<R: Wait>(rt: &R, alloc: Global, office: &Office, moment: Moment) {
 
 /// Whether the office has these flags.
 fn has_flags<R: Wait>(rt: &R, office: &Office, flags: Flags) -> bool {
-    let shared = office.lock(rt);
-    (shared.is_closed(), shared.is_halted()) == flags
+    let station = office.lock(rt);
+    (station.is_closed(), station.is_halted()) == flags
 }
 
 /// Whether each of these moments leaves its flags.
@@ -110,27 +110,27 @@ fn closed_and_halted(rt: HostRuntime) {
 const WAITING: u64 = 2;
 
 /// Whether what is waited for has come.
-fn has_come(shared: &SharedStation, moment: Moment) -> bool {
+fn has_come(station: &Station, moment: Moment) -> bool {
     match moment {
-        Moment::Greeting => shared.station().has_frame_for(ClientNo::new(1)),
-        _ => shared.is_closed(),
+        Moment::Greeting => station.has_frame_for(ClientNo::new(1)),
+        _ => station.is_closed(),
     }
 }
 
 /// Waits for it, or until the office is halted. `counted` counts who holds the lock or waits, and
 /// once more who was woken by what it waits for.
 fn wait_for<R: Wait>(rt: &R, office: &Office, counted: &AtomicU64, moment: Moment) {
-    let mut shared = office.lock(rt);
+    let mut station = office.lock(rt);
     counted.fetch_add(1, Ordering::SeqCst);
     for _ in rt.forever() {
-        let come = has_come(&shared, moment);
-        if come || shared.is_halted() {
+        let come = has_come(&station, moment);
+        if come || station.is_halted() {
             counted.fetch_add(u64::from(come), Ordering::SeqCst);
             return;
         }
-        shared = match moment {
-            Moment::Greeting => office.wait_for_frame(rt, shared, ClientNo::new(1)),
-            _ => office.wait(rt, shared),
+        station = match moment {
+            Moment::Greeting => office.wait_for_frame(rt, station, ClientNo::new(1)),
+            _ => office.wait(rt, station),
         };
     }
     unreachable!()

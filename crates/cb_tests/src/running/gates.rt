@@ -19,8 +19,9 @@ pub(crate) enum Act {
     Refuse { writes: u64, at_each: bool },
     /// The office is closed or halted at this call; the first is 0.
     CutOff { at: u64, halts: bool },
-    /// The office is closed once every client has asked for its first job, which none begins before.
-    /// Each later one begins once all commits are on disk and the flusher waits, or has ended.
+    /// The office is closed once every client has asked for its first job, which none begins
+    /// before. Each later one begins once all commits are on disk and the flusher waits, or has
+    /// ended.
     Closed,
     /// Two clients wait for each other.
     Mutual,
@@ -107,9 +108,9 @@ impl<R: Wait> Guarded<'_, R> {
         }
     }
 
-    /// Closes the office once all have asked for their first job. Whether a job may begin: the first
-    /// one then, and each later one once the flusher waits after as many commits as all have made by
-    /// then. A flusher that ended is one whose office is halted.
+    /// Closes the office once all have asked for their first job. Whether a job may begin: the
+    /// first one then, and each later one once the flusher waits after as many commits as all have
+    /// made by then. A flusher that ended is one whose office is halted.
     fn is_closed_for(&self, client: ClientNo, job: u64) -> bool {
         let clients = self.counts.plan.clients;
         if job == 0 {

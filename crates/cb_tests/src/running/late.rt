@@ -35,7 +35,7 @@ fn leaves_its_job<Q: Chooser, R: Wait>(
     };
     let worked = work(rt, alloc, office, worker, &jobs, &results, &gate) == Ok(());
     let unasked = jobs.iter(rt).count() == 1;
-    let unwritten = office.lock(rt).station().history().is_empty();
+    let unwritten = office.lock(rt).history().is_empty();
     sent && worked && unasked && unwritten && may_come_back(rt, alloc, office)
 }
 

@@ -84,9 +84,9 @@ fn is_written_now<R: Wait, S: Alter>(
     hand: &mut Hand,
 ) -> bool {
     let refused = is_refused(&stop) && *told == Told::none();
-    let early = is_done(office.lock(rt).station_mut(), hand);
+    let early = is_done(&mut office.lock(rt), hand);
     let written = flush_again(rt, alloc, office, shelf, told, stop).is_ok();
-    let late = is_done(office.lock(rt).station_mut(), hand);
+    let late = is_done(&mut office.lock(rt), hand);
     refused && !early && written && late && (told.batches, told.first) == (told.last, 1)
 }
 
@@ -141,7 +141,7 @@ fn is_written_at_last<R: Wait, S: Alter>(
 
 /// Whether the client commits.
 fn commits<R: Wait>(rt: &R, alloc: Global, office: &Office, hand: &mut Hand, txn: TxnNo) -> bool {
-    commit_page(alloc, office.lock(rt).station_mut(), hand, txn)
+    commit_page(alloc, &mut office.lock(rt), hand, txn)
 }
 
 /// A client commits, the office is closed, and the batch is refused at first.
@@ -153,7 +153,7 @@ pub(crate) fn is_refused_at_first<R: Wait, S: Alter>(
     shelf: &mut Shelf<S>,
     refusal: Refusal,
 ) -> bool {
-    let joined = office.lock(rt).station_mut().join(alloc, ClientNo::new(0));
+    let joined = office.lock(rt).join(alloc, ClientNo::new(0));
     let Ok(mut hand) = joined else {
         return false;
     };

@@ -8,7 +8,7 @@ use cb_jobs::Watch;
 use cb_page::{ClientNo, CommitNo, Limits};
 use cb_run::run_on;
 use cb_shelf::{Shelf, ShelfFault};
-use cb_station::{Office, SharedStation};
+use cb_station::{Office, Station};
 use sqlite::Alter;
 use std::alloc::Global;
 use std::sync::Wait;
@@ -101,18 +101,18 @@ fn ended_by(err: &[u8]) -> Came {
 
 /// Whether the office is halted, each entry of the history has both pages read and written, and the
 /// last of them was told of.
-fn is_whole(shared: &SharedStation, last: u64) -> bool {
-    let history = shared.station().history();
+fn is_whole(station: &Station, last: u64) -> bool {
+    let history = station.history();
     for entry in history {
         if entry.reads.len() != 2 || entry.writes.len() != 2 {
             return false;
         }
     }
-    shared.is_halted() && history.len() as u64 == last
+    station.is_halted() && history.len() as u64 == last
 }
 
-/// What came of a run that said this: it is to say that so many jobs were done, and the sum that the
-/// tables have. Where these can't be looked at any more, the disk stopped.
+/// What came of a run that said this: it is to say that so many jobs were done, and the sum that
+/// the tables have. Where these can't be looked at any more, the disk stopped.
 fn came_of<S: Alter>(alloc: Global, shelf: &mut Shelf<S>, answered: u64, out: &[u8]) -> Came {
     let Ok(store) = shelf.load(alloc) else {
         return Came::Stopped;
@@ -168,8 +168,8 @@ fn running<'a>(text: &'a str, counts: &'a Counts) -> Work<'a> {
 }
 
 /// What comes of a run over new disks, after a text, where after a crash the database holds what
-/// the first commits left, at least as many as were answered as done. A disk that stops before there
-/// is a database counts as stopped; where no number was left nothing is looked at.
+/// the first commits left, at least as many as were answered as done. A disk that stops before
+/// there is a database counts as stopped; where no number was left nothing is looked at.
 pub(crate) fn came_over<R: Threads + Wait + Sync>(
     rt: &R,
     alloc: Global,

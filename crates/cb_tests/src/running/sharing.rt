@@ -25,17 +25,9 @@ fn reads_once<R: Wait>(
 ) -> bool {
     let page = PageNo::new(0);
     let ask = ShortBody::AskRead { txn, page };
-    let asked = says(alloc, office.lock(rt).station_mut(), hand, ask);
+    let asked = says(alloc, &mut office.lock(rt), hand, ask);
     let nothing = Writes::from_vec(Vec::new(alloc));
-    asked
-        && commit(
-            alloc,
-            office.lock(rt).station_mut(),
-            hand,
-            txn,
-            pages,
-            nothing,
-        )
+    asked && commit(alloc, &mut office.lock(rt), hand, txn, pages, nothing)
 }
 
 /// Whether all its transactions are committed.
@@ -53,10 +45,7 @@ fn reads_often<R: Wait>(rt: &R, alloc: Global, office: &Office, hand: &mut Hand)
 
 /// Whether a client joins and commits its transactions.
 fn visits<R: Wait>(rt: &R, alloc: Global, office: &Office, number: u16) -> bool {
-    let joined = office
-        .lock(rt)
-        .station_mut()
-        .join(alloc, ClientNo::new(number % 4));
+    let joined = office.lock(rt).join(alloc, ClientNo::new(number % 4));
     match joined {
         Ok(mut hand) => {
             let read = reads_often(rt, alloc, office, &mut hand);
@@ -100,7 +89,7 @@ fn has_all(station: &Station, client: ClientNo) -> bool {
 pub(crate) fn are_shared<R: Wait + Threads + Sync>(rt: &R, alloc: Global, office: &Office) -> bool {
     let mut well = four_visits(rt, alloc, office) == 4;
     for client in 0..4u16 {
-        well = well && has_all(office.lock(rt).station(), ClientNo::new(client));
+        well = well && has_all(&office.lock(rt), ClientNo::new(client));
     }
     well
 }

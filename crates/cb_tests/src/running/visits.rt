@@ -89,7 +89,7 @@ pub(crate) fn commit_page(
 
 /// Whether every commit is on disk.
 pub(crate) fn is_reported<R: Wait>(rt: &R, alloc: Global, office: &Office) -> bool {
-    match office.lock(rt).station().batch(alloc) {
+    match office.lock(rt).batch(alloc) {
         Ok(batch) => batch.is_none(),
         Err(_) => false,
     }

@@ -42,7 +42,7 @@ impl<Q: Chooser> Worker<Q> {
         if !limits.has_client(client.get()) {
             return Err(WorkerFault::Office(OfficeFault::Foreign));
         }
-        let hand = office.lock(rt).station_mut().join(alloc, client)?;
+        let hand = office.lock(rt).join(alloc, client)?;
         office.tell_all();
         let made = Client::new(alloc, client, hand.incarnation(), limits, chooser);
         let Ok(client) = made else {
@@ -91,10 +91,7 @@ impl<Q: Chooser> Worker<Q> {
             collected,
             said,
         } = self;
-        let restarted = office
-            .lock(rt)
-            .station_mut()
-            .restart(alloc, hand, incarnation);
+        let restarted = office.lock(rt).restart(alloc, hand, incarnation);
         office.tell_all();
         match restarted {
             Ok(hand) => Worker::new(alloc, renewed, hand).welcomed(rt, alloc, office),
@@ -128,7 +125,7 @@ impl<Q: Chooser> Worker<Q> {
             collected,
             said,
         } = self;
-        let left = office.lock(rt).station_mut().leave(alloc, hand);
+        let left = office.lock(rt).leave(alloc, hand);
         office.tell_all();
         match left {
             Ok(()) => Ok(()),
@@ -216,7 +213,7 @@ impl<Q: Chooser> Worker<Q> {
 
 /// Takes back that the client joined; its hand is spent.
 fn unjoin<R: Wait>(rt: &R, alloc: Global, office: &Office, hand: Hand) {
-    if let Err((_, hand)) = office.lock(rt).station_mut().leave(alloc, hand) {
+    if let Err((_, hand)) = office.lock(rt).leave(alloc, hand) {
         hand.abandon();
     }
     office.tell_all();

@@ -23,7 +23,7 @@ use crate::worker::Worker;
 use crate::worker_fault::WorkerFault;
 use cb_client::{ReadAnswer, WantAnswer};
 use cb_page::PageNo;
-use cb_station::{Office, OfficeFault, SharedStation};
+use cb_station::{Office, OfficeFault, Station};
 use cb_twoq::Chooser;
 use std::alloc::Global;
 use std::sync::Wait;
@@ -41,8 +41,8 @@ impl<Q: Chooser> Worker<Q> {
         ensures still { IsStill self.old self.new }
         ensures refused { IfErr result (StopsServing self.new) }
     {
-        let mut shared = office.lock(rt);
-        self.serve_at(rt, alloc, office, &mut shared)
+        let mut station = office.lock(rt);
+        self.serve_at(rt, alloc, office, &mut station)
     }
 
     /// Makes turns until there is nothing to do, and tells the others where a frame was handed in.
@@ -51,22 +51,22 @@ impl<Q: Chooser> Worker<Q> {
         rt: &R,
         alloc: Global,
         office: &Office,
-        shared: &mut SharedStation,
+        station: &mut Station,
     ) -> Result<(), WorkerFault>
-        ensures serves { Serves self.old shared.old.station result self.new shared.new.station }
+        ensures serves { Serves self.old station.old result self.new station.new }
         ensures served { OnOk result (IsServed self.new) }
         ensures still { IsStill self.old self.new }
-        ensures halted { (result ≡ Err WorkerFault.Halted) ↔ (shared.old.halted ≡ true) }
-        ensures refused { IfErr result (RefusesServing self.new shared.new) }
+        ensures halted { (result ≡ Err WorkerFault.Halted) ↔ (station.old.flags.halted ≡ true) }
+        ensures refused { IfErr result (RefusesServing self.new station.new) }
     {
         for _ in rt.forever() {
-            if shared.is_halted() {
+            if station.is_halted() {
                 return Err(WorkerFault::Halted);
             }
             let hands_in = !self.said.is_empty();
-            let turned = self.turn_at(alloc, shared.station_mut());
+            let turned = self.turn_at(alloc, station);
             if hands_in {
-                office.tell_clients(shared);
+                office.tell_clients(station);
             }
             if !turned? {
                 return Ok(());
@@ -81,15 +81,15 @@ impl<Q: Chooser> Worker<Q> {
         rt: &R,
         alloc: Global,
         office: &Office,
-        shared: &mut SharedStation,
+        station: &mut Station,
     ) -> Result<bool, WorkerFault>
         ensures aborted { IfOk result (λ aborted.
             IsTrue aborted → Ended self.new protocol.Aborted) }
         ensures served { OnOk result (IsServed self.new) }
         ensures still { IsStill self.old self.new }
-        ensures refused { IfErr result (RefusesServing self.new shared.new) }
+        ensures refused { IfErr result (RefusesServing self.new station.new) }
     {
-        self.serve_at(rt, alloc, office, shared)?;
+        self.serve_at(rt, alloc, office, station)?;
         Ok(self.is_aborted())
     }
 
@@ -149,14 +149,14 @@ impl<Q: Chooser> Worker<Q> {
         alloc: Global,
         office: &Office,
         page: PageNo,
-        shared: &mut SharedStation,
+        station: &mut Station,
     ) -> Result<Option<Came>, WorkerFault>
         ensures comes { IfOk result (λ came. IfSome came (Comes (Awaited.Page page) self.new)) }
         ensures served { OnOk result (IsServed self.new) }
         ensures still { IsStill self.old self.new }
         ensures refused { IfErr result (StopsOr self.new (RefusesAsk self.new page)) }
     {
-        let aborted = self.serve_first(rt, alloc, office, shared)?;
+        let aborted = self.serve_first(rt, alloc, office, station)?;
         if aborted {
             return Ok(Some(Came::Ended(Finished::Aborted)));
         }
@@ -164,7 +164,7 @@ impl<Q: Chooser> Worker<Q> {
             return Ok(Some(Came::There));
         }
         self.ask_for(page)?;
-        self.go_on(rt, alloc, office, &Awaited::Page(page), shared)
+        self.go_on(rt, alloc, office, &Awaited::Page(page), station)
     }
 
     /// The client asks for the page, which isn't here.
@@ -212,7 +212,7 @@ impl<Q: Chooser> Worker<Q> {
         alloc: Global,
         office: &Office,
         page: PageNo,
-        shared: &mut SharedStation,
+        station: &mut Station,
     ) -> Result<Option<Came>, WorkerFault>
         ensures comes { IfOk result
             (λ came. IfSome came (Comes (Awaited.Permission page) self.new)) }
@@ -220,12 +220,12 @@ impl<Q: Chooser> Worker<Q> {
         ensures still { IsStill self.old self.new }
         ensures refused { IfErr result (StopsOr self.new (RefusesCall self.new (CallWant page))) }
     {
-        let aborted = self.serve_first(rt, alloc, office, shared)?;
+        let aborted = self.serve_first(rt, alloc, office, station)?;
         if aborted {
             return Ok(Some(Came::Ended(Finished::Aborted)));
         }
         self.ask_to_write(page)?;
-        self.go_on(rt, alloc, office, &Awaited::Permission(page), shared)
+        self.go_on(rt, alloc, office, &Awaited::Permission(page), station)
     }
 
     /// The client wants to write the page, and asks for the permission if it hasn't got it.
@@ -256,8 +256,8 @@ impl<Q: Chooser> Worker<Q> {
         ensures refused { IfErr result (RefusesDrop self.old self.new) }
     {
         self.needs_transaction()?;
-        let mut shared = office.lock(rt);
-        self.drop_at(rt, alloc, office, &mut shared)
+        let mut station = office.lock(rt);
+        self.drop_at(rt, alloc, office, &mut station)
     }
 
     /// The same at the locked station.
@@ -266,18 +266,18 @@ impl<Q: Chooser> Worker<Q> {
         rt: &R,
         alloc: Global,
         office: &Office,
-        shared: &mut SharedStation,
+        station: &mut Station,
     ) -> Result<(), WorkerFault>
         ensures dropped { OnOk result (IsDropped self.new) }
         ensures said { OnOk result (self.new.said ≡ []) }
         ensures still { IsStill self.old self.new }
         ensures refused { IfErr result (RefusesDrop self.old self.new) }
     {
-        if self.serve_first(rt, alloc, office, shared)? {
+        if self.serve_first(rt, alloc, office, station)? {
             return Ok(());
         }
         self.drop_open(alloc)?;
-        self.hand_all_in(alloc, office, shared)
+        self.hand_all_in(alloc, office, station)
     }
 
     /// The client drops its transaction; what it says of that is kept.
@@ -297,17 +297,17 @@ impl<Q: Chooser> Worker<Q> {
         &mut self,
         alloc: Global,
         office: &Office,
-        shared: &mut SharedStation,
+        station: &mut Station,
     ) -> Result<(), WorkerFault>
-        ensures hands { HandsAllIn self.old shared.old.station result self.new shared.new.station }
+        ensures hands { HandsAllIn self.old station.old result self.new station.new }
         ensures client { self.new.client ≡ self.old.client }
         ensures all { OnOk result (self.new.said ≡ []) }
         ensures still { IsStill self.old self.new }
-        ensures refused { IfErr result (RefusesServing self.new shared.new) }
+        ensures refused { IfErr result (RefusesServing self.new station.new) }
     {
         while !self.said.is_empty() {
-            let handed = self.hand_in(alloc, shared.station_mut());
-            office.tell_clients(shared);
+            let handed = self.hand_in(alloc, station);
+            office.tell_clients(station);
             let _handed = handed?;
         }
         Ok(())
@@ -342,22 +342,22 @@ impl<Q: Chooser> Worker<Q> {
         rt: &R,
         alloc: Global,
         office: &Office,
-        shared: &mut SharedStation,
+        station: &mut Station,
     ) -> Result<Option<Came>, WorkerFault>
         ensures comes { IfOk result (λ came. IfSome came (Comes Awaited.End self.new)) }
         ensures served { OnOk result (IsServed self.new) }
         ensures still { IsStill self.old self.new }
         ensures refused { IfErr result (StopsOr self.new (RefusesCommit self.new)) }
     {
-        self.serve_at(rt, alloc, office, shared)?;
+        self.serve_at(rt, alloc, office, station)?;
         if let Some(ended) = self.ended() {
             return Ok(Some(Came::Ended(ended)));
         }
-        let committed = self.commit_at(alloc, shared.station_mut());
+        let committed = self.commit_at(alloc, station);
         office.tell();
-        office.tell_clients(shared);
+        office.tell_clients(station);
         let _number = committed?;
-        self.go_on(rt, alloc, office, &Awaited::End, shared)
+        self.go_on(rt, alloc, office, &Awaited::End, station)
     }
 
     /// Waits, and serves meanwhile, until something came of it.
@@ -373,14 +373,14 @@ impl<Q: Chooser> Worker<Q> {
         ensures still { IsStill self.old self.new }
         ensures refused { IfErr result (StopsOr self.new (RefusesToBegin awaited.now self.new)) }
     {
-        let mut shared = office.lock(rt);
-        let mut came = self.begin_to_wait(rt, alloc, office, awaited, &mut shared);
+        let mut station = office.lock(rt);
+        let mut came = self.begin_to_wait(rt, alloc, office, awaited, &mut station);
         for _ in rt.forever() {
             if let Some(answer) = came.transpose() {
                 return answer;
             }
-            shared = office.wait_for_frame(rt, shared, self.hand.client());
-            came = self.go_on(rt, alloc, office, awaited, &mut shared);
+            station = office.wait_for_frame(rt, station, self.hand.client());
+            came = self.go_on(rt, alloc, office, awaited, &mut station);
         }
         unreachable!()
     }
@@ -392,7 +392,7 @@ impl<Q: Chooser> Worker<Q> {
         alloc: Global,
         office: &Office,
         awaited: &Awaited,
-        shared: &mut SharedStation,
+        station: &mut Station,
     ) -> Result<Option<Came>, WorkerFault>
         ensures comes { IfOk result (λ came. IfSome came (Comes awaited.now self.new)) }
         ensures served { OnOk result (IsServed self.new) }
@@ -400,10 +400,10 @@ impl<Q: Chooser> Worker<Q> {
         ensures refused { IfErr result (StopsOr self.new (RefusesToBegin awaited.now self.new)) }
     {
         match awaited {
-            Awaited::Welcome => self.go_on(rt, alloc, office, awaited, shared),
-            Awaited::Page(page) => self.begin_fetch(rt, alloc, office, *page, shared),
-            Awaited::Permission(page) => self.begin_want(rt, alloc, office, *page, shared),
-            Awaited::End => self.begin_finish(rt, alloc, office, shared),
+            Awaited::Welcome => self.go_on(rt, alloc, office, awaited, station),
+            Awaited::Page(page) => self.begin_fetch(rt, alloc, office, *page, station),
+            Awaited::Permission(page) => self.begin_want(rt, alloc, office, *page, station),
+            Awaited::End => self.begin_finish(rt, alloc, office, station),
         }
     }
 
@@ -414,14 +414,14 @@ impl<Q: Chooser> Worker<Q> {
         alloc: Global,
         office: &Office,
         awaited: &Awaited,
-        shared: &mut SharedStation,
+        station: &mut Station,
     ) -> Result<Option<Came>, WorkerFault>
         ensures comes { IfOk result (λ came. IfSome came (Comes awaited.now self.new)) }
         ensures served { OnOk result (IsServed self.new) }
         ensures still { IsStill self.old self.new }
         ensures refused { IfErr result (StopsServing self.new) }
     {
-        self.serve_at(rt, alloc, office, shared)?;
+        self.serve_at(rt, alloc, office, station)?;
         Ok(self.come(awaited))
     }
 

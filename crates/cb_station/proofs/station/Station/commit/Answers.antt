@@ -1,13 +1,13 @@
 -- Goals of `Station::commit`.
 use Rattle.std.proofs.Common.{rules, Err, ◌++◌, ◌∷◌, [], ◌≡◌, ◌+◌, ℕ, List, true, false, is_err, refl, sym, ap, ◌∙◌, subst}
 use Rattle.std.proofs.lemmas.List.Elements.{All-from_recursion}
-use Rattle.cb_joined.specs.OwnHand.{all_restamped, pages_written}
+use Rattle.cb_hands.specs.OwnHand.{all_restamped, pages_written}
 use Rattle.cb_frame_types.specs.declared.frame.Body.{Body}
 use Rattle.cb_frame_types.specs.declared.frame.Body.TheVariants as body
 use Rattle.cb_frame_types.specs.Grammar.{BodyFits, Fits}
 use Rattle.cb_frame_types.specs.declared.writes.Write.{Write}
 use Rattle.cb_hands.specs.Hands.{without_permissions}
-use Rattle.cb_joined.specs.declared.entry.Entry.{Entry}
+use Rattle.cb_hands.specs.declared.entry.Entry.{Entry}
 use Rattle.cb_station.proofs.Admitting.{answered_refusal}
 use Rattle.cb_station.proofs.Calls.{commits_by, err_fact, ok_fact, writes_within}
 use Rattle.cb_station.proofs.Keeping.{restamped_client}
@@ -17,7 +17,7 @@ use Rattle.cb_station.proofs.Following.{follow_then}
 use Rattle.cb_station.specs.Stations.{StationState, mailbox_of, server_of}
 use Rattle.cb_mailboxes.specs.Dispatching.{Everybody, Posts}
 use Rattle.cb_hands.specs.Hands.{HandState}
-use Rattle.cb_joined.specs.Joined.{Follow, IsHeld}
+use Rattle.cb_hands.specs.Joined.{Follow, IsHeld}
 use Rattle.cb_outbox.specs.Messages.{messages_of}
 use Rattle.cb_protocol.specs.AnyMessages.{MessageComes}
 use Rattle.cb_station.specs.Moves.{IsEntryOf, IsOwn, MayWriteAll, committed}
@@ -55,7 +55,7 @@ restamp-requires-clause-held c = subst (λ (v : StationState). IsHeld v.hands c.
 pub invariant_of-self-then-is_err : goal.invariant_of-self-then-is_err
 invariant_of-self-then-is_err c =
     let failed : is_err c.take.result ≡ true = sym c.is_err.ensures.value ∙ c.if-is_err.true in
-    unchanged_station (record { dispatcher = c.self.inside.dispatcher; hands = c.self.inside.hands; history = c.self.inside.history.items }) (record { dispatcher = c.take.new.self; hands = c.self.inside.hands; history = c.entry_of.new.history.items }) c.self.invariant (record { dispatcher = err_fact c.take.result _ failed c.take.ensures.unchanged; hands = refl; history = c.entry_of.ensures.same })
+    unchanged_station (record { dispatcher = c.self.inside.dispatcher; hands = c.self.inside.hands; history = c.self.inside.history.items; flags = c.self.inside.flags }) (record { dispatcher = c.take.new.self; hands = c.self.inside.hands; history = c.entry_of.new.history.items; flags = c.self.inside.flags }) c.self.invariant (record { dispatcher = err_fact c.take.result _ failed c.take.ensures.unchanged; hands = refl; history = c.entry_of.ensures.same; flags = refl })
 
 pub restamp-requires-clause-pages : goal.restamp-requires-clause-pages
 restamp-requires-clause-pages c =
@@ -74,17 +74,17 @@ invariant_of-self-2 c =
     let entered = subst (λ (ws : List Write). IsEntryOf c.args.hand.now c.in-Commit.txn ws c.args.reads.now c.in_ok-entry.entry) c.as_slice.ensures c.in_ok-entry.ensures.entry in
     let history : c.push_reserved.new.self.items ≡ c.self.inside.history.items ++ c.in_ok-entry.entry ∷ [] =
     c.push_reserved.ensures.items ∙ ap (λ (h : List Entry). h ++ c.in_ok-entry.entry ∷ []) c.entry_of.ensures.same in
-    let own : IsOwn (record { dispatcher = c.self.inside.dispatcher; hands = c.self.inside.hands; history = c.self.inside.history.items }) c.args.frame.now c.args.hand.now = subst (λ (v : StationState). IsOwn v c.args.frame.now c.args.hand.now) (sym c.self.view_is) c.in_ok-number.ensures.allowed.own.0 in
+    let own : IsOwn (record { dispatcher = c.self.inside.dispatcher; hands = c.self.inside.hands; history = c.self.inside.history.items; flags = c.self.inside.flags }) c.args.frame.now c.args.hand.now = subst (λ (v : StationState). IsOwn v c.args.frame.now c.args.hand.now) (sym c.self.view_is) c.in_ok-number.ensures.allowed.own.0 in
     let fits : BodyFits c.self.inside.dispatcher.server.limits (body.Commit c.in-Commit.txn c.in-Commit.writes) = subst (λ (b : Body). BodyFits c.self.inside.dispatcher.server.limits b) is own.fits.body in
     let alive = subst (λ (b : Body). is_live (server_of c.args.self.now) c.args.frame.now.client (txn_in b) ≡ true) is c.in_ok-number.ensures.allowed.live in
     let alive_here = subst (λ (k : ℕ). is_live (server_of c.args.self.now) k c.in-Commit.txn ≡ true) c.in_ok-number.ensures.allowed.own.0.client alive in
     let live = subst (λ (v : StationState). is_live (server_of v) c.args.hand.now.client c.in-Commit.txn ≡ true) (sym c.self.view_is) alive_here in
-    let number : c.in_ok-number.number ≡ (server_of (record { dispatcher = c.self.inside.dispatcher; hands = c.self.inside.hands; history = c.self.inside.history.items })).store.last_commit + 1 = c.in_ok-number.ensures.allowed.is_next ∙ ap (λ (v : StationState). (server_of v).store.last_commit + 1) (sym c.self.view_is) in
+    let number : c.in_ok-number.number ≡ (server_of (record { dispatcher = c.self.inside.dispatcher; hands = c.self.inside.hands; history = c.self.inside.history.items; flags = c.self.inside.flags })).store.last_commit + 1 = c.in_ok-number.ensures.allowed.is_next ∙ ap (λ (v : StationState). (server_of v).store.last_commit + 1) (sym c.self.view_is) in
     let does = subst (λ (b : Body). Does c.self.inside.dispatcher.server (MessageComes c.args.frame.now.client c.args.frame.now.incarnation (body_of b)) (messages_of posts.said) c.take.new.self.server) is posts.does in
-    let becomes : c.end_permissions.new.hand ≡ committed c.args.hand.now c.in-Commit.writes ((server_of (record { dispatcher = c.self.inside.dispatcher; hands = c.self.inside.hands; history = c.self.inside.history.items })).store.last_commit + 1) = c.end_permissions.ensures.hand ∙ ap (λ (h : HandState). without_permissions h)
+    let becomes : c.end_permissions.new.hand ≡ committed c.args.hand.now c.in-Commit.writes ((server_of (record { dispatcher = c.self.inside.dispatcher; hands = c.self.inside.hands; history = c.self.inside.history.items; flags = c.self.inside.flags })).store.last_commit + 1) = c.end_permissions.ensures.hand ∙ ap (λ (h : HandState). without_permissions h)
     (restamped ∙ ap (λ (n : ℕ). all_restamped c.args.hand.now (pages_written (page_writes c.in-Commit.writes)) n) (c.new-version.ensures ∙ c.get.ensures.value ∙ number)) in
-    let whole = commits_by (record { dispatcher = c.self.inside.dispatcher; hands = c.self.inside.hands; history = c.self.inside.history.items }) (record { dispatcher = c.take.new.self; hands = c.end_permissions.new.self; history = c.push_reserved.new.self.items }) c.self.invariant (ok_fact c.take.result _ done c.take.ensures.arose) c.args.frame.now c.in-Commit.txn c.in-Commit.writes (messages_of posts.said) c.args.hand.now
-    c.end_permissions.new.hand c.args.reads.now c.in_ok-entry.entry does own.held own.client own.incarnation fits.0.0 live may becomes follow entered history in
+    let whole = commits_by (record { dispatcher = c.self.inside.dispatcher; hands = c.self.inside.hands; history = c.self.inside.history.items; flags = c.self.inside.flags }) (record { dispatcher = c.take.new.self; hands = c.end_permissions.new.self; history = c.push_reserved.new.self.items; flags = c.self.inside.flags }) c.self.invariant (ok_fact c.take.result _ done c.take.ensures.arose) c.args.frame.now c.in-Commit.txn c.in-Commit.writes (messages_of posts.said) c.args.hand.now
+    c.end_permissions.new.hand c.args.reads.now c.in_ok-entry.entry does own.held own.client own.incarnation fits.0.0 live may becomes follow entered history refl in
     whole.0
 
 pub returns-clause-entry : goal.returns-clause-entry
@@ -117,19 +117,19 @@ returns-clause-applied c =
     let entered = subst (λ (ws : List Write). IsEntryOf c.args.hand.now c.in-Commit.txn ws c.args.reads.now c.in_ok-entry.entry) c.as_slice.ensures c.in_ok-entry.ensures.entry in
     let history : c.push_reserved.new.self.items ≡ c.self.inside.history.items ++ c.in_ok-entry.entry ∷ [] =
     c.push_reserved.ensures.items ∙ ap (λ (h : List Entry). h ++ c.in_ok-entry.entry ∷ []) c.entry_of.ensures.same in
-    let own : IsOwn (record { dispatcher = c.self.inside.dispatcher; hands = c.self.inside.hands; history = c.self.inside.history.items }) c.args.frame.now c.args.hand.now = subst (λ (v : StationState). IsOwn v c.args.frame.now c.args.hand.now) (sym c.self.view_is) c.in_ok-number.ensures.allowed.own.0 in
+    let own : IsOwn (record { dispatcher = c.self.inside.dispatcher; hands = c.self.inside.hands; history = c.self.inside.history.items; flags = c.self.inside.flags }) c.args.frame.now c.args.hand.now = subst (λ (v : StationState). IsOwn v c.args.frame.now c.args.hand.now) (sym c.self.view_is) c.in_ok-number.ensures.allowed.own.0 in
     let fits : BodyFits c.self.inside.dispatcher.server.limits (body.Commit c.in-Commit.txn c.in-Commit.writes) = subst (λ (b : Body). BodyFits c.self.inside.dispatcher.server.limits b) is own.fits.body in
     let alive = subst (λ (b : Body). is_live (server_of c.args.self.now) c.args.frame.now.client (txn_in b) ≡ true) is c.in_ok-number.ensures.allowed.live in
     let alive_here = subst (λ (k : ℕ). is_live (server_of c.args.self.now) k c.in-Commit.txn ≡ true) c.in_ok-number.ensures.allowed.own.0.client alive in
     let live = subst (λ (v : StationState). is_live (server_of v) c.args.hand.now.client c.in-Commit.txn ≡ true) (sym c.self.view_is) alive_here in
-    let number : c.in_ok-number.number ≡ (server_of (record { dispatcher = c.self.inside.dispatcher; hands = c.self.inside.hands; history = c.self.inside.history.items })).store.last_commit + 1 = c.in_ok-number.ensures.allowed.is_next ∙ ap (λ (v : StationState). (server_of v).store.last_commit + 1) (sym c.self.view_is) in
+    let number : c.in_ok-number.number ≡ (server_of (record { dispatcher = c.self.inside.dispatcher; hands = c.self.inside.hands; history = c.self.inside.history.items; flags = c.self.inside.flags })).store.last_commit + 1 = c.in_ok-number.ensures.allowed.is_next ∙ ap (λ (v : StationState). (server_of v).store.last_commit + 1) (sym c.self.view_is) in
     let does = subst (λ (b : Body). Does c.self.inside.dispatcher.server (MessageComes c.args.frame.now.client c.args.frame.now.incarnation (body_of b)) (messages_of posts.said) c.take.new.self.server) is posts.does in
-    let becomes : c.end_permissions.new.hand ≡ committed c.args.hand.now c.in-Commit.writes ((server_of (record { dispatcher = c.self.inside.dispatcher; hands = c.self.inside.hands; history = c.self.inside.history.items })).store.last_commit + 1) = c.end_permissions.ensures.hand ∙ ap (λ (h : HandState). without_permissions h)
+    let becomes : c.end_permissions.new.hand ≡ committed c.args.hand.now c.in-Commit.writes ((server_of (record { dispatcher = c.self.inside.dispatcher; hands = c.self.inside.hands; history = c.self.inside.history.items; flags = c.self.inside.flags })).store.last_commit + 1) = c.end_permissions.ensures.hand ∙ ap (λ (h : HandState). without_permissions h)
     (restamped ∙ ap (λ (n : ℕ). all_restamped c.args.hand.now (pages_written (page_writes c.in-Commit.writes)) n) (c.new-version.ensures ∙ c.get.ensures.value ∙ number)) in
-    let whole = commits_by (record { dispatcher = c.self.inside.dispatcher; hands = c.self.inside.hands; history = c.self.inside.history.items }) (record { dispatcher = c.take.new.self; hands = c.end_permissions.new.self; history = c.push_reserved.new.self.items }) c.self.invariant (ok_fact c.take.result _ done c.take.ensures.arose) c.args.frame.now c.in-Commit.txn c.in-Commit.writes (messages_of posts.said) c.args.hand.now
-    c.end_permissions.new.hand c.args.reads.now c.in_ok-entry.entry does own.held own.client own.incarnation fits.0.0 live may becomes follow entered history in
-    subst (λ (v : StationState). IsApplied (server_of v) (server_of (record { dispatcher = c.take.new.self; hands = c.end_permissions.new.self; history = c.push_reserved.new.self.items })) c.args.hand.now.client c.args.hand.now.incarnation (txn_of c.args.frame.now) (page_writes (writes_of c.args.frame.now))) c.self.view_is
-    (subst (λ (b : Body). IsApplied (server_of (record { dispatcher = c.self.inside.dispatcher; hands = c.self.inside.hands; history = c.self.inside.history.items })) (server_of (record { dispatcher = c.take.new.self; hands = c.end_permissions.new.self; history = c.push_reserved.new.self.items })) c.args.hand.now.client c.args.hand.now.incarnation (txn_in b) (page_writes (writes_in b))) (sym is) whole.1)
+    let whole = commits_by (record { dispatcher = c.self.inside.dispatcher; hands = c.self.inside.hands; history = c.self.inside.history.items; flags = c.self.inside.flags }) (record { dispatcher = c.take.new.self; hands = c.end_permissions.new.self; history = c.push_reserved.new.self.items; flags = c.self.inside.flags }) c.self.invariant (ok_fact c.take.result _ done c.take.ensures.arose) c.args.frame.now c.in-Commit.txn c.in-Commit.writes (messages_of posts.said) c.args.hand.now
+    c.end_permissions.new.hand c.args.reads.now c.in_ok-entry.entry does own.held own.client own.incarnation fits.0.0 live may becomes follow entered history refl in
+    subst (λ (v : StationState). IsApplied (server_of v) (server_of (record { dispatcher = c.take.new.self; hands = c.end_permissions.new.self; history = c.push_reserved.new.self.items; flags = c.self.inside.flags })) c.args.hand.now.client c.args.hand.now.incarnation (txn_of c.args.frame.now) (page_writes (writes_of c.args.frame.now))) c.self.view_is
+    (subst (λ (b : Body). IsApplied (server_of (record { dispatcher = c.self.inside.dispatcher; hands = c.self.inside.hands; history = c.self.inside.history.items; flags = c.self.inside.flags })) (server_of (record { dispatcher = c.take.new.self; hands = c.end_permissions.new.self; history = c.push_reserved.new.self.items; flags = c.self.inside.flags })) c.args.hand.now.client c.args.hand.now.incarnation (txn_in b) (page_writes (writes_in b))) (sym is) whole.1)
 
 pub returns-clause-stored : goal.returns-clause-stored
 returns-clause-stored c =

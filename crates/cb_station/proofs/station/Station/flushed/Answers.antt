@@ -9,11 +9,11 @@ use Rattle.cb_protocol.specs.AnyMessages.{ReachesDisk}
 use Rattle.cb_station.proofs.station.Station.flushed.Goals as goal
 
 pub invariant_of-self : goal.invariant_of-self
-invariant_of-self c = unchanged_station (record { dispatcher = c.self.inside.dispatcher; hands = c.self.inside.hands; history = c.self.inside.history.items }) (record { dispatcher = c.flushed.new.self; hands = c.self.inside.hands; history = c.self.inside.history.items }) c.self.invariant (record { dispatcher = c.in_err-flushed.ensures.unchanged; hands = refl; history = refl })
+invariant_of-self c = unchanged_station (record { dispatcher = c.self.inside.dispatcher; hands = c.self.inside.hands; history = c.self.inside.history.items; flags = c.self.inside.flags }) (record { dispatcher = c.flushed.new.self; hands = c.self.inside.hands; history = c.self.inside.history.items; flags = c.self.inside.flags }) c.self.invariant (record { dispatcher = c.in_err-flushed.ensures.unchanged; hands = refl; history = refl; flags = refl })
 
 pub invariant_of-self-2 : goal.invariant_of-self-2
 invariant_of-self-2 c =
-    flushed_station (record { dispatcher = c.self.inside.dispatcher; hands = c.self.inside.hands; history = c.self.inside.history.items }) (record { dispatcher = c.flushed.new.self; hands = c.self.inside.hands; history = c.self.inside.history.items }) c.self.invariant c.in_ok-flushed.ensures.arose c.args.number (messages_of c.in_ok-flushed.ensures.ok.said) c.in_ok-flushed.ensures.ok.does refl refl
+    flushed_station (record { dispatcher = c.self.inside.dispatcher; hands = c.self.inside.hands; history = c.self.inside.history.items; flags = c.self.inside.flags }) (record { dispatcher = c.flushed.new.self; hands = c.self.inside.hands; history = c.self.inside.history.items; flags = c.self.inside.flags }) c.self.invariant c.in_ok-flushed.ensures.arose c.args.number (messages_of c.in_ok-flushed.ensures.ok.said) c.in_ok-flushed.ensures.ok.does refl refl refl
 
 pub flushed-requires : goal.flushed-requires
 flushed-requires c = sym c.can_flush.ensures ∙ c.if-not-can_flush.false

@@ -1,6 +1,6 @@
 -- Goals of `Station::is_own`.
 use Rattle.std.proofs.Common.{rules, subst, sym}
-use Rattle.cb_joined.specs.Joined.{IsHeld}
+use Rattle.cb_hands.specs.Joined.{IsHeld}
 use Rattle.cb_station.specs.Stations.{StationState}
 use Rattle.cb_station.proofs.station.Station.is_own.Goals as goal
 

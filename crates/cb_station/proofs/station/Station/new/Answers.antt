@@ -8,7 +8,7 @@ pub invariant_of-result : goal.invariant_of-result
 invariant_of-result c =
     let none : Option HandState = None in
     new_station c.args.limits.now c.args.store _ c.in_ok-new.ensures.new c.in_ok-new.ensures.arose c.requires.plain
-    (c.in_ok-new-2.ensures ∙ ap (λ (n : ℕ). replicate n none) c.clients.ensures.value) (search rules)
+    (c.in_ok-new-2.ensures ∙ ap (λ (n : ℕ). replicate n none) c.clients.ensures.value) (search rules) (search rules)
 
 pub returns-clause-hands : goal.returns-clause-hands
 returns-clause-hands c =

@@ -1,7 +1,7 @@
 -- What holds at each turn of the loops of `restamp`.
 use Rattle.std.proofs.Common.{◌≡◌, drop, length}
-use Rattle.cb_joined.specs.OwnHand.{all_restamped, pages_written}
-use Rattle.cb_joined.specs.Joined.{Follow}
+use Rattle.cb_hands.specs.OwnHand.{all_restamped, pages_written}
+use Rattle.cb_hands.specs.Joined.{Follow}
 use Rattle.cb_outbox.specs.Messages.{page_writes}
 use Rattle.cb_station.proofs.station.committing.restamp.Given as goal
 

@@ -19,6 +19,7 @@ returns-in-Ok-None g c =
       moved = c.collect.ensures.hand;
       stored = c.collect.ensures.stored;
       history = c.collect.ensures.history;
+      flags = c.collect.ensures.flags;
     }) in
     let is : c.collect.result ≡ Ok None = c.in-Ok-None.is ∙ ap Ok c.in-Ok-None.field-0-is in
     let same : c.collect.new.hand ≡ c.self.inside.hand = rw c.in-Ok-None.field-0-is at c.in-Ok-None.ensures.hand in
@@ -40,6 +41,7 @@ returns-in-Ok-Some g c =
       moved = c.collect.ensures.hand;
       stored = c.collect.ensures.stored;
       history = c.collect.ensures.history;
+      flags = c.collect.ensures.flags;
     }) in
     let is : c.collect.result ≡ Ok (Some c.in-Ok-Some.frame) = c.in-Ok-Some.is ∙ ap Ok c.in-Ok-Some.field-0-is in
     collects_some c.args.self.now c.take_collected.new.self c.args.station.now c.collect.new.self c.collect.new.hand c.in-Ok-Some.frame c.take_collected.result

@@ -21,6 +21,7 @@ returns-in-Ok g c =
       applied = c.commit.ensures.applied;
       moved = c.commit.ensures.hand;
       stored = c.commit.ensures.stored;
+      flags = c.commit.ensures.flags;
     }) in
     let locked : AreLocked c.commit_frame.new.self.client c.locked.result.now = rw (← c.self.view_is) c.locked.ensures in
     let committed : Committed c.args.station.now c.in_ok-frame.frame c.locked.result.now c.commit_frame.new.self.hand (Ok c.in-Ok.number) c.commit.new.self c.commit.new.hand =
@@ -43,6 +44,7 @@ returns g c =
       applied = c.commit.ensures.applied;
       moved = c.commit.ensures.hand;
       stored = c.commit.ensures.stored;
+      flags = c.commit.ensures.flags;
     }) in
     let locked : AreLocked c.commit_frame.new.self.client c.locked.result.now = rw (← c.self.view_is) c.locked.ensures in
     let committed : Committed c.args.station.now c.in_ok-frame.frame c.locked.result.now c.commit_frame.new.self.hand (Err c.in-Err.fault) c.commit.new.self c.commit.new.hand =

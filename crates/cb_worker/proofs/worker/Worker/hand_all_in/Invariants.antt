@@ -7,7 +7,7 @@ use Rattle.cb_worker.proofs.worker.Worker.hand_all_in.Given as goal
 
 -- the client is as it was, and it stays the same worker; frames were handed in
 abbrev pub invariant-loop-alloc : goal.invariant-loop-alloc
-invariant-loop-alloc g l = (l.self.client ≡ l.initial.self.client) × IsStill l.fn.self l.self × Turned HandsOne l.fn.self l.fn.shared.station l.self l.shared.station
+invariant-loop-alloc g l = (l.self.client ≡ l.initial.self.client) × IsStill l.fn.self l.self × Turned HandsOne l.fn.self l.fn.station l.self l.station
 
 abbrev pub decreases-loop-alloc : goal.decreases-loop-alloc
 decreases-loop-alloc g l = length l.self.said

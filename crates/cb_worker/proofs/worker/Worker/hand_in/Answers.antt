@@ -22,6 +22,7 @@ returns-in-Err-clause-turns g c =
       moved = c.take.ensures.hand;
       stored = c.take.ensures.stored;
       history = c.take.ensures.history;
+      flags = c.take.ensures.flags;
     }) in
     let first : c.args.self.now.said ≡ c.in-Some.frame.now ∷ drop 1 c.args.self.now.said = rw (← c.self.view_is) (oldest_first c.self.inside.said c.in-Some.frame.now (ap option_copied (sym c.in-Some.is) ∙ c.oldest.ensures)) in
     hands_in c.args.self.now _ c.args.station.now c.take.new.self c.in-Some.frame.now (drop 1 c.args.self.now.said) (Err (worker.Office c.in-Err.fault)) first (record {
@@ -44,6 +45,7 @@ returns-in-Ok-clause-turns g c =
       moved = c.take.ensures.hand;
       stored = c.take.ensures.stored;
       history = c.take.ensures.history;
+      flags = c.take.ensures.flags;
     }) in
     let first : c.args.self.now.said ≡ c.in-Some.frame.now ∷ c.remove_oldest.new.self = rw (c.remove_oldest.ensures, ← c.self.view_is) (oldest_first c.self.inside.said c.in-Some.frame.now (ap option_copied (sym c.in-Some.is) ∙ c.oldest.ensures)) in
     hands_in c.args.self.now _ c.args.station.now c.take.new.self c.in-Some.frame.now c.remove_oldest.new.self (Ok true) first (record {

@@ -1,0 +1,7 @@
+-- Goals of `JoinedHands::knows`.
+use Rattle.std.proofs.Common.{arith}
+use Rattle.std.proofs.lemmas.Grind.{common_steps}
+use Rattle.cb_hands.proofs.joined_hands.JoinedHands.knows.Goals as goal
+
+pub returns-in-Some : goal.returns-in-Some
+returns-in-Some c = grind (arith, common_steps)

@@ -1,9 +1,0 @@
--- What is proved where.
--- Agreeing: hands that agree with a server.
--- Noting: the history follows the server.
--- Own: what a message leaves of its own client.
--- OwnHand: a hand goes on agreeing while its own client's messages change the server.
-pub mod Agreeing
-pub mod Noting
-pub mod Own
-pub mod OwnHand

@@ -1,6 +1,0 @@
--- Goals of `others_stay`.
-use Rattle.cb_joined.proofs.Agreeing.{commit_leaves_others, others_stay}
-use Rattle.cb_joined.proofs.agreement.others_stay.Goals as goal
-
-pub returns : goal.returns
-returns c = record { stay = others_stay; commit = commit_leaves_others }

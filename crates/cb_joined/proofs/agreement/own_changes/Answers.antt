@@ -1,6 +1,0 @@
--- Goals of `own_changes`.
-use Rattle.cb_joined.proofs.Agreeing.{copy_comes, copy_goes, empty_hand, permission_comes, permissions_end}
-use Rattle.cb_joined.proofs.agreement.own_changes.Goals as goal
-
-pub returns : goal.returns
-returns c = record { empty = empty_hand; comes = copy_comes; goes = copy_goes; told = permission_comes; ended = permissions_end }

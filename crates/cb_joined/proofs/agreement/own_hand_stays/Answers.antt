@@ -1,6 +1,0 @@
--- Goals of `own_hand_stays`.
-use Rattle.cb_joined.proofs.OwnHand.{own_commit, own_message}
-use Rattle.cb_joined.proofs.agreement.own_hand_stays.Goals as goal
-
-pub returns : goal.returns
-returns c = record { message = own_message; commit = own_commit }

@@ -1,6 +1,0 @@
--- Goals of `JoinedHands::remove`.
-use Rattle.std.proofs.Common.{rules}
-use Rattle.cb_joined.proofs.joined_hands.JoinedHands.remove.Goals as goal
-
-pub returns : goal.returns
-returns c = search rules

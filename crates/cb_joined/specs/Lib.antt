@@ -1,5 +1,0 @@
-pub mod Agreement
-pub mod Joined
-pub mod OwnHand
-pub mod OwnStays
-pub mod Running

@@ -1,9 +1,0 @@
--- Goals of `SharedStation::new`.
-use Rattle.std.proofs.Common.{rules}
-use Rattle.cb_station.proofs.shared_station.SharedStation.new.Goals as goal
-
-pub invariant_of-result : goal.invariant_of-result
-invariant_of-result c = search rules
-
-pub returns : goal.returns
-returns c = search rules

@@ -1,0 +1,125 @@
+//! What the threads that share a station tell each other.
+ghost use Rattle.std.specs.Prelude.{◌≡◌, ◌==◌, ◌+◌, ◌-◌, ◌||◌, true, false, nat_le, MatchBool};
+ghost use Rattle.cb_station.specs.Flags.{AreFlags, is_over, may_begin};
+
+use crate::station::Station;
+
+/// Whether the station is closed, whether it is halted, how many calls of `work` are still to end,
+/// and how many are going on.
+#[derive(Clone, Copy)]
+pub(crate) struct Flags {
+    closed: bool,
+    halted: bool,
+    left: usize,
+    working: usize,
+}
+
+impl Flags {
+    /// Those of a station that nobody shares: it is open, and one call of `work` will use it.
+    pub(super) fn new() -> Flags
+        ensures value { result ≡ record { closed = false; halted = false; left = 1; working = 0 } }
+        ensures are { AreFlags result }
+    {
+        Flags {
+            closed: false,
+            halted: false,
+            left: 1,
+            working: 0,
+        }
+    }
+}
+
+impl Station {
+    /// So many calls of `work` will use the station. With none it is closed.
+    pub(crate) fn expect_workers(&mut self, workers: usize)
+        ensures { self.new ≡ record self.old {
+          flags = record self.old.flags {
+            closed = self.old.flags.closed || workers == 0;
+            left = workers;
+          };
+        } }
+    {
+        if workers == 0 {
+            self.close();
+        }
+        self.flags.left = workers;
+    }
+
+    /// No call of `work` begins any more.
+    pub fn close(&mut self)
+        ensures { self.new ≡ record self.old { flags = record self.old.flags { closed = true } } }
+    {
+        self.flags.closed = true;
+    }
+
+    /// No call of `work` begins any more, and nobody waits.
+    pub fn halt(&mut self)
+        ensures { self.new ≡ record self.old {
+          flags = record self.old.flags {
+            closed = true;
+            halted = true;
+          };
+        } }
+    {
+        self.close();
+        self.flags.halted = true;
+    }
+
+    /// A call of `work` begins, and is going on then; `false` where the station is closed, or so
+    /// many are going on that one more can't be counted. Nothing changes then.
+    pub fn begin_work(&mut self) -> bool
+        ensures begins { result ≡ may_begin self.old.flags }
+        ensures after { MatchBool result
+            (self.new ≡ record self.old {
+              flags = record self.old.flags {
+                working = self.old.flags.working + 1;
+              };
+            })
+            (self.new ≡ self.old) }
+    {
+        if self.flags.closed || self.flags.working == usize::MAX {
+            return false;
+        }
+        self.flags.working += 1;
+        true
+    }
+
+    /// One call of `work` that began has ended; the last one closes the station.
+    pub fn end_work(&mut self)
+        ensures { self.new ≡ record self.old {
+          flags = record self.old.flags {
+            closed = self.old.flags.closed || nat_le self.old.flags.left 1;
+            left = self.old.flags.left - 1;
+            working = self.old.flags.working - 1;
+          };
+        } }
+    {
+        if self.flags.left <= 1 {
+            self.close();
+        }
+        self.flags.left = self.flags.left.saturating_sub(1);
+        self.flags.working = self.flags.working.saturating_sub(1);
+    }
+
+    /// Whether no call of `work` commits any more: the station is halted, or it is closed and none
+    /// is going on. That stays so.
+    pub fn is_over(&self) -> bool
+        ensures { result ≡ is_over self.now.flags }
+    {
+        self.flags.halted || (self.flags.closed && self.flags.working == 0)
+    }
+
+    /// Whether no call of `work` begins any more.
+    pub fn is_closed(&self) -> bool
+        ensures { result ≡ self.now.flags.closed }
+    {
+        self.flags.closed
+    }
+
+    /// Whether it was halted.
+    pub fn is_halted(&self) -> bool
+        ensures { result ≡ self.now.flags.halted }
+    {
+        self.flags.halted
+    }
+}
