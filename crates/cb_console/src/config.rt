@@ -141,7 +141,7 @@ pub struct Config {
     /// The store and its clients' pools.
     pub limits: Limits,
     /// How many jobs each worker has.
-    pub jobs: u64,
+    pub jobs: u32,
 }
 
 /// The most jobs of a worker.
@@ -229,17 +229,14 @@ fn config_of(required: RequiredNumbers, others: DefaultedNumbers) -> Result<Conf
     ensures in_range { IfOk result (λ config. AreInRange config.limits) }
 {
     let limits = limits_of(required, others)?;
-    refuse_others(others)?;
-    Ok(Config {
-        limits,
-        jobs: others.jobs,
-    })
+    let jobs = jobs_of(others)?;
+    Ok(Config { limits, jobs })
 }
 
-/// Refuses too many jobs, and what is neither 0 nor 1 for whether permissions are kept.
+/// How many jobs. Refuses too many, and what is neither 0 nor 1 for whether permissions are kept.
 #[tactic(auto, unfolding(crate::specs::Settings::others_causes))]
-fn refuse_others(others: DefaultedNumbers) -> Result<(), ConfigFault>
-    ensures { Gives (first_fault (others_causes others)) tt result }
+fn jobs_of(others: DefaultedNumbers) -> Result<u32, ConfigFault>
+    ensures { Gives (first_fault (others_causes others)) others.jobs result }
 {
     if others.jobs > MOST_JOBS {
         return Err(ConfigFault::Jobs);
@@ -247,7 +244,7 @@ fn refuse_others(others: DefaultedNumbers) -> Result<(), ConfigFault>
     if others.keep_write > 1 {
         return Err(ConfigFault::KeepWrite);
     }
-    Ok(())
+    Ok(others.jobs as u32)
 }
 
 /// The table that a text is.

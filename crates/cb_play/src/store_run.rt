@@ -7,7 +7,7 @@ ghost use Rattle.cb_play.specs.StoreRuns.{HasFew, IsStoreRun, all_jobs};
 use cb_console::{Config, print_refusal, run_settings};
 use cb_jobs::{Ending, Gate, Turn, Watch, print_run};
 use cb_page::{ClientNo, Limits};
-use cb_run::{of_shelf, run_on};
+use cb_run::{of_shelf, run_on_watched};
 use cb_shelf::{Shelf, ShelfFault};
 use cb_station::{Office, Station};
 use sqlite::{Alter, Connection};
@@ -149,7 +149,7 @@ where
 {
     let (limits, jobs) = (&config.limits, config.jobs);
     match office_over(alloc, limits, shelf, jobs, watch) {
-        Ok(office) => run_on(
+        Ok(office) => run_on_watched(
             threads, alloc, limits, &office, shelf, jobs, gate, watch, out, err,
         ),
         Err(ending) => print_run(Err(ending), out, err),
@@ -162,7 +162,7 @@ fn office_over<S: Alter, W: Watch>(
     alloc: Global,
     limits: &Limits,
     shelf: &mut Shelf<S>,
-    jobs: u64,
+    jobs: u32,
     watch: &mut W,
 ) -> Result<Office, Ending>
     requires plain { limits.now.keep_write ≡ false }
@@ -172,7 +172,7 @@ fn office_over<S: Alter, W: Watch>(
         Ok(store) => store,
         Err(fault) => return Err(of_shelf(fault)),
     };
-    let all = u64::from(limits.clients()).saturating_mul(jobs);
+    let all = u64::from(limits.clients()).saturating_mul(u64::from(jobs));
     watch.begins(all, store.number());
     match Station::new(alloc, limits, store) {
         Ok(station) => Ok(Office::new(station, usize::from(limits.clients()))),

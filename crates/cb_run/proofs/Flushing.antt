@@ -9,7 +9,8 @@ use Rattle.sqlite.specs.Tree.{Trees}
 use Rattle.sqlite.proofs.StateLemmas.{survives_then, survives_weaker}
 use Rattle.cb_commit.specs.Batches.{BatchState}
 use Rattle.cb_page.specs.Bounds.{Bounds}
-use Rattle.cb_run.specs.Flushing.{LeavesAll, LeavesFirst, LeavesSome, MadeFirst, MadeSome, MakesBatches, WritesAll, WritesFirst, WritesOne, WritesOrStays, WritesSome}
+use Rattle.cb_run.specs.Flushing.{LeavesAll, LeavesFirst, LeavesSome, MadeFirst, MadeSome, MakesBatches, WritesAll, WritesFirst, WritesSome}
+use Rattle.cb_shelf.specs.Flushing.{WritesOne, WritesOrStays}
 use Rattle.cb_sql.specs.Statements.{MakesAll, batch_statements}
 use Rattle.cb_sql.specs.Writing.{Fits, Wrote}
 

@@ -8,7 +8,7 @@ use Rattle.sqlite.specs.Store.{Ghosts}
 use Rattle.sqlite.specs.Tree.{Trees}
 use Rattle.cb_commit.specs.Batches.{BatchState}
 use Rattle.cb_page.specs.Bounds.{Bounds}
-use Rattle.cb_sql.specs.Inside.{IsSame, IsSettled}
+use Rattle.cb_sql.specs.Inside.{IsSettled}
 use Rattle.cb_sql.specs.Statements.{MakesAll, batch_statements}
 use Rattle.cb_sql.specs.Writing.{Fits}
 
@@ -20,18 +20,6 @@ MakesBatches g (batch ∷ rest) before after = (between : Database)
     × MakesAll g (batch_statements batch) before between × MakesBatches g rest between after
 
 module _ {S : Type 0} (g : Ghosts S) (limits : Bounds) where
-  -- One batch was written and committed, and it fits.
-  pub record WritesOne (batch : BatchState) (old new : Held S) : Type 0 where
-    pub fits : Fits limits batch
-    pub made : HasCleanDisk (state g new)
-        → MakesAll g (batch_statements batch) (state g old).now (state g new).committed
-    pub settled : HasCleanDisk (state g new) → IsSettled (state g new)
-
-  -- it was, or the tables are as before
-  abbrev pub WritesOrStays : (batch : BatchState) → (old new : Held S) → Type 0
-  WritesOrStays batch old new = WritesOne batch old new
-      ⊎ (HasCleanDisk (state g new) → IsSame (state g old) (state g new))
-
   -- These batches were written, one after another, and they fit. Where no transaction was open, the
   -- last is committed.
   pub record WritesAll (batches : List BatchState) (old new : Held S) : Type 0 where

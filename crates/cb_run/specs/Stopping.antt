@@ -6,6 +6,7 @@ use Rattle.cb_page.specs.Bounds.{Bounds}
 use Rattle.cb_protocol.specs.Flush.{next_batch}
 use Rattle.cb_sql.specs.declared.fault.ShelfFault.TheVariants.{Shape, Memory}
 use Rattle.cb_sql.specs.Writing.{Fits}
+use Rattle.cb_run.specs.declared.flusher.CountedStop.{CountedStop}
 use Rattle.cb_run.specs.declared.flusher.FlushStop.{FlushStop}
 
 -- There was no memory for a batch; or one is still to be written, of which the shape is blamed
@@ -22,9 +23,9 @@ number_of None = 0
 
 -- how many of its three tries it has left, by those that the batch of the last stop had: one fewer
 -- where it is the same and none was written in between
-abbrev pub tries_left : FlushStop → (last : ℕ) → (left : ℕ) → ℕ
-tries_left stop last left =
-    if (number_of stop.batch == last) && not stop.wrote then left - 1 else 2
+abbrev pub tries_left : CountedStop → (last : ℕ) → (left : ℕ) → ℕ
+tries_left counted last left =
+    if (number_of counted.stop.batch == last) && not counted.wrote then left - 1 else 2
 
 -- Nothing is left to write: every commit is on disk.
 abbrev pub IsWritten : StationState → Type 0

@@ -1,6 +1,7 @@
 //! One client's part of a run.
 use crate::faults::of_worker;
-use crate::job::DoneJob;
+use crate::results::Results;
+use crate::run::Run;
 use crate::working::work;
 use cb_client::ClientFault;
 use cb_jobs::{Ending, FirstEnding, Gate};
@@ -8,7 +9,7 @@ use cb_page::{ClientNo, Limits};
 use cb_station::{Office, OfficeFault};
 use cb_twoq::Chooser;
 use cb_worker::{Worker, WorkerFault};
-use crossbeam_channel::{Receiver, Sender};
+use crossbeam_channel::Receiver;
 use std::alloc::{AllocError, Global};
 use std::sync::{Mutex, Wait};
 
@@ -16,11 +17,12 @@ use std::sync::{Mutex, Wait};
 pub(crate) fn job_list<R: Wait>(
     rt: &R,
     alloc: Global,
-    jobs: u64,
+    jobs: u32,
 ) -> Result<Receiver<u64>, AllocError> {
     let (to, from) = crossbeam_channel::unbounded(alloc)?;
     for job in 0..jobs {
-        if to.send(rt, job).is_err() {
+        // The other end is here, so that it fails only where memory is refused.
+        if to.send(rt, u64::from(job)).is_err() {
             return Err(AllocError);
         }
     }
@@ -42,38 +44,37 @@ pub(crate) fn give_up<R: Wait>(
 /// A client joins and works; where it can't go on the office is halted. A client that was halted
 /// says nothing of why.
 pub(crate) fn run_client<Q: Chooser, R: Wait, G: Gate>(
-    rt: &R,
-    alloc: Global,
-    office: &Office,
+    run: Run<'_, R, G>,
     limits: &Limits,
     client: u16,
     jobs: &Receiver<u64>,
-    results: &Sender<DoneJob>,
-    gate: &G,
+    results: &Results,
     faults: &Mutex<FirstEnding>,
 ) {
-    let worked = join_and_work::<Q, R, G>(rt, alloc, office, limits, client, jobs, results, gate);
-    let Err(fault) = worked else {
+    let Err(fault) = join_and_work::<Q, R, G>(run, limits, client, jobs, results) else {
         return;
     };
     if let Some(ending) = of_worker(fault) {
-        give_up(rt, office, faults, client, ending);
+        give_up(run.rt, run.office, faults, client, ending);
     }
 }
 
 fn join_and_work<Q: Chooser, R: Wait, G: Gate>(
-    rt: &R,
-    alloc: Global,
-    office: &Office,
+    run: Run<'_, R, G>,
     limits: &Limits,
     client: u16,
     jobs: &Receiver<u64>,
-    results: &Sender<DoneJob>,
-    gate: &G,
+    results: &Results,
 ) -> Result<(), WorkerFault> {
     if !limits.has_client(client) {
         return Err(WorkerFault::Office(OfficeFault::Foreign));
     }
+    let Run {
+        rt,
+        alloc,
+        office,
+        gate,
+    } = run;
     let Ok(chooser) = Q::make(alloc, limits) else {
         return Err(WorkerFault::Client(ClientFault::Memory));
     };

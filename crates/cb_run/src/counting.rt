@@ -14,16 +14,13 @@ use std::alloc::Global;
 use std::sync::Wait;
 
 /// A tally of so many jobs for each client, of which none is done.
-pub(crate) fn new_tally(alloc: Global, limits: &Limits, jobs: u64) -> Result<Tally, Ending>
+pub(crate) fn new_tally(alloc: Global, limits: &Limits, jobs: u32) -> Result<Tally, Ending>
     ensures { IfOk result (HasRows limits.now.clients jobs) }
 {
-    let Ok(count) = u32::try_from(jobs) else {
-        return Err(Ending::Memory);
-    };
-    let Ok(tally) = Tally::new(alloc, limits.clients(), count) else {
-        return Err(Ending::Memory);
-    };
-    Ok(tally)
+    match Tally::new(alloc, limits.clients(), jobs) {
+        Ok(tally) => Ok(tally),
+        Err(_) => Err(Ending::Memory),
+    }
 }
 
 /// Counts the results, each job once, until there is no more to come.

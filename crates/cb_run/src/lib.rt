@@ -7,20 +7,28 @@
 //!   [`flush_in_tries`] tries it three times in all.
 //! - [`run_on`] is the body of `run`: workers on threads of their own, the flusher on the calling
 //!   one. [`of_shelf`] says how a fault of the store ends a run.
+//! - [`flush_loop_watched`], [`flush_again_watched`] and [`run_on_watched`] are the same, and tell a
+//!   [`cb_jobs::Watch`] of each batch.
 #![tactic(auto)]
 
 mod client;
 mod counting;
+mod desk;
 mod faults;
 mod flusher;
 mod job;
+mod loops;
+mod results;
+mod run;
 mod running;
 mod tries;
 mod working;
 
 pub use faults::of_shelf;
-pub use flusher::{FlushStop, flush_again, flush_loop};
+pub use flusher::FlushStop;
 pub use job::DoneJob;
-pub use running::run_on;
+pub use loops::{flush_again, flush_again_watched, flush_loop, flush_loop_watched};
+pub use results::Results;
+pub use running::{run_on, run_on_watched};
 pub use tries::flush_in_tries;
 pub use working::work;

@@ -5,7 +5,7 @@ ghost use Rattle.sqlite.specs.State.{Survives};
 ghost use Rattle.cb_run.specs.Flushing.{MadeAtLast, Tries, WritesAtLast};
 ghost use Rattle.cb_run.specs.Stopping.{number_of, tries_left};
 
-use crate::flusher::{FlushStop, flush_again, flush_loop};
+use crate::flusher::{CountedStop, FlushStop, flush_counted, flush_counted_again};
 use cb_jobs::Watch;
 use cb_shelf::{Shelf, ShelfFault};
 use cb_station::Office;
@@ -29,10 +29,10 @@ fn batch_number(stop: &FlushStop) -> u64
 
 /// How many tries the batch of a stop has left, by the number of the last stop's batch and how many
 /// that had.
-fn tries_left(stop: &FlushStop, last: u64, left: u64) -> u64
-    ensures { result ≡ tries_left stop.now last left }
+fn tries_left(counted: &CountedStop, last: u64, left: u64) -> u64
+    ensures { result ≡ tries_left counted.now last left }
 {
-    if batch_number(stop) == last && !stop.wrote {
+    if batch_number(&counted.stop) == last && !counted.wrote {
         left.saturating_sub(1)
     } else {
         TRIES - 1
@@ -56,20 +56,21 @@ pub fn flush_in_tries<R: Wait, S: Alter, W: Watch>(
     ensures crash { Survives (state S.Store shelf.old.conn) (state S.Store shelf.new.conn)
         (MadeAtLast S.Store shelf.old.limits shelf.old.conn) }
 {
-    let mut stopped = flush_loop(rt, alloc, office, shelf, watch);
+    let mut stopped = flush_counted(rt, alloc, office, shelf, watch);
     let mut left = TRIES;
     let mut last = 0;
     for _ in rt.forever() {
-        let Err(stop) = stopped else {
+        let Err(counted) = stopped else {
             return Ok(());
         };
-        left = tries_left(&stop, last, left);
+        left = tries_left(&counted, last, left);
+        let stop = counted.into_stop();
         if left == 0 {
             office.halt(rt);
             return Err(stop.fault);
         }
         last = batch_number(&stop);
-        stopped = flush_again(rt, alloc, office, shelf, watch, stop);
+        stopped = flush_counted_again(rt, alloc, office, shelf, watch, stop);
     }
     unreachable!()
 }

@@ -1,14 +1,15 @@
 //! A worker's jobs, one after another, and its end.
 ghost use Rattle.std.specs.Prelude.{◌≡◌, OnErr};
 
-use crate::job::{DoneJob, do_job};
-use cb_client::ClientFault;
+use crate::job::do_job;
+use crate::results::Results;
+use crate::run::Run;
 use cb_jobs::{Gate, Turn};
 use cb_page::ClientNo;
 use cb_station::Office;
 use cb_twoq::Chooser;
 use cb_worker::{Worker, WorkerFault};
-use crossbeam_channel::{Receiver, Sender};
+use crossbeam_channel::Receiver;
 use std::alloc::Global;
 use std::sync::Wait;
 
@@ -24,13 +25,19 @@ pub fn work<R: Wait, Q: Chooser, G: Gate>(
     office: &Office,
     mut worker: Worker<Q>,
     jobs: &Receiver<u64>,
-    results: &Sender<DoneJob>,
+    results: &Results,
     gate: &G,
 ) -> Result<(), WorkerFault> {
+    let run = Run {
+        rt,
+        alloc,
+        office,
+        gate,
+    };
     if !office.lock(rt).begin_work() {
         return end(rt, alloc, office, worker, Ok(()));
     }
-    let worked = run_jobs(rt, alloc, office, &mut worker, jobs, results, gate);
+    let worked = run_jobs(run, &mut worker, jobs, results);
     let ended = end(rt, alloc, office, worker, worked);
     office.lock(rt).end_work();
     office.tell();
@@ -62,41 +69,33 @@ fn end<R: Wait, Q: Chooser>(
 
 /// Does each job once it may begin, and sends its result.
 fn run_jobs<R: Wait, Q: Chooser, G: Gate>(
-    rt: &R,
-    alloc: Global,
-    office: &Office,
+    run: Run<'_, R, G>,
     worker: &mut Worker<Q>,
     jobs: &Receiver<u64>,
-    results: &Sender<DoneJob>,
-    gate: &G,
+    results: &Results,
 ) -> Result<(), WorkerFault> {
     let client = worker.client();
-    for job in jobs.iter(rt) {
-        await_turn(rt, alloc, office, worker, client, job, gate)?;
-        let done = do_job(rt, alloc, office, worker, client, job)?;
-        gate.after_commit(client, job);
-        if results.send(rt, done).is_err() {
-            return Err(WorkerFault::Client(ClientFault::Memory));
-        }
+    for job in jobs.iter(run.rt) {
+        await_turn(run, worker, client, job)?;
+        let done = do_job(run.rt, run.alloc, run.office, worker, client, job)?;
+        run.gate.after_commit(client, job);
+        results.send(run.rt, done)?;
     }
     Ok(())
 }
 
 /// Serves until the job may begin.
 fn await_turn<R: Wait, Q: Chooser, G: Gate>(
-    rt: &R,
-    alloc: Global,
-    office: &Office,
+    run: Run<'_, R, G>,
     worker: &mut Worker<Q>,
     client: ClientNo,
     job: u64,
-    gate: &G,
 ) -> Result<(), WorkerFault> {
-    for _ in rt.forever() {
-        if gate.before_job(client, job) == Turn::Go {
+    for _ in run.rt.forever() {
+        if run.gate.before_job(client, job) == Turn::Go {
             return Ok(());
         }
-        worker.serve(rt, alloc, office)?;
+        worker.serve(run.rt, run.alloc, run.office)?;
     }
     unreachable!()
 }

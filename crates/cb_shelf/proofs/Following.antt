@@ -8,21 +8,23 @@ use Rattle.cb_commit.specs.Batches.{BatchState, after_batch, changed_below}
 use Rattle.cb_commit.specs.History.{AreCommits, CanFlush, CommitsState, applied, next_batch, store_after, store_at}
 use Rattle.cb_commit.proofs.Folding.{applied_are, catches_up}
 use Rattle.cb_shelf.specs.Flushing.{to_write, once_written}
-use Rattle.cb_shelf.specs.Events.{Flushing, Event, after_event, after_events, batch_of, rewritten_tables, MayCome, MayAllCome, opened, TablesFollow}
-use Rattle.cb_shelf.specs.Events.Event.{committed, reported, unreported, refused, unheld}
+use Rattle.cb_shelf.specs.Events.{Flushing, Event, after_event, after_events, rewritten_tables, MayCome, MayAllCome, opened, TablesFollow}
+use Rattle.cb_shelf.specs.Events.Event.{committed, taken, written, reported}
 
 -- wherever from the last flushed commit on the tables are, the batch brings them up to its number
 pub record Brings (s : CommitsState) (batch : BatchState) : Type 0 where
   pub can : CanFlush s batch.number
   pub brings : (number : ℕ) → s.flushed ≤ number → number ≤ batch.number → after_batch (store_at s number) batch ≡ store_at s batch.number
 
--- the tables are at this commit, which the batch that is held still brings them up from
+-- The tables are at this commit, which the batch that is held still brings them up from, and which is
+-- the last one in what was written and isn't reported yet.
 pub record IsAt (f : Flushing) (number : ℕ) : Type 0 where
   pub are : AreCommits f.commits
   pub least : f.commits.flushed ≤ number
   pub most : number ≤ f.commits.store.number
   pub tables : f.tables ≡ store_at f.commits number
   pub held : IfSome f.held (λ batch. Brings f.commits batch × (number ≤ batch.number))
+  pub written : IfSome f.unreported (λ batch. CanFlush f.commits batch.number × (number ≡ batch.number))
 
 -- the last store is the present one
 at_last : (s : CommitsState) → AreCommits s → store_at s s.store.number ≡ s.store
@@ -34,9 +36,12 @@ at_last s are =
 at_same : (s : CommitsState) (c : Commit) (number : ℕ) → AreCommits s → number ≤ s.store.number → store_at (applied s c) number ≡ store_at s number
 at_same s c number are within = ap (store_after s.opening) (take-append-le (number - s.opening.number) s.commits (c ∷ []) (omega (arith, are.count)))
 
+flushes_later : (s : CommitsState) (c : Commit) (number : ℕ) → c.number ≡ s.store.number + 1 → CanFlush s number → CanFlush (applied s c) number
+flushes_later s c number is can = record { above = can.above; there = omega (arith, is, can.there) }
+
 brings_later : (s : CommitsState) (c : Commit) (batch : BatchState) → AreCommits s → c.number ≡ s.store.number + 1 → Brings s batch → Brings (applied s c) batch
 brings_later s c batch are is h = record {
-  can = record { above = h.can.above; there = omega (arith, is, h.can.there) };
+  can = flushes_later s c batch.number is h.can;
   brings = λ number least most. rw (at_same s c number are (omega (arith, most, h.can.there)), at_same s c batch.number are h.can.there) (h.brings number least most);
 }
 
@@ -57,18 +62,18 @@ next_brings s are number within = go (nat_lt s.flushed s.store.number) refl
     )
 
 -- the batch to be written is held
-holds : (f : Flushing) (number : ℕ) → IsAt f number → IsAt (record f { held = batch_of f }) number
-holds f number h = record { are = h.are; least = h.least; most = h.most; tables = h.tables; held = go f.held h.held }
+holds : (f : Flushing) (number : ℕ) → IsAt f number → IsAt (after_event f taken) number
+holds f number h = record { are = h.are; least = h.least; most = h.most; tables = h.tables; held = go f.held h.held; written = h.written }
   where
     go : (o : Option BatchState) → IfSome o (λ batch. Brings f.commits batch × (number ≤ batch.number)) → IfSome (to_write o f.commits) (λ batch. Brings f.commits batch × (number ≤ batch.number))
     go (Some batch) known = known
     go None known = next_brings f.commits h.are number h.most
 
 -- and written
-writes : (commits : CommitsState) (o : Option BatchState) (tables : StoreState) (number : ℕ) → IsAt (record { commits = commits; held = o; tables = tables }) number
-    → (at : ℕ) × IsAt (record { commits = commits; held = o; tables = rewritten_tables tables o }) at × IfSome o (λ batch. at ≡ batch.number)
-writes commits None tables number h = (number, h, tt)
-writes commits (Some batch) tables number h = (
+writes : (commits : CommitsState) (held before : Option BatchState) (tables : StoreState) (number : ℕ) → IsAt (record { commits = commits; held = held; unreported = before; tables = tables }) number
+    → (at : ℕ) × IsAt (record { commits = commits; held = held; unreported = held; tables = rewritten_tables tables held }) at
+writes commits None before tables number h = (number, record { are = h.are; least = h.least; most = h.most; tables = h.tables; held = tt; written = tt })
+writes commits (Some batch) before tables number h = (
   batch.number,
   record {
     are = h.are;
@@ -76,15 +81,15 @@ writes commits (Some batch) tables number h = (
     most = h.held.0.can.there;
     tables = ap (λ (s : StoreState). after_batch s batch) h.tables ∙ h.held.0.brings number h.least h.held.1;
     held = (h.held.0, omega arith);
+    written = (h.held.0.can, refl);
   },
-  refl,
 )
 
 -- and reported
-reports : (commits : CommitsState) (o : Option BatchState) (tables : StoreState) (number : ℕ) → IsAt (record { commits = commits; held = o; tables = tables }) number → IfSome o (λ batch. number ≡ batch.number)
-    → IsAt (record { commits = once_written commits o; held = None; tables = tables }) number
-reports commits None tables number h is = record { are = h.are; least = h.least; most = h.most; tables = h.tables; held = tt }
-reports commits (Some batch) tables number h is = record {
+reports : (commits : CommitsState) (held before : Option BatchState) (tables : StoreState) (number : ℕ) → IsAt (record { commits = commits; held = held; unreported = before; tables = tables }) number
+    → IsAt (record { commits = once_written commits before; held = None; unreported = None; tables = tables }) number
+reports commits held None tables number h = record { are = h.are; least = h.least; most = h.most; tables = h.tables; held = tt; written = tt }
+reports commits held (Some batch) tables number h = record {
   are = record {
     folded = h.are.folded;
     numbered = h.are.numbered;
@@ -92,13 +97,14 @@ reports commits (Some batch) tables number h is = record {
     count = h.are.count;
     pages = h.are.pages;
     page_size = h.are.page_size;
-    from_opening = omega (arith, h.are.from_opening, h.held.0.can.above);
-    to_last = h.held.0.can.there;
+    from_opening = omega (arith, h.are.from_opening, h.written.0.above);
+    to_last = h.written.0.there;
   };
-  least = omega (arith, is);
+  least = omega (arith, h.written.1);
   most = h.most;
   tables = h.tables;
   held = tt;
+  written = tt;
 }
 
 keeps : (f : Flushing) (event : Event) (number : ℕ) → MayCome f event → IsAt f number → (at : ℕ) × IsAt (after_event f event) at
@@ -110,18 +116,20 @@ keeps f (committed c) number may h = (
     most = omega (arith, may.0, h.most);
     tables = h.tables ∙ sym (at_same f.commits c number h.are h.most);
     held = go f.held h.held;
+    written = told f.unreported h.written;
   },
 )
   where
     go : (o : Option BatchState) → IfSome o (λ batch. Brings f.commits batch × (number ≤ batch.number)) → IfSome o (λ batch. Brings (applied f.commits c) batch × (number ≤ batch.number))
     go None known = tt
     go (Some batch) known = (brings_later f.commits c batch h.are may.0 known.0, known.1)
-keeps f reported number may h =
-    let written = writes f.commits (batch_of f) f.tables number (holds f number h) in
-    (written.0, reports f.commits (batch_of f) (rewritten_tables f.tables (batch_of f)) written.0 written.1 written.2)
-keeps f unreported number may h = let written = writes f.commits (batch_of f) f.tables number (holds f number h) in (written.0, written.1)
-keeps f refused number may h = (number, holds f number h)
-keeps f unheld number may h = (number, h)
+
+    told : (o : Option BatchState) → IfSome o (λ batch. CanFlush f.commits batch.number × (number ≡ batch.number)) → IfSome o (λ batch. CanFlush (applied f.commits c) batch.number × (number ≡ batch.number))
+    told None known = tt
+    told (Some batch) known = (flushes_later f.commits c batch.number may.0 known.0, known.1)
+keeps f taken number may h = (number, holds f number h)
+keeps f written number may h = writes f.commits f.held f.unreported f.tables number h
+keeps f reported number may h = (number, reports f.commits f.held f.unreported f.tables number h)
 
 keeps_all : (events : List Event) (f : Flushing) (number : ℕ) → MayAllCome f events → IsAt f number → (at : ℕ) × IsAt (after_events f events) at
 keeps_all [] f number may h = (number, h)
@@ -143,6 +151,7 @@ begins store sound = record {
   most = omega arith;
   tables = sym (ap (store_after store) (take_all (store.number - store.number) [] (omega arith)));
   held = tt;
+  written = tt;
 }
 
 pub tables_follow : TablesFollow

@@ -1,5 +1,5 @@
 //! Writing what was committed, and reporting it.
-ghost use Rattle.std.specs.Prelude.{◌≡◌, ◌≢◌, ◌⊎◌, None, Some, Err, IfOk, IfSome, IsOk, OnOk};
+ghost use Rattle.std.specs.Prelude.{◌≡◌, ◌≢◌, ◌⊎◌, ◌↔◌, ℕ, None, Some, Err, IfOk, IfSome, IsOk, OnOk};
 ghost use Rattle.std.specs.Prelude.{OnErr};
 ghost use Rattle.sqlite.specs.State.{HasCleanDisk, Survives};
 ghost use Rattle.sqlite.specs.Held.{state};
@@ -7,14 +7,80 @@ ghost use Rattle.cb_commit.specs.History.{CanFlush, next_batch};
 ghost use Rattle.cb_sql.specs.Statements.{MakesAll, batch_statements};
 ghost use Rattle.cb_sql.specs.Inside.{IsSame, IsSettled};
 ghost use Rattle.cb_sql.specs.Writing.{Fits, Wrote};
-ghost use Rattle.cb_shelf.specs.Flushing.{IsMisfit, to_write, once_written, dones_of};
-ghost use Rattle.cb_shelf.specs.Events.{IsEvent};
+ghost use Rattle.cb_shelf.specs.Flushing.{IsMisfit, IsReported, WritesOne, WritesOrStays, to_write};
+ghost use Rattle.cb_shelf.specs.Flushing.{once_written, dones_of};
+ghost use Rattle.cb_shelf.specs.Events.{AreSteps};
 
 use crate::{Shelf, ShelfFault};
 use cb_commit::{Batch, Commits};
 use cb_frame::Frame;
+use cb_page::CommitNo;
 use sqlite::Alter;
-use std::alloc::Global;
+use std::alloc::{AllocError, Global};
+
+/// Who is told that a batch is in the tables: the commits themselves, or what others share them by.
+pub trait Reports {
+    /// What a report answers.
+    type Told;
+
+    /// Whether the commits up to this number may be reported.
+    ghost can_report: { Self → ℕ → Type 0 };
+
+    /// What it answers, and what is made of the commits.
+    ghost tells: { Self → ℕ → Self.Told → Self → Type 0 };
+
+    /// The commits up to this number are on disk now.
+    ///
+    /// `AllocError` only where memory was refused.
+    fn report(&mut self, alloc: Global, number: CommitNo) -> Result<Self::Told, AllocError>
+        requires { can_report self.old number }
+        ensures told { IfOk result (λ told. tells self.old number told self.new) }
+        ensures err { OnErr result (self.new ≡ self.old) };
+}
+
+impl Reports for Commits {
+    type Told = Vec<Frame>;
+
+    ghost can_report = { CanFlush };
+
+    ghost tells = { λ commits number dones after. IsReported commits number dones.items after };
+
+    fn report(&mut self, alloc: Global, number: CommitNo) -> Result<Vec<Frame>, AllocError> {
+        self.flushed(alloc, number)
+    }
+}
+
+/// Writes a batch in one transaction, and reports it once it is in the tables, and not before. Both
+/// [`flush_once`] and the loop of a running program go by it.
+///
+/// `Shape` exactly where the batch doesn't fit. `Memory` besides where the database answers it:
+/// where memory was refused for the report; the batch is in the tables then.
+pub fn write_and_report<S: Alter, C: Reports>(
+    alloc: Global,
+    commits: &mut C,
+    shelf: &mut Shelf<S>,
+    batch: &Batch,
+) -> Result<C::Told, ShelfFault>
+    requires { C.can_report commits.old batch.now.number }
+    ensures told { IfOk result (λ told.
+        C.tells commits.old batch.now.number told commits.new) }
+    ensures kept { OnErr result (commits.new ≡ commits.old) }
+    ensures limits { shelf.new.limits ≡ shelf.old.limits }
+    ensures fits { OnOk result (Fits shelf.old.limits batch.now) }
+    ensures shape { (result ≡ Err ShelfFault.Shape) ↔ ¬ Fits shelf.old.limits batch.now }
+    ensures untouched { result ≡ Err ShelfFault.Shape → shelf.new ≡ shelf.old }
+    ensures written { OnOk result (WritesOne S.Store shelf.old.limits batch.now shelf.old.conn
+        shelf.new.conn) }
+    ensures refused { OnErr result (WritesOrStays S.Store shelf.old.limits batch.now
+        shelf.old.conn shelf.new.conn) }
+    ensures mode { shelf.new.conn.in_transaction ≡ shelf.old.conn.in_transaction }
+    ensures crash { Survives (state S.Store shelf.old.conn) (state S.Store shelf.new.conn)
+        (Wrote S.Store batch.now shelf.old.conn) }
+{
+    shelf.write(batch)?;
+    let told = commits.report(alloc, batch.number())?;
+    Ok(told)
+}
 
 /// Holds the next batch, unless one is held that is still to be written.
 fn hold(alloc: Global, commits: &Commits, held: &mut Option<Batch>) -> Result<(), ShelfFault>
@@ -69,8 +135,9 @@ pub fn flush_once<S: Alter>(
         → OnOk result (IfSome (to_write held.old commits.old) (λ _.
         IsSettled (state S.Store shelf.new.conn))) }
     ensures mode { shelf.new.conn.in_transaction ≡ shelf.old.conn.in_transaction }
-    ensures event { HasCleanDisk (state S.Store shelf.new.conn)
-        → IsEvent S.Store commits.old commits.new held.old held.new shelf.old.conn shelf.new.conn }
+    ensures steps { HasCleanDisk (state S.Store shelf.new.conn)
+        → AreSteps S.Store commits.old commits.new held.old held.new shelf.old.conn
+        shelf.new.conn }
     ensures crash { Survives (state S.Store shelf.old.conn) (state S.Store shelf.new.conn)
         (λ trees. IfSome (to_write held.old commits.old) (λ batch.
         Wrote S.Store batch shelf.old.conn trees)) }
@@ -79,8 +146,7 @@ pub fn flush_once<S: Alter>(
     let Some(batch) = &*held else {
         return Ok(Vec::new(alloc));
     };
-    shelf.write(batch)?;
-    let frames = commits.flushed(alloc, batch.number())?;
+    let frames = write_and_report(alloc, commits, shelf, batch)?;
     *held = None;
     Ok(frames)
 }

@@ -3,7 +3,8 @@
 //! A [`Shelf`] stands over a connection and keeps one store: the pages in parts of 4,096 bytes, the
 //! version of each page, and the number of the last commit. [`Shelf::write`] sets the pages and the
 //! number of a batch in one transaction, so that a stop at any call leaves the batch whole or not
-//! there at all. [`flush_once`] writes what a server committed and reports it.
+//! there at all. [`flush_once`] writes what a server committed and reports it; whoever shares the
+//! server with others does so by [`write_and_report`].
 #![tactic(auto)]
 
 mod flush;
@@ -14,6 +15,6 @@ mod shelf;
 mod writing;
 
 pub use cb_sql::ShelfFault;
-pub use flush::flush_once;
+pub use flush::{Reports, flush_once, write_and_report};
 pub use laws::tables_follow_commits;
 pub use shelf::Shelf;

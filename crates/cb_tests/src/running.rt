@@ -19,6 +19,7 @@ mod shapes;
 mod sharing;
 mod stops;
 mod trials;
+mod unwatched;
 mod visits;
 mod work;
 mod writes;

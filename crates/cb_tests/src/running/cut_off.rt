@@ -18,24 +18,27 @@ fn worker_that_faults_while_another_runs(rt: HostRuntime) {
 }
 
 /// How many jobs each client has, in a run that is cut off or closed.
-const JOBS: u64 = 2;
+const JOBS: u32 = 2;
+
+/// The same number, as jobs are counted that are done.
+const DONE: u64 = JOBS as u64;
 
 /// How often the gate is called by one client that nothing cuts off.
-const CALLS: u64 = 2 * JOBS;
+const CALLS: u64 = 2 * DONE;
 
 /// How many of two clients' jobs may be done in an office that is halted at a call: none before the
 /// first one, and all where that was the last call or none.
 fn may_halt(at: u64, answered: u64) -> bool {
     let none = at == 0;
     let all = at >= 2 * CALLS - 1;
-    (!none || answered == 0) && (!all || answered == 2 * JOBS)
+    (!none || answered == 0) && (!all || answered == 2 * DONE)
 }
 
 /// The same in one that is closed. Who calls the gate works, and does all its jobs; who begins to
 /// work later does none. One client alone can't have called so often that the other didn't.
 fn may_close(at: u64, answered: u64) -> bool {
     let both = at >= CALLS;
-    answered == 2 * JOBS || (!both && answered == JOBS)
+    answered == 2 * DONE || (!both && answered == DONE)
 }
 
 /// What comes of two clients that are cut off there.
@@ -77,7 +80,7 @@ fn closed_while_all_work(rt: HostRuntime) {
             steps: 0,
             act: Act::Closed,
         };
-        let all = u64::from(clients) * JOBS;
+        let all = u64::from(clients) * DONE;
         assert!(rt; run_to_end(&rt, rt.alloc(), plan) == Came::Done(all));
     }
 }

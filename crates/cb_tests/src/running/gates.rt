@@ -31,7 +31,7 @@ pub(crate) enum Act {
 #[derive(Clone, Copy)]
 pub(crate) struct Plan {
     pub(crate) clients: u16,
-    pub(crate) jobs: u64,
+    pub(crate) jobs: u32,
     /// How many steps each statement may take; 0 is no limit.
     pub(crate) steps: u64,
     pub(crate) act: Act,

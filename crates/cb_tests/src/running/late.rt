@@ -4,7 +4,7 @@ use crate::running::gates::{Counts, Guarded};
 use crate::running::run::open_plan;
 use crate::running::trials::{Trial, goes_well};
 use cb_page::{ClientNo, Limits};
-use cb_run::work;
+use cb_run::{Results, work};
 use cb_station::Office;
 use cb_twoq::Chooser;
 use cb_worker::Worker;
@@ -18,10 +18,8 @@ fn leaves_its_job<Q: Chooser, R: Wait>(
     office: &Office,
     worker: Worker<Q>,
 ) -> bool {
-    let (Ok((to, jobs)), Ok((results, _told))) = (
-        crossbeam_channel::unbounded(alloc),
-        crossbeam_channel::unbounded(alloc),
-    ) else {
+    let (Ok((to, jobs)), Ok(results)) = (crossbeam_channel::unbounded(alloc), Results::new(alloc))
+    else {
         worker.abandon();
         return false;
     };
@@ -34,7 +32,7 @@ fn leaves_its_job<Q: Chooser, R: Wait>(
         counts: &counts,
     };
     let worked = work(rt, alloc, office, worker, &jobs, &results, &gate) == Ok(());
-    let unasked = jobs.iter(rt).count() == 1;
+    let unasked = jobs.iter(rt).count() == 1 && results.into_receiver().iter(rt).count() == 0;
     let unwritten = office.lock(rt).history().is_empty();
     sent && worked && unasked && unwritten && may_come_back(rt, alloc, office)
 }

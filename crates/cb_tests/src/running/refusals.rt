@@ -2,11 +2,12 @@
 use crate::running::commits::holds;
 use crate::running::run::Told;
 use crate::running::trials::{Trial, goes_well};
+use crate::running::unwatched::is_written_next;
 use crate::running::visits::{commit_page, is_reported};
 use cb_frame::{Body, Frame, ShortBody};
 use cb_hands::Hand;
 use cb_page::{ClientNo, Limits, TxnNo};
-use cb_run::{FlushStop, flush_again, flush_in_tries, flush_loop};
+use cb_run::{FlushStop, flush_again_watched, flush_in_tries, flush_loop_watched};
 use cb_shelf::{Shelf, ShelfFault};
 use cb_station::{Office, Station};
 use sqlite::Alter;
@@ -22,6 +23,8 @@ pub(crate) enum Refusal {
     Awaited,
     /// It commits again.
     Again,
+    /// Nothing, and nobody looks on.
+    Unwatched,
 }
 
 /// Whether the tables hold what so many commits of page 0 leave, each of sevens.
@@ -36,7 +39,7 @@ fn holds_sevens<S: Alter>(
 }
 
 /// Whether the database refused the batch that ends with the first commit.
-fn is_refused(stop: &FlushStop) -> bool {
+pub(crate) fn is_refused(stop: &FlushStop) -> bool {
     match &stop.batch {
         Some(batch) => stop.fault == ShelfFault::Store && batch.number().get() == 1,
         None => false,
@@ -85,7 +88,7 @@ fn is_written_now<R: Wait, S: Alter>(
 ) -> bool {
     let refused = is_refused(&stop) && *told == Told::none();
     let early = is_done(&mut office.lock(rt), hand);
-    let written = flush_again(rt, alloc, office, shelf, told, stop).is_ok();
+    let written = flush_again_watched(rt, alloc, office, shelf, told, stop).is_ok();
     let late = is_done(&mut office.lock(rt), hand);
     refused && !early && written && late && (told.batches, told.first) == (told.last, 1)
 }
@@ -101,7 +104,7 @@ fn is_written_after<R: Wait, S: Alter>(
     hand: &mut Hand,
 ) -> bool {
     shelf.limit_steps(1);
-    let ran = flush_again(rt, alloc, office, shelf, told, first);
+    let ran = flush_again_watched(rt, alloc, office, shelf, told, first);
     shelf.limit_steps(0);
     match ran {
         Err(second) => is_written_now(rt, alloc, office, shelf, told, second, hand),
@@ -125,7 +128,7 @@ fn is_written_at_last<R: Wait, S: Alter>(
         Refusal::Tries => is_given_up(rt, alloc, office, shelf, &mut told),
         _ => true,
     };
-    let stopped = flush_loop(rt, alloc, office, shelf, &mut told);
+    let stopped = flush_loop_watched(rt, alloc, office, shelf, &mut told);
     shelf.limit_steps(0);
     let zeros = holds_sevens(alloc, limits, shelf, 0);
     let last = match refusal {
@@ -159,7 +162,10 @@ pub(crate) fn is_refused_at_first<R: Wait, S: Alter>(
     };
     let committed = commits(rt, alloc, office, &mut hand, TxnNo::new(1));
     office.close(rt);
-    let written = is_written_at_last(rt, alloc, limits, office, shelf, &mut hand, refusal);
+    let written = match refusal {
+        Refusal::Unwatched => is_written_next(rt, alloc, office, shelf),
+        _ => is_written_at_last(rt, alloc, limits, office, shelf, &mut hand, refusal),
+    };
     hand.abandon();
     committed && written && is_reported(rt, alloc, office)
 }

@@ -6,7 +6,7 @@ use crate::running::trials::Trial;
 use crate::running::work::{Deed, Outcome, Work, opening};
 use cb_jobs::Watch;
 use cb_page::{ClientNo, CommitNo, Limits};
-use cb_run::run_on;
+use cb_run::run_on_watched;
 use cb_shelf::{Shelf, ShelfFault};
 use cb_station::{Office, Station};
 use sqlite::Alter;
@@ -145,7 +145,7 @@ pub(crate) fn came_in<R: Threads + Wait + Sync, S: Alter>(
     let gate = Guarded { rt, office, counts };
     let jobs = counts.plan.jobs;
     shelf.limit_steps(counts.plan.steps);
-    let ran = run_on(
+    let ran = run_on_watched(
         rt, alloc, limits, office, shelf, jobs, &gate, &mut watch, &mut out, &mut err,
     );
     let answered = counts.answered.load(Ordering::SeqCst);
@@ -199,7 +199,7 @@ pub(crate) fn run_to_end<R: Threads + Wait + Sync>(rt: &R, alloc: Global, plan: 
 }
 
 /// A run where every job may begin at once.
-pub(crate) fn open_plan(clients: u16, jobs: u64, steps: u64) -> Plan {
+pub(crate) fn open_plan(clients: u16, jobs: u32, steps: u64) -> Plan {
     let act = Act::Open;
     Plan {
         clients,

@@ -35,7 +35,7 @@ pub(crate) fn is_beginning<S: Alter>(
     counts: &Counts,
 ) -> bool {
     let answered = counts.answered.load(Ordering::SeqCst);
-    let jobs = u64::from(counts.plan.clients).saturating_mul(counts.plan.jobs);
+    let jobs = u64::from(counts.plan.clients).saturating_mul(u64::from(counts.plan.jobs));
     match shelf.load(alloc) {
         Ok(store) => are_first(limits, &store, answered, jobs),
         Err(_) => false,

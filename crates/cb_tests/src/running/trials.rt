@@ -10,6 +10,7 @@ use crate::running::late::comes_too_late;
 use crate::running::refusals::{Refusal, is_refused_at_first};
 use crate::running::run::came_in;
 use crate::running::sharing::are_shared;
+use crate::running::unwatched::is_counted;
 use crate::running::work::{Deed, Outcome};
 use cb_page::{ClientNo, Limits};
 use cb_shelf::Shelf;
@@ -39,6 +40,8 @@ pub(crate) enum Trial<'a> {
     Late,
     /// A batch is refused at first.
     Refused(Refusal),
+    /// Workers of four clients run, and nobody looks on.
+    Unwatched,
     /// Workers run.
     Run(&'a Counts),
 }
@@ -48,6 +51,7 @@ fn calls_of(trial: Trial<'_>) -> usize {
     match trial {
         Trial::Flagged(calls, _) => calls,
         Trial::Run(counts) => usize::from(counts.plan.clients),
+        Trial::Unwatched => 4,
         _ => 1,
     }
 }
@@ -87,6 +91,7 @@ fn comes_with<R: Wait + Threads + Sync, S: Alter>(
         Trial::GivingUp => works::<TwoQ, R>(rt, alloc, limits, office, false),
         Trial::Late => comes_too_late::<TwoQ, R>(rt, alloc, limits, office),
         Trial::Refused(refusal) => is_refused_at_first(rt, alloc, limits, office, shelf, refusal),
+        Trial::Unwatched => is_counted(rt, alloc, limits, office, shelf),
         Trial::Run(counts) => {
             return Outcome::Ran(came_in(rt, alloc, limits, office, shelf, counts));
         }

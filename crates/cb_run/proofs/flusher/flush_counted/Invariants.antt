@@ -1,9 +1,9 @@
--- What holds at each turn of the loops of `flush_loop`.
+-- What holds at each turn of the loops of `flush_counted`.
 use Rattle.std.proofs.Common.{◌≡◌}
 use Rattle.sqlite.specs.Held.{state}
 use Rattle.sqlite.specs.State.{Survives}
 use Rattle.cb_run.specs.Flushing.{MadeSome, WritesSome}
-use Rattle.cb_run.proofs.flusher.flush_loop.Given as goal
+use Rattle.cb_run.proofs.flusher.flush_counted.Given as goal
 
 -- the tables' limits stay, and some batches were written
 abbrev pub invariant-loop : goal.invariant-loop

@@ -1,0 +1,117 @@
+//! What the flusher asks of the office, and what it tells it.
+ghost use Rattle.std.specs.Prelude.{◌≡◌, ◌↔◌, ℕ, true, false, Err, IfErr, IfOk, IfSome, None, Ok, OnErr};
+ghost use Rattle.std.specs.Prelude.{OnOk, Some};
+ghost use Rattle.std.specs.Option.{option_map};
+ghost use Rattle.sqlite.specs.Held.{state};
+ghost use Rattle.sqlite.specs.State.{Survives};
+ghost use Rattle.cb_holdings.specs.Commits.{batch_of};
+ghost use Rattle.cb_station.specs.Flags.{is_over};
+ghost use Rattle.cb_station.specs.Stations.{server_of};
+ghost use Rattle.cb_protocol.specs.Flush.{next_batch};
+ghost use Rattle.cb_run.specs.Stopping.{IsWritten};
+ghost use Rattle.cb_shelf.specs.Flushing.{WritesOne, WritesOrStays};
+ghost use Rattle.cb_sql.specs.Writing.{Fits, Wrote};
+
+use cb_commit::Batch;
+use cb_jobs::Watch;
+use cb_page::CommitNo;
+use cb_shelf::{Reports, Shelf, ShelfFault, write_and_report};
+use cb_station::{Office, Station};
+use sqlite::Alter;
+use std::alloc::{AllocError, Global};
+use std::sync::Wait;
+
+/// The next batch, or `None` once nothing is left and no call of `work` commits any more; nothing
+/// where that is to be waited for.
+fn batch_at(alloc: Global, station: &Station) -> Option<Result<Option<Batch>, ShelfFault>>
+    ensures batch { IfSome result (λ next. IfOk next (λ batch.
+        option_map batch_of batch ≡ next_batch (server_of station.now))) }
+    ensures fault { IfSome result (λ next. IfErr next (λ fault. fault ≡ ShelfFault.Memory)) }
+    ensures ends { result ≡ Some (Ok None)
+        → (is_over station.now.flags ≡ true) × IsWritten station.now }
+    ensures waits { result ≡ None
+        → (is_over station.now.flags ≡ false) × IsWritten station.now }
+{
+    let Ok(batch) = station.batch(alloc) else {
+        return Some(Err(ShelfFault::Memory));
+    };
+    if batch.is_some() || station.is_over() {
+        return Some(Ok(batch));
+    }
+    None
+}
+
+/// The next batch; `None` once nothing is left and no call of `work` commits any more. The watch is
+/// told each time that it is waited for.
+pub(crate) fn next_batch<R: Wait, W: Watch>(
+    rt: &R,
+    alloc: Global,
+    office: &Office,
+    watch: &mut W,
+) -> Result<Option<Batch>, ShelfFault>
+    ensures { IfErr result (λ fault. fault ≡ ShelfFault.Memory) }
+{
+    let mut station = office.lock(rt);
+    for _ in rt.forever() {
+        if let Some(next) = batch_at(alloc, &station) {
+            return next;
+        }
+        watch.waits();
+        station = office.wait(rt, station);
+    }
+    unreachable!()
+}
+
+/// The office, to which a batch is reported under its lock. What that makes of the station no
+/// contract says.
+#[derive(Drop)]
+struct Desk<'a, R> {
+    rt: &'a R,
+    office: &'a Office,
+}
+
+impl<R: Wait> Reports for Desk<'_, R> {
+    type Told = ();
+
+    ghost can_report = { λ desk number. Unit {0} };
+
+    ghost tells = { λ desk number told after. Unit {0} };
+
+    fn report(&mut self, alloc: Global, number: CommitNo) -> Result<(), AllocError> {
+        let mut station = self.office.lock(self.rt);
+        let reported = station.flushed(alloc, number);
+        self.office.tell_clients(&station);
+        drop(station);
+        match reported {
+            Ok(()) => Ok(()),
+            Err(_) => Err(AllocError),
+        }
+    }
+}
+
+/// Writes a batch, then reports it, and tells who looks on once it is reported. It holds no lock
+/// while it writes.
+pub(crate) fn flush_batch<R: Wait, S: Alter, W: Watch>(
+    rt: &R,
+    alloc: Global,
+    office: &Office,
+    shelf: &mut Shelf<S>,
+    watch: &mut W,
+    batch: &Batch,
+) -> Result<(), ShelfFault>
+    ensures limits { shelf.new.limits ≡ shelf.old.limits }
+    ensures fits { OnOk result (Fits shelf.old.limits batch.now) }
+    ensures shape { (result ≡ Err ShelfFault.Shape) ↔ ¬ Fits shelf.old.limits batch.now }
+    ensures untouched { result ≡ Err ShelfFault.Shape → shelf.new ≡ shelf.old }
+    ensures written { OnOk result (WritesOne S.Store shelf.old.limits batch.now shelf.old.conn
+        shelf.new.conn) }
+    ensures refused { OnErr result (WritesOrStays S.Store shelf.old.limits batch.now
+        shelf.old.conn shelf.new.conn) }
+    ensures crash { Survives (state S.Store shelf.old.conn) (state S.Store shelf.new.conn)
+        (Wrote S.Store batch.now shelf.old.conn) }
+{
+    let mut desk = Desk { rt, office };
+    write_and_report(alloc, &mut desk, shelf, batch)?;
+    watch.flushed(batch.number());
+    Ok(())
+}

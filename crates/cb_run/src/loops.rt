@@ -1,0 +1,110 @@
+//! The flusher, with one who looks on and without.
+ghost use Rattle.std.specs.Prelude.{◌≡◌, IfErr, IfSome, OnErr, OnOk};
+ghost use Rattle.sqlite.specs.Held.{state};
+ghost use Rattle.sqlite.specs.State.{Survives};
+ghost use Rattle.cb_run.specs.Flushing.{LeavesFirst, LeavesSome, MadeFirst, MadeSome, WritesFirst};
+ghost use Rattle.cb_run.specs.Flushing.{WritesSome};
+ghost use Rattle.cb_run.specs.Stopping.{Stops};
+ghost use Rattle.cb_sql.specs.Writing.{Fits};
+
+use crate::flusher::{FlushStop, flush_counted, flush_counted_again};
+use cb_jobs::{Unwatched, Watch};
+use cb_shelf::Shelf;
+use cb_station::Office;
+use sqlite::Alter;
+use std::alloc::Global;
+use std::sync::Wait;
+
+/// Writes what is committed, a batch at a time, until nothing is left and no call of `work` commits
+/// any more: the office is halted, or it is closed and none is going on. So what a call of `work`
+/// commits in a closed office is written too. Where nobody works, an office that is closed is enough.
+///
+/// It holds no lock while it writes. Which batches those are no contract says, since it takes the
+/// lock itself.
+pub fn flush_loop<R: Wait, S: Alter>(
+    rt: &R,
+    alloc: Global,
+    office: &Office,
+    shelf: &mut Shelf<S>,
+) -> Result<(), FlushStop>
+    ensures limits { shelf.new.limits ≡ shelf.old.limits }
+    ensures stops { IfErr result (Stops shelf.old.limits) }
+    ensures written { OnOk result (WritesSome S.Store shelf.old.limits shelf.old.conn
+        shelf.new.conn) }
+    ensures left { OnErr result (LeavesSome S.Store shelf.old.limits shelf.old.conn
+        shelf.new.conn) }
+    ensures crash { Survives (state S.Store shelf.old.conn) (state S.Store shelf.new.conn)
+        (MadeSome S.Store shelf.old.conn) }
+{
+    flush_loop_watched(rt, alloc, office, shelf, &mut Unwatched)
+}
+
+/// As [`flush_loop`]; `watch` is told of each batch once it is reported, and when the flusher waits.
+pub fn flush_loop_watched<R: Wait, S: Alter, W: Watch>(
+    rt: &R,
+    alloc: Global,
+    office: &Office,
+    shelf: &mut Shelf<S>,
+    watch: &mut W,
+) -> Result<(), FlushStop>
+    ensures limits { shelf.new.limits ≡ shelf.old.limits }
+    ensures stops { IfErr result (Stops shelf.old.limits) }
+    ensures written { OnOk result (WritesSome S.Store shelf.old.limits shelf.old.conn
+        shelf.new.conn) }
+    ensures left { OnErr result (LeavesSome S.Store shelf.old.limits shelf.old.conn
+        shelf.new.conn) }
+    ensures crash { Survives (state S.Store shelf.old.conn) (state S.Store shelf.new.conn)
+        (MadeSome S.Store shelf.old.conn) }
+{
+    match flush_counted(rt, alloc, office, shelf, watch) {
+        Ok(()) => Ok(()),
+        Err(counted) => Err(counted.into_stop()),
+    }
+}
+
+/// Writes the batch of a stop first, if there is one, and goes on as [`flush_loop`]. Where it ends
+/// well that batch fits, so it was not passed over.
+pub fn flush_again<R: Wait, S: Alter>(
+    rt: &R,
+    alloc: Global,
+    office: &Office,
+    shelf: &mut Shelf<S>,
+    stop: FlushStop,
+) -> Result<(), FlushStop>
+    ensures limits { shelf.new.limits ≡ shelf.old.limits }
+    ensures stops { IfErr result (Stops shelf.old.limits) }
+    ensures held { OnOk result (IfSome stop.batch (Fits shelf.old.limits)) }
+    ensures written { OnOk result (WritesFirst S.Store shelf.old.limits stop.batch shelf.old.conn
+        shelf.new.conn) }
+    ensures left { OnErr result (LeavesFirst S.Store shelf.old.limits stop.batch shelf.old.conn
+        shelf.new.conn) }
+    ensures crash { Survives (state S.Store shelf.old.conn) (state S.Store shelf.new.conn)
+        (MadeFirst S.Store stop.batch shelf.old.conn) }
+{
+    flush_again_watched(rt, alloc, office, shelf, &mut Unwatched, stop)
+}
+
+/// As [`flush_again`]; `watch` is told as by [`flush_loop_watched`].
+pub fn flush_again_watched<R: Wait, S: Alter, W: Watch>(
+    rt: &R,
+    alloc: Global,
+    office: &Office,
+    shelf: &mut Shelf<S>,
+    watch: &mut W,
+    stop: FlushStop,
+) -> Result<(), FlushStop>
+    ensures limits { shelf.new.limits ≡ shelf.old.limits }
+    ensures stops { IfErr result (Stops shelf.old.limits) }
+    ensures held { OnOk result (IfSome stop.batch (Fits shelf.old.limits)) }
+    ensures written { OnOk result (WritesFirst S.Store shelf.old.limits stop.batch shelf.old.conn
+        shelf.new.conn) }
+    ensures left { OnErr result (LeavesFirst S.Store shelf.old.limits stop.batch shelf.old.conn
+        shelf.new.conn) }
+    ensures crash { Survives (state S.Store shelf.old.conn) (state S.Store shelf.new.conn)
+        (MadeFirst S.Store stop.batch shelf.old.conn) }
+{
+    match flush_counted_again(rt, alloc, office, shelf, watch, stop) {
+        Ok(()) => Ok(()),
+        Err(counted) => Err(counted.into_stop()),
+    }
+}
