@@ -1,4 +1,4 @@
-//! The cache of a client. What it has of each page: the copies that it was granted, their bytes in its pool, what
+//! The cache of a client: the copies of pages that it was granted, their bytes in its pool, what
 //! its transaction did with them, and what it gives back as that ends.
 //!
 //! Each change is the protocol's own of a client (`Does`), or begins its next incarnation, and

@@ -123,7 +123,7 @@ fn put_each_byte<O: Write>(out: &mut O, bytes: &[u8]) -> io::Result<()>
     Ok(())
 }
 
-#[tactic(auto, using(std::proofs::lemmas::Fmt::hex_byte), unfolding(cb_console::specs::Escaped::two_digits))]
+#[tactic(auto, using(std::proofs::lemmas::Fmt::hex_byte), unfolding(crate::specs::Escaped::two_digits))]
 fn put_byte<O: Write>(out: &mut O, byte: u8) -> io::Result<()>
     ensures { OnOk result (Appends (O.contents out.old) (O.contents out.new) (two_digits byte)) }
 {

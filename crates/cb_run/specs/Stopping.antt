@@ -1,5 +1,6 @@
 -- Why a flusher stops, and where it has nothing to write.
-use Rattle.std.specs.Prelude.{◌≡◌, ◌==◌, ◌-◌, ◌&&◌, ◌↔◌, if◌then◌else◌, not, ℕ, Option, Some, None, IfSome}
+use Rattle.std.specs.Prelude.{◌≡◌, ◌==◌, ◌-◌, ◌&&◌, ◌↔◌, if◌then◌else◌, not, ℕ, Option, Some, None}
+use Rattle.std.specs.Prelude.{IfSome}
 use Rattle.cb_commit.specs.Batches.{BatchState}
 use Rattle.cb_station.specs.Stations.{StationState, server_of}
 use Rattle.cb_page.specs.Bounds.{Bounds}
@@ -15,8 +16,8 @@ pub record Stops (limits : Bounds) (stop : FlushStop) : Type 0 where
   pub unheld : stop.batch ≡ None → stop.fault ≡ Memory
   pub shape : IfSome stop.batch (λ batch. (stop.fault ≡ Shape) ↔ (¬ Fits limits batch))
 
--- the number of the batch that is still to be written; 0 where there was no memory for one, which no
--- batch has
+-- the number of the batch that is still to be written; 0 where there was no memory for one, which
+-- no batch has
 abbrev pub number_of : Option BatchState → ℕ
 number_of (Some batch) = batch.number
 number_of None = 0

@@ -7,8 +7,8 @@
 //!   [`flush_in_tries`] tries it three times in all.
 //! - [`run_on`] is the body of `run`: workers on threads of their own, the flusher on the calling
 //!   one. [`of_shelf`] says how a fault of the store ends a run.
-//! - [`flush_loop_watched`], [`flush_again_watched`] and [`run_on_watched`] are the same, and tell a
-//!   [`cb_jobs::Watch`] of each batch.
+//! - [`flush_loop_watched`], [`flush_again_watched`] and [`run_on_watched`] are the same, and tell
+//!   a [`cb_jobs::Watch`] of each batch.
 #![tactic(auto)]
 
 mod client;

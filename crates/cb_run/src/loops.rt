@@ -17,7 +17,8 @@ use std::sync::Wait;
 
 /// Writes what is committed, a batch at a time, until nothing is left and no call of `work` commits
 /// any more: the office is halted, or it is closed and none is going on. So what a call of `work`
-/// commits in a closed office is written too. Where nobody works, an office that is closed is enough.
+/// commits in a closed office is written too. Where nobody works, an office that is closed is
+/// enough.
 ///
 /// It holds no lock while it writes. Which batches those are no contract says, since it takes the
 /// lock itself.
@@ -39,7 +40,8 @@ pub fn flush_loop<R: Wait, S: Alter>(
     flush_loop_watched(rt, alloc, office, shelf, &mut Unwatched)
 }
 
-/// As [`flush_loop`]; `watch` is told of each batch once it is reported, and when the flusher waits.
+/// As [`flush_loop`]; `watch` is told of each batch once it is reported, and when the flusher
+/// waits.
 pub fn flush_loop_watched<R: Wait, S: Alter, W: Watch>(
     rt: &R,
     alloc: Global,

@@ -1,5 +1,6 @@
 //! What a server does for a message, step by step.
-ghost use Rattle.std.specs.Prelude.{◌≡◌, ◌==◌, ◌<◌, ◌≤◌, ◌∷◌, [], ℕ, false, true, IfErr, IfOk, OnErr};
+ghost use Rattle.std.specs.Prelude.{◌≡◌, ◌==◌, ◌<◌, ◌≤◌, ◌∷◌, [], ℕ, false, true, IfErr, IfOk};
+ghost use Rattle.std.specs.Prelude.{OnErr};
 ghost use Rattle.std.specs.Prelude.{◌+◌, OnOk, max};
 ghost use Rattle.cb_tables.specs.Tables.{HasClient};
 ghost use Rattle.cb_tables.specs.Waits.{IsGreeted};

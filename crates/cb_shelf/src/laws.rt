@@ -7,10 +7,10 @@ ghost use Rattle.cb_shelf.specs.Events.{TablesFollow};
 /// reported.
 ///
 /// [`crate::flush_once`] says which steps each of its calls is, all in one. A running program takes
-/// the batch, writes it and reports it while others commit: each is a step of its own there, and the
-/// last two are those of [`crate::write_and_report`], which both go by. That the statements of a batch
-/// write it over the store in the tables is the premise, which `cb_shelf_rows` proves of a shelf's own
-/// tables.
+/// the batch, writes it and reports it while others commit: each is a step of its own there, and
+/// the last two are those of [`crate::write_and_report`], which both go by. That the statements of
+/// a batch write it over the store in the tables is the premise, which `cb_shelf_rows` proves of a
+/// shelf's own tables.
 pub fn tables_follow_commits()
     ensures law { TablesFollow }
 {}

@@ -13,7 +13,8 @@ pub record WorldClientsState : Type 0 where
 
 -- the client of this number
 abbrev pub client_at : WorldClientsState → (client : ℕ) → ClientState
-client_at world_clients client = slice_index_or world_clients.clients client (new_state client 1 world_clients.limits)
+client_at world_clients client =
+    slice_index_or world_clients.clients client (new_state client 1 world_clients.limits)
 
 -- the clients with another state of one
 abbrev pub with_client : WorldClientsState → (client : ℕ) → ClientState → WorldClientsState

@@ -10,7 +10,8 @@ ghost use Rattle.cb_world_clients.specs.ByWorld.{Answers, Delivers, Replies, Sta
 ghost use Rattle.cb_client.specs.ByTable.{IsRefusal};
 ghost use Rattle.cb_client.specs.ClientState.{new_state};
 ghost use Rattle.cb_client.specs.FramesTaken.{brings_page, room_to_take};
-ghost use Rattle.cb_world_clients.specs.WorldClientsState.{AreWorldClients, Represents, client_at, first_clients};
+ghost use Rattle.cb_world_clients.specs.WorldClientsState.{AreWorldClients, Represents};
+ghost use Rattle.cb_world_clients.specs.WorldClientsState.{client_at, first_clients};
 ghost use Rattle.cb_world_clients.specs.WorldClientsState.{with_client};
 ghost use Rattle.cb_transcript.specs.ProtocolEvents.{call_of, word_of};
 

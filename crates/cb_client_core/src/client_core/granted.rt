@@ -1,6 +1,7 @@
 //! A copy that comes, and the page that goes for it.
 ghost use Rattle.std.specs.Prelude.{◌≡◌, ◌<◌, ◌≤◌, ◌≢◌, ◌==◌, ◌&&◌, not, nat_lt, true, false};
-ghost use Rattle.std.specs.Prelude.{unwrap_or, length, option_to_list, List, ℕ, None, Ok, IfErr, IfOk};
+ghost use Rattle.std.specs.Prelude.{unwrap_or, length, option_to_list, List, ℕ, None, Ok, IfErr};
+ghost use Rattle.std.specs.Prelude.{IfOk};
 ghost use Rattle.std.specs.Prelude.{IfSome, IsErr, IsOk, OnErr};
 ghost use Rattle.std.specs.Option.{is_some};
 ghost use Rattle.cb_page.specs.Flags.{has};
@@ -116,8 +117,8 @@ impl<Q: Chooser> ClientCore<Q> {
         }
     }
 
-    /// A grant comes whose page doesn't come in, whatever its bytes. Answers the frame that gives it
-    /// back.
+    /// A grant comes whose page doesn't come in, whatever its bytes. Answers the frame that gives
+    /// it back.
     pub(super) fn turn_away(
         &mut self,
         case: GrantCase,

@@ -77,7 +77,8 @@ impl Engine {
         }
     }
 
-    /// A commit of which `meet` said that it is to be applied is applied, and all pages are settled.
+    /// A commit of which `meet` said that it is to be applied is applied, and all pages are
+    /// settled.
     ///
     /// Refused only where memory was, and the pages come back; nothing changes then.
     pub(crate) fn apply(

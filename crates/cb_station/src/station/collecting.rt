@@ -20,9 +20,9 @@ use cb_links::Standing;
 use cb_page::{ClientNo, GrantNo, PageNo, TxnNo};
 
 impl Station {
-    /// The oldest frame to the client; `None` exactly where its mailbox is empty. A grant that comes
-    /// makes the hand hold the page while its row stands, a permission to write marks it while the
-    /// transaction has it.
+    /// The oldest frame to the client; `None` exactly where its mailbox is empty. A grant that
+    /// comes makes the hand hold the page while its row stands, a permission to write marks it
+    /// while the transaction has it.
     ///
     /// `Foreign` exactly where the hand isn't the one stored; `Memory` only where a growth was
     /// refused.
