@@ -19,32 +19,32 @@ use Rattle.cb_protocol.specs.ClientCalls.{call_fault}
 none_first : (c : Cause) (cs : List Cause) → first_refusal (c ∷ cs) ≡ None → (c.holds ≡ false) × (first_refusal cs ≡ None)
 none_first c cs e = grind arith
 
-first_append : (xs ys : List Cause) → first_refusal (xs ++ ys) ≡ None → (first_refusal xs ≡ None) × (first_refusal ys ≡ None)
+pub first_append : (xs ys : List Cause) → first_refusal (xs ++ ys) ≡ None → (first_refusal xs ≡ None) × (first_refusal ys ≡ None)
 first_append [] ys e = (refl, e)
 first_append (x ∷ xs) ys e = grind (arith, first_append xs ys)
 
-record Runs (k : Client) : Type 0 where
-  welcomed : k.cache.welcomed ≡ true
-  open_now : k.cache.status ≡ Open
+pub record Runs (k : Client) : Type 0 where
+  pub welcomed : k.cache.welcomed ≡ true
+  pub open_now : k.cache.status ≡ Open
 
 runs : (k : Client) → first_refusal (open_causes k) ≡ None → Runs k
 runs k e = record { welcomed = grind arith; open_now = grind arith }
 
-record Free (L : Limits) (k : Client) (p : ℕ) : Type 0 where
-  running : Runs k
-  quiet : is_asking k.ask ≡ false
-  within : p < L.pages
+pub record Free (L : Limits) (k : Client) (p : ℕ) : Type 0 where
+  pub running : Runs k
+  pub quiet : is_asking k.ask ≡ false
+  pub within : p < L.pages
 
-free : (L : Limits) (k : Client) (p : ℕ) → first_refusal (page_causes L k p) ≡ None → Free L k p
+pub free : (L : Limits) (k : Client) (p : ℕ) → first_refusal (page_causes L k p) ≡ None → Free L k p
 free L k p e = let a = first_append (open_causes k) (cause_of (is_asking k.ask) Waiting ∷ cause_of (nat_le L.pages p) PageRange ∷ []) e in
     let f : first_refusal (cause_of (is_asking k.ask) Waiting ∷ cause_of (nat_le L.pages p) PageRange ∷ []) ≡ None = a.1 in
     record { running = runs k a.0; quiet = grind arith; within = grind arith }
 
-record HasRead (k : Client) (p : ℕ) : Type 0 where
-  locked : k.cache.locked p ≡ true
-  here : k.cache.content p ≢ None
+pub record HasRead (k : Client) (p : ℕ) : Type 0 where
+  pub locked : k.cache.locked p ≡ true
+  pub here : k.cache.content p ≢ None
 
-has_read : (k : Client) (p : ℕ) → first_refusal (read_causes k p) ≡ None → HasRead k p
+pub has_read : (k : Client) (p : ℕ) → first_refusal (read_causes k p) ≡ None → HasRead k p
 has_read k p e = record { locked = grind arith; here = grind arith }
 
 says_ask_write_may : (L : Limits) (Came : Body → Type 0) (k : Client) (p : ℕ) (r : Option ℕ) → k.cache.welcomed ≡ true → k.cache.status ≡ Open → k.cache.may_write p ≡ false → ClientStepsMay L.keep_write Came k.cache (say_ask_write k p r)

@@ -6,15 +6,16 @@ use Rattle.cb_protocol.proofs.SettlingClears.{after_sends, sends_callbacks, send
 use Rattle.cb_protocol.proofs.SettlingRight.{is_none_is, is_some_is, no_other_is, sole_is}
 use Rattle.cb_protocol.specs.AskLaws.{GrantIsSent, IsFirst, MayBeGranted, MayBePermitted, PermissionIsSent}
 use Rattle.cb_protocol.specs.Basics.{is_exactly, is_none}
-use Rattle.cb_protocol.specs.Messages.{Body, Done}
+use Rattle.cb_protocol.specs.Messages.{Body, Done, Welcome}
 use Rattle.cb_protocol.specs.Server.{ChangeSession, DeadlockTest, EnterQueue, ForgetTransaction, MarkCalledBack, MarkInUse, MarkDowngradeSent, Send, Server, ServerStep, SetFlushed, UnmarkInUse, WaitingAsk, server_after}
 use Rattle.cb_protocol.specs.Session.{GrantRow, PermitWrite}
 use Rattle.cb_protocol.specs.Settling.{Decided, Settled, call_back_once, decide, decide_read, decide_write, decision_steps, doom_client, downgrade_once, grant_row, keeps_permission, no_other_holder, nobody, permit_write, send_callbacks, send_downgrades, settle_pages, sole_row, wait_or_doom}
 
--- the message is no Done
-abbrev pub NoDone : Body → Type 0
-NoDone (Done t n) = ⊥
-NoDone _ = ⊤
+-- the message is no Done and no Welcome
+abbrev pub NoNews : Body → Type 0
+NoNews (Done t n) = ⊥
+NoNews Welcome = ⊥
+NoNews _ = ⊤
 
 -- what settling does: it grants and permits in order, and does nothing else to a session
 abbrev pub Settles : StepRule
@@ -23,7 +24,7 @@ Settles s (ChangeSession c (GrantRow p g)) ds =
 Settles s (ChangeSession c (PermitWrite p g)) ds =
     IsFirst s p c (Some g) × MayBePermitted s p c g × PermissionIsSent s ds c p g
 Settles s (ChangeSession c m) ds = ⊥
-Settles s (Send c i b) ds = NoDone b
+Settles s (Send c i b) ds = NoNews b
 Settles s (MarkInUse c p) ds = ⊥
 Settles s (UnmarkInUse c p) ds = ⊥
 Settles s (EnterQueue p a) ds = ⊥

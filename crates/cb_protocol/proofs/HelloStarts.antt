@@ -14,7 +14,7 @@ use Rattle.cb_protocol.specs.Settling.{Decided, Settled, call_back_once, decide,
 use Rattle.cb_protocol.specs.WaitsFor.{HasAsk}
 
 -- the step gives client c nothing
-abbrev Spares : ℕ → StepRule
+abbrev pub Spares : ℕ → StepRule
 Spares c s (ChangeSession d (GrantRow p g)) ds = d ≢ c
 Spares c s (ChangeSession d (PermitWrite p g)) ds = d ≢ c
 Spares c s (ChangeSession d m) ds = ⊥
@@ -62,7 +62,7 @@ own_gone c (a ∷ q) h = go (own_gone c q) (a.client == c) refl h
     go f false e x = elim x [ inl h ↦ apart e h | inr y ↦ f y ]
 
 -- one queue changes, and gets no ask of c
-greeted_queue : (s : Server) (c i p : ℕ) (q : List WaitingAsk) → (HasAsk c q → HasAsk c (s.queue p)) → OnlyGreeted s c i
+pub greeted_queue : (s : Server) (c i p : ℕ) (q : List WaitingAsk) → (HasAsk c q → HasAsk c (s.queue p)) → OnlyGreeted s c i
     → OnlyGreeted (record s { queue = update s.queue p q }) c i
 greeted_queue s c i p q f o = record {
   current = o.current;
@@ -102,7 +102,7 @@ greeted_permit s c i d p g n o = record {
   no_outcome = grind (arith, o.no_outcome);
 }
 
-greeted_kept : (c i : ℕ) → KeptUnder (Spares c) (λ k. OnlyGreeted k c i)
+pub greeted_kept : (c i : ℕ) → KeptUnder (Spares c) (λ k. OnlyGreeted k c i)
 greeted_kept c i s (ChangeSession d (GrantRow p g)) ds a o = greeted_grant s c i d p g a o
 greeted_kept c i s (ChangeSession d (PermitWrite p g)) ds a o = greeted_permit s c i d p g a o
 greeted_kept c i s (ChangeSession d _) ds a o = absurd a

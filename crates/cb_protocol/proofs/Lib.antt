@@ -47,9 +47,12 @@ pub mod LifeImage
 pub mod LifeMachine
 pub mod LifeOperations
 pub mod LifeRestarts
+pub mod LifeSends
 pub mod LivePermissions
+pub mod LivesGoOn
 pub mod LivesHistory
 pub mod LivesProof
+pub mod LivesStand
 pub mod LivesText
 pub mod LockedPages
 pub mod Machine
@@ -60,9 +63,12 @@ pub mod MessagesSent
 pub mod NoCycles
 pub mod NoneWaits
 pub mod OthersKeep
+pub mod OthersSpokenTo
 pub mod PageComes
 pub mod PagesStay
 pub mod Permissions
+pub mod PoolRoom
+pub mod PoolSteps
 pub mod ReadAsksWaiting
 pub mod ReadVersions
 pub mod ScheduleText

@@ -63,13 +63,13 @@ call_follows L b v w c x m within = elim (near_or_far b.floor (v.incarnation c))
     marks : Marks L v.transcript c (v.client c) x (client_call L (v.client c) x).word (client_call L (v.client c) x).steps
     marks = calls_marks L v.transcript c (v.client c) x (m.begins c)
 
--- what comes from below the floor is nothing to the server
-stale_message : (cycle : DeadlockTest) (s : Server) (c i : ℕ) (y : Body) → i < (s.session c).current → server_take cycle s c i y ≡ []
+-- what comes from below the current incarnation is nothing to the server
+pub stale_message : (cycle : DeadlockTest) (s : Server) (c i : ℕ) (y : Body) → i < (s.session c).current → server_take cycle s c i y ≡ []
 stale_message cycle s c i Hello l = serves_no_old_hello cycle s c i l
 stale_message cycle s c i y l = serves_no_other_incarnation cycle s c i y (λ e. absurd cc) (λ e. absurd (omega (arith, e, l)))
 
 -- the server takes a message
-served : (L : Limits) (cycle : DeadlockTest) (b : Life) (v : World) (w : Machine) (f : Message) → Image L b v w → IsIn f v.packets → StepsRight (SentInLife b.floor v) v.server (server_take cycle v.server f.client f.incarnation f.body)
+pub served : (L : Limits) (cycle : DeadlockTest) (b : Life) (v : World) (w : Machine) (f : Message) → Image L b v w → IsIn f v.packets → StepsRight (SentInLife b.floor v) v.server (server_take cycle v.server f.client f.incarnation f.body)
 served L cycle b v w f m i = elim (near_or_far b.floor f.incarnation) [
   | inl l ↦ right_server_take (SentInLife b.floor v) cycle v.server f.client f.incarnation f.body m.orderly (rw m.clients (m.addressed f i)) (l, i)
   | inr l ↦ subst (λ (ds : List ServerStep). StepsRight (SentInLife b.floor v) v.server ds) (sym (stale_message cycle v.server f.client f.incarnation f.body (behind l))) (tt, m.orderly)
@@ -116,7 +116,7 @@ deliver_follows L cycle b v w n f let_go m i u = go (to_server f.body) (is_exhau
     go false r true e = taken L b v w n f let_go m i (u (same e)) (same e)
     go false r false e = stays L b _ w (only_answered L b v w (TakePacket n) Taken m refl (λ d. refl) (λ d. refl))
 
-packet_is_in : (fs : List Message) (n : ℕ) (f : Message) → packet_at fs n ≡ Some f → IsIn f fs
+pub packet_is_in : (fs : List Message) (n : ℕ) (f : Message) → packet_at fs n ≡ Some f → IsIn f fs
 packet_is_in [] n f e = absurd cc
 packet_is_in (g ∷ fs) zero f e = inl cc
 packet_is_in (g ∷ fs) (suc n) f e = inr (packet_is_in fs n f e)
@@ -185,7 +185,7 @@ image_first L first s = record {
   safe = safe_start L first s;
   kept = kept_start L first;
   recorded = told_start L first;
-  above = record { current = λ c l. omega arith; come = λ c. omega arith; said = λ c i x ws s. absurd s; made = λ c i x n e. absurd cc; welcomed = λ c i e. absurd cc; committed = λ c i x n e. absurd cc };
+  above = record { current = λ c l. omega arith; come = λ c. omega arith; said = λ c i x ws s. absurd s; sent = λ c i y l s. absurd s; made = λ c i x n e. absurd cc; welcomed = λ c i e. absurd cc; committed = λ c i x n e. absurd cc };
   leaves = tt;
   store = refl;
   session = refl;

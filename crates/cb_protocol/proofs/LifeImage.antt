@@ -106,7 +106,7 @@ onto_old : (f : Message) (gs fs : List Message) → IsIn f fs → IsIn f (onto g
 onto_old f [] fs i = i
 onto_old f (g ∷ gs) fs i = onto_old f gs (g ∷ fs) (inr i)
 
-onto_new : (f : Message) (gs fs : List Message) → IsIn f gs → IsIn f (onto gs fs)
+pub onto_new : (f : Message) (gs fs : List Message) → IsIn f gs → IsIn f (onto gs fs)
 onto_new f [] fs i = absurd i
 onto_new f (g ∷ gs) fs i = elim i [ inl e ↦ onto_old f gs (g ∷ fs) (inl e) | inr j ↦ onto_new f gs (g ∷ fs) j ]
 

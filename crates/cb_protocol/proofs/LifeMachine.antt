@@ -15,7 +15,7 @@ use Rattle.cb_protocol.specs.Basics.{Bytes, Limits, update}
 use Rattle.cb_protocol.specs.Cache.{Cache, CacheChange, Committing, Idle, cache_after, new_cache}
 use Rattle.cb_protocol.specs.Headline.{SoundOpening}
 use Rattle.cb_protocol.specs.LivesWorld.{server_of_life, session_at}
-use Rattle.cb_protocol.specs.Messages.{Body, Commit, Message, PageWrite, Welcome}
+use Rattle.cb_protocol.specs.Messages.{AbortNow, Body, Callback, Commit, Done, Downgrade, Granted, MayWrite, Message, PageWrite, Welcome}
 use Rattle.cb_protocol.specs.Serial.{store_left}
 use Rattle.cb_protocol.specs.Server.{AppliedCommit, ChangeSession, Doom, EnterQueue, ForgetTransaction, LeaveQueue, MarkCalledBack, MarkDowngradeSent, MarkInUse, RemoveAsk, Send, Server, ServerStep, SetFlushed, UnmarkInUse, after_server_step, server_after}
 use Rattle.cb_protocol.specs.Session.{Admit, ApplyCommit, BeginTransaction, DropTransaction, EndPermission, GrantRow, PermitWrite, RemoveRow, Session, SessionChange, Store, session_after, set_commit_number, store_after}
@@ -71,11 +71,12 @@ orderly_at Came L o floor = record {
   listed = λ x i. absurd i;
 }
 
--- Of the clients below n nobody below the floor is current; nobody below it commits; and whoever committed was welcomed.
+-- Of the clients below n nobody below the floor is current, and no packet is of below it; nobody below it commits; and whoever committed was welcomed.
 pub record Above (n floor : ℕ) (w : Machine) : Type 0 where
   pub current : (c : ℕ) → c < n → floor ≤ (w.session c).current
   pub come : (c : ℕ) → floor ≤ w.incarnation c
   pub said : (c i x : ℕ) (ws : List PageWrite) → WasSent w c i (Commit x ws) → floor ≤ i
+  pub sent : (c i : ℕ) (y : Body) → c < n → WasSent w c i y → floor ≤ i
   pub made : (c i x k : ℕ) → w.store.commit_number c i x ≡ Some k → (floor ≤ i) × (1 ≤ x)
   pub welcomed : (c i : ℕ) → (w.client c i).welcomed ≡ true → WasSent w c i Welcome
   pub committed : (c i x k : ℕ) → w.store.commit_number c i x ≡ Some k → WasSent w c i Welcome
@@ -103,20 +104,25 @@ above_client n floor w c m a h = record {
   current = h.current;
   come = h.come;
   said = h.said;
+  sent = h.sent;
   made = h.made;
   welcomed = put_both (λ d i k. k.welcomed ≡ true → WasSent w d i Welcome) w.client c (w.incarnation c) (cache_after w.store.keep_write (present_cache w c) m)
       (welcomes w.store.keep_write (WasSent w c (w.incarnation c)) (present_cache w c) m a (h.welcomed c (w.incarnation c))) (λ d i _. h.welcomed d i);
   committed = h.committed;
 }
 
--- one more message: a Commit is from the floor on
-above_says : (n floor : ℕ) (w : Machine) (c i : ℕ) (y : Body) → Above n floor w → ((x : ℕ) (ws : List PageWrite) → y ≡ Commit x ws → floor ≤ i) → Above n floor (record w { packets = record { client = c; incarnation = i; body = y } ∷ w.packets })
-above_says n floor w c i y h f = record {
+-- one more message: it is from the floor on
+above_says : (n floor : ℕ) (w : Machine) (c i : ℕ) (y : Body) → Above n floor w → ((x : ℕ) (ws : List PageWrite) → y ≡ Commit x ws → floor ≤ i) → (c < n → floor ≤ i) → Above n floor (record w { packets = record { client = c; incarnation = i; body = y } ∷ w.packets })
+above_says n floor w c i y h f g = record {
   current = h.current;
   come = h.come;
   said = λ d j x ws. elim [
     | inl e ↦ subst (λ (j : ℕ). floor ≤ j) (ap (λ (g : Message). g.incarnation) e) (f x ws (ap (λ (g : Message). g.body) e))
     | inr k ↦ h.said d j x ws k
+  ];
+  sent = λ d j x l. elim [
+    | inl e ↦ subst (λ (m : Message). m.client < n → floor ≤ m.incarnation) e g l
+    | inr k ↦ h.sent d j x l k
   ];
   made = h.made;
   welcomed = λ d j e. inr (h.welcomed d j e);
@@ -130,6 +136,7 @@ above_session n floor w c m h l f = record {
   current = put_each (λ d t. d < n → floor ≤ t.current) w.session c (session_after (w.session c) m) (λ near. let k = h.current c near in omega (arith, k, l)) (λ d ne. h.current d);
   come = h.come;
   said = h.said;
+  sent = h.sent;
   made = λ d i x k e. (let z = f d i x k e in (z.0, z.1));
   welcomed = h.welcomed;
   committed = λ d i x k e. (f d i x k e).2;
@@ -150,9 +157,20 @@ above_apply n floor w c x ws v a h = above_session n floor w c (ApplyCommit x ws
 no_commit : (s : Store) (c : ℕ) (t : Session) (i : ℕ) (y : Body) (x : ℕ) (ws : List PageWrite) → ServerMaySend s c t i y → y ≡ Commit x ws → ⊥
 no_commit s c t i y x ws a e = subst (λ (b : Body). ServerMaySend s c t i b) e a
 
+-- what the server says is of the current incarnation, or of one that committed
+sends_above : (s : Store) (c : ℕ) (t : Session) (floor i : ℕ) (y : Body) {L : Type 0} → ServerMaySend s c t i y → ((x k : ℕ) → s.commit_number c i x ≡ Some k → floor ≤ i) → (L → floor ≤ t.current) → L → floor ≤ i
+sends_above s c t floor i (Done x k) a f g l = f x k a
+sends_above s c t floor i Welcome a f g l = let k = g l in omega (arith, a, k)
+sends_above s c t floor i (Granted p q v b) a f g l = let k = g l in let e = a.0 in omega (arith, e, k)
+sends_above s c t floor i (MayWrite x p q) a f g l = let k = g l in let e = a.0 in omega (arith, e, k)
+sends_above s c t floor i (Callback p q) a f g l = let k = g l in omega (arith, a, k)
+sends_above s c t floor i (AbortNow x) a f g l = let k = g l in omega (arith, a, k)
+sends_above s c t floor i (Downgrade p q x) a f g l = let k = g l in let e = a.0 in omega (arith, e, k)
+sends_above s c t floor i _ a f g l = absurd a
+
 above_happens : (n floor : ℕ) (w : Machine) (e : MachineStep) → Invariant w → MachineMay w e → Above n floor w → Above n floor (happens w e)
 above_happens n floor w (ClientChanges c m) v a h = above_client n floor w c m a h
-above_happens n floor w (ClientSays c b) v a h = above_says n floor w c (w.incarnation c) b h (λ x ws e. h.come c)
+above_happens n floor w (ClientSays c b) v a h = above_says n floor w c (w.incarnation c) b h (λ x ws e. h.come c) (λ l. h.come c)
 above_happens n floor w (ServerChanges c (Admit i)) v a h = above_session n floor w c (Admit i) h (let k = a.1 in omega (arith, k)) (above_commits n floor w h)
 above_happens n floor w (ServerChanges c (BeginTransaction x)) v a h = above_session n floor w c (BeginTransaction x) h (omega arith) (above_commits n floor w h)
 above_happens n floor w (ServerChanges c (DropTransaction x)) v a h = above_session n floor w c (DropTransaction x) h (omega arith) (above_commits n floor w h)
@@ -161,11 +179,12 @@ above_happens n floor w (ServerChanges c (PermitWrite p g)) v a h = above_sessio
 above_happens n floor w (ServerChanges c (RemoveRow p g)) v a h = above_session n floor w c (RemoveRow p g) h (omega arith) (above_commits n floor w h)
 above_happens n floor w (ServerChanges c (EndPermission p g x)) v a h = above_session n floor w c (EndPermission p g x) h (omega arith) (above_commits n floor w h)
 above_happens n floor w (ServerChanges c (ApplyCommit x ws)) v a h = above_apply n floor w c x ws v a h
-above_happens n floor w (ServerSends c i b) v a h = above_says n floor w c i b h (λ x ws e. absurd (no_commit w.store c (w.session c) i b x ws a e))
+above_happens n floor w (ServerSends c i b) v a h = above_says n floor w c i b h (λ x ws e. absurd (no_commit w.store c (w.session c) i b x ws a e)) (sends_above w.store c (w.session c) floor i b a (λ x k e. (h.made c i x k e).0) (h.current c))
 above_happens n floor w (ClientRestarts c) v a h = record {
   current = h.current;
   come = put_each (λ d i. floor ≤ i) w.incarnation c (w.incarnation c + 1) (let l = h.come c in omega (arith, l)) (λ d ne. h.come d);
   said = h.said;
+  sent = h.sent;
   made = h.made;
   welcomed = h.welcomed;
   committed = h.committed;

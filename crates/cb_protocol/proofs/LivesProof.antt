@@ -2,12 +2,13 @@
 use Rattle.std.proofs.Common.{List, Option, Some, [], ap, arith, if◌then◌else◌, inl, inr, nat_lt, refl, subst, sym, ℕ, ◌++◌, ◌<◌, ◌∙◌, ◌∷◌, ◌≡◌, ◌≤◌}
 use Rattle.cb_protocol.proofs.BackedCopies.{BackedBy, backed_by}
 use Rattle.cb_protocol.proofs.HistoryKept.{history_operations}
-use Rattle.cb_protocol.proofs.Invariant.{HasCommitNumber, MessageHolds, SessionFacts, cache_at_session}
+use Rattle.cb_protocol.proofs.Invariant.{HasCommitNumber, SessionFacts, cache_at_session}
 use Rattle.cb_protocol.proofs.InvariantKept.{agree, alone}
 use Rattle.cb_protocol.proofs.LifeEvents.{event_follows, image_first, near_or_far}
 use Rattle.cb_protocol.proofs.LifeImage.{Follows, Image, Life, in_append, in_left, in_right}
 use Rattle.cb_protocol.proofs.LifeMachine.{books_at, kept_at, orderly_at, recorded_at, safe_at, start_at}
 use Rattle.cb_protocol.proofs.LifeOperations.{IsPast, life_transaction, none_of_life}
+use Rattle.cb_protocol.proofs.LifeSends.{Spoken, event_sends, message_below, spoken_after}
 use Rattle.cb_protocol.proofs.LivesHistory.{bytes_append, left_append, numbered_append, once_append, operations_append, operations_by, same_operations, serial_append, survived, survives, survivors_numbered, survivors_once, survivors_serial, survivors_sound, version_append}
 use Rattle.cb_protocol.proofs.Machine.{Machine, WasSent, present_cache, run, start}
 use Rattle.cb_protocol.proofs.MachineSteps.{present_good}
@@ -16,9 +17,10 @@ use Rattle.cb_protocol.specs.AnyMessages.{Numbered, bytes_after, committed_names
 use Rattle.cb_protocol.specs.Basics.{Bytes, IsIn, Limits}
 use Rattle.cb_protocol.specs.Cache.{Cache, new_cache}
 use Rattle.cb_protocol.specs.Headline.{SoundOpening}
+use Rattle.cb_protocol.specs.HelloLaws.{OnlyGreeted}
 use Rattle.cb_protocol.specs.Lives.{BackedOfLife, CommitWelcomed, DonesStand, IsOfLife, LivesKeepThePromise, LivesLedger, LivesPromise, WelcomedAlone, lives_history}
-use Rattle.cb_protocol.specs.LivesWorld.{IsNewFloor, LeadsTo, Lives, LivesEvent, LivesEventAllowed, ServerRestarts, WithinLife, commits_on_disk, first_life, lives_step, restart_server, store_on_disk}
-use Rattle.cb_protocol.specs.Messages.{Body, GiveBack, Message}
+use Rattle.cb_protocol.specs.LivesWorld.{IsNewFloor, LeadsTo, Lives, LivesEvent, LivesEventAllowed, MayBeOnDisk, ServerRestarts, WithinLife, commits_on_disk, first_life, lives_step, restart_server, server_of_life, store_on_disk}
+use Rattle.cb_protocol.specs.Messages.{GiveBack, Message}
 use Rattle.cb_protocol.specs.Serial.{EachOnce, IsSerial, Operation, PerformedOperation, TransactionName, committed_operations, store_left, transaction_operations}
 use Rattle.cb_protocol.specs.Server.{AppliedCommit, DeadlockTest}
 use Rattle.cb_protocol.specs.Session.{Session, Store}
@@ -45,10 +47,7 @@ pub record Stands (L : Limits) (first : Opening) (lives : Lives) : Type 0 where
   pub machine : Machine
   pub image : Image L (life_of lives told) lives.world machine
   pub left : Left first (life_of lives told)
-
--- what a message's incarnation is below
-message_below : (c : ℕ) (s : Store) (t : Session) (k : Cache) (last i : ℕ) (y : Body) → t.current ≤ last → MessageHolds c s t k last i y → i ≤ last
-message_below c s t k last i y l h = grind (arith, l, h)
+  pub spoken : Spoken L.clients lives.floor lives.world
 
 -- a transaction that committed at the session's incarnation performs nothing more
 past_there : (c : ℕ) (s : Store) (t : Session) (k : Cache) (i x n : ℕ) → SessionFacts c s t k → HasCommitNumber s c i x n → i ≡ t.current → IsPast k x
@@ -133,25 +132,25 @@ abbrev told_after : Lives → ℕ → ℕ → ℕ → List Operation
 told_after lives = transaction_operations (transcript_operations lives.world.transcript)
 
 -- the commits of former lives and of the life that ended
-ended_commits : (P : AppliedCommit → Type 0) (lives : Lives) → ((x : AppliedCommit) → IsIn x lives.world.server.commits → P x) → ((x : AppliedCommit) → IsIn x lives.former → P x)
-    → (x : AppliedCommit) → IsIn x (commits_on_disk lives.world.server ++ lives.former) → P x
-ended_commits P lives f g x i = elim (in_append x (commits_on_disk lives.world.server) lives.former i) [ inl j ↦ f x (survived lives.world.server.flushed lives.world.server.commits x j) | inr j ↦ g x j ]
+ended_commits : (P : AppliedCommit → Type 0) (lives : Lives) (n : ℕ) → ((x : AppliedCommit) → IsIn x lives.world.server.commits → P x) → ((x : AppliedCommit) → IsIn x lives.former → P x)
+    → (x : AppliedCommit) → IsIn x (commits_on_disk lives.world.server n ++ lives.former) → P x
+ended_commits P lives n f g x i = elim (in_append x (commits_on_disk lives.world.server n) lives.former i) [ inl j ↦ f x (survived n lives.world.server.commits x j) | inr j ↦ g x j ]
 
 -- their numbers, up to the one on disk
-ended_numbers : (L : Limits) (lives : Lives) (told : ℕ → ℕ → ℕ → List Operation) (w : Machine) → Image L (life_of lives told) lives.world w → Numbered lives.opening.number (commits_on_disk lives.world.server) lives.world.server.flushed
-ended_numbers L lives told w m = survivors_numbered lives.opening.number lives.world.server.flushed lives.world.server.store.last_commit lives.world.server.commits m.books.numbered m.opened m.committed
+pub ended_numbers : (L : Limits) (lives : Lives) (told : ℕ → ℕ → ℕ → List Operation) (w : Machine) (n : ℕ) → Image L (life_of lives told) lives.world w → MayBeOnDisk lives.world.server n → Numbered lives.opening.number (commits_on_disk lives.world.server n) n
+ended_numbers L lives told w n m d = survivors_numbered lives.opening.number n lives.world.server.store.last_commit lives.world.server.commits m.books.numbered (let a = m.opened in let b = d.reported in omega (arith, a, b)) d.made
 
-ended_sound : (L : Limits) (lives : Lives) (told : ℕ → ℕ → ℕ → List Operation) (w : Machine) → Image L (life_of lives told) lives.world w → SoundOpening lives.opening → SoundOpening (store_on_disk lives.opening lives.world.server)
-ended_sound L lives told w m s = survivors_sound lives.opening lives.world.server.flushed (commits_on_disk lives.world.server) s (ended_numbers L lives told w m)
+ended_sound : (L : Limits) (lives : Lives) (told : ℕ → ℕ → ℕ → List Operation) (w : Machine) (n : ℕ) → Image L (life_of lives told) lives.world w → MayBeOnDisk lives.world.server n → SoundOpening lives.opening → SoundOpening (store_on_disk lives.opening lives.world.server n)
+ended_sound L lives told w n m d s = survivors_sound lives.opening n (commits_on_disk lives.world.server n) s (ended_numbers L lives told w n m d)
 
 -- the server restarts: the next life's machine is a new one
-image_restarts : (L : Limits) (lives : Lives) (told : ℕ → ℕ → ℕ → List Operation) (w : Machine) (floor : ℕ) → Image L (life_of lives told) lives.world w → IsNewFloor lives floor → SoundOpening lives.opening
-    → Image L (life_of (restart_server L lives floor) (told_after lives)) (restart_server L lives floor).world (start_at L (store_on_disk lives.opening lives.world.server) floor)
-image_restarts L lives told w floor m a s = record {
-  safe = safe_at L o floor (ended_sound L lives told w m s);
+image_restarts : (L : Limits) (lives : Lives) (told : ℕ → ℕ → ℕ → List Operation) (w : Machine) (floor n : ℕ) → Image L (life_of lives told) lives.world w → IsNewFloor lives floor → MayBeOnDisk lives.world.server n → SoundOpening lives.opening
+    → Image L (life_of (restart_server L lives floor n) (told_after lives)) (restart_server L lives floor n).world (start_at L (store_on_disk lives.opening lives.world.server n) floor)
+image_restarts L lives told w floor n m a k s = record {
+  safe = safe_at L o floor (ended_sound L lives told w n m k s);
   kept = kept_at L o floor;
   recorded = recorded_at L o floor;
-  above = record { current = at_floor; come = λ c. omega arith; said = λ c i x ws s. absurd s; made = λ c i x n e. absurd cc; welcomed = λ c i e. absurd cc; committed = λ c i x n e. absurd cc };
+  above = record { current = at_floor; come = λ c. omega arith; said = λ c i x ws s. absurd s; sent = λ c i y l s. absurd s; made = λ c i x n e. absurd cc; welcomed = λ c i e. absurd cc; committed = λ c i x n e. absurd cc };
   leaves = tt;
   store = refl;
   session = refl;
@@ -170,16 +169,16 @@ image_restarts L lives told w floor m a s = record {
   sent = λ f i. absurd i;
   addressed = m.addressed;
   dones = λ c i t n l x. absurd (let z = e.sent _ x in omega (arith, l, z));
-  on_disk = m.on_disk;
+  on_disk = λ c i t x y. (let q = m.on_disk c i t x y in let r = k.reported in omega (arith, q, r));
   performed = sym (none_of_life floor v.transcript (λ c. rw (m.restarts c) (a.unused c)));
   restarts = m.restarts;
   begins = m.begins;
-  earlier = ended_commits (λ x. x.incarnation < floor) lives (λ x i. (e.commits x i).1) (λ x i. let l = m.earlier x i in let r = a.rises in omega (arith, l, r));
-  former_dones = λ c i t n l x. elim (near_or_far lives.floor i) [
-    | inl k ↦ (let d = m.books.known c i t n (m.dones c i t n k x) in (d.0, in_left d.0 (commits_on_disk v.server) lives.former (survives v.server.flushed v.server.commits d.0 d.1 (let q = d.5 in let o = m.on_disk c i t n x in omega (arith, q, o))), d.2, d.3, d.4, d.5))
-    | inr k ↦ (let d = m.former_dones c i t n k x in (d.0, in_right d.0 (commits_on_disk v.server) lives.former d.1, d.2, d.3, d.4, d.5))
+  earlier = ended_commits (λ x. x.incarnation < floor) lives n (λ x i. (e.commits x i).1) (λ x i. let l = m.earlier x i in let r = a.rises in omega (arith, l, r));
+  former_dones = λ c i t y l x. elim (near_or_far lives.floor i) [
+    | inl j ↦ (let d = m.books.known c i t y (m.dones c i t y j x) in (d.0, in_left d.0 (commits_on_disk v.server n) lives.former (survives n v.server.commits d.0 d.1 (let q = d.5 in let o = m.on_disk c i t y x in let r = k.reported in omega (arith, q, o, r))), d.2, d.3, d.4, d.5))
+    | inr j ↦ (let d = m.former_dones c i t y j x in (d.0, in_right d.0 (commits_on_disk v.server n) lives.former d.1, d.2, d.3, d.4, d.5))
   ];
-  past = ended_commits (λ x. (x.incarnation ≤ v.incarnation x.client) × (x.incarnation ≡ v.incarnation x.client → IsPast (v.client x.client).cache x.txn)) lives e.past m.past;
+  past = ended_commits (λ x. (x.incarnation ≤ v.incarnation x.client) × (x.incarnation ≡ v.incarnation x.client → IsPast (v.client x.client).cache x.txn)) lives n e.past m.past;
   told = λ x i. refl;
 }
   where
@@ -187,7 +186,7 @@ image_restarts L lives told w floor m a s = record {
     v = lives.world
 
     o : Opening
-    o = store_on_disk lives.opening lives.world.server
+    o = store_on_disk lives.opening lives.world.server n
 
     e : Ends L lives told w floor
     e = ends L lives told w floor m a
@@ -237,17 +236,31 @@ bytes_over first lives told h xs p = ap (λ (b : ℕ → Bytes). bytes_after b x
 version_over : (first : Opening) (lives : Lives) (told : ℕ → ℕ → ℕ → List Operation) → Left first (life_of lives told) → (xs : List AppliedCommit) (p : ℕ) → version_after lives.opening.version xs p ≡ version_after first.version (xs ++ lives.former) p
 version_over first lives told h xs p = ap (λ (b : ℕ → ℕ). version_after b xs p) (λ i q. h.version q i) ∙ sym (version_append first.version xs lives.former p)
 
+-- the server of a new life has nothing of anybody
+pub nothing_of : (L : Limits) (o : Opening) (floor c : ℕ) → c < L.clients → OnlyGreeted (server_of_life L o floor) c floor
+nothing_of L o floor c l = record {
+  current = grind (arith, l);
+  no_row = λ p. refl;
+  no_permission = λ p e. absurd cc;
+  no_mark = λ p. refl;
+  no_ask = λ p h. h;
+  not_doomed = refl;
+  none_begun = refl;
+  none_ended = refl;
+  no_outcome = refl;
+}
+
 -- what the life that ended left, behind those before it
-left_restarts : (L : Limits) (first : Opening) (lives : Lives) (told : ℕ → ℕ → ℕ → List Operation) (w : Machine) (floor : ℕ) → Image L (life_of lives told) lives.world w → IsNewFloor lives floor → Left first (life_of lives told)
-    → Left first (life_of (restart_server L lives floor) (told_after lives))
-left_restarts L first lives told w floor m a h = record {
-  sound = ended_sound L lives told w m h.sound;
+left_restarts : (L : Limits) (first : Opening) (lives : Lives) (told : ℕ → ℕ → ℕ → List Operation) (w : Machine) (floor n : ℕ) → Image L (life_of lives told) lives.world w → IsNewFloor lives floor → MayBeOnDisk lives.world.server n → Left first (life_of lives told)
+    → Left first (life_of (restart_server L lives floor n) (told_after lives))
+left_restarts L first lives told w floor n m a k h = record {
+  sound = ended_sound L lives told w n m k h.sound;
   serial = both.0;
   leaves = both.1;
-  once = once_append lives.floor (commits_on_disk v.server) lives.former (survivors_once v.server.flushed v.server.commits m.books.once) h.once (λ x i. (e.commits x (survived v.server.flushed v.server.commits x i)).0) m.earlier;
-  numbered = numbered_append first.number lives.opening.number v.server.flushed (commits_on_disk v.server) lives.former (ended_numbers L lives told w m) h.numbered;
-  bytes = λ p. bytes_over first lives told h (commits_on_disk v.server) p;
-  version = λ p. version_over first lives told h (commits_on_disk v.server) p;
+  once = once_append lives.floor (commits_on_disk v.server n) lives.former (survivors_once n v.server.commits m.books.once) h.once (λ x i. (e.commits x (survived n v.server.commits x i)).0) m.earlier;
+  numbered = numbered_append first.number lives.opening.number n (commits_on_disk v.server n) lives.former (ended_numbers L lives told w n m k) h.numbered;
+  bytes = λ p. bytes_over first lives told h (commits_on_disk v.server n) p;
+  version = λ p. version_over first lives told h (commits_on_disk v.server n) p;
 }
   where
     v : World
@@ -256,13 +269,13 @@ left_restarts L first lives told w floor m a h = record {
     e : Ends L lives told w floor
     e = ends L lives told w floor m a
 
-    ended : IsSerial lives.opening.bytes (operations_by (transaction_operations w.performed) (commits_on_disk v.server))
-        × ((p : ℕ) → store_left lives.opening.bytes (operations_by (transaction_operations w.performed) (commits_on_disk v.server)) p ≡ bytes_after lives.opening.bytes (commits_on_disk v.server) p)
-    ended = survivors_serial lives.opening.bytes w.performed v.server.flushed w.history v.server.commits m.leaves m.names (λ d i. (m.recorded.entries d i).0) m.kept.legal
+    ended : IsSerial lives.opening.bytes (operations_by (transaction_operations w.performed) (commits_on_disk v.server n))
+        × ((p : ℕ) → store_left lives.opening.bytes (operations_by (transaction_operations w.performed) (commits_on_disk v.server n)) p ≡ bytes_after lives.opening.bytes (commits_on_disk v.server n) p)
+    ended = survivors_serial lives.opening.bytes w.performed n w.history v.server.commits m.leaves m.names (λ d i. (m.recorded.entries d i).0) m.kept.legal
 
-    both : IsSerial first.bytes (operations_by (told_after lives) (commits_on_disk v.server ++ lives.former))
-        × ((p : ℕ) → store_left first.bytes (operations_by (told_after lives) (commits_on_disk v.server ++ lives.former)) p ≡ bytes_after lives.opening.bytes (commits_on_disk v.server) p)
-    both = joined L first lives told w (commits_on_disk v.server) (bytes_after lives.opening.bytes (commits_on_disk v.server)) m h (λ x i. survived v.server.flushed v.server.commits x i) ended.0 ended.1
+    both : IsSerial first.bytes (operations_by (told_after lives) (commits_on_disk v.server n ++ lives.former))
+        × ((p : ℕ) → store_left first.bytes (operations_by (told_after lives) (commits_on_disk v.server n ++ lives.former)) p ≡ bytes_after lives.opening.bytes (commits_on_disk v.server n) p)
+    both = joined L first lives told w (commits_on_disk v.server n) (bytes_after lives.opening.bytes (commits_on_disk v.server n)) m h (λ x i. survived n v.server.commits x i) ended.0 ended.1
 
 -- what holds of the commits of a life holds of its machine
 serial_here : (L : Limits) (lives : Lives) (told : ℕ → ℕ → ℕ → List Operation) (w : Machine) → Image L (life_of lives told) lives.world w → operations_by (transaction_operations w.performed) lives.world.server.commits ≡ history_operations w.history
@@ -298,9 +311,10 @@ commit_welcomed L lives told w m x i = record {
     numbered : HasCommitNumber w.store x.client x.incarnation x.txn x.number
     numbered = ap (λ (s : Store). s.commit_number x.client x.incarnation x.txn) m.store ∙ m.books.listed x i
 
-welcomed_alone : (L : Limits) (lives : Lives) (told : ℕ → ℕ → ℕ → List Operation) (w : Machine) → Image L (life_of lives told) lives.world w → WelcomedAlone lives
-welcomed_alone L lives told w m = record {
+welcomed_alone : (L : Limits) (lives : Lives) (told : ℕ → ℕ → ℕ → List Operation) (w : Machine) → Image L (life_of lives told) lives.world w → Spoken L.clients lives.floor lives.world → WelcomedAlone lives
+welcomed_alone L lives told w m h = record {
   current = λ c l. subst (λ (t : ℕ → Session). lives.floor ≤ (t c).current) m.session (m.above.current c (rw (sym m.clients) l));
+  nothing = λ c l. h.nothing c (rw (sym m.clients) l);
   commits = commit_welcomed L lives told w m;
 }
 
@@ -318,14 +332,15 @@ backed_of_life L lives told w m = record {
     b = backed_by w m.safe
 
 -- a world over all lives that stands keeps the promise
-promised : (L : Limits) (first : Opening) (lives : Lives) → Stands L first lives → LivesPromise first lives
+pub promised : (L : Limits) (first : Opening) (lives : Lives) → Stands L first lives → LivesPromise first lives
 promised L first lives r = record {
   agree = λ c d p x y near far a b. agree w m.safe c d p x y (there c p x near a) (there d p y far b);
   alone = λ c d p x near far a b. alone w m.safe c d p x (ap (λ (k : Cache). k.status) (m.cache c near) ∙ a.0, ap (λ (k : Cache). k.may_write p) (m.cache c near) ∙ a.1) (there d p x far b);
   serial = record { legal = history.0; leaves = history.1 };
   once = once_append lives.floor lives.world.server.commits lives.former m.books.once r.left.once (λ x i. (commit_welcomed L lives r.told w m x i).of_life) m.earlier;
   dones = dones_stand L lives r.told w m;
-  welcomed = welcomed_alone L lives r.told w m;
+  packets = record { past = r.spoken.past; greeted = r.spoken.greeted };
+  welcomed = welcomed_alone L lives r.told w m r.spoken;
   directory = record { sole = λ p c d g x y. sym (m.orderly.sole p d g c y x); distinct = m.books.distinct };
   ledger = ledger_stands L first lives r.told w m r.left;
   backed = backed_of_life L lives r.told w m;
@@ -348,27 +363,35 @@ promised L first lives r = record {
         (λ p. ap (λ (h : List (List Operation)). store_left lives.opening.bytes h p) here ∙ (m.kept.leaves p ∙ ap (λ (s : Store). s.bytes p) m.store))
 
 -- the first life
-stands_first : (L : Limits) (first : Opening) → SoundOpening first → Stands L first (first_life L first)
+pub stands_first : (L : Limits) (first : Opening) → SoundOpening first → Stands L first (first_life L first)
 stands_first L first s = record {
   told = λ c i t. [];
   machine = start L first;
   image = image_first L first s;
   left = record { sound = s; serial = tt; leaves = λ p. refl; once = tt; numbered = refl; bytes = λ p. refl; version = λ p. refl };
+  spoken = record { past = λ f i. absurd i; greeted = λ c i j. absurd j; nothing = λ c l far. absurd (omega (arith, far)) };
 }
 
 -- each event
-stands_after : (L : Limits) (cycle : DeadlockTest) (first : Opening) (lives : Lives) (e : LivesEvent) (let_go : Option ℕ) → LivesEventAllowed L lives e let_go → Stands L first lives → Stands L first (lives_step L cycle lives e let_go)
+pub stands_after : (L : Limits) (cycle : DeadlockTest) (first : Opening) (lives : Lives) (e : LivesEvent) (let_go : Option ℕ) → LivesEventAllowed L lives e let_go → Stands L first lives → Stands L first (lives_step L cycle lives e let_go)
 stands_after L cycle first lives (WithinLife e) let_go a r =
     let s : Follows L (life_of lives r.told) r.machine (step L cycle lives.world e let_go).world = event_follows L cycle (life_of lives r.told) lives.world r.machine e let_go r.image a in
-    record { told = r.told; machine = run s.steps r.machine; image = s.image; left = r.left }
-stands_after L cycle first lives (ServerRestarts floor) let_go a r = record {
+    record {
+      told = r.told;
+      machine = run s.steps r.machine;
+      image = s.image;
+      left = r.left;
+      spoken = spoken_after L.clients lives.floor lives.world _ (event_sends L cycle (life_of lives r.told) lives.world r.machine e let_go r.image r.spoken) r.spoken;
+    }
+stands_after L cycle first lives (ServerRestarts floor n) let_go a r = record {
   told = told_after lives;
-  machine = start_at L (store_on_disk lives.opening lives.world.server) floor;
-  image = image_restarts L lives r.told r.machine floor r.image a r.left.sound;
-  left = left_restarts L first lives r.told r.machine floor r.image a r.left;
+  machine = start_at L (store_on_disk lives.opening lives.world.server n) floor;
+  image = image_restarts L lives r.told r.machine floor n r.image a.0 a.1 r.left.sound;
+  left = left_restarts L first lives r.told r.machine floor n r.image a.0 a.1 r.left;
+  spoken = record { past = r.spoken.past; greeted = r.spoken.greeted; nothing = λ c l far. nothing_of L (store_on_disk lives.opening lives.world.server n) floor c l };
 }
 
-stands_along : (L : Limits) (cycle : DeadlockTest) (first : Opening) (es : List LivesEvent) (lives after : Lives) → LeadsTo L cycle lives es after → Stands L first lives → Stands L first after
+pub stands_along : (L : Limits) (cycle : DeadlockTest) (first : Opening) (es : List LivesEvent) (lives after : Lives) → LeadsTo L cycle lives es after → Stands L first lives → Stands L first after
 stands_along L cycle first [] lives after p r = subst (λ (x : Lives). Stands L first x) p r
 stands_along L cycle first (e ∷ es) lives after p r = stands_along L cycle first es (lives_step L cycle lives e p.0) after p.2 (stands_after L cycle first lives e p.0 p.1 r)
 

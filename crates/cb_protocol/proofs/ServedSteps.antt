@@ -1,13 +1,13 @@
 -- What each step of a server meets at every input: grants in order, commits of the message alone, Done from disk.
 use Rattle.std.proofs.Common.{Bool, List, None, Option, Some, [], ap, arith, false, if◌then◌else◌, inl, inr, nat_le, nat_lt, not, refl, subst, suc, sym, true, zero, ℕ, ◌&&◌, ◌++◌, ◌==◌, ◌∙◌, ◌∷◌, ◌≡◌, ◌≢◌, ◌≤◌, ◌⊎◌, ◌||◌}
 use Rattle.std.specs.Prelude.{⊤}
-use Rattle.cb_protocol.proofs.FirstAsks.{Settles, settles}
+use Rattle.cb_protocol.proofs.FirstAsks.{NoNews, Settles, settles}
 use Rattle.cb_protocol.proofs.ServerWalks.{EachStep, KeptUnder, Lasting, StepRule, each_append, each_there, each_weaker, kept_by_each}
 use Rattle.cb_protocol.proofs.SettlingClears.{OnlySends, after_sends}
 use Rattle.cb_protocol.proofs.SettlingRight.{is_some_is}
 use Rattle.cb_protocol.specs.AnyMessages.{Input, MessageComes, ReachesDisk, SendsAgain, input_steps}
 use Rattle.cb_protocol.specs.AskLaws.{FirstAsksAreMet, GrantIsSent, IsFirst, MayBeGranted, MayBePermitted, PermissionIsSent}
-use Rattle.cb_protocol.specs.Basics.{is_exactly, is_none}
+use Rattle.cb_protocol.specs.Basics.{IsIn, is_exactly, is_none}
 use Rattle.cb_protocol.specs.CommitLaws.{DoneFromDiskAlone, DonesUpTo, NoOtherApplies}
 use Rattle.cb_protocol.specs.Flush.{dones_between}
 use Rattle.cb_protocol.specs.Messages.{AbortNow, AskRead, AskWrite, Body, Commit, Done, Downgraded, Drop, GiveBack, Hello, InUse, MayWrite, Message, PageWrite, Welcome}
@@ -18,10 +18,22 @@ use Rattle.cb_protocol.specs.Session.{Admit, ApplyCommit, BeginTransaction, Drop
 use Rattle.cb_protocol.specs.Settling.{doom_client, send_callback, send_callbacks, send_downgrade, send_downgrades, send_to, settle_pages}
 use Rattle.cb_protocol.specs.World.{messages_sent}
 
--- a Done is of a commit up to that number
+-- a Done is of a commit up to that number, and nobody is welcomed
 abbrev pub DoneUpTo : ℕ → Body → Type 0
 DoneUpTo last (Done t n) = n ≤ last
+DoneUpTo last Welcome = ⊥
 DoneUpTo last _ = ⊤
+
+-- a Done is of a commit up to that number, and a Welcome answers a Hello
+abbrev pub SaidAt : Body → ℕ → Body → Type 0
+SaidAt b last (Done t n) = n ≤ last
+SaidAt b last Welcome = b ≡ Hello
+SaidAt b last _ = ⊤
+
+told_said : (b : Body) (last : ℕ) (x : Body) → DoneUpTo last x → SaidAt b last x
+told_said b last (Done t n) a = a
+told_said b last Welcome a = absurd a
+told_said b last _ a = tt
 
 -- what a server does at a message
 abbrev pub Serves : Body → StepRule
@@ -31,7 +43,7 @@ Serves b s (ChangeSession c (PermitWrite p g)) ds =
     ((IsFirst s p c (Some g) × MayBePermitted s p c g) ⊎ ((s.store.holder p ≡ Some c) × ((s.session c).row p ≡ Some g)))
     × PermissionIsSent s ds c p g
 Serves b s (ChangeSession c (ApplyCommit t ws)) ds = b ≡ Commit t ws
-Serves b s (Send c i x) ds = DoneUpTo s.flushed x
+Serves b s (Send c i x) ds = SaidAt b s.flushed x
 Serves b s (SetFlushed n) ds = ⊥
 Serves b s _ ds = ⊤
 
@@ -45,6 +57,7 @@ serves_weaker b s (ChangeSession c (GrantRow p g)) ds a = a
 serves_weaker b s (ChangeSession c (PermitWrite p g)) ds a = (inl (a.0, a.1), a.2)
 serves_weaker b s (ChangeSession c _) ds a = absurd a
 serves_weaker b s (Send c i (Done t n)) ds a = absurd a
+serves_weaker b s (Send c i Welcome) ds a = absurd a
 serves_weaker b s (Send c i _) ds a = tt
 serves_weaker b s (SetFlushed n) ds a = absurd a
 serves_weaker b s _ ds a = tt
@@ -156,8 +169,8 @@ unfolding server_take
 serves_hello cycle s c i = go (nat_lt (s.session c).current i) (i == (s.session c).current)
   where
     go : (r u : Bool) → EachStep (Serves Hello) s (if r then admit_incarnation cycle s c i else if u then Send c i Welcome ∷ [] else [])
-    go true u = (tt, (tt, (tt, serves_settling Hello cycle _ s.pages)))
-    go false true = (tt, tt)
+    go true u = (tt, (tt, (refl, serves_settling Hello cycle _ s.pages)))
+    go false true = (refl, tt)
     go false false = tt
 
 -- a message
@@ -179,7 +192,7 @@ tells_append last (_ ∷ xs) ys a b = absurd a
 
 pub tells_serve : (b : Body) (s : Server) (ds : List ServerStep) → TellsUpTo s.flushed ds → EachStep (Serves b) s ds
 tells_serve b s [] a = tt
-tells_serve b s (Send c i x ∷ ds) a = (a.0, tells_serve b s ds a.1)
+tells_serve b s (Send c i x ∷ ds) a = (told_said b s.flushed x a.0, tells_serve b s ds a.1)
 tells_serve b s (_ ∷ ds) a = absurd a
 
 tells_callbacks : (last : ℕ) (s : Server) (skip : ℕ → Bool) (p c n : ℕ) → TellsUpTo last (send_callbacks s skip p c n)
@@ -200,7 +213,7 @@ tells_downgrades last s skip p c (Some d) = go (not (d == c) && not (is_live_per
     go true (Some g) = (tt, tt)
     go false r = tt
 
-tells_again_pages : (last : ℕ) (s : Server) (n : ℕ) → TellsUpTo last (again_pages s n)
+pub tells_again_pages : (last : ℕ) (s : Server) (n : ℕ) → TellsUpTo last (again_pages s n)
 tells_again_pages last s zero = tt
 tells_again_pages last s (suc n) = tells_append last (again_pages s n) _ (tells_again_pages last s n) (page (s.queue n))
   where
@@ -213,7 +226,7 @@ tells_again_pages last s (suc n) = tells_append last (again_pages s n) _ (tells_
         go true false = tt
         go false u = tells_callbacks last s (λ d. s.in_use d n) n a.client s.clients
 
-tells_again_doomed : (last : ℕ) (s : Server) (n : ℕ) → TellsUpTo last (again_doomed s n)
+pub tells_again_doomed : (last : ℕ) (s : Server) (n : ℕ) → TellsUpTo last (again_doomed s n)
 tells_again_doomed last s zero = tt
 tells_again_doomed last s (suc n) = tells_append last (again_doomed s n) _ (tells_again_doomed last s n) (go (s.doomed n))
   where
@@ -221,10 +234,10 @@ tells_again_doomed last s (suc n) = tells_append last (again_doomed s n) _ (tell
     go true = (tt, tt)
     go false = tt
 
-tells_again : (last : ℕ) (s : Server) → TellsUpTo last (server_again s)
+pub tells_again : (last : ℕ) (s : Server) → TellsUpTo last (server_again s)
 tells_again last s = tells_append last (again_pages s s.pages) (again_doomed s s.clients) (tells_again_pages last s s.pages) (tells_again_doomed last s s.clients)
 
-tells_dones : (xs : List AppliedCommit) (m n : ℕ) → TellsUpTo n (dones_between xs m n)
+pub tells_dones : (xs : List AppliedCommit) (m n : ℕ) → TellsUpTo n (dones_between xs m n)
 tells_dones [] m n = tt
 tells_dones (x ∷ xs) m n = tells_append n (dones_between xs m n) _ (tells_dones xs m n) (go (nat_lt m x.number && nat_le x.number n) refl)
   where
@@ -235,7 +248,7 @@ tells_dones (x ∷ xs) m n = tells_append n (dones_between xs m n) _ (tells_done
     go true e = (below e, tt)
     go false e = tt
 
-tells_only : (last : ℕ) (ds : List ServerStep) → TellsUpTo last ds → OnlySends ds
+pub tells_only : (last : ℕ) (ds : List ServerStep) → TellsUpTo last ds → OnlySends ds
 tells_only last [] a = tt
 tells_only last (Send c i b ∷ ds) a = tells_only last ds a.1
 tells_only last (_ ∷ ds) a = absurd a
@@ -252,21 +265,86 @@ tells_told last (Send d k b ∷ ds) a c i t n j = elim j [
 ]
 tells_told last (_ ∷ ds) a c i t n j = absurd a
 
+said_up_to : (b : Body) (last c i t n : ℕ) (f : Message) → f ≡ record { client = c; incarnation = i; body = Done t n } → SaidAt b last f.body → n ≤ last
+said_up_to b last c i t n f e a = subst (λ (x : Message). SaidAt b last x.body) e a
+
 serves_told : (b : Body) (last : ℕ) (s : Server) (ds : List ServerStep) → s.flushed ≡ last → EachStep (Serves b) s ds → DonesUpTo last (messages_sent ds)
 serves_told b last s [] e a c i t n j = absurd j
 serves_told b last s (Send d k x ∷ ds) e a c i t n j = elim j [
-  | inl q ↦ told_up_to last c i t n (record { client = d; incarnation = k; body = x }) q (subst (λ (y : ℕ). DoneUpTo y x) e a.0)
+  | inl q ↦ said_up_to b last c i t n (record { client = d; incarnation = k; body = x }) q (subst (λ (y : ℕ). SaidAt b y x) e a.0)
   | inr l ↦ serves_told b last s ds e a.1 c i t n l
 ]
 serves_told b last s (SetFlushed m ∷ ds) e a c i t n j = absurd a.0
 serves_told b last s (d ∷ ds) e a c i t n j = serves_told b last (after_server_step s d) ds e a.1 c i t n j
+
+-- nobody is welcomed but by a Hello
+welcome_said : (b : Body) (last d k : ℕ) (f : Message) → f ≡ record { client = d; incarnation = k; body = Welcome } → SaidAt b last f.body → b ≡ Hello
+welcome_said b last d k f e a = subst (λ (x : Message). SaidAt b last x.body) e a
+
+pub serves_welcome : (b : Body) (s : Server) (ds : List ServerStep) (d k : ℕ) → EachStep (Serves b) s ds → IsIn (record { client = d; incarnation = k; body = Welcome }) (messages_sent ds) → b ≡ Hello
+serves_welcome b s [] d k a j = absurd j
+serves_welcome b s (Send c i x ∷ ds) d k a j = elim j [
+  | inl q ↦ welcome_said b s.flushed d k (record { client = c; incarnation = i; body = x }) q a.0
+  | inr l ↦ serves_welcome b s ds d k a.1 l
+]
+serves_welcome b s (e ∷ ds) d k a j = serves_welcome b (after_server_step s e) ds d k a.1 j
+
+welcome_told : (last d k : ℕ) (f : Message) → f ≡ record { client = d; incarnation = k; body = Welcome } → DoneUpTo last f.body → ⊥
+welcome_told last d k f e a = subst (λ (x : Message). DoneUpTo last x.body) e a
+
+pub tells_no_welcome : (last : ℕ) (ds : List ServerStep) (d k : ℕ) → TellsUpTo last ds → IsIn (record { client = d; incarnation = k; body = Welcome }) (messages_sent ds) → ⊥
+tells_no_welcome last [] d k a j = j
+tells_no_welcome last (Send c i x ∷ ds) d k a j = elim j [
+  | inl q ↦ welcome_told last d k (record { client = c; incarnation = i; body = x }) q a.0
+  | inr l ↦ tells_no_welcome last ds d k a.1 l
+]
+tells_no_welcome last (_ ∷ ds) d k a j = absurd a
+
+no_news : (d k : ℕ) (f : Message) → f ≡ record { client = d; incarnation = k; body = Welcome } → NoNews f.body → ⊥
+no_news d k f e a = subst (λ (x : Message). NoNews x.body) e a
+
+settles_no_welcome : (s : Server) (ds : List ServerStep) (d k : ℕ) → EachStep Settles s ds → IsIn (record { client = d; incarnation = k; body = Welcome }) (messages_sent ds) → ⊥
+settles_no_welcome s [] d k a j = j
+settles_no_welcome s (Send c i x ∷ ds) d k a j = elim j [
+  | inl q ↦ no_news d k (record { client = c; incarnation = i; body = x }) q a.0
+  | inr l ↦ settles_no_welcome s ds d k a.1 l
+]
+settles_no_welcome s (e ∷ ds) d k a j = settles_no_welcome (after_server_step s e) ds d k a.1 j
+
+-- and that Hello is the one of its client and incarnation
+abbrev hello_of : ℕ → ℕ → Message
+hello_of c i = record { client = c; incarnation = i; body = Hello }
+
+hello_welcome : (cycle : DeadlockTest) (s : Server) (c i d k : ℕ) → IsIn (record { client = d; incarnation = k; body = Welcome }) (messages_sent (server_take cycle s c i Hello)) → hello_of c i ≡ hello_of d k
+unfolding server_take
+hello_welcome cycle s c i d k = go (nat_lt (s.session c).current i) (i == (s.session c).current)
+  where
+    same : (f : Message) → f ≡ record { client = d; incarnation = k; body = Welcome } → hello_of f.client f.incarnation ≡ hello_of d k
+    same f e = ap (λ (x : Message). hello_of x.client x.incarnation) e
+
+    admitted : Server
+    admitted = server_after s (ForgetTransaction c ∷ ChangeSession c (Admit i) ∷ Send c i Welcome ∷ [])
+
+    go : (r u : Bool) → IsIn (record { client = d; incarnation = k; body = Welcome }) (messages_sent (if r then admit_incarnation cycle s c i else if u then Send c i Welcome ∷ [] else [])) → hello_of c i ≡ hello_of d k
+    go true u j = elim j [ inl e ↦ same (record { client = c; incarnation = i; body = Welcome }) e | inr l ↦ absurd (settles_no_welcome admitted (settle_pages cycle admitted s.pages) d k (settles cycle admitted s.pages) l) ]
+    go false true j = elim j [ inl e ↦ same (record { client = c; incarnation = i; body = Welcome }) e | inr l ↦ absurd l ]
+    go false false j = absurd j
+
+pub welcome_answers : (cycle : DeadlockTest) (s : Server) (f : Message) (d k : ℕ) → IsIn (record { client = d; incarnation = k; body = Welcome }) (messages_sent (server_take cycle s f.client f.incarnation f.body)) → f ≡ record { client = d; incarnation = k; body = Hello }
+welcome_answers cycle s f d k j = whole ∙ hello_welcome cycle s f.client f.incarnation d k (subst (λ (b : Body). IsIn (record { client = d; incarnation = k; body = Welcome }) (messages_sent (server_take cycle s f.client f.incarnation b))) hello j)
+  where
+    hello : f.body ≡ Hello
+    hello = serves_welcome f.body s (server_take cycle s f.client f.incarnation f.body) d k (serves cycle s f.client f.incarnation f.body) j
+
+    whole : f ≡ hello_of f.client f.incarnation
+    whole = λ i. record { client = f.client; incarnation = f.incarnation; body = hello i }
 
 flushed_kept : (b : Body) (last : ℕ) → KeptUnder (Serves b) (λ k. k.flushed ≡ last)
 flushed_kept b last s (SetFlushed m) ds a e = absurd a
 flushed_kept b last s _ ds a e = e
 
 -- nothing is said after the Dones
-sent_before : (xs : List ServerStep) (n : ℕ) → messages_sent (xs ++ SetFlushed n ∷ []) ≡ messages_sent xs
+pub sent_before : (xs : List ServerStep) (n : ℕ) → messages_sent (xs ++ SetFlushed n ∷ []) ≡ messages_sent xs
 sent_before [] n = refl
 sent_before (Send c i b ∷ xs) n = ap (λ (fs : List Message). record { client = c; incarnation = i; body = b } ∷ fs) (sent_before xs n)
 sent_before (_ ∷ xs) n = sent_before xs n

@@ -1,9 +1,9 @@
 -- Worked schedules over several lives of the server. What is answered was worked out by hand from the rules as docs/PROTOCOL.md tells them.
 use Rattle.std.proofs.Common.{Bool, List, [], ap, arith, false, length, map, refl, true, ℕ, ◌++◌, ◌+◌, ◌∷◌, ◌≡◌}
 use Rattle.cb_protocol.proofs.LivesProof.{lives_headline}
-use Rattle.cb_protocol.proofs.LivesText.{FloorsNew, LivesGive, LivesLine, LivesOutput, Restarts, commit, event_of, lines_lead, lives_of, within}
+use Rattle.cb_protocol.proofs.LivesText.{FloorsNew, LivesGive, LivesLine, LivesOutput, Restarts, commit, event_of, lines_lead, lives_of, lives_output, within}
 use Rattle.cb_protocol.proofs.ScheduleText.{Line, at, begin, drop_txn, finish, flush_all, flush_to, hello, limits, page_of, peek, read, resend, restart, sent, server_resends, take, want, write, zeros}
-use Rattle.cb_protocol.specs.Answers.{AnsweredBytes, AnsweredOk, Asked, Flushed, NotWelcome, Nothing, Permitted, Refused, Taken, Waiting}
+use Rattle.cb_protocol.specs.Answers.{AnsweredBytes, AnsweredOk, Asked, Flushed, NoPacket, NotWelcome, Nothing, Permitted, Refused, Taken, Waiting}
 use Rattle.cb_protocol.specs.Basics.{Bytes}
 use Rattle.cb_protocol.specs.ClientCalls.{call_fault, client_call}
 use Rattle.cb_protocol.specs.ClientMessages.{client_take}
@@ -36,7 +36,7 @@ finished = at (hello 0) AnsweredOk (sent 0 1 0 ∷ [])
 
 -- a Commit that is on its way as the server restarts is nothing to the new life
 abbrev on_its_way_lines : List LivesLine
-on_its_way_lines = within finished ++ Restarts 2 ∷ within (at (take 6) Taken []
+on_its_way_lines = within finished ++ Restarts 2 0 ∷ within (at (take 6) Taken []
     ∷ at flush_all Nothing []
     ∷ at (peek 0 5) (AnsweredBytes (page_of 7)) [] ∷ [])
 
@@ -46,7 +46,7 @@ commit_on_its_way = (refl, refl)
 
 -- one that was applied and isn't on disk is lost; its Commit, which comes once more, is nothing
 abbrev lost_lines : List LivesLine
-lost_lines = within (finished ++ at (take 6) Taken [] ∷ []) ++ Restarts 2 ∷ within (at flush_all Nothing [] ∷ at (take 6) Taken [] ∷ at flush_all Nothing [] ∷ [])
+lost_lines = within (finished ++ at (take 6) Taken [] ∷ []) ++ Restarts 2 0 ∷ within (at flush_all Nothing [] ∷ at (take 6) Taken [] ∷ at flush_all Nothing [] ∷ [])
 
 commit_before_its_flush : LivesGive (limits 2 8 4 false) lost_lines [] × (page_5 lost_lines ≡ page_of 0)
 unfolding client_call call_fault client_take server_take step
@@ -54,7 +54,7 @@ commit_before_its_flush = (refl, refl)
 
 -- one that is on disk survives; its Done is packet 7
 abbrev on_disk_lines : List LivesLine
-on_disk_lines = within (finished ++ at (take 6) Taken [] ∷ at flush_all (Flushed 1) (sent 7 69 0 ∷ []) ∷ []) ++ Restarts 2 ∷ []
+on_disk_lines = within (finished ++ at (take 6) Taken [] ∷ at flush_all (Flushed 1) (sent 7 69 0 ∷ []) ∷ []) ++ Restarts 2 1 ∷ []
 
 commit_after_its_flush : LivesGive (limits 2 8 4 false) on_disk_lines (commit 0 1 1 1 ∷ []) × (page_5 on_disk_lines ≡ page_of 7)
     × (lives_history (lives_of (limits 2 8 4 false) on_disk_lines) ≡ (Saw 5 (page_of 0) ∷ Put 5 (page_of 7) ∷ []) ∷ [])
@@ -92,7 +92,7 @@ unfolding client_call call_fault client_take server_take step
 old_client_commits_nothing = (refl, refl)
 
 -- a Hello of the former life isn't welcomed, however often it comes; one of the new life is
-late_hello : LivesGive (limits 2 8 4 false) (within (at (hello 1) AnsweredOk (sent 0 1 1 ∷ []) ∷ []) ++ Restarts 2 ∷ within (at (take 0) Taken []
+late_hello : LivesGive (limits 2 8 4 false) (within (at (hello 1) AnsweredOk (sent 0 1 1 ∷ []) ∷ []) ++ Restarts 2 0 ∷ within (at (take 0) Taken []
     ∷ at (resend 1) AnsweredOk (sent 1 1 1 ∷ [])
     ∷ at (take 1) Taken []
     ∷ at (begin 1) (Refused NotWelcome) []
@@ -108,7 +108,7 @@ late_hello = refl
 -- A Welcome of the former life that comes again: its own incarnation begins a transaction that gets nothing, a new one ignores it.
 welcome_repeated : LivesGive (limits 2 8 4 false) (within (at (hello 0) AnsweredOk (sent 0 1 0 ∷ [])
     ∷ at (take 0) Taken (sent 1 65 0 ∷ [])
-    ∷ at (take 1) Taken [] ∷ []) ++ Restarts 2 ∷ within (at (take 1) Taken []
+    ∷ at (take 1) Taken [] ∷ []) ++ Restarts 2 0 ∷ within (at (take 1) Taken []
     ∷ at (begin 0) AnsweredOk []
     ∷ at (read 0 3) Asked (sent 2 2 0 ∷ [])
     ∷ at (take 2) Taken []
@@ -120,7 +120,7 @@ welcome_repeated = refl
 
 -- Two restarts in a row: a client that comes to the first of the new lives is nothing to the second; one that comes to that reads what was on disk, and commits after it.
 abbrev two_restarts_lines : List LivesLine
-two_restarts_lines = on_disk_lines ++ Restarts 3 ∷ within (at (restart 1) AnsweredOk []
+two_restarts_lines = on_disk_lines ++ Restarts 3 1 ∷ within (at (restart 1) AnsweredOk []
     ∷ at (hello 1) AnsweredOk (sent 8 1 1 ∷ [])
     ∷ at (take 8) Taken []
     ∷ at (restart 1) AnsweredOk []
@@ -168,21 +168,59 @@ read_from_it = at (hello 1) AnsweredOk (sent 0 1 1 ∷ [])
     ∷ at (take 11) Taken [] ∷ []
 
 -- who read from a commit that was lost is lost with it
-read_from_a_lost_commit : LivesGive (limits 2 8 4 false) (within read_from_it ++ Restarts 2 ∷ within (at (take 11) Taken [] ∷ at flush_all Nothing [] ∷ [])) []
+read_from_a_lost_commit : LivesGive (limits 2 8 4 false) (within read_from_it ++ Restarts 2 0 ∷ within (at (take 11) Taken [] ∷ at flush_all Nothing [] ∷ [])) []
 unfolding client_call call_fault client_take server_take step
 read_from_a_lost_commit = refl
 
 -- up to which commit the disk has them, they survive: the first alone, or both
 abbrev first_on_disk : List LivesLine
-first_on_disk = within (read_from_it ++ at (flush_to 1) (Flushed 1) (sent 12 69 0 ∷ []) ∷ []) ++ Restarts 2 ∷ []
+first_on_disk = within (read_from_it ++ at (flush_to 1) (Flushed 1) (sent 12 69 0 ∷ []) ∷ []) ++ Restarts 2 1 ∷ []
 
 first_alone_survives : LivesGive (limits 2 8 4 false) first_on_disk (commit 0 1 1 1 ∷ []) × (page_5 first_on_disk ≡ page_of 7)
 unfolding client_call call_fault client_take server_take step
 first_alone_survives = (refl, refl)
 
-both_survive : LivesGive (limits 2 8 4 false) (within (read_from_it ++ at (flush_to 2) (Flushed 2) (sent 12 69 0 ∷ sent 13 69 1 ∷ []) ∷ []) ++ Restarts 2 ∷ []) (commit 1 1 1 2 ∷ commit 0 1 1 1 ∷ [])
+both_survive : LivesGive (limits 2 8 4 false) (within (read_from_it ++ at (flush_to 2) (Flushed 2) (sent 12 69 0 ∷ sent 13 69 1 ∷ []) ∷ []) ++ Restarts 2 2 ∷ []) (commit 1 1 1 2 ∷ commit 0 1 1 1 ∷ [])
 unfolding client_call call_fault client_take server_take step
 both_survive = refl
+
+-- A commit that the disk has, and of which the server wasn't told before it restarted: it counts, and no Done was sent. Its Commit, which comes again, is nothing; who comes to the new life reads it, and commits behind it.
+abbrev unreported_lines : List LivesLine
+unreported_lines = within (finished ++ at (take 6) Taken [] ∷ []) ++ Restarts 2 1 ∷ within (at (take 7) NoPacket []
+    ∷ at (resend 0) AnsweredOk (sent 7 6 0 ∷ [])
+    ∷ at (take 7) Taken []
+    ∷ at flush_all Nothing []
+    ∷ at (restart 1) AnsweredOk []
+    ∷ at (hello 1) AnsweredOk (sent 8 1 1 ∷ [])
+    ∷ at (take 8) Taken (sent 9 65 1 ∷ [])
+    ∷ at (take 9) Taken []
+    ∷ at (begin 1) AnsweredOk []
+    ∷ at (read 1 5) Asked (sent 10 2 1 ∷ [])
+    ∷ at (take 10) Taken (sent 11 66 1 ∷ [])
+    ∷ at (take 11) Taken []
+    ∷ at (read 1 5) (AnsweredBytes (page_of 7)) []
+    ∷ at (finish 1) AnsweredOk (sent 12 6 1 ∷ [])
+    ∷ at (take 12) Taken []
+    ∷ at flush_all (Flushed 2) (sent 13 69 1 ∷ []) ∷ [])
+
+written_and_not_reported : LivesGive (limits 2 8 4 false) unreported_lines (commit 1 2 1 2 ∷ commit 0 1 1 1 ∷ [])
+    × (lives_history (lives_of (limits 2 8 4 false) unreported_lines) ≡ (Saw 5 (page_of 0) ∷ Put 5 (page_of 7) ∷ []) ∷ (Saw 5 (page_of 7) ∷ []) ∷ [])
+unfolding client_call call_fault client_take server_take step
+written_and_not_reported = (refl, refl)
+
+-- of two commits of which none was reported, the disk may have the first alone, or both
+part_of_a_batch : LivesGive (limits 2 8 4 false) (within read_from_it ++ Restarts 2 1 ∷ []) (commit 0 1 1 1 ∷ [])
+    × LivesGive (limits 2 8 4 false) (within read_from_it ++ Restarts 2 2 ∷ []) (commit 1 1 1 2 ∷ commit 0 1 1 1 ∷ [])
+unfolding client_call call_fault client_take server_take step
+part_of_a_batch = (refl, refl)
+
+-- the disk can't have a commit that wasn't made, nor lack one that it reported
+abbrev may_happen : List LivesLine → Bool
+may_happen ls = (lives_output (limits 2 8 4 false) (first_life (limits 2 8 4 false) zeros) ls).allowed
+
+numbers_that_cannot_be : (may_happen (within read_from_it ++ Restarts 2 3 ∷ []) ≡ false) × (may_happen (within (read_from_it ++ at (flush_to 1) (Flushed 1) (sent 12 69 0 ∷ []) ∷ []) ++ Restarts 2 0 ∷ []) ≡ false)
+unfolding client_call call_fault client_take server_take step
+numbers_that_cannot_be = (refl, refl)
 
 -- client 0 reads page 5 and client 1 too, which then asks to write it: client 0 is called back
 abbrev called_back : ℕ → List Line
@@ -212,16 +250,16 @@ abbrev seen_at_5 : List LivesLine → Bool × ℕ
 seen_at_5 ls = let s = (lives_of (limits 2 8 4 false) ls).world.server in (s.in_use 0 5, length (s.queue 5))
 
 -- No mark or ask of the former life is there in the new one: all goes as at first, and client 0 is called back again while it hasn't answered.
-nothing_waits : (seen_at_5 (within marked) ≡ (true, 1)) × (seen_at_5 (within marked ++ Restarts 2 ∷ []) ≡ (false, 0))
+nothing_waits : (seen_at_5 (within marked) ≡ (true, 1)) × (seen_at_5 (within marked ++ Restarts 2 0 ∷ []) ≡ (false, 0))
 unfolding client_call call_fault client_take server_take step
 nothing_waits = (refl, refl)
 
-all_anew : LivesGive (limits 2 8 4 false) (within marked ++ Restarts 2 ∷ within (at (restart 0) AnsweredOk [] ∷ at (restart 1) AnsweredOk [] ∷ called_back 11 ++ at server_resends AnsweredOk (sent 21 68 0 ∷ []) ∷ [])) []
+all_anew : LivesGive (limits 2 8 4 false) (within marked ++ Restarts 2 0 ∷ within (at (restart 0) AnsweredOk [] ∷ at (restart 1) AnsweredOk [] ∷ called_back 11 ++ at server_resends AnsweredOk (sent 21 68 0 ∷ []) ∷ [])) []
 unfolding client_call call_fault client_take server_take step
 all_anew = refl
 
 -- Nor is a row: who is alone in the new life may write at once, and nobody is called back.
-no_row_survives : LivesGive (limits 2 8 4 false) (within marked ++ Restarts 2 ∷ within (at (restart 1) AnsweredOk []
+no_row_survives : LivesGive (limits 2 8 4 false) (within marked ++ Restarts 2 0 ∷ within (at (restart 1) AnsweredOk []
     ∷ at (hello 1) AnsweredOk (sent 11 1 1 ∷ [])
     ∷ at (take 11) Taken (sent 12 65 1 ∷ [])
     ∷ at (take 12) Taken []
@@ -236,7 +274,7 @@ unfolding client_call call_fault client_take server_take step
 no_row_survives = refl
 
 -- With kept write permission: client 0 of the former life may still write page 5, and commits nothing; client 1 of the new life reads what was on disk, at once, and commits.
-kept_permission_ends : LivesGive (limits 2 8 4 true) (within (finished ++ at (take 6) Taken [] ∷ at flush_all (Flushed 1) (sent 7 69 0 ∷ []) ∷ at (take 7) Taken [] ∷ []) ++ Restarts 2 ∷ within (at (restart 1) AnsweredOk []
+kept_permission_ends : LivesGive (limits 2 8 4 true) (within (finished ++ at (take 6) Taken [] ∷ at flush_all (Flushed 1) (sent 7 69 0 ∷ []) ∷ at (take 7) Taken [] ∷ []) ++ Restarts 2 1 ∷ within (at (restart 1) AnsweredOk []
     ∷ at (hello 1) AnsweredOk (sent 8 1 1 ∷ [])
     ∷ at (take 8) Taken (sent 9 65 1 ∷ [])
     ∷ at (take 9) Taken []

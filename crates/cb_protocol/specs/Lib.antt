@@ -20,6 +20,7 @@ pub mod Laws
 pub mod LeavingLaws
 pub mod LifeLaws
 pub mod Lives
+pub mod LivesEvents
 pub mod LivesWorld
 pub mod Marks
 pub mod Messages

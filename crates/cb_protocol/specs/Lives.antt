@@ -5,81 +5,113 @@ use Rattle.cb_protocol.specs.AnyMessages.{committed_names, version_after}
 use Rattle.cb_protocol.specs.Basics.{Bytes, IsIn, Limits}
 use Rattle.cb_protocol.specs.Headline.{DoneSent, GaveBack, Holds, MayWritePage, NotWritten}
 use Rattle.cb_protocol.specs.Headline.{Promise, ReadableCopy, SoundOpening}
-use Rattle.cb_protocol.specs.LivesWorld.{LeadsTo, Lives, LivesEvent, first_life, in_first_life}
-use Rattle.cb_protocol.specs.LivesWorld.{run_events}
-use Rattle.cb_protocol.specs.Messages.{Welcome}
+use Rattle.cb_protocol.specs.HelloLaws.{OnlyGreeted}
+use Rattle.cb_protocol.specs.LivesWorld.{LeadsTo, Lives, LivesEvent, Reaches, first_life}
+use Rattle.cb_protocol.specs.LivesWorld.{in_first_life, run_events}
+use Rattle.cb_protocol.specs.Messages.{Hello, Message, Welcome}
 use Rattle.cb_protocol.specs.Serial.{EachOnce, IsSerial, Operation, committed_operations}
 use Rattle.cb_protocol.specs.Serial.{store_left}
 use Rattle.cb_protocol.specs.Server.{AppliedCommit, DeadlockTest}
 use Rattle.cb_protocol.specs.Transcript.{transcript_operations}
 use Rattle.cb_protocol.specs.World.{Moment, Opening, Plays, World, new_world, world_after}
 
--- The client's incarnation is of the present life. Only such a one is welcomed by it.
+-- The client is of the present life: its incarnation is the floor or above, whether it was welcomed
+-- or not. A client below the floor is never welcomed in this life.
 abbrev pub IsOfLife : Lives → (client : ℕ) → Type 0
 IsOfLife lives client = lives.floor ≤ lives.world.incarnation client
 
--- Of the clients of the present life, two readable copies of a page have the same bytes.
+-- Two readable copies of a page, both at clients of the present life, have the same bytes.
 abbrev pub CopiesOfLifeAgree : Lives → Type 0
 CopiesOfLifeAgree lives = (client other page : ℕ) (bytes other_bytes : Bytes)
     → IsOfLife lives client → IsOfLife lives other
     → ReadableCopy lives.world client page bytes → ReadableCopy lives.world other page other_bytes
     → bytes ≡ other_bytes
 
--- Of them, while one may write a page, no other has a readable copy of it.
+-- While a client of the present life may write a page, no other client of it has a readable copy.
 abbrev pub WriterOfLifeAlone : Lives → Type 0
 WriterOfLifeAlone lives = (client other page : ℕ) (bytes : Bytes)
     → IsOfLife lives client → IsOfLife lives other
     → MayWritePage lives.world client page → ReadableCopy lives.world other page bytes
     → other ≡ client
 
--- the commits that count: of former lives those that were on disk, of the present one all
+-- The commits that count, the newest first: all of the present life, and of each former life those
+-- that were on disk when it ended.
 abbrev pub lives_commits : Lives → List AppliedCommit
 lives_commits lives = lives.world.server.commits ++ lives.former
 
--- the operations of their transactions, in commit order
+-- for each of them the operations of its transaction, in commit order
 abbrev pub lives_history : Lives → List (List Operation)
 lives_history lives = committed_operations
     (committed_names (lives_commits lives)) (transcript_operations lives.world.transcript)
 
--- They are a serial history on the first life's store, and the server's store is what it leaves.
+-- Their transactions are a serial history on the store with which the first life began, and the
+-- present server's store is what that history leaves.
 pub record LivesAreSerial (opening : ℕ → Bytes) (lives : Lives) : Type 0 where
   pub legal : IsSerial opening (lives_history lives)
   pub leaves : (page : ℕ)
       → store_left opening (lives_history lives) page ≡ lives.world.server.store.bytes page
 
--- Each Done that was ever sent, in whatever life, names one of these commits, and it is on disk. No
--- packet is ever forgotten, so this holds of it for ever.
+-- Each Done that was ever sent, in whatever life, names a commit that counts, by its number.
 pub record DonesStand (lives : Lives) : Type 0 where
   pub committed : (client incarnation txn number : ℕ)
       → DoneSent lives.world client incarnation txn number
       → IsCommit (lives_commits lives) client incarnation txn number
+  -- that commit is on disk, as far as the server was told
   pub on_disk : (client incarnation txn number : ℕ)
       → DoneSent lives.world client incarnation txn number
       → number ≤ lives.world.server.flushed
+  -- no commit is on disk that the server didn't make
   pub disk : lives.world.server.flushed ≤ lives.world.server.store.last_commit
 
--- A commit of the present life is of an incarnation that this life has welcomed: it is of the life,
--- its client has come to it, and the Welcome was sent. So a client that isn't welcomed commits
--- nothing, whatever it holds and whatever is on its way.
+-- the server's message that welcomes that incarnation of the client
+abbrev pub welcome_to : (client incarnation : ℕ) → Message
+welcome_to client incarnation =
+    record { client = client; incarnation = incarnation; body = Welcome }
+
+-- that incarnation of the client was welcomed
+abbrev pub WelcomeSent : World → (client incarnation : ℕ) → Type 0
+WelcomeSent world client incarnation = IsIn (welcome_to client incarnation) world.packets
+
+-- that incarnation of the client greeted
+abbrev pub HelloSent : World → (client incarnation : ℕ) → Type 0
+HelloSent world client incarnation =
+    IsIn (record { client = client; incarnation = incarnation; body = Hello }) world.packets
+
+-- What was sent, in whatever life, is of no incarnation that is still to come.
+pub record PacketsArePast (lives : Lives) : Type 0 where
+  -- Each message, from a client or to it, is of the client's present incarnation or an earlier one.
+  -- So one of the floor or above is of the present life, and its client has come to that life.
+  pub past : (message : Message) → IsIn message lives.world.packets
+      → message.incarnation ≤ lives.world.incarnation message.client
+  -- who was welcomed had greeted
+  pub greeted : (client incarnation : ℕ) → WelcomeSent lives.world client incarnation
+      → HelloSent lives.world client incarnation
+
+-- The incarnation whose transaction made this commit of the present life is of that life, and was
+-- welcomed. So a client that isn't welcomed commits nothing, whatever it holds and whatever is on
+-- its way.
 pub record CommitWelcomed (lives : Lives) (commit : AppliedCommit) : Type 0 where
   pub of_life : lives.floor ≤ commit.incarnation
+  -- its client has had that incarnation
   pub come : commit.incarnation ≤ lives.world.incarnation commit.client
-  pub welcomed : IsIn (record {
-    client = commit.client;
-    incarnation = commit.incarnation;
-    body = Welcome;
-  }) lives.world.packets
+  pub welcomed : WelcomeSent lives.world commit.client commit.incarnation
 
--- The present life heeds those alone that it has welcomed.
+-- Nobody has a say in the present life who wasn't welcomed by it.
 pub record WelcomedAlone (lives : Lives) : Type 0 where
-  -- each client's current incarnation at the server, the only one of which a message counts
+  -- The server takes messages of a client's current incarnation alone, and greater Hellos. Each
+  -- current incarnation is the floor or above, so it takes none of a former life.
   pub current : (client : ℕ) → client < lives.world.server.clients
       → lives.floor ≤ (lives.world.server.session client).current
+  -- of a client below the floor it has nothing: no row, permission, mark, ask or transaction
+  pub nothing : (client : ℕ) → client < lives.world.server.clients
+      → lives.world.incarnation client < lives.floor
+      → OnlyGreeted lives.world.server client lives.floor
+  -- and nobody commits whom it hasn't welcomed
   pub commits : (commit : AppliedCommit) → IsIn commit lives.world.server.commits
       → CommitWelcomed lives commit
 
--- The ledger over all lives: these commits have the numbers after the first life's store, one by
--- one, and the server's store is that store with them written over it.
+-- The ledger over all lives: the commits that count are numbered one by one, from the number of the
+-- first life's store on, and the server's store is that first store with their writes over it.
 pub record LivesLedger (opening : Opening) (lives : Lives) : Type 0 where
   pub numbered : Numbered opening.number (lives_commits lives)
       lives.world.server.store.last_commit
@@ -88,7 +120,8 @@ pub record LivesLedger (opening : Opening) (lives : Lives) : Type 0 where
   pub version : (page : ℕ) → lives.world.server.store.version page
       ≡ version_after opening.version (lives_commits lives) page
 
--- What a client of the present life holds, the server has in its rows, as in `BackedByServer`.
+-- What a client of the present life holds, the server has in its rows, permissions and store: line
+-- by line as in `BackedByServer`, but for these clients alone.
 pub record BackedOfLife (lives : Lives) : Type 0 where
   pub row : (client page grant : ℕ) → IsOfLife lives client → Holds lives.world client page grant
       → (lives.world.server.session client).row page ≡ Some grant
@@ -104,35 +137,36 @@ pub record BackedOfLife (lives : Lives) : Type 0 where
       → ReadableCopy lives.world client page bytes → NotWritten lives.world client page
       → bytes ≡ lives.world.server.store.bytes page
 
--- all of it
+-- All that is promised at one moment. `opening`: the store with which the first life began.
 pub record LivesPromise (opening : Opening) (lives : Lives) : Type 0 where
   pub agree : CopiesOfLifeAgree lives
   pub alone : WriterOfLifeAlone lives
   pub serial : LivesAreSerial opening.bytes lives
   pub once : EachOnce (committed_names (lives_commits lives))
   pub dones : DonesStand lives
+  pub packets : PacketsArePast lives
   pub welcomed : WelcomedAlone lives
   pub directory : DirectoryRule lives.world.server
   pub ledger : LivesLedger opening lives
   pub backed : BackedOfLife lives
 
--- From the first life on, by whatever events, restarts of the server among them, the promise is
--- kept at each moment. `cycle`: whoever is doomed, by whatever test.
+-- Whatever events lead there from the first life's beginning, restarts of the server among them,
+-- the promise holds. `cycle`: the test by which victims of deadlocks are picked, whatever it is.
 abbrev pub LivesHeadline : Limits → DeadlockTest → Type 0
 LivesHeadline limits cycle = (opening : Opening) (events : List LivesEvent) (lives : Lives)
-    → SoundOpening opening → LeadsTo limits cycle (first_life limits opening) events lives
+    → SoundOpening opening → Reaches limits cycle opening events lives
     → LivesPromise opening lives
 
--- with kept write permission and without it
+-- So with all limits, with kept write permission and without it.
 abbrev pub LivesKeepThePromise : Type 0
 LivesKeepThePromise = (limits : Limits) (cycle : DeadlockTest) → LivesHeadline limits cycle
 
--- In the first life the promise over all lives is the one of one life, word for word.
+-- In the first life this promise gives the one of one life, word for word.
 abbrev pub OneLifeIsPromised : Type 0
 OneLifeIsPromised = (opening : Opening) (world : World)
     → LivesPromise opening (in_first_life opening world) → Promise opening world
 
--- A run of one life is such a list of events.
+-- A run of the world of one life is a list of these events, without a restart of the server.
 abbrev pub RunsAreOfOneLife : Limits → DeadlockTest → Type 0
 RunsAreOfOneLife limits cycle = (opening : Opening) (moments : List Moment)
     → Plays limits cycle (new_world limits opening) moments

@@ -1,8 +1,8 @@
--- The server restarts: the world over all its lives, and what each event makes of it. A life of the
--- server is from one start of it to the next. Events, tables and world of one life stand as they
--- are, and know nothing of it.
-use Rattle.std.specs.Prelude.{◌≡◌, ◌<◌, ℕ, nat_le, if◌then◌else◌, List, [], ◌∷◌, ◌++◌, map, nat_lt}
-use Rattle.std.specs.Prelude.{None, Option}
+-- The server restarts. A life of the server is from one start of it to the next. Here is the world
+-- over all its lives, and what each event makes of it. All lives have the same limits. World, event
+-- and tables of messages are those of one life, unchanged.
+use Rattle.std.specs.Prelude.{◌≡◌, ◌<◌, ◌≤◌, ℕ, nat_le, if◌then◌else◌, List, [], ◌∷◌, ◌++◌, map}
+use Rattle.std.specs.Prelude.{None, Option, nat_lt}
 use Rattle.cb_protocol.specs.AnyMessages.{bytes_after, version_after}
 use Rattle.cb_protocol.specs.Basics.{Limits}
 use Rattle.cb_protocol.specs.Server.{AppliedCommit, DeadlockTest, Server, new_server}
@@ -10,28 +10,28 @@ use Rattle.cb_protocol.specs.Session.{Session}
 use Rattle.cb_protocol.specs.World.{Event, EventChoiceAllowed, Moment, Opening, World, new_world}
 use Rattle.cb_protocol.specs.World.{opening_store, step}
 
--- an event within a life of the server; or the server restarts, and its new life heeds only
--- incarnations from that floor on
+-- an event of the world over all lives
 pub data LivesEvent : Type 0 where
-  WithinLife : Event → LivesEvent
-  ServerRestarts : (floor : ℕ) → LivesEvent
+  WithinLife : Event → LivesEvent  -- any event but a restart of the server
+  -- The server restarts. In its new life it ignores messages of incarnations below the floor. The
+  -- commits up to that number are on disk, whether the server was told so before it stopped or not.
+  ServerRestarts : (floor number : ℕ) → LivesEvent
 
--- The world over all lives of the server. A client that takes a far greater incarnation, as the
--- first of a life's range, is one that restarted so often.
+-- The world over all lives of the server.
 pub record Lives : Type 0 where
-  -- the server of the present life; the clients, packets and transcript of all lives
+  -- The server is that of the present life. Clients, packets and transcript go on over all lives.
   pub world : World
-  pub floor : ℕ  -- of the present life: it heeds no incarnation below
-  pub opening : Opening  -- the store over which the present life began
-  -- the commits of former lives that were on disk as each life ended, the newest first
+  pub floor : ℕ  -- of the present life: its server ignores messages of incarnations below it
+  pub opening : Opening  -- the store with which the present life began
+  -- the commits of former lives that were on disk when their life ended, the newest first
   pub former : List AppliedCommit
 
--- a world in the first life of its server; every incarnation is of it
+-- A world in the first life of its server. The floor is 0, so no incarnation is below it.
 abbrev pub in_first_life : Opening → World → Lives
 in_first_life opening world =
     record { world = world; floor = 0; opening = opening; former = [] }
 
--- the first life's beginning
+-- the world as the first life begins
 abbrev pub first_life : Limits → Opening → Lives
 first_life limits opening = in_first_life opening (new_world limits opening)
 
@@ -41,67 +41,86 @@ commits_up_to number [] = []
 commits_up_to number (last ∷ earlier) =
     if nat_le last.number number then last ∷ earlier else commits_up_to number earlier
 
--- The commits that are on disk: what of a life survives its end. A write of which the server didn't
--- hear is a flush just before the end, whose Dones are lost.
-abbrev pub commits_on_disk : Server → List AppliedCommit
-commits_on_disk server = commits_up_to server.flushed server.commits
+-- The commits of the present life that are on disk, where the disk has them up to that number. They
+-- are what is left of a life when it ends.
+abbrev pub commits_on_disk : Server → (number : ℕ) → List AppliedCommit
+commits_on_disk server number = commits_up_to number server.commits
 
--- the store as it is on disk, for the next life to begin over
-abbrev pub store_on_disk : Opening → Server → Opening
-store_on_disk opening server = record {
-  bytes = bytes_after opening.bytes (commits_on_disk server);
-  version = version_after opening.version (commits_on_disk server);
-  number = server.flushed;
+-- The store as it is on disk then: that with which the life began, and what these commits wrote.
+-- The next life begins with it.
+abbrev pub store_on_disk : Opening → Server → (number : ℕ) → Opening
+store_on_disk opening server number = record {
+  bytes = bytes_after opening.bytes (commits_on_disk server number);
+  version = version_after opening.version (commits_on_disk server number);
+  number = number;
 }
 
--- a client of which nothing is known but that incarnation
+-- what a server has of a client of which it knows that incarnation and nothing else
 abbrev pub session_at : (incarnation : ℕ) → Session
 session_at incarnation =
     record { current = incarnation; row = λ page. None; txn = 0; ended = 0 }
 
--- A server of a new life: new over its store, and of each client that there is the floor is the
--- current incarnation, which nobody ever was.
+-- The server as a life begins: a new one over its store, except that the current incarnation of
+-- each client is the floor. No client was ever of that incarnation, so whatever they sent is
+-- ignored.
 abbrev pub server_of_life : Limits → Opening → (floor : ℕ) → Server
 server_of_life limits opening floor =
     record (new_server limits.clients limits.pages (opening_store limits opening)) {
       session = λ client. session_at (if nat_lt client limits.clients then floor else 0);
     }
 
--- The server restarts. The clients know nothing of it, and what was sent is still on its way.
-abbrev pub restart_server : Limits → Lives → (floor : ℕ) → Lives
-restart_server limits lives floor =
-    let opening = store_on_disk lives.opening lives.world.server in record {
+-- The server restarts. The clients know nothing of it, and every packet may still be taken.
+abbrev pub restart_server : Limits → Lives → (floor number : ℕ) → Lives
+restart_server limits lives floor number =
+    let opening = store_on_disk lives.opening lives.world.server number in record {
       world = record lives.world { server = server_of_life limits opening floor };
       floor = floor;
       opening = opening;
-      former = commits_on_disk lives.world.server ++ lives.former;
+      former = commits_on_disk lives.world.server number ++ lives.former;
     }
 
 -- what the world over all lives becomes by an event
 abbrev pub lives_step : Limits → DeadlockTest → Lives → LivesEvent → (let_go : Option ℕ) → Lives
 lives_step limits cycle lives (WithinLife event) let_go =
     record lives { world = (step limits cycle lives.world event let_go).world }
-lives_step limits cycle lives (ServerRestarts floor) let_go = restart_server limits lives floor
+lives_step limits cycle lives (ServerRestarts floor number) let_go =
+    restart_server limits lives floor number
 
--- A new floor is above the former one, and above each incarnation that a client has had: with 2^32
--- incarnations to each life, the number of the life times 2^32.
+-- A new floor: it is above the present one, and above the incarnation of every client. A client
+-- that restarts has the next incarnation. One that takes a far greater incarnation, such as the
+-- first of a life's range, counts here as a client that restarted so often.
 pub record IsNewFloor (lives : Lives) (floor : ℕ) : Type 0 where
   pub rises : lives.floor < floor
   pub unused : (client : ℕ) → lives.world.incarnation client < floor
 
--- the premise of an event: the law of the pool's choice, or that of the floor
+-- The disk may have the commits up to that number: at least all that were reported to the server as
+-- on disk, and none that it didn't make. What is between was written and not yet reported.
+pub record MayBeOnDisk (server : Server) (number : ℕ) : Type 0 where
+  pub reported : server.flushed ≤ number
+  pub made : number ≤ server.store.last_commit
+
+-- When an event may happen. Within a life: the page let go is one that the pool may let go.
+-- A restart of the server: the floor is a new one, and the disk may have the commits up to the
+-- number.
 abbrev pub LivesEventAllowed : Limits → Lives → LivesEvent → (let_go : Option ℕ) → Type 0
 LivesEventAllowed limits lives (WithinLife event) let_go =
     EventChoiceAllowed limits lives.world event let_go
-LivesEventAllowed limits lives (ServerRestarts floor) let_go = IsNewFloor lives floor
+LivesEventAllowed limits lives (ServerRestarts floor number) let_go =
+    IsNewFloor lives floor × MayBeOnDisk lives.world.server number
 
--- these events, one after another, can make this of it; only the pages let go are left open
+-- These events, one after another, lead from `lives` to `after`, each where it may happen. Nothing
+-- is left open but which page a pool lets go.
 abbrev pub LeadsTo : Limits → DeadlockTest → Lives → List LivesEvent → (after : Lives) → Type 0
 LeadsTo limits cycle lives [] after = lives ≡ after
 LeadsTo limits cycle lives (event ∷ events) after =
     (let_go : Option ℕ) × LivesEventAllowed limits lives event let_go
     × LeadsTo limits cycle (lives_step limits cycle lives event let_go) events after
 
--- the events of a run, with no restart of the server
+-- From the first life's beginning these events lead there.
+abbrev pub Reaches : Limits → DeadlockTest → Opening → List LivesEvent → Lives → Type 0
+Reaches limits cycle opening events lives =
+    LeadsTo limits cycle (first_life limits opening) events lives
+
+-- the events of a run of one life
 abbrev pub run_events : List Moment → List LivesEvent
 run_events moments = map (λ moment. WithinLife moment.event) moments

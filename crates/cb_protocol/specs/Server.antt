@@ -35,7 +35,8 @@ pub record Server : Type 0 where
   pub outcome : ℕ → Option ℕ
   pub next_grant : ℕ  -- the next grant's number, over all clients and pages
   pub commits : List AppliedCommit  -- the newest first
-  pub flushed : ℕ  -- the number of the last commit that is on disk
+  -- the number of the last commit that is on disk, as far as the server was told
+  pub flushed : ℕ
   pub clients : ℕ
   pub pages : ℕ
 

@@ -7,7 +7,8 @@ use Rattle.cb_protocol.specs.Messages.{PageWrite, write_of_page}
 -- What the server knows of one client. The row of a page is the directory's entry: that client has
 -- a copy, with this grant (TODS 1997). Its version needs no place: it is always the store's.
 pub record Session : Type 0 where
-  pub current : ℕ  -- the current incarnation; 0 before the first Hello
+  -- the current incarnation; before the first Hello, 0 or the floor of a life after a restart
+  pub current : ℕ
   pub row : ℕ → Option ℕ  -- the grant of the client's copy of a page
   pub txn : ℕ  -- the greatest transaction begun; 0: none
   pub ended : ℕ  -- the greatest transaction ended: the current one lives while this is smaller
