@@ -9,6 +9,8 @@ pub use pool::Fifo;
 #[cfg(test)]
 mod client;
 #[cfg(test)]
+mod commits;
+#[cfg(test)]
 mod console;
 #[cfg(test)]
 mod draw;

@@ -2,9 +2,10 @@
 ghost use Rattle.std.specs.Prelude.{IfOk};
 ghost use Rattle.cb_commit.specs.Stores.{IsOf};
 
+use crate::commits::{apply, commit_frame};
 use cb_commit::{Commits, Store};
-use cb_frame::{Body, Frame, Write, Writes};
-use cb_page::{ClientNo, GrantNo, Incarnation, Limits, Page, PageNo, TxnNo};
+use cb_frame::{Frame, Write};
+use cb_page::{GrantNo, Limits, Page, PageNo, TxnNo};
 use cb_shelf::{Shelf, flush_once};
 use sqlite::Alter;
 use std::alloc::{AllocError, Global};
@@ -27,36 +28,7 @@ fn frame_of(
             bytes: Page::from_vec(vec![in alloc; byte; limits.page_size()]?),
         })?;
     }
-    Ok(Frame {
-        client: ClientNo::new(0),
-        incarnation: Incarnation::new(1),
-        body: Body::Commit {
-            txn: TxnNo::checked(txn).unwrap_or(TxnNo::new(1)),
-            writes: Writes::from_vec(writes),
-        },
-    })
-}
-
-/// Applies a frame; `false` where it is none that fits, or no number is left.
-fn apply(limits: &Limits, commits: &mut Commits, frame: Frame) -> Result<bool, AllocError>
-    requires { IsOf limits.now commits.old.store }
-    ensures { IsOf limits.now commits.new.store }
-{
-    if !frame.fits(limits) || commits.next_number().is_none() {
-        return Ok(false);
-    }
-    let Frame {
-        client,
-        incarnation,
-        body,
-    } = frame;
-    match body {
-        Body::Commit { txn, writes } => {
-            commits.apply(client, incarnation, txn, writes)?;
-            Ok(true)
-        }
-        Body::Short(_) | Body::Granted { .. } => Ok(false),
-    }
+    Ok(commit_frame(TxnNo::checked(txn).unwrap_or(TxnNo::new(1)), writes))
 }
 
 /// Commits pages that one byte fills.

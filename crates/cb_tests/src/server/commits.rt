@@ -1,12 +1,12 @@
 //! Commits at great limits: one that gives up from some number of pages, of commits or of bytes on
 //! is refused here, which no clause can say.
-ghost use Rattle.std.specs.Prelude.{◌≡◌};
 ghost use Rattle.cb_commit.specs.Stores.{IsOf};
 
+use crate::commits::{apply, commit_frame};
 use crate::stores::page_of;
 use cb_commit::{Commits, Store};
-use cb_frame::{Body, Frame, Write, Writes};
-use cb_page::{ClientNo, GrantNo, Incarnation, Limits, PageNo, TxnNo};
+use cb_frame::{Frame, Write};
+use cb_page::{GrantNo, Limits, PageNo, TxnNo};
 use std::alloc::{AllocError, Global};
 use std::test::Fail;
 
@@ -20,36 +20,7 @@ fn commit_of(alloc: Global, limits: &Limits, txn: TxnNo, pages: u32) -> Result<F
             bytes: page_of(alloc, 7, limits.page_size())?,
         })?;
     }
-    Ok(Frame {
-        client: ClientNo::new(0),
-        incarnation: Incarnation::new(1),
-        body: Body::Commit {
-            txn,
-            writes: Writes::from_vec(writes),
-        },
-    })
-}
-
-/// Applies a commit; `false` where the frame is none that fits, or no number is left.
-fn apply(limits: &Limits, commits: &mut Commits, frame: Frame) -> Result<bool, AllocError>
-    requires { IsOf limits.now commits.old.store }
-    ensures { IsOf limits.now commits.new.store }
-{
-    if !frame.fits(limits) || commits.next_number().is_none() {
-        return Ok(false);
-    }
-    let Frame {
-        client,
-        incarnation,
-        body,
-    } = frame;
-    match body {
-        Body::Commit { txn, writes } => {
-            commits.apply(client, incarnation, txn, writes)?;
-            Ok(true)
-        }
-        Body::Short(_) | Body::Granted { .. } => Ok(false),
-    }
+    Ok(commit_frame(txn, writes))
 }
 
 /// Whether so many commits of one page are applied.
