@@ -3,7 +3,7 @@ use Rattle.std.proofs.Common.{◌≡◌, ℕ, Bool, true, false, refl, sym, ◌�
 use Rattle.cb_callbacks.proofs.Ending.{waits_at}
 use Rattle.cb_callbacks.proofs.Queues.{none_counted}
 use Rattle.cb_callbacks.specs.Following.{FollowsPages}
-use Rattle.cb_tables.specs.Waits.{Waits}
+use Rattle.cb_server_state.specs.Waits.{Waits}
 use Rattle.cb_protocol.proofs.NoCycles.{none_waits}
 use Rattle.cb_protocol.specs.Server.{Server, has_ask}
 use Rattle.cb_protocol.specs.ServerMessages.{has_waiting_ask}

@@ -3,7 +3,7 @@ use Rattle.std.proofs.Common.{◌≡◌, ◌∙◌, ◌⊎◌, inl, inr, ℕ, Bo
 use Rattle.std.proofs.lemmas.List.{append-nil}
 use Rattle.cb_outbox.specs.Saying.{Decides, HasRoomFor, OutboxState, Says}
 use Rattle.cb_outbox.proofs.Saying.{decided, decides_as, room_after, room_first, says_nothing, settled, then_wait}
-use Rattle.cb_tables.proofs.Rooms.{room_by}
+use Rattle.cb_server_state.proofs.Rooms.{room_by}
 use Rattle.cb_protocol.specs.Basics.{is_none}
 use Rattle.cb_protocol.specs.Server.{DeadlockTest, Server, ServerStep, WaitingAsk, has_row, server_after}
 use Rattle.cb_protocol.specs.Settling.{Decided, Settled, call_back_once, decide_read, decide_write, decision_steps, doom_client, downgrade_once, grant_row, no_other_holder, permit_write, sole_row, wait_or_doom}

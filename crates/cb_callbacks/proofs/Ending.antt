@@ -1,23 +1,19 @@
 -- A transaction or an incarnation ends.
-use Rattle.std.proofs.Common.{◌≡◌, ◌≢◌, ◌⊎◌, ℕ, ◌+◌, ◌<◌, ◌≤◌, Bool, true, false, ◌||◌, ◌==◌, if◌then◌else◌, nat_lt, List, [], ◌∷◌, zero, suc, refl, sym, ap, ◌∙◌, subst, arith, inl, inr}
+use Rattle.std.proofs.Common.{◌≡◌, ◌≢◌, ◌⊎◌, ℕ, ◌+◌, ◌<◌, ◌≤◌, Bool, true, false, ◌||◌, if◌then◌else◌, nat_lt, List, [], ◌∷◌, zero, suc, refl, sym, ap, ◌∙◌, subst, arith, inl, inr}
 use Rattle.std.proofs.lemmas.Bool.{cases_eq, cases_lt}
-use Rattle.cb_asks.specs.Asks.{AsksState, Removes, queue_at}
-use Rattle.cb_asks.specs.Marks.{HasMarks, MarksState, is_in_use}
-use Rattle.cb_callbacks.specs.Callbacks.{AreCallbacks, Changes}
+use Rattle.cb_callbacks.specs.Callbacks.{AreCallbacks}
 use Rattle.cb_callbacks.specs.Following.{FollowsAll, FollowsPage, FollowsPages}
-use Rattle.cb_tables.specs.Tables.{AreTables, server_of, with_waits}
-use Rattle.cb_tables.specs.Waits.{Waits}
-use Rattle.cb_tables.specs.declared.tables.Tables.{Tables}
-use Rattle.cb_tables.proofs.Changes.{queued}
-use Rattle.cb_callbacks.proofs.Page.{marked, none_left}
+use Rattle.cb_server_state.proofs.Later.{without_twice}
+use Rattle.cb_server_state.specs.States.{PartsAgree, server_of}
+use Rattle.cb_server_state.specs.Waits.{Waits}
+use Rattle.cb_server_state.specs.declared.server_state.ServerState.{ServerState}
+use Rattle.cb_callbacks.proofs.Page.{none_left}
 use Rattle.cb_callbacks.proofs.Queues.{Placed, each_place, none_counted, placed, some_counted, without_gone, without_has, without_other}
-use Rattle.cb_holdings.specs.Holdings as holdings
-use Rattle.cb_holdings.specs.Holdings.{Does, HoldingsState, Stays}
 use Rattle.cb_protocol.proofs.NoCycles.{none_waits}
 use Rattle.cb_protocol.proofs.SettlingClears.{SoundAsks, count_without, put_other, sound_fewer}
 use Rattle.cb_protocol.specs.Basics.{is_none}
 use Rattle.cb_protocol.specs.Messages.{PageWrite}
-use Rattle.cb_protocol.specs.Server.{ChangeSession, ForgetTransaction, Server, ServerStep, WaitingAsk, has_ask, server_after, without_client, without_marks}
+use Rattle.cb_protocol.specs.Server.{ChangeSession, ForgetTransaction, Server, ServerStep, has_ask, server_after, without_client}
 use Rattle.cb_protocol.specs.ServerMessages.{has_waiting_ask}
 use Rattle.cb_protocol.specs.Session.{Admit, ApplyCommit, BeginTransaction, DropTransaction, Session, SessionChange, has_live_txn, session_after, store_after, without_holder}
 use Rattle.cb_protocol.specs.WaitsFor.{waits_for}
@@ -28,14 +24,6 @@ use Rattle.cb_waits.specs.Graph.{Edges, waits}
 -- the steps
 abbrev pub ended : (client : ℕ) → SessionChange → List ServerStep
 ended client change = ForgetTransaction client ∷ ChangeSession client change ∷ []
-
-pub forgets_becomes : (t : Tables) (h : HoldingsState) (asks : AsksState) (marks : MarksState) (client : ℕ) (change : SessionChange)
-    → Does t.holdings (ended client change) h → Removes t.asks client asks → HasMarks t.marks marks (without_marks (is_in_use t.marks) client)
-    → server_of (record { holdings = h; asks = asks; marks = marks }) ≡ server_after (server_of t) (ended client change)
-forgets_becomes t h asks marks client change does removes clears =
-    queued (holdings.server_of h) (queue_at asks) _ (is_in_use marks) removes.has.queues
-    ∙ marked (holdings.server_of h) (λ page. without_client client (queue_at t.asks page)) (is_in_use marks) _ clears.marks
-    ∙ ap (λ (s : Server). with_waits s (λ page. without_client client (queue_at t.asks page)) (without_marks (is_in_use t.marks) client)) does.becomes
 
 -- a change that gives nothing to its client
 pub record OnlyEnds (client : ℕ) (s : Server) (change : SessionChange) : Type 0 where
@@ -162,12 +150,12 @@ follows_ended client s change v w known o old f =
     follows_gone client s (server_after s (ended client change)) v w (waits_ended client s change known o) (λ page. refl) old f
 
 -- the invariant is kept
-pub kept_ended : (before : Tables) (view : Edges) (after : Tables) (follows : Edges) (client : ℕ) (change : SessionChange)
-    → AreCallbacks (record { tables = before; view = view }) → AreTables after
+pub kept_ended : (before : ServerState) (view : Edges) (after : ServerState) (follows : Edges) (client : ℕ) (change : SessionChange)
+    → AreCallbacks (record { state = before; view = view }) → PartsAgree after
     → server_of after ≡ server_after (server_of before) (ended client change) → OnlyEnds client (server_of before) change
-    → FollowsAll view (server_of after) client follows → AreCallbacks (record { tables = after; view = follows })
-kept_ended before view after follows client change kept are becomes only followed = record {
-  tables = are;
+    → FollowsAll view (server_of after) client follows → AreCallbacks (record { state = after; view = follows })
+kept_ended before view after follows client change kept agree becomes only followed = record {
+  agree = agree;
   waits = subst Waits (sym becomes) (waits_ended client (server_of before) change kept.waits only);
   follows = subst (Follows follows) (sym becomes)
       (follows_ended client (server_of before) change view follows kept.waits only kept.follows
@@ -175,82 +163,32 @@ kept_ended before view after follows client change kept are becomes only followe
   few = subst (λ (s : Server). s.clients ≤ 32) (sym becomes) kept.few;
 }
 
--- what was forgotten, by the tables as they are then
-pub forgot : (before after : Tables) (h : HoldingsState) (client : ℕ) (change : SessionChange)
-    → Does before.holdings (ended client change) h → after.holdings ≡ h → Removes before.asks client after.asks
-    → HasMarks before.marks after.marks (without_marks (is_in_use before.marks) client)
-    → server_of after ≡ server_after (server_of before) (ended client change)
-forgot before after h client change does same removes clears =
-    forgets_becomes before after.holdings after.asks after.marks client change
-    (subst (λ (x : HoldingsState). Does before.holdings (ended client change) x) (sym same) does) removes clears
-
-pub waits_forgot : (before after : Tables) (client : ℕ) (change : SessionChange) → Waits (server_of before)
+-- who waits is known, of the state as it is then
+pub waits_forgot : (before after : ServerState) (client : ℕ) (change : SessionChange) → Waits (server_of before)
     → server_of after ≡ server_after (server_of before) (ended client change) → OnlyEnds client (server_of before) change → Waits (server_of after)
 waits_forgot before after client change waits becomes only = subst Waits (sym becomes) (waits_ended client (server_of before) change waits only)
 
-pub changes_forgot : (before after : Tables) (h : HoldingsState) (client : ℕ) (change : SessionChange)
-    → Does before.holdings (ended client change) h → after.holdings ≡ h → Removes before.asks client after.asks
-    → HasMarks before.marks after.marks (without_marks (is_in_use before.marks) client) → Changes before (ended client change) after
-changes_forgot before after h client change does same removes clears = record {
-  becomes = forgot before after h client change does same removes clears;
-  stays = subst (λ (x : HoldingsState). Stays before.holdings x) (sym same) does.stays;
-  room = removes.room;
-}
-
--- Two ends of one client, the one after the other: what is gone is gone.
-without_twice : (client : ℕ) (queue : List WaitingAsk) → without_client client (without_client client queue) ≡ without_client client queue
-without_twice client [] = refl
-without_twice client (ask ∷ queue) = go (without_twice client queue) (ask.client == client) refl
-  where
-    go : without_client client (without_client client queue) ≡ without_client client queue → (b : Bool) → (ask.client == client) ≡ b
-        → without_client client (if b then without_client client queue else ask ∷ without_client client queue) ≡ (if b then without_client client queue else ask ∷ without_client client queue)
-    go same true e = same
-    go same false e = rw e (ap (λ (l : List WaitingAsk). ask ∷ l) same)
-
-marks_twice : (in_use : ℕ → ℕ → Bool) (client other page : ℕ) → without_marks in_use client other page ≡ without_marks (without_marks in_use client) client other page
-marks_twice in_use client other page = go (other == client)
-  where
-    go : (b : Bool) → (if b then false else in_use other page) ≡ (if b then false else if b then false else in_use other page)
-    go true = refl
-    go false = refl
-
+-- Two ends of one client, the one after the other.
 abbrev pub ended_twice : (client : ℕ) → SessionChange → SessionChange → List ServerStep
 ended_twice client first second = ForgetTransaction client ∷ ChangeSession client first ∷ ForgetTransaction client ∷ ChangeSession client second ∷ []
-
-pub forgot_twice : (before after : Tables) (h : HoldingsState) (client : ℕ) (first second : SessionChange)
-    → Does before.holdings (ended_twice client first second) h → after.holdings ≡ h → Removes before.asks client after.asks
-    → HasMarks before.marks after.marks (without_marks (is_in_use before.marks) client)
-    → server_of after ≡ server_after (server_of before) (ended_twice client first second)
-forgot_twice before after h client first second does same removes clears =
-    queued (holdings.server_of after.holdings) (queue_at after.asks) asks (is_in_use after.marks)
-    (λ page. removes.has.queues page ∙ sym (without_twice client (queue_at before.asks page)))
-    ∙ marked (holdings.server_of after.holdings) asks (is_in_use after.marks) marks
-    (λ other page. clears.marks other page ∙ marks_twice (is_in_use before.marks) client other page)
-    ∙ ap (λ (s : Server). with_waits s asks marks) (subst (λ (x : HoldingsState). Does before.holdings (ended_twice client first second) x) (sym same) does).becomes
-  where
-    asks : ℕ → List WaitingAsk
-    asks page = without_client client (without_client client (queue_at before.asks page))
-
-    marks : ℕ → ℕ → Bool
-    marks = without_marks (without_marks (is_in_use before.marks) client) client
 
 waits_twice : (client : ℕ) (s : Server) (first second : SessionChange) → Waits s → OnlyEnds client s first
     → OnlyEnds client (server_after s (ended client first)) second → Waits (server_after s (ended_twice client first second))
 waits_twice client s first second waits one two =
     waits_ended client (server_after s (ended client first)) second (waits_ended client s first waits one) two
 
-pub waits_forgot_twice : (before after : Tables) (client : ℕ) (first second : SessionChange) → Waits (server_of before)
+pub waits_forgot_twice : (before after : ServerState) (client : ℕ) (first second : SessionChange) → Waits (server_of before)
     → server_of after ≡ server_after (server_of before) (ended_twice client first second) → OnlyEnds client (server_of before) first
     → OnlyEnds client (server_after (server_of before) (ended client first)) second → Waits (server_of after)
 waits_forgot_twice before after client first second waits becomes one two = subst Waits (sym becomes) (waits_twice client (server_of before) first second waits one two)
 
-pub kept_twice : (before : Tables) (view : Edges) (after : Tables) (follows : Edges) (client : ℕ) (first second : SessionChange)
-    → AreCallbacks (record { tables = before; view = view }) → AreTables after
+pub kept_twice : (before : ServerState) (view : Edges) (after : ServerState) (follows : Edges) (client : ℕ) (first second : SessionChange)
+    → AreCallbacks (record { state = before; view = view }) → PartsAgree after
     → server_of after ≡ server_after (server_of before) (ended_twice client first second) → OnlyEnds client (server_of before) first
     → OnlyEnds client (server_after (server_of before) (ended client first)) second
-    → FollowsAll view (server_of after) client follows → AreCallbacks (record { tables = after; view = follows })
-kept_twice before view after follows client first second kept are becomes one two followed = record {
-  tables = are;
+    → FollowsAll view (server_of after) client follows → AreCallbacks (record { state = after; view = follows })
+kept_twice before view after follows client first second kept agree becomes one two followed = record {
+  agree = agree;
   waits = subst Waits (sym becomes) known;
   follows = subst (Follows follows) (sym becomes)
       (follows_gone client (server_of before) (server_after (server_of before) (ended_twice client first second)) view follows known
@@ -261,12 +199,3 @@ kept_twice before view after follows client first second kept are becomes one tw
   where
     known : Waits (server_after (server_of before) (ended_twice client first second))
     known = waits_twice client (server_of before) first second kept.waits one two
-
-pub changes_twice : (before after : Tables) (h : HoldingsState) (client : ℕ) (first second : SessionChange)
-    → Does before.holdings (ended_twice client first second) h → after.holdings ≡ h → Removes before.asks client after.asks
-    → HasMarks before.marks after.marks (without_marks (is_in_use before.marks) client) → Changes before (ended_twice client first second) after
-changes_twice before after h client first second does same removes clears = record {
-  becomes = forgot_twice before after h client first second does same removes clears;
-  stays = subst (λ (x : HoldingsState). Stays before.holdings x) (sym same) does.stays;
-  room = removes.room;
-}

@@ -1,21 +1,23 @@
 -- An ask enters at the end of a queue.
 use Rattle.std.proofs.Common.{◌≡◌, ◌⊎◌, ℕ, ◌<◌, Bool, true, false, ◌||◌, ◌==◌, List, [], ◌∷◌, ◌++◌, Option, refl, sym, ap, ◌∙◌, subst, arith, inl, inr}
 use Rattle.std.proofs.lemmas.Bool.Decides.{nat_tests}
-use Rattle.cb_asks.specs.Asks.{AsksState, Enters, queue_at}
-use Rattle.cb_asks.specs.Marks.{is_in_use}
-use Rattle.cb_tables.specs.Tables.{server_of}
-use Rattle.cb_tables.specs.Waits.{IsGreeted, Waits}
-use Rattle.cb_tables.specs.declared.tables.Tables.{Tables}
-use Rattle.cb_tables.proofs.Changes.{queued}
+use Rattle.cb_asks.specs.Asks.{AsksState, Enters}
+use Rattle.cb_outbox.specs.Saying.{OutboxState, Says}
+use Rattle.cb_outbox.proofs.Saying.{says_as}
+use Rattle.cb_server_state.specs.States.{server_of}
+use Rattle.cb_server_state.specs.Waits.{IsGreeted, Waits}
+use Rattle.cb_server_state.specs.declared.server_state.ServerState.{ServerState}
+use Rattle.cb_server_state.proofs.Changes.{queued}
 use Rattle.cb_callbacks.proofs.Page.{AtPage}
 use Rattle.cb_callbacks.proofs.Queues.{each_place}
-use Rattle.cb_holdings.specs.Holdings as holdings
 use Rattle.cb_protocol.proofs.NoCycles.{none_waits, sound_enter}
 use Rattle.cb_protocol.proofs.SettlingClears.{SoundAsks, put_other, put_there}
 use Rattle.cb_protocol.specs.Deadlock.{ask_count}
 use Rattle.cb_protocol.specs.Server.{EnterQueue, Server, WaitingAsk, after_server_step, has_ask, server_after}
-use Rattle.cb_protocol.specs.ServerMessages.{has_waiting_ask, new_ask}
+use Rattle.cb_protocol.specs.ServerMessages.{enter_queue, has_waiting_ask, is_empty, new_ask}
 use Rattle.cb_protocol.specs.Session.{has_live_txn}
+use Rattle.cb_protocol.specs.Settling.{doom_client}
+use Rattle.cb_protocol.specs.WaitsFor.{on_cycle}
 
 -- who is in a queue with one more
 pub pushed_has : (other : ℕ) (queue : List WaitingAsk) (ask : WaitingAsk) → has_ask other (queue ++ ask ∷ []) ≡ (has_ask other queue || (ask.client == other))
@@ -95,10 +97,30 @@ enters_at s page ask w lt known greeted live none = record {
     asks : SoundAsks (after_server_step s (EnterQueue page ask))
     asks = sound_enter s page ask (record { one = w.one_ask; known = w.in_range }) lt known (none_asks s ask.client w none)
 
-pub enters_becomes : (t : Tables) (asks : AsksState) (client page : ℕ) (grant : Option ℕ) → Enters t.asks page client grant asks
+pub enters_becomes : (t : ServerState) (asks : AsksState) (client page : ℕ) (grant : Option ℕ) → Enters t.asks page client grant asks
     → server_of (record t { asks = asks }) ≡ server_after (server_of t) (EnterQueue page (new_ask client grant) ∷ [])
-enters_becomes t asks client page grant enters = queued (holdings.server_of t.holdings) (queue_at asks) _ (is_in_use t.marks) enters.has.queues
+enters_becomes t asks client page grant enters = queued t asks _ enters.has.queues
 
 pub entered_has : (s t : Server) (page : ℕ) (ask : WaitingAsk) → t ≡ after_server_step s (EnterQueue page ask) → has_ask ask.client (t.queue page) ≡ true
 entered_has s t page ask is = ap (λ (x : Server). has_ask ask.client (x.queue page)) is
     ∙ ap (has_ask ask.client) (put_there s.queue page (s.queue page ++ ask ∷ [])) ∙ pushed_there (s.queue page) ask
+
+-- an ask that isn't the first and closes a cycle enters, and its client is doomed at once
+pub enters_doomed : (s t u : Server) (page : ℕ) (ask : WaitingAsk) (a b : OutboxState) → t ≡ after_server_step s (EnterQueue page ask)
+    → is_empty (s.queue page) ≡ false → on_cycle t ask.client ≡ true → Says t (λ server. doom_client server ask.client) u a b
+    → Says s (λ server. enter_queue on_cycle server page ask) u a b
+enters_doomed s t u page ask a b is some cycle says =
+    says_as s u (λ server. enter_queue on_cycle server page ask)
+    (λ server. EnterQueue page ask ∷ doom_client (after_server_step server (EnterQueue page ask)) ask.client) a b (rw (some, on) refl) (record {
+      becomes = after.becomes;
+      sends = after.sends;
+      room = after.room;
+      spare = after.spare;
+      page_size = after.page_size;
+    })
+  where
+    on : on_cycle (after_server_step s (EnterQueue page ask)) ask.client ≡ true
+    on = subst (λ (x : Server). on_cycle x ask.client ≡ true) is cycle
+
+    after : Says (after_server_step s (EnterQueue page ask)) (λ server. doom_client server ask.client) u a b
+    after = subst (λ (x : Server). Says x (λ server. doom_client server ask.client) u a b) is says

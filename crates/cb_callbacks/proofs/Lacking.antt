@@ -2,7 +2,7 @@
 use Rattle.std.proofs.Common.{◌≡◌, ◌≢◌, ℕ, ◌+◌, ◌-◌, nat_lt, Bool, true, false, not, ◌&&◌, ◌||◌, if◌then◌else◌, List, [], ◌∷◌, Option, None, Some, zero, suc, refl, sym, ap, ◌∙◌}
 use Rattle.std.specs.Option.{is_some}
 use Rattle.cb_callbacks.proofs.Queues.{without_gone}
-use Rattle.cb_holdings.specs.Questions.{IsLast, standing_in}
+use Rattle.cb_server_state.specs.Questions.{IsLast, standing_in}
 use Rattle.cb_links.specs.declared.sessions.Standing.TheVariants as standing
 use Rattle.cb_protocol.proofs.ReadAsksWaiting.{reads_same}
 use Rattle.cb_protocol.specs.Basics.{is_none, max_number}

@@ -3,7 +3,7 @@ use Rattle.std.proofs.Common.{◌≡◌, ◌≢◌, ◌⊎◌, ℕ, ◌<◌, ◌
 use Rattle.std.proofs.lemmas.Bool.{cases_eq}
 use Rattle.cb_callbacks.specs.Deciding.{StartsWith}
 use Rattle.cb_callbacks.specs.Leaving.{FollowsLeft}
-use Rattle.cb_tables.specs.Waits.{HasBegun, IsGreeted, Waits}
+use Rattle.cb_server_state.specs.Waits.{HasBegun, IsGreeted, Waits}
 use Rattle.cb_callbacks.proofs.Queues.{Placed, by_place, each_place, first_gone, first_has, none_counted, placed, rest_has, rest_none, some_counted, without_gone, without_has, without_other}
 use Rattle.cb_protocol.proofs.SettlingClears.{Fewer, SameElsewhere, SoundAsks, count_rest, count_without, fewer_put, put_other, put_there, sound_fewer}
 use Rattle.cb_protocol.specs.Basics.{is_none, update}

@@ -6,17 +6,15 @@ use Rattle.cb_asks.specs.Asks.{AsksState, Has, queue_at}
 use Rattle.cb_asks.specs.Marks.{HasMarks, MarksState, is_in_use}
 use Rattle.cb_callbacks.specs.Callbacks.{AreCallbacks}
 use Rattle.cb_callbacks.specs.Following.{FollowsPage}
-use Rattle.cb_tables.specs.Tables.{AreTables, server_of, with_waits}
-use Rattle.cb_tables.specs.Waits.{HasBegun, IsGreeted, Waits}
-use Rattle.cb_tables.specs.declared.tables.Tables.{Tables}
-use Rattle.cb_tables.proofs.Changes.{changed, queued}
+use Rattle.cb_server_state.specs.States.{Does, PartsAgree, server_of}
+use Rattle.cb_server_state.specs.Waits.{HasBegun, IsGreeted, Waits}
+use Rattle.cb_server_state.specs.declared.server_state.ServerState.{ServerState}
+use Rattle.cb_server_state.proofs.Changes.{agree_asks, marked, queued}
 use Rattle.cb_callbacks.proofs.Left.{Elsewhere, edges_same, field_same}
 use Rattle.cb_callbacks.proofs.Queues.{Placed, each_place, placed}
-use Rattle.cb_holdings.specs.Holdings as holdings
-use Rattle.cb_holdings.specs.Holdings.{Does, HoldingsState}
 use Rattle.cb_protocol.proofs.SettlingClears.{put_other, put_there}
 use Rattle.cb_protocol.specs.Basics.{is_none, update}
-use Rattle.cb_protocol.specs.Server.{ChangeSession, MarkInUse, Server, ServerStep, UnmarkInUse, WaitingAsk, has_ask, server_after, set_in_use}
+use Rattle.cb_protocol.specs.Server.{ChangeSession, MarkInUse, Server, ServerStep, UnmarkInUse, has_ask, server_after, set_in_use}
 use Rattle.cb_protocol.specs.Session.{EndPermission, RemoveRow, Session, has_live_txn, without_holder, without_holder_at}
 use Rattle.cb_protocol.specs.Settling.{give_permission}
 use Rattle.cb_protocol.specs.WaitsFor.{waits_for}
@@ -42,14 +40,14 @@ follows_page page s t v w lt a old f waiting other = go (has_ask waiting (t.queu
     go false is = f.rest waiting other is ∙ old waiting other ∙ sym (edges_same page s t a.same waiting other (a.kept waiting is) is)
 
 -- the invariant is kept
-pub kept_page : (before : Tables) (view : Edges) (after : Tables) (follows : Edges) (page : ℕ) (steps : List ServerStep)
-    → AreCallbacks (record { tables = before; view = view }) → page < (server_of before).pages → AreTables after
+pub kept_page : (before : ServerState) (view : Edges) (after : ServerState) (follows : Edges) (page : ℕ) (steps : List ServerStep)
+    → AreCallbacks (record { state = before; view = view }) → page < (server_of before).pages → PartsAgree after
     → server_of after ≡ server_after (server_of before) steps → AtPage page (server_of before) (server_after (server_of before) steps)
-    → FollowsPage view (server_of after) page follows → AreCallbacks (record { tables = after; view = follows })
-kept_page before view after follows page steps kept lt are becomes changes followed =
+    → FollowsPage view (server_of after) page follows → AreCallbacks (record { state = after; view = follows })
+kept_page before view after follows page steps kept lt agree becomes changes followed =
     let at : AtPage page (server_of before) (server_of after) = subst (λ (s : Server). AtPage page (server_of before) s) (sym becomes) changes in
     record {
-      tables = are;
+      agree = agree;
       waits = at.waits;
       follows = follows_page page (server_of before) (server_of after) view follows (subst (λ (n : ℕ). page < n) (sym at.same.pages) lt) at kept.follows followed;
       few = subst (λ (n : ℕ). n ≤ 32) (sym at.same.clients) kept.few;
@@ -161,17 +159,13 @@ removes_at client page grant s w = let removed : Session = record (s.session cli
     kept_some true at e = none_left_at s.store.holder client page at e
     kept_some false at e = e
 
--- other marks
-pub marked : (server : Server) (queue : ℕ → List WaitingAsk) (in_use other : ℕ → ℕ → Bool) → ((client page : ℕ) → in_use client page ≡ other client page)
-    → with_waits server queue in_use ≡ with_waits server queue other
-marked server queue in_use other same = λ i. with_waits server queue (λ client page. same client page i)
-
-pub removes_becomes : (t : Tables) (h : HoldingsState) (m : MarksState) (client page grant : ℕ)
-    → HasMarks t.marks m (set_in_use (is_in_use t.marks) client page false) → Does t.holdings (ChangeSession client (RemoveRow page grant) ∷ []) h
-    → server_of (record t { holdings = h; marks = m }) ≡ server_after (server_of t) (UnmarkInUse client page ∷ ChangeSession client (RemoveRow page grant) ∷ [])
-removes_becomes t h m client page grant marks does =
-    marked (holdings.server_of h) (queue_at t.asks) (is_in_use m) _ marks.marks
-    ∙ changed t.holdings h client (RemoveRow page grant) (queue_at t.asks) (set_in_use (is_in_use t.marks) client page false) does
+-- the client doesn't use the page, and then its copy was given back
+pub removes_becomes : (v u : ServerState) (marks : MarksState) (client page grant : ℕ)
+    → HasMarks v.marks marks (set_in_use (is_in_use v.marks) client page false)
+    → Does (record v { marks = marks }) (ChangeSession client (RemoveRow page grant) ∷ []) u
+    → server_of u ≡ server_after (server_of v) (UnmarkInUse client page ∷ ChangeSession client (RemoveRow page grant) ∷ [])
+removes_becomes v u marks client page grant unmarks does =
+    does.becomes ∙ ap (λ (s : Server). server_after s (ChangeSession client (RemoveRow page grant) ∷ [])) (marked v marks _ unmarks.marks)
 
 -- a permission given
 pub permits_at : (client page grant : ℕ) (s : Server) → Waits s → HasBegun s client → AtPage page s (server_after s (give_permission s client page grant))
@@ -203,14 +197,14 @@ permits_at client page grant s w begun = let whole = field_same (λ (x : Session
 }
 
 -- more room for asks
-pub kept_reserved : (before : Tables) (view : Edges) (asks : AsksState) → AreCallbacks (record { tables = before; view = view })
-    → Has before.asks asks (queue_at before.asks) → AreCallbacks (record { tables = record before { asks = asks }; view = view })
+pub kept_reserved : (before : ServerState) (view : Edges) (asks : AsksState) → AreCallbacks (record { state = before; view = view })
+    → Has before.asks asks (queue_at before.asks) → AreCallbacks (record { state = record before { asks = asks }; view = view })
 kept_reserved before view asks kept has = record {
-  tables = record { queues = has.pages ∙ kept.tables.queues; marked_clients = kept.tables.marked_clients; marked_pages = kept.tables.marked_pages };
+  agree = agree_asks before asks kept.agree has.pages;
   waits = subst Waits (sym same) kept.waits;
   follows = subst (Follows view) (sym same) kept.follows;
   few = kept.few;
 }
   where
     same : server_of (record before { asks = asks }) ≡ server_of before
-    same = queued (holdings.server_of before.holdings) (queue_at asks) (queue_at before.asks) (is_in_use before.marks) has.queues
+    same = queued before asks (queue_at before.asks) has.queues

@@ -2,9 +2,8 @@
 use Rattle.std.proofs.Common.{◌≡◌, ℕ, ◌+◌, ◌<◌, ◌≤◌, Bool, true, if◌then◌else◌, List, [], ◌++◌, length, zero, suc, refl, sym, ap, ◌∙◌, subst, arith, add-one, inl, inr}
 use Rattle.std.proofs.lemmas.Bool.{cases_lt}
 use Rattle.std.proofs.lemmas.List.{append-nil, append_assoc}
-use Rattle.cb_tables.proofs.Rooms.{room_by, room_next}
-use Rattle.cb_tables.specs.Waits.{Waits}
-use Rattle.cb_holdings.specs.Holdings.{HoldingsState, Stays}
+use Rattle.cb_server_state.proofs.Rooms.{room_by, room_next}
+use Rattle.cb_server_state.specs.Waits.{Waits}
 use Rattle.cb_outbox.specs.Saying.{Decides, HasRoomFor, OutboxState, Says, goes_on}
 use Rattle.cb_outbox.proofs.Saying.{room_after, room_first, says_as, says_nothing, says_then, settle_more}
 use Rattle.cb_protocol.proofs.CycleTest.{test_is_exact}
@@ -16,16 +15,6 @@ use Rattle.cb_protocol.specs.Numbers.{first_free_grant}
 use Rattle.cb_protocol.specs.Server.{DeadlockTest, Server, ServerStep, server_after}
 use Rattle.cb_protocol.specs.Settling.{Decided, Decision, Settled, decide, decision_steps, settle_page, settle_pages}
 use Rattle.cb_protocol.specs.WaitsFor.{on_cycle}
-
--- one after another
-pub stays_then : (before middle after : HoldingsState) → Stays before middle → Stays middle after → Stays before after
-stays_then before middle after a b = record {
-  keep_write = b.keep_write ∙ a.keep_write;
-  clients = b.clients ∙ a.clients;
-  pages = b.pages ∙ a.pages;
-  page_size = b.page_size ∙ a.page_size;
-  opening = b.opening ∙ a.opening;
-}
 
 -- the decisions after the first
 abbrev others : DeadlockTest → (most : ℕ) → Server → (page : ℕ) → Decision → List ServerStep

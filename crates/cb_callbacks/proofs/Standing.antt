@@ -2,7 +2,7 @@
 use Rattle.std.proofs.Common.{◌≡◌, ◌≢◌, ℕ, ◌-◌, nat_lt, Bool, true, false, ◌==◌, if◌then◌else◌, List, [], ◌∷◌, refl, sym, ap, subst, arith}
 use Rattle.std.proofs.lemmas.Bool.Decides.{nat_tests}
 use Rattle.cb_callbacks.specs.Numbers.{IsLiveOne}
-use Rattle.cb_holdings.specs.Questions.{IsLast, standing_in}
+use Rattle.cb_server_state.specs.Questions.{IsLast, standing_in}
 use Rattle.cb_links.specs.declared.sessions.Standing.{Standing}
 use Rattle.cb_links.specs.declared.sessions.Standing.TheVariants as standing
 use Rattle.cb_protocol.specs.Server.{ChangeSession, ForgetTransaction, Server, ServerStep, has_not_ended, server_after}

@@ -7,14 +7,14 @@ use Rattle.cb_mailboxes.specs.Dispatching.{DispatcherState, Everybody, IsUnchang
 use Rattle.cb_mailboxes.specs.Mailboxes.{AsBefore, MailboxesState, current_in, mailbox_in}
 use Rattle.cb_frame_types.specs.Grammar.{Fits}
 use Rattle.cb_frame_types.specs.declared.frame.Frame.{Frame}
-use Rattle.cb_holdings.specs.Holdings as holdings
-use Rattle.cb_holdings.specs.Holdings.{HoldingsState}
+use Rattle.cb_server_state.specs.States as states
+use Rattle.cb_server_state.specs.declared.server_state.ServerState.{ServerState}
 use Rattle.cb_outbox.specs.Messages.{messages_of}
 use Rattle.cb_page.specs.Bounds.{Bounds}
 use Rattle.cb_protocol.specs.AnyMessages.{Input}
 use Rattle.cb_protocol.specs.Server.{Server}
-use Rattle.cb_server.specs.ServerState as server
-use Rattle.cb_server.specs.ServerState.{ServerState}
+use Rattle.cb_server.specs.ServerValue as server
+use Rattle.cb_server.specs.ServerValue.{ServerValue}
 use Rattle.cb_server.specs.Taking.{Does}
 
 pub on_err : {T E : Type 0} (r : Result T E) (P : Type 0) → P → OnErr r P
@@ -22,14 +22,14 @@ on_err (Ok x) P p = tt
 on_err (Err e) P p = p
 
 -- what is late is in the mailboxes, by the server's own incarnations
-pub by_server : (s : ServerState) (h : HoldingsState) (old ready : MailboxesState) → h ≡ s.tables.holdings → AsBefore (current_in (holdings.server_of h)) old ready → AsBefore (current_in (server.server_of s)) old ready
-by_server s h old ready e as_before = subst (λ (k : HoldingsState). AsBefore (current_in (holdings.server_of k)) old ready) e as_before
+pub by_server : (s : ServerValue) (h : ServerState) (old ready : MailboxesState) → h ≡ s.state → AsBefore (current_in (states.server_of h)) old ready → AsBefore (current_in (server.server_of s)) old ready
+by_server s h old ready e as_before = subst (λ (k : ServerState). AsBefore (current_in (states.server_of k)) old ready) e as_before
 
 -- a call was refused
 pub unchanged : (d : DispatcherState) (ready : MailboxesState) → AsBefore (current_in (server_of d)) d.mailboxes ready → IsUnchanged d (record { server = d.server; mailboxes = ready })
-unchanged d ready as_before = record { server = record { limits = refl; server = refl; holdings = refl }; mailbox = as_before.mailbox }
+unchanged d ready as_before = record { server = record { limits = refl; server = refl; rest = refl }; mailbox = as_before.mailbox }
 
-pub unchanged_too : (d : DispatcherState) (ready : MailboxesState) (new : ServerState) → AsBefore (current_in (server_of d)) d.mailboxes ready → server.IsUnchanged d.server new
+pub unchanged_too : (d : DispatcherState) (ready : MailboxesState) (new : ServerValue) → AsBefore (current_in (server_of d)) d.mailboxes ready → server.IsUnchanged d.server new
     → IsUnchanged d (record { server = new; mailboxes = ready })
 unchanged_too d ready new as_before same = record {
   server = same;
@@ -37,7 +37,7 @@ unchanged_too d ready new as_before same = record {
 }
 
 -- a step was made
-module _ (d : DispatcherState) (input : Input) (ready : MailboxesState) (new : ServerState) (said : List Frame) (as_before : AsBefore (current_in (server_of d)) d.mailboxes ready) (none : ready.late ≡ [])
+module _ (d : DispatcherState) (input : Input) (ready : MailboxesState) (new : ServerValue) (said : List Frame) (as_before : AsBefore (current_in (server_of d)) d.mailboxes ready) (none : ready.late ≡ [])
     (does : Does d.server input (messages_of said) new) where
   pub posts : (boxes : MailboxesState) → boxes.boxes ≡ ready.boxes → boxes.late ≡ reverse said → Posts d input (mailbox_of d) Everybody (record { server = new; mailboxes = boxes })
   posts boxes e f = record {

@@ -5,13 +5,13 @@ use Rattle.cb_frame_types.specs.declared.frame.Frame.{Frame}
 use Rattle.cb_outbox.specs.Messages.{messages_of}
 use Rattle.cb_protocol.specs.AnyMessages.{Input}
 use Rattle.cb_protocol.specs.Server.{Server}
-use Rattle.cb_server.specs.ServerState as server
-use Rattle.cb_server.specs.ServerState.{ServerState}
+use Rattle.cb_server.specs.ServerValue as server
+use Rattle.cb_server.specs.ServerValue.{ServerValue}
 use Rattle.cb_server.specs.Taking.{Does}
 
 -- a server, and what is to be sent to its clients
 pub record DispatcherState : Type 0 where
-  pub server : ServerState
+  pub server : ServerValue
   pub mailboxes : MailboxesState
 
 -- the protocol's server that it has

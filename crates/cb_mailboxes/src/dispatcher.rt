@@ -1,26 +1,22 @@
 //! The type, its opening, what it takes, and what it shows.
-ghost use Rattle.std.specs.Prelude.{◌≡◌, ◌≢◌, ◌↔◌, ◌<◌, ℕ, [], slice_get, IfErr, IfOk, IfSome};
+ghost use Rattle.std.specs.Prelude.{◌≡◌, ◌≢◌, ◌↔◌, ◌<◌, ℕ, [], slice_get, IfErr, IfOk};
 ghost use Rattle.std.specs.Prelude.{IsTrue, OnErr, OnOk, true, false, not, ◌==◌};
 ghost use Rattle.std.specs.List.{AllByRecursion, filter};
-ghost use Rattle.std.specs.Option.{option_map};
-ghost use Rattle.cb_commit.specs.History.{CatchesUp};
 ghost use Rattle.cb_commit.specs.Stores.{IsOf};
 ghost use Rattle.cb_mailboxes.specs.Dispatching.{Everybody, IsUnchanged, Others, Posts, emptied};
 ghost use Rattle.cb_mailboxes.specs.Dispatching.{mailbox_of, server_of, without_oldest};
 ghost use Rattle.cb_frame_types.specs.Grammar.{Fits};
-ghost use Rattle.cb_holdings.specs.Commits.{batch_of};
 ghost use Rattle.cb_mailboxes.specs.Mailboxes.{AsBefore, current_in};
 ghost use Rattle.cb_outbox.specs.Messages.{messages_of};
 ghost use Rattle.cb_protocol.specs.AnyMessages.{MessageComes, ReachesDisk};
-ghost use Rattle.cb_protocol.specs.Flush.{can_flush, next_batch};
+ghost use Rattle.cb_protocol.specs.Flush.{can_flush};
 ghost use Rattle.cb_protocol.specs.Messages.{Hello};
-ghost use Rattle.cb_server.specs.ServerState.{IsNew, IsServer, IsUnchanged as IsSame, commits_of};
+ghost use Rattle.cb_server.specs.ServerValue.{IsNew, IsServer, IsUnchanged as IsSame};
 ghost use Rattle.cb_server.specs.Taking.{Does, Refuses, input_of, lacks_number_for};
 
 use crate::mailboxes::Mailboxes;
-use cb_commit::{Batch, Store};
+use cb_commit::Store;
 use cb_frame::{Frame, ShortBody, ShortFrame};
-use cb_holdings::Holdings;
 use cb_page::{ClientNo, CommitNo, Incarnation, Limits};
 use cb_server::{Server, ServerFault};
 use std::alloc::{AllocError, Global};
@@ -28,7 +24,7 @@ use std::marker::Model;
 
 /// A server, and a mailbox for each of its clients.
 ///
-/// Every call but `limits`, `holdings`, `has_frame_for` and `can_flush` takes memory.
+/// Every call but `server` and `has_frame_for` takes memory.
 pub struct Dispatcher {
     server: Server,
     mailboxes: Mailboxes,
@@ -73,19 +69,11 @@ impl Dispatcher {
         Ok(Dispatcher { server, mailboxes })
     }
 
-    /// The limits of its store and its clients.
-    pub fn limits(&self) -> &Limits
-        ensures value { result.now ≡ self.now.server.limits }
-        ensures arose { IsServer self.now.server }
+    /// The server.
+    pub fn server(&self) -> &Server
+        ensures { result.now ≡ self.now.server }
     {
-        self.server.limits()
-    }
-
-    /// What the server has of its clients and pages.
-    pub fn holdings(&self) -> &Holdings
-        ensures { result.now ≡ self.now.server.tables.holdings }
-    {
-        self.server.holdings()
+        &self.server
     }
 
     /// The server takes a frame. `Exhausted` exactly where the server has no number left for it,
@@ -116,7 +104,7 @@ impl Dispatcher {
         ensures mailboxes { AsBefore (current_in (server_of self.old)) self.old.mailboxes
             self.new.mailboxes }
     {
-        self.mailboxes.make_ready(self.server.holdings())?;
+        self.mailboxes.make_ready(self.server.state())?;
         Ok(())
     }
 
@@ -149,7 +137,7 @@ impl Dispatcher {
         ensures arose { OnOk result (IsServer self.new.server) }
         ensures unchanged { OnErr result (IsUnchanged self.old self.new) }
     {
-        self.mailboxes.make_ready(self.server.holdings())?;
+        self.mailboxes.make_ready(self.server.state())?;
         let said = hello(&mut self.server, alloc, client, incarnation)?;
         self.mailboxes.clear(client);
         self.mailboxes.put(said);
@@ -174,7 +162,7 @@ impl Dispatcher {
         ensures arose { OnOk result (IsServer self.new.server) }
         ensures unchanged { OnErr result (IsUnchanged self.old self.new) }
     {
-        self.mailboxes.make_ready(self.server.holdings())?;
+        self.mailboxes.make_ready(self.server.state())?;
         let mut said = hello(&mut self.server, alloc, client, incarnation)?;
         keep_others(&mut said, client);
         self.mailboxes.clear(client);
@@ -189,7 +177,7 @@ impl Dispatcher {
         requires { client < self.now.server.limits.clients }
         ensures { IsTrue result ↔ (mailbox_of self.now client ≢ []) }
     {
-        self.mailboxes.has_frame_for(self.server.holdings(), client)
+        self.mailboxes.has_frame_for(self.server.state(), client)
     }
 
     /// The oldest frame to the client; `None` exactly where its mailbox is empty.
@@ -204,29 +192,8 @@ impl Dispatcher {
         ensures server { self.new.server ≡ self.old.server }
         ensures unchanged { OnErr result (IsUnchanged self.old self.new) }
     {
-        self.mailboxes.make_ready(self.server.holdings())?;
+        self.mailboxes.make_ready(self.server.state())?;
         Ok(self.mailboxes.collect(client))
-    }
-
-    /// What is to be written to disk next; `None` where every commit is on disk.
-    ///
-    /// `AllocError` only where memory was refused.
-    pub fn batch(&self, alloc: Global) -> Result<Option<Batch>, AllocError>
-        ensures batch { IfOk result (λ batch.
-            option_map batch_of batch ≡ next_batch (server_of self.now)) }
-        ensures catches_up { IfOk result (λ batch.
-            IfSome batch (CatchesUp (commits_of self.now.server))) }
-        ensures can_flush { IfOk result (λ batch.
-            IfSome batch (λ b. can_flush (server_of self.now) b.number ≡ true)) }
-    {
-        self.server.batch(alloc)
-    }
-
-    /// Whether that commit was made and isn't on disk yet.
-    pub fn can_flush(&self, number: CommitNo) -> bool
-        ensures { result ≡ can_flush (server_of self.now) number }
-    {
-        self.server.can_flush(number)
     }
 
     /// The commits up to this number are on disk now.
@@ -239,7 +206,7 @@ impl Dispatcher {
         ensures arose { OnOk result (IsServer self.new.server) }
         ensures unchanged { OnErr result (IsUnchanged self.old self.new) }
     {
-        self.mailboxes.make_ready(self.server.holdings())?;
+        self.mailboxes.make_ready(self.server.state())?;
         let said = self.server.flushed(alloc, number)?;
         self.mailboxes.put(said);
         // The server still arises by the protocol's steps.

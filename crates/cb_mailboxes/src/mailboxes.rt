@@ -4,13 +4,13 @@ ghost use Rattle.std.specs.Prelude.{reverse, slice_get, slice_index_or, slice_se
 ghost use Rattle.std.specs.Prelude.{OnErr, OnOk, true};
 ghost use Rattle.std.specs.List.{All, list_any};
 ghost use Rattle.cb_mailboxes.specs.Mailboxes.{AsBefore, Places, current_in, is_for, mailbox_in};
-ghost use Rattle.cb_holdings.specs.Holdings.{server_of};
+ghost use Rattle.cb_server_state.specs.States.{server_of};
 
 use crate::mailbox::Mailbox;
 use cb_frame::Frame;
-use cb_holdings::Holdings;
 use cb_links::Admission;
 use cb_page::ClientNo;
+use cb_server_state::ServerState;
 use std::alloc::{AllocError, Global};
 use std::marker::Model;
 
@@ -53,27 +53,27 @@ impl Mailboxes {
     /// incarnation.
     ///
     /// `AllocError` only where memory was refused: some of it may still be late.
-    pub(crate) fn make_ready(&mut self, holdings: &Holdings) -> Result<(), AllocError>
-        requires { length self.old.boxes ≤ length holdings.now.sessions }
-        ensures as_before { AsBefore (current_in (server_of holdings.now)) self.old self.new }
+    pub(crate) fn make_ready(&mut self, state: &ServerState) -> Result<(), AllocError>
+        requires { length self.old.boxes ≤ length state.now.sessions }
+        ensures as_before { AsBefore (current_in (server_of state.now)) self.old self.new }
         ensures ready { OnOk result (self.new.late ≡ []) }
     {
-        while self.place_next(holdings)? {}
+        while self.place_next(state)? {}
         Ok(())
     }
 
     /// Puts the oldest of the late frames into its mailbox, if it is for its client's current
     /// incarnation; `false` where none is late.
-    fn place_next(&mut self, holdings: &Holdings) -> Result<bool, AllocError>
-        requires { length self.old.boxes ≤ length holdings.now.sessions }
-        ensures as_before { AsBefore (current_in (server_of holdings.now)) self.old self.new }
+    fn place_next(&mut self, state: &ServerState) -> Result<bool, AllocError>
+        requires { length self.old.boxes ≤ length state.now.sessions }
+        ensures as_before { AsBefore (current_in (server_of state.now)) self.old self.new }
         ensures ok { IfOk result (Places self.old.late self.new.late) }
     {
         let Some(last) = self.late.as_slice().last() else {
             return Ok(false);
         };
         let client = last.client;
-        match holdings.admission(client, last.incarnation) {
+        match state.admission(client, last.incarnation) {
             Admission::Current => self.boxes[client.index()].take_last(&mut self.late)?,
             Admission::Stale | Admission::Unknown => self.late.truncate(self.late.len() - 1),
         }
@@ -81,23 +81,23 @@ impl Mailboxes {
     }
 
     /// Whether a frame is to be sent to that client.
-    pub(crate) fn has_frame_for(&self, holdings: &Holdings, client: ClientNo) -> bool
+    pub(crate) fn has_frame_for(&self, state: &ServerState, client: ClientNo) -> bool
         requires client { client < length self.now.boxes }
-        requires clients { length self.now.boxes ≤ length holdings.now.sessions }
+        requires clients { length self.now.boxes ≤ length state.now.sessions }
         ensures { IsTrue result
-            ↔ (mailbox_in (current_in (server_of holdings.now)) self.now client ≢ []) }
+            ↔ (mailbox_in (current_in (server_of state.now)) self.now client ≢ []) }
     {
-        !self.boxes[client.index()].is_empty() || self.has_late(holdings, client)
+        !self.boxes[client.index()].is_empty() || self.has_late(state, client)
     }
 
     /// Whether a late frame is for that client's current incarnation.
-    fn has_late(&self, holdings: &Holdings, client: ClientNo) -> bool
-        requires { client < length holdings.now.sessions }
-        ensures { result ≡ list_any (is_for (current_in (server_of holdings.now)) client)
+    fn has_late(&self, state: &ServerState, client: ClientNo) -> bool
+        requires { client < length state.now.sessions }
+        ensures { result ≡ list_any (is_for (current_in (server_of state.now)) client)
             self.now.late }
     {
         // No incarnation is 0.
-        let current = match holdings.incarnation(client) {
+        let current = match state.sessions.session(client).incarnation {
             Some(incarnation) => incarnation.get(),
             None => 0,
         };

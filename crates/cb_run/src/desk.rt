@@ -5,7 +5,7 @@ ghost use Rattle.std.specs.Prelude.{OnOk, Some};
 ghost use Rattle.std.specs.Option.{option_map};
 ghost use Rattle.sqlite.specs.Held.{state};
 ghost use Rattle.sqlite.specs.State.{Survives};
-ghost use Rattle.cb_holdings.specs.Commits.{batch_of};
+ghost use Rattle.cb_server_state.specs.Commits.{batch_of};
 ghost use Rattle.cb_station.specs.Flags.{is_over};
 ghost use Rattle.cb_station.specs.Stations.{server_of};
 ghost use Rattle.cb_protocol.specs.Flush.{next_batch};

@@ -1,9 +1,9 @@
 -- A server arises by frames that fit, and what it says fits.
-use Rattle.std.proofs.Common.{◌≡◌, ℕ, ◌+◌, ◌<◌, false, List, [], ◌∷◌, map, slice_index_or, sym, ◌∙◌, subst, arith}
+use Rattle.std.proofs.Common.{◌≡◌, ℕ, ◌+◌, ◌<◌, false, List, [], ◌∷◌, map, slice_index_or, length, sym, ap, ◌∙◌, subst, arith}
 use Rattle.std.proofs.lemmas.List.Elements.{All-from_recursion}
 use Rattle.std.specs.List.{AllByRecursion}
-use Rattle.cb_tables.specs.Tables.{server_of}
-use Rattle.cb_tables.specs.declared.tables.Tables.{Tables}
+use Rattle.cb_server_state.specs.States.{server_of, AreOf, Stays, limits_of, opening_of}
+use Rattle.cb_server_state.specs.declared.server_state.ServerState.{ServerState}
 use Rattle.cb_commit.specs.History.{WritesInto}
 use Rattle.cb_commit.specs.Stores.{IsOf, IsSound, IsStored, StoreState, no_page}
 use Rattle.cb_frame_types.specs.Grammar as grammar
@@ -13,7 +13,6 @@ use Rattle.cb_frame_types.specs.declared.frame.Frame.{Frame}
 use Rattle.cb_frame_types.specs.declared.frame.ShortBody.{ShortBody}
 use Rattle.cb_frame_types.specs.declared.frame.ShortBody.TheVariants as short
 use Rattle.cb_frame_types.specs.declared.writes.Write.{Write}
-use Rattle.cb_holdings.specs.Holdings.{AreOf, HoldingsState, Stays, limits_of, opening_of}
 use Rattle.cb_outbox.specs.Messages.{body_of, message_of, messages_of, page_writes, short_of}
 use Rattle.cb_page.specs.Bounds.{Bounds}
 use Rattle.cb_page.specs.Rising.{RisesFrom}
@@ -28,7 +27,7 @@ use Rattle.cb_protocol.specs.Server.{Server, server_after}
 use Rattle.cb_protocol.specs.WaitsFor.{on_cycle}
 use Rattle.cb_protocol.specs.World.{Opening, messages_sent}
 use Rattle.cb_server.specs.Answering.{FitsIn, limits_in, server_in}
-use Rattle.cb_server.specs.ServerState.{IsServer}
+use Rattle.cb_server.specs.ServerValue.{IsServer}
 use Rattle.cb_server.specs.declared.engine.Engine.{Engine}
 
 -- grant numbers never run out
@@ -41,22 +40,33 @@ pub has_grants : (L : Limits) (o : Opening) (s : Server) → ReachedBy L on_cycl
 has_grants L o s Opened = grants_left_at_first L o
 has_grants L o s (AfterInput {server = k} r i t) = (grants_never_run_out on_cycle k i (has_grants L o k r) (is_taken L k i t)).0
 
-pub of_stays : (limits : Bounds) (before after : HoldingsState) → AreOf limits before → Stays before after → AreOf limits after
+pub of_stays : (limits : Bounds) (before after : ServerState) → AreOf limits before → Stays before after → AreOf limits after
 of_stays limits before after is s = record {
   clients = s.clients ∙ is.clients;
   store = record { count = s.pages ∙ is.store.count; page_size = s.page_size ∙ is.store.page_size };
   keep_write = s.keep_write ∙ is.keep_write;
 }
 
+-- where only room for asks has changed
+pub of_left : (limits : Bounds) (old mid : ServerState) → mid ≡ record old { asks = mid.asks } → AreOf limits old → AreOf limits mid
+of_left limits old mid rest is = record {
+  clients = ap (λ (h : ServerState). length h.sessions) rest ∙ is.clients;
+  store = record {
+    count = ap (λ (h : ServerState). length h.commits.store.pages) rest ∙ is.store.count;
+    page_size = ap (λ (h : ServerState). h.commits.store.page_size) rest ∙ is.store.page_size;
+  };
+  keep_write = ap (λ (h : ServerState). h.keep_write) rest ∙ is.keep_write;
+}
+
 -- one input more
-pub arises : (limits : Bounds) (before after : Tables) (input : Input) → IsServer (record { limits = limits; tables = before }) → InputTaken (limits_of limits) (server_of before) input
-    → Stays before.holdings after.holdings
-    → server_of after ≡ server_after (server_of before) (input_steps on_cycle (server_of before) input) → IsServer (record { limits = limits; tables = after })
+pub arises : (limits : Bounds) (before after : ServerState) (input : Input) → IsServer (record { limits = limits; state = before }) → InputTaken (limits_of limits) (server_of before) input
+    → Stays before after
+    → server_of after ≡ server_after (server_of before) (input_steps on_cycle (server_of before) input) → IsServer (record { limits = limits; state = after })
 arises limits before after input is taken stays e = record {
-  of = of_stays limits before.holdings after.holdings is.of stays;
+  of = of_stays limits before after is.of stays;
   opening = subst (λ (o : StoreState). StoreFits (limits_of limits) (opening_of o)) (sym stays.opening) is.opening;
   reached = subst (λ (o : StoreState). ReachedBy (limits_of limits) on_cycle (opening_of o) (InputTaken (limits_of limits)) (server_of after)) (sym stays.opening)
-      (subst (λ (s : Server). ReachedBy (limits_of limits) on_cycle (opening_of before.holdings.commits.opening) (InputTaken (limits_of limits)) s) (sym e)
+      (subst (λ (s : Server). ReachedBy (limits_of limits) on_cycle (opening_of before.commits.opening) (InputTaken (limits_of limits)) s) (sym e)
       (AfterInput is.reached input taken));
 }
 
@@ -104,7 +114,7 @@ pub frame_comes : (b : Bounds) (frame : Frame) → grammar.Fits b frame → Mess
 frame_comes b frame h = (h.client, h.incarnation, body_comes b frame.body h.body)
 
 -- so does its body into the tables
-short_fits_in : (e : Engine) (b : Bounds) (s : ShortBody) → AreOf b e.callbacks.tables.holdings → grammar.ShortFits b s → BodyFits (limits_in e) (short_of s)
+short_fits_in : (e : Engine) (b : Bounds) (s : ShortBody) → AreOf b e.callbacks.state → grammar.ShortFits b s → BodyFits (limits_in e) (short_of s)
 short_fits_in e b s of h = go s (subst (λ (n : ℕ). Fitting n s) (sym of.store.count) (fitting s h))
   where
     -- all that a short body asks of the limits is how many pages there are
@@ -146,9 +156,9 @@ into b store [] of h = tt
 into b store (w ∷ ws) of h =
     (record { page = subst (λ (n : ℕ). w.page < n) (sym of.count) h.0.page; bytes = h.0.bytes ∙ sym of.page_size }, into b store ws of h.1)
 
-pub body_fits_in : (e : Engine) (b : Bounds) (x : Body) → AreOf b e.callbacks.tables.holdings → grammar.BodyFits b x → FitsIn e x
+pub body_fits_in : (e : Engine) (b : Bounds) (x : Body) → AreOf b e.callbacks.state → grammar.BodyFits b x → FitsIn e x
 body_fits_in e b (body.Short s) of h = short_fits_in e b s of h
-body_fits_in e b (body.Commit txn ws) of h = record { pages = All-from_recursion (WritesInto e.callbacks.tables.holdings.commits.store) ws (into b e.callbacks.tables.holdings.commits.store ws of.store h.1); rising = h.2 }
+body_fits_in e b (body.Commit txn ws) of h = record { pages = All-from_recursion (WritesInto e.callbacks.state.commits.store) ws (into b e.callbacks.state.commits.store ws of.store h.1); rising = h.2 }
 body_fits_in e b (body.Granted page grant version bytes) of h = tt
 
 -- and what is said fits
@@ -188,8 +198,8 @@ all_fit : (b : Bounds) (frames : List Frame) → AllMessagesFit (limits_of b) (m
 all_fit b [] h = tt
 all_fit b (frame ∷ frames) h = (record { client = h.0.0; incarnation = h.0.1; body = body_fits b frame.body h.0.2 }, all_fit b frames h.1)
 
-pub said_fits : (limits : Bounds) (kept : Tables) (input : Input) (frames : List Frame) → IsServer (record { limits = limits; tables = kept }) → InputTaken (limits_of limits) (server_of kept) input
+pub said_fits : (limits : Bounds) (kept : ServerState) (input : Input) (frames : List Frame) → IsServer (record { limits = limits; state = kept }) → InputTaken (limits_of limits) (server_of kept) input
     → messages_of frames ≡ messages_sent (input_steps on_cycle (server_of kept) input) → AllByRecursion (grammar.Fits limits) frames
 said_fits limits kept input frames is taken e =
     all_fit limits frames (subst (λ (l : List Message). AllMessagesFit (limits_of limits) l) (sym e)
-    (server_messages_in_range (limits_of limits) on_cycle (opening_of kept.holdings.commits.opening) (server_of kept) input is.opening is.reached taken))
+    (server_messages_in_range (limits_of limits) on_cycle (opening_of kept.commits.opening) (server_of kept) input is.opening is.reached taken))

@@ -1,18 +1,36 @@
 -- What a transaction that begins leaves of the engine.
 use Rattle.std.proofs.Common.{◌≡◌, ℕ, ◌<◌, nat_lt, Bool, true, false, if◌then◌else◌, [], length, refl, sym, ap, ◌∙◌, subst, arith}
-use Rattle.cb_callbacks.specs.Callbacks.{Changes}
 use Rattle.cb_callbacks.proofs.Standing.{begins_later, begun_session}
+use Rattle.cb_links.specs.declared.sessions.Standing.{Standing}
 use Rattle.cb_outbox.specs.Saying.{OutboxState}
 use Rattle.cb_protocol.specs.Server.{Server, server_after}
 use Rattle.cb_protocol.specs.ServerMessages.{begin_transaction}
 use Rattle.cb_protocol.specs.Session.{Session}
-use Rattle.cb_server.specs.Answering.{Begins, CanGrant, CanSay, IsCurrent, server_in}
+use Rattle.cb_server_state.specs.Questions.{IsLastIfLive, standing_in}
+use Rattle.cb_server_state.specs.States.{Does, server_of}
+use Rattle.cb_server_state.specs.declared.server_state.ServerState.{ServerState}
+use Rattle.cb_server.specs.Answering.{Begins, CanGrant, CanSay, IsCurrent, IsStanding, server_in}
 use Rattle.cb_server.specs.declared.engine.Engine.{Engine}
 use Rattle.cb_server.proofs.Making.{changes_make, makes_as, makes_nothing}
 
+-- so the transaction stands in an engine that has this state
+pub stands_in : (e : Engine) (v : ServerState) (c t : ℕ) (x : Standing) → v ≡ e.callbacks.state → x ≡ standing_in (server_of v) c t
+    → IsLastIfLive x (server_of v) c t → IsStanding e c t x
+stands_in e v c t x same is last = record {
+  is = is ∙ ap (λ (k : ServerState). standing_in (server_of k) c t) same;
+  last = subst (λ (k : ServerState). IsLastIfLive x (server_of k) c t) same last;
+}
+
+-- and where nothing but room has changed
+pub stands_left : (old mid : Engine) (c t : ℕ) (x : Standing) → server_in mid ≡ server_in old → IsStanding old c t x → IsStanding mid c t x
+stands_left old mid c t x same stands = record {
+  is = stands.is ∙ sym (ap (λ (s : Server). standing_in s c t) same);
+  last = subst (λ (s : Server). IsLastIfLive x s c t) (sym same) stands.last;
+}
+
 -- what beginning keeps
 pub begins_by : (old new : Engine) (c t : ℕ) → begin_transaction (server_in old) c t ≡ begins_later c t
-    → Changes old.callbacks.tables (begins_later c t) new.callbacks.tables → new.outbox ≡ old.outbox → Begins old c t new
+    → Does old.callbacks.state (begins_later c t) new.callbacks.state → new.outbox ≡ old.outbox → Begins old c t new
 begins_by old new c t e changes o = record {
   makes = makes_as old new (λ s. begin_transaction s c t) (λ s. begins_later c t) e (changes_make old new (begins_later c t) changes o refl refl);
   outbox = o;

@@ -1,25 +1,19 @@
 -- Whether a commit is applied, and what is done.
-use Rattle.std.proofs.Common.{◌≡◌, ◌≢◌, ℕ, Bool, true, false, ◌&&◌, List, [], ◌∷◌, refl, sym, ap, ◌∙◌, subst}
-use Rattle.cb_tables.specs.Tables.{with_waits}
-use Rattle.cb_holdings.specs.Questions.{IsLast, begun_server, standing_in}
+use Rattle.std.proofs.Common.{◌≡◌, ◌≢◌, ℕ, nat_lt, nat_le, Bool, true, false, ◌&&◌, if◌then◌else◌, List, [], ◌∷◌, refl, sym, ap, ◌∙◌, subst}
+use Rattle.cb_server_state.specs.Questions.{IsLast, begun_server, standing_in}
 use Rattle.cb_links.specs.declared.sessions.Standing.{Standing}
 use Rattle.cb_links.specs.declared.sessions.Standing.TheVariants as standing
+use Rattle.cb_protocol.specs.Basics.{max_number}
 use Rattle.cb_protocol.specs.Messages.{AbortNow, Commit, PageWrite}
-use Rattle.cb_protocol.specs.Server.{Server, ServerStep, WaitingAsk, has_row, is_write_holder, server_after}
-use Rattle.cb_protocol.specs.ServerMessages.{commit_allowed, direct_answer, may_proceed, take_commit}
+use Rattle.cb_protocol.specs.Server.{Server, ServerStep, server_after}
+use Rattle.cb_protocol.specs.ServerMessages.{begin_transaction, commit_allowed, direct_answer, lacks_number, may_proceed, take_commit}
 use Rattle.cb_protocol.specs.Settling.{send_to}
 use Rattle.cb_protocol.specs.WaitsFor.{on_cycle}
 use Rattle.cb_callbacks.specs.Numbers.{IsLiveOne}
 use Rattle.cb_server.specs.Answering.{Begins, Makes, answer_to, applies, server_in}
 use Rattle.cb_server.specs.declared.engine.Engine.{Engine}
-use Rattle.cb_callbacks.proofs.Standing.{doomed_stands, ended_stands, is_later, later_begins, later_lives, live_stands, not_later_begins}
+use Rattle.cb_callbacks.proofs.Standing.{begins_later, doomed_stands, ended_stands, is_later, later_begins, later_lives, live_stands, not_later_begins}
 use Rattle.cb_server.proofs.Making.{answers, makes_as, makes_nothing}
-
--- who waits and which pages are in use is nothing to a commit
-pub allowed_waits : (s : Server) (queue : ℕ → List WaitingAsk) (in_use : ℕ → ℕ → Bool) (c : ℕ) (ws : List PageWrite)
-    → commit_allowed (with_waits s queue in_use) c ws ≡ commit_allowed s c ws
-allowed_waits s queue in_use c [] = refl
-allowed_waits s queue in_use c (w ∷ ws) = ap (λ (b : Bool). is_write_holder s c w.page && has_row s c w.page w.grant && b) (allowed_waits s queue in_use c ws)
 
 live_later : standing.Live ≢ standing.Later
 live_later e = absurd cc
@@ -90,3 +84,24 @@ not_applied_doomed old mid new c t ws b l m =
 pub not_applied_ended : (old mid new : Engine) (c t : ℕ) (ws : List PageWrite) → Begins old c t mid
     → Makes mid (λ s. take_commit s c t ws) new → Makes old (answer_to on_cycle c (Commit t ws)) new
 not_applied_ended old mid new c t ws b m = answers old mid new c t (Commit t ws) refl b m
+
+-- whether a number is lacking for it
+last_commit_begun : (s : Server) (c t : ℕ) → (server_after s (begin_transaction s c t)).store.last_commit ≡ s.store.last_commit
+last_commit_begun s c t = go (nat_lt (s.session c).txn t)
+  where
+    go : (r : Bool) → (server_after s (if r then begins_later c t else [])).store.last_commit ≡ s.store.last_commit
+    go true = refl
+    go false = refl
+
+pub lacks_if_applied : (s : Server) (c t : ℕ) (ws : List PageWrite) → lacks_number (server_after s (begin_transaction s c t)) c (Commit t ws)
+    ≡ (applies s c t ws && nat_le max_number s.store.last_commit)
+lacks_if_applied s c t ws =
+    join (may_proceed b c t) (commit_allowed b c ws) (nat_le max_number b.store.last_commit)
+    ∙ ap (λ (n : ℕ). applies s c t ws && nat_le max_number n) (last_commit_begun s c t)
+  where
+    b : Server
+    b = server_after s (begin_transaction s c t)
+
+    join : (x y z : Bool) → (x && y && z) ≡ ((x && y) && z)
+    join true y z = refl
+    join false y z = refl

@@ -1,8 +1,7 @@
 -- The direct answers, kind by kind, as the table has them.
 use Rattle.std.proofs.Common.{◌≡◌, ℕ, ◌-◌, ◌<◌, Bool, true, false, ◌&&◌, ◌==◌, if◌then◌else◌, List, [], ◌∷◌, ◌++◌, refl, sym, ap, ◌∙◌, subst, arith}
-use Rattle.cb_callbacks.specs.Callbacks.{CallbacksState, Changes}
-use Rattle.cb_tables.specs.Tables.{server_of}
-use Rattle.cb_holdings.specs.Holdings.{Stays}
+use Rattle.cb_callbacks.specs.Callbacks.{CallbacksState}
+use Rattle.cb_server_state.specs.States.{Does, Stays, server_of}
 use Rattle.cb_outbox.specs.Saying.{OutboxState}
 use Rattle.cb_protocol.specs.Messages.{AbortNow, Body, Downgraded, Drop, GiveBack, Granted, InUse}
 use Rattle.cb_protocol.specs.Numbers.{copies_sent}
@@ -20,7 +19,7 @@ use Rattle.cb_server.proofs.Making.{alone, answers, changes_make, makes_as, make
 
 -- GiveBack
 pub gives_back : (old new : Engine) (c p g : ℕ) → has_row (server_in old) c p g ≡ true
-    → Changes old.callbacks.tables (UnmarkInUse c p ∷ ChangeSession c (RemoveRow p g) ∷ []) new.callbacks.tables → new.outbox ≡ old.outbox
+    → Does old.callbacks.state (UnmarkInUse c p ∷ ChangeSession c (RemoveRow p g) ∷ []) new.callbacks.state → new.outbox ≡ old.outbox
     → Makes old (answer_to on_cycle c (GiveBack p g)) new
 gives_back old new c p g e changes o =
     makes_as old new (answer_to on_cycle c (GiveBack p g)) (λ s. UnmarkInUse c p ∷ ChangeSession c (RemoveRow p g) ∷ [])
@@ -38,7 +37,7 @@ abbrev pub gives_up : Server → (c p g t : ℕ) → Bool
 gives_up s c p g t = s.store.keep_write && has_row s c p g && is_write_holder s c p && (s.store.tag p == t)
 
 pub goes_down : (old new : Engine) (c p g t : ℕ) → gives_up (server_in old) c p g t ≡ true
-    → Changes old.callbacks.tables (ChangeSession c (EndPermission p g t) ∷ []) new.callbacks.tables → new.outbox ≡ old.outbox
+    → Does old.callbacks.state (ChangeSession c (EndPermission p g t) ∷ []) new.callbacks.state → new.outbox ≡ old.outbox
     → Makes old (answer_to on_cycle c (Downgraded p g t)) new
 goes_down old new c p g t e changes o =
     makes_as old new (answer_to on_cycle c (Downgraded p g t)) (λ s. ChangeSession c (EndPermission p g t) ∷ [])
@@ -59,7 +58,7 @@ lives_or_not begun.Ended s c t st e = absurd cc
 
 -- InUse
 pub marks : (old mid new : Engine) (c t p g : ℕ) → Begins old c t mid → has_not_ended (server_in mid) c t ≡ true → has_row (server_in mid) c p g ≡ true
-    → Changes mid.callbacks.tables (MarkInUse c p ∷ []) new.callbacks.tables → new.outbox ≡ mid.outbox
+    → Does mid.callbacks.state (MarkInUse c p ∷ []) new.callbacks.state → new.outbox ≡ mid.outbox
     → Makes old (answer_to on_cycle c (InUse t p g)) new
 marks old mid new c t p g b e r changes o =
     answers old mid new c t (InUse t p g) refl b
@@ -73,14 +72,14 @@ marks_nothing old mid c t p g b e =
 
 -- Drop
 pub drops : (old mid new : Engine) (c t : ℕ) → Begins old c t mid → has_not_ended (server_in mid) c t ≡ true → t ≡ ((server_in mid).session c).txn
-    → Changes mid.callbacks.tables (ForgetTransaction c ∷ ChangeSession c (DropTransaction ((server_in mid).session c).txn) ∷ []) new.callbacks.tables → new.outbox ≡ mid.outbox
+    → Does mid.callbacks.state (ForgetTransaction c ∷ ChangeSession c (DropTransaction ((server_in mid).session c).txn) ∷ []) new.callbacks.state → new.outbox ≡ mid.outbox
     → Makes old (answer_to on_cycle c (Drop t)) new
 drops old mid new c t b e is changes o =
     answers old mid new c t (Drop t) refl b
     (makes_as mid new (λ s. direct_answer on_cycle s c (Drop t)) (λ s. ForgetTransaction c ∷ ChangeSession c (DropTransaction t) ∷ [])
     (ap (λ x. if x then ForgetTransaction c ∷ ChangeSession c (DropTransaction t) ∷ [] else []) e)
     (changes_make mid new (ForgetTransaction c ∷ ChangeSession c (DropTransaction t) ∷ [])
-    (subst (λ (x : ℕ). Changes mid.callbacks.tables (ForgetTransaction c ∷ ChangeSession c (DropTransaction x) ∷ []) new.callbacks.tables) (sym is) changes) o refl refl))
+    (subst (λ (x : ℕ). Does mid.callbacks.state (ForgetTransaction c ∷ ChangeSession c (DropTransaction x) ∷ []) new.callbacks.state) (sym is) changes) o refl refl))
 
 pub drops_nothing : (old mid : Engine) (c t : ℕ) → Begins old c t mid → has_not_ended (server_in mid) c t ≡ false → Makes old (answer_to on_cycle c (Drop t)) mid
 drops_nothing old mid c t b e =
@@ -95,13 +94,13 @@ pub says_one : (old new : Engine) (c i : ℕ) (b : Body) → IsCurrent old c i �
 says_one old new c i b is k same o =
     makes_as old new (λ s. send_to s c b ∷ []) (λ s. Send c i b ∷ []) (ap (λ (n : ℕ). Send c n b ∷ []) (sym is)) (record {
       says = record {
-        becomes = ap (λ (x : CallbacksState). server_of x.tables) same;
+        becomes = ap (λ (x : CallbacksState). server_of x.state) same;
         sends = ap (λ (x : OutboxState). x.sent) o;
         room = ap (λ (x : OutboxState). x.room) o;
         spare = let e = ap (λ (x : OutboxState). x.spare) o in omega (arith, e, k);
         page_size = ap (λ (x : OutboxState). x.page_size) o;
       };
-      stays = subst (λ (x : CallbacksState). Stays old.callbacks.tables.holdings x.tables.holdings) (sym same) (stays_same old.callbacks.tables.holdings);
+      stays = subst (λ (x : CallbacksState). Stays old.callbacks.state x.state) (sym same) (stays_same old.callbacks.state);
     })
 
 -- a copy of a page, as the store has it
@@ -114,13 +113,13 @@ grants_one old new c i p g version bytes is v b some same o =
     (sym (ap (λ (n : ℕ). Send c n (Granted p g version bytes) ∷ []) is ∙ (ap (λ (n : ℕ). Send c ((server_in old).session c).current (Granted p g n bytes) ∷ []) v
     ∙ ap (λ (l : List ℕ). Send c ((server_in old).session c).current (Granted p g ((server_in old).store.version p) l) ∷ []) b))) (record {
       says = record {
-        becomes = ap (λ (x : CallbacksState). server_of x.tables) same;
+        becomes = ap (λ (x : CallbacksState). server_of x.state) same;
         sends = ap (λ (x : OutboxState). x.sent) o;
         room = ap (λ (x : OutboxState). x.room) o;
         spare = let e = ap (λ (x : OutboxState). x.spare) o in omega (arith, e, some);
         page_size = ap (λ (x : OutboxState). x.page_size) o;
       };
-      stays = subst (λ (x : CallbacksState). Stays old.callbacks.tables.holdings x.tables.holdings) (sym same) (stays_same old.callbacks.tables.holdings);
+      stays = subst (λ (x : CallbacksState). Stays old.callbacks.state x.state) (sym same) (stays_same old.callbacks.state);
     })
 
 -- an answer by whether the transaction lives

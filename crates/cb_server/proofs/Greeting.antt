@@ -1,7 +1,7 @@
 -- Hello, by its incarnation, and every other message.
 use Rattle.std.proofs.Common.{◌≡◌, ◌≢◌, ℕ, ◌<◌, ◌≤◌, nat_lt, nat_le, Bool, true, false, ◌==◌, ◌&&◌, if◌then◌else◌, [], ◌∷◌, refl, sym, ap, ◌∙◌, arith, true≢false}
 use Rattle.std.proofs.lemmas.Bool.Decides.{nat_tests}
-use Rattle.cb_holdings.specs.Questions.{admission_in}
+use Rattle.cb_server_state.specs.Questions.{admission_in}
 use Rattle.cb_links.specs.declared.sessions.Admission.{Admission}
 use Rattle.cb_links.specs.declared.sessions.Admission.TheVariants as admission
 use Rattle.cb_protocol.proofs.Cases.{serves_current, serves_hello_again, serves_new_hello, serves_no_old_hello, serves_no_other_incarnation}

@@ -17,7 +17,7 @@ use Rattle.cb_protocol.proofs.AsksAnswered.{asks_answered}
 use Rattle.cb_protocol.specs.LeavingLaws.{IsAnswered, IsMet, IsTold, TransactionEnds, WaitsIn}
 use Rattle.cb_server.specs.ServerLaws.{AsksAreFew, DoomedLayOnCycle, FramesAreTaken, NoAskIsForgotten, NobodyIsDeadlocked, RulesAreKept}
 use Rattle.cb_server.proofs.Arising.{frame_comes}
-use Rattle.cb_server.specs.ServerState.{IsServer, ServerState, limits_at, opening_at, server_of}
+use Rattle.cb_server.specs.ServerValue.{IsServer, ServerValue, limits_at, opening_at, server_of}
 
 -- clients and pages stay as many
 same_step : (s : Server) (d : ServerStep) → ((after_server_step s d).clients ≡ s.clients) × ((after_server_step s d).pages ≡ s.pages)
@@ -65,7 +65,7 @@ reached_by_clients : (L : Limits) (o : Opening) (s : Server) → ReachedBy L on_
 reached_by_clients L o s Opened = Opened
 reached_by_clients L o s (AfterInput {server = k} r i f) = AfterInput (reached_by_clients L o k r) i (by_client L k i f)
 
-pub reached : (state : ServerState) → IsServer state → ReachedServer (server_of state)
+pub reached : (state : ServerValue) → IsServer state → ReachedServer (server_of state)
 reached state is = (limits_at state, opening_at state, reached_in_range (limits_at state) (opening_at state) (server_of state) is.reached)
 
 pub rules_kept : RulesAreKept

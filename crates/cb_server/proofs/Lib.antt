@@ -8,6 +8,7 @@
 -- Greeting: hello, by its incarnation, and every other message.
 -- PuttingOff: a commit that is put off until its pages are there.
 -- Committing: whether a commit is applied, and what is done.
+-- Flushing: what can be flushed, in the words of the commits and of the protocol.
 -- Serving: the server between two calls, and after each.
 -- LawsKept: what the protocol says of servers that arose, of each server.
 -- Resending: whoever is doomed has greeted the server, so it can be told again.
@@ -20,6 +21,7 @@ pub mod Arising
 pub mod Greeting
 pub mod PuttingOff
 pub mod Committing
+pub mod Flushing
 pub mod Serving
 pub mod LawsKept
 pub mod Resending

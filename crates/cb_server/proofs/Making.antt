@@ -1,10 +1,10 @@
 -- Steps of the engine, one after another, and what one change of its tables is.
-use Rattle.std.proofs.Common.{◌≡◌, ℕ, nat_lt, Bool, true, false, if◌then◌else◌, List, [], ◌∷◌, ◌++◌, Result, Ok, Err, OnOk, OnErr, refl, sym, ap, ◌∙◌, subst, arith}
+use Rattle.std.proofs.Common.{◌≡◌, ℕ, nat_lt, Bool, true, false, if◌then◌else◌, List, [], ◌∷◌, ◌++◌, length, Result, Ok, Err, OnOk, OnErr, refl, sym, ap, ◌∙◌, arith}
 use Rattle.std.proofs.lemmas.Bool.Decides.{nat_tests}
 use Rattle.std.proofs.lemmas.List.{append-nil, append_assoc}
-use Rattle.cb_callbacks.proofs.Settling.{stays_then}
-use Rattle.cb_callbacks.specs.Callbacks.{Changes}
-use Rattle.cb_holdings.specs.Holdings.{HoldingsState, Stays}
+use Rattle.cb_server_state.proofs.Later.{stays_then}
+use Rattle.cb_server_state.specs.States.{Does, Stays}
+use Rattle.cb_server_state.specs.declared.server_state.ServerState.{ServerState}
 use Rattle.cb_outbox.proofs.Saying.{after_append, says_as, says_nothing, says_then}
 use Rattle.cb_outbox.specs.Saying.{OutboxState}
 use Rattle.cb_protocol.specs.Messages.{Body, Message, Welcome}
@@ -18,23 +18,23 @@ use Rattle.cb_protocol.specs.World.{messages_sent}
 use Rattle.cb_server.specs.Answering.{Begins, IsLeft, Makes, Serves, answer_to, server_in}
 use Rattle.cb_server.specs.declared.engine.Engine.{Engine}
 
-pub stays_same : (h : HoldingsState) → Stays h h
+pub stays_same : (h : ServerState) → Stays h h
 stays_same h = record { keep_write = refl; clients = refl; pages = refl; page_size = refl; opening = refl }
 
 pub makes_nothing : (e : Engine) → Makes e (λ s. []) e
-makes_nothing e = record { says = says_nothing (server_in e) e.outbox; stays = stays_same e.callbacks.tables.holdings }
+makes_nothing e = record { says = says_nothing (server_in e) e.outbox; stays = stays_same e.callbacks.state }
 
 pub makes_then : (old mid new : Engine) (f g : Server → List ServerStep) → Makes old f mid → Makes mid g new → Makes old (λ s. and_then s (f s) g) new
 makes_then old mid new f g a b = record {
   says = says_then (server_in old) (server_in mid) (server_in new) f g old.outbox mid.outbox new.outbox a.says b.says;
-  stays = stays_then old.callbacks.tables.holdings mid.callbacks.tables.holdings new.callbacks.tables.holdings a.stays b.stays;
+  stays = stays_then old.callbacks.state mid.callbacks.state new.callbacks.state a.stays b.stays;
 }
 
 pub makes_as : (old new : Engine) (f g : Server → List ServerStep) → f (server_in old) ≡ g (server_in old) → Makes old g new → Makes old f new
 makes_as old new f g e m = record { says = says_as (server_in old) (server_in new) f g old.outbox new.outbox e m.says; stays = m.stays }
 
 -- a change of the tables that sends nothing
-pub changes_make : (old new : Engine) (steps : List ServerStep) → Changes old.callbacks.tables steps new.callbacks.tables
+pub changes_make : (old new : Engine) (steps : List ServerStep) → Does old.callbacks.state steps new.callbacks.state
     → new.outbox ≡ old.outbox → messages_sent steps ≡ [] → copies_sent steps ≡ 0 → Makes old (λ s. steps) new
 changes_make old new steps c o m k = record {
   says = record {
@@ -88,13 +88,23 @@ takes old mid new c b a m =
     parts = sym (append_assoc first next (settle_pages on_cycle (server_after (server_after s first) next) (server_after (server_after s first) next).pages))
         ∙ ap (λ (t : Server). (first ++ next) ++ settle_pages on_cycle t t.pages) (sym (after_append s first next))
 
+-- where only room for asks had changed
+pub stays_left : (old mid new : ServerState) → mid ≡ record old { asks = mid.asks } → Stays mid new → Stays old new
+stays_left old mid new rest s = record {
+  keep_write = s.keep_write ∙ ap (λ (h : ServerState). h.keep_write) rest;
+  clients = s.clients ∙ ap (λ (h : ServerState). length h.sessions) rest;
+  pages = s.pages ∙ ap (λ (h : ServerState). length h.commits.store.pages) rest;
+  page_size = s.page_size ∙ ap (λ (h : ServerState). h.commits.store.page_size) rest;
+  opening = s.opening ∙ ap (λ (h : ServerState). h.commits.opening) rest;
+}
+
 -- where room was made before
 pub serves : (old mid new : Engine) (f : Server → List ServerStep) → IsLeft old mid → Makes mid f new → Serves old f new
 serves old mid new f l m = record {
   becomes = m.says.becomes ∙ ap (λ (s : Server). server_after s (f s)) l.server;
   sends = m.says.sends ∙ (ap (λ (x : List Message). x ++ messages_sent (f (server_in mid))) l.sent
       ∙ ap (λ (s : Server). old.outbox.sent ++ messages_sent (f s)) l.server);
-  stays = subst (λ (h : HoldingsState). Stays h new.callbacks.tables.holdings) l.holdings m.stays;
+  stays = stays_left old.callbacks.state mid.callbacks.state new.callbacks.state l.rest m.stays;
   page_size = m.says.page_size ∙ l.page_size;
   few = λ few. let middle = l.few few in let spare = m.says.spare in omega (arith, middle, spare);
 }
@@ -109,10 +119,10 @@ serves_as old new f g e m = record {
 }
 
 pub serves_nothing : (e : Engine) → Serves e (λ s. []) e
-serves_nothing e = record { becomes = refl; sends = sym (append-nil e.outbox.sent); stays = stays_same e.callbacks.tables.holdings; page_size = refl; few = λ few. few }
+serves_nothing e = record { becomes = refl; sends = sym (append-nil e.outbox.sent); stays = stays_same e.callbacks.state; page_size = refl; few = λ few. few }
 
 -- room for an ask's place is made before
-pub reserved : (old res : Engine) → Changes old.callbacks.tables [] res.callbacks.tables → res.outbox ≡ old.outbox → Makes old (λ s. []) res
+pub reserved : (old res : Engine) → Does old.callbacks.state [] res.callbacks.state → res.outbox ≡ old.outbox → Makes old (λ s. []) res
 reserved old res changes o = changes_make old res [] changes o refl refl
 
 pub answers_reserved : (old res mid new : Engine) (c t : ℕ) (b : Body) → named_txn b ≡ t → Makes old (λ s. []) res → Begins res c t mid → Makes mid (λ s. direct_answer on_cycle s c b) new
@@ -120,7 +130,7 @@ pub answers_reserved : (old res mid new : Engine) (c t : ℕ) (b : Body) → nam
 answers_reserved old res mid new c t b e r a m = makes_then old res new (λ s. []) (answer_to on_cycle c b) r (answers res mid new c t b e a m)
 
 -- a greater incarnation is admitted and welcomed
-pub admits : (old new : Engine) (c i : ℕ) → Changes old.callbacks.tables (ForgetTransaction c ∷ ChangeSession c (Admit i) ∷ []) new.callbacks.tables
+pub admits : (old new : Engine) (c i : ℕ) → Does old.callbacks.state (ForgetTransaction c ∷ ChangeSession c (Admit i) ∷ []) new.callbacks.state
     → new.outbox ≡ record old.outbox { sent = old.outbox.sent ++ record { client = c; incarnation = i; body = Welcome } ∷ [] }
     → Makes old (λ s. ForgetTransaction c ∷ ChangeSession c (Admit i) ∷ Send c i Welcome ∷ []) new
 admits old new c i changes o = record {
@@ -152,7 +162,7 @@ if_err (Err x) p = p
 pub left_then : (old mid new : Engine) → IsLeft old mid → IsLeft mid new → IsLeft old new
 left_then old mid new a b = record {
   server = b.server ∙ a.server;
-  holdings = b.holdings ∙ a.holdings;
+  rest = b.rest ∙ ap (λ (h : ServerState). record h { asks = new.callbacks.state.asks }) a.rest;
   sent = b.sent ∙ a.sent;
   page_size = b.page_size ∙ a.page_size;
   few = λ few. b.few (a.few few);

@@ -2,6 +2,7 @@
 use Rattle.std.proofs.Common.{◌≡◌, ℕ, ◌+◌, ◌≤◌, false, List, ◌++◌, length, sym, ap, ◌∙◌, subst, arith}
 use Rattle.std.proofs.lemmas.List.{length-append}
 use Rattle.cb_outbox.proofs.Saying.{after_append, copies_append, sent_append}
+use Rattle.cb_page.specs.Bounds.{Bounds}
 use Rattle.cb_protocol.proofs.GrantNumbers.{left_at_admission, left_at_answer, left_at_begin}
 use Rattle.cb_protocol.specs.Messages.{AskRead, AskWrite, Body, Commit, Hello, Message}
 use Rattle.cb_protocol.specs.Numbers.{HasGrantsLeft, copies_sent}
@@ -9,7 +10,7 @@ use Rattle.cb_protocol.specs.Server.{Server, ServerStep, server_after}
 use Rattle.cb_protocol.specs.ServerMessages.{begin_transaction, direct_answer, named_txn}
 use Rattle.cb_protocol.specs.WaitsFor.{on_cycle}
 use Rattle.cb_protocol.specs.World.{messages_sent}
-use Rattle.cb_server.specs.Answering.{CanAnswer, CanSayTo, CanSettle, HasRoom, LacksNumber, Makes, answer_to, copies_for_body, messages_for_body, messages_in_all, read_asks_in_all, server_in}
+use Rattle.cb_server.specs.Answering.{CanAnswer, CanSayTo, CanSettle, HasLimits, HasRoom, LacksNumber, Makes, answer_to, copies_for_body, messages_for_body, messages_in_all, read_asks_in_all, server_in}
 use Rattle.cb_server.specs.declared.engine.Engine.{Engine}
 use Rattle.cb_server.proofs.Counting.{Costs, admission, admission_costs, answer_costs, begins_as_many, begins_quietly, begins_with_fewer, begins_with_less, begins_with_no_copy, most, reads}
 
@@ -75,6 +76,15 @@ settles_after_answer old new c b room left makes =
 pub settles_after_admission : (old new : Engine) (c i : ℕ) → CanAnswer old Hello → Makes old (λ s. admission c i) new → CanSettle new
 settles_after_admission old new c i room makes =
     settles_by old new (λ s. admission c i) 1 0 room makes (admission_costs (server_in old) c i) (left_at_admission (server_in old) c i room.grants)
+
+-- room for so much as the body can need
+pub can_answer : (old mid : Engine) (limits : Bounds) (b : Body) (messages copies : ℕ) → HasLimits old limits → server_in mid ≡ server_in old
+    → messages ≡ messages_for_body limits.clients b → copies ≡ copies_for_body b
+    → HasRoom mid (messages_in_all mid + messages) (read_asks_in_all mid + copies) → CanAnswer mid b
+can_answer old mid limits b messages copies of same is also room =
+    subst (λ (n : ℕ). HasRoom mid (messages_in_all mid + n) (read_asks_in_all mid + copies_for_body b))
+    (is ∙ ap (λ (n : ℕ). messages_for_body n b) (sym (ap (λ (s : Server). s.clients) same ∙ of.clients)))
+    (subst (λ (n : ℕ). HasRoom mid (messages_in_all mid + messages) (read_asks_in_all mid + n)) also room)
 
 -- there is room for the answer alone
 pub can_say_to : (e : Engine) (b : Body) → CanAnswer e b → CanSayTo b e

@@ -5,13 +5,14 @@ use Rattle.std.specs.Prelude.{length, ⊤}
 use Rattle.cb_asks.specs.Asks.{room_at}
 use Rattle.cb_callbacks.specs.Numbers as numbers
 use Rattle.cb_callbacks.specs.Numbers.{IsLiveOne}
-use Rattle.cb_tables.specs.Tables.{IsAsLarge, server_of}
 use Rattle.cb_commit.specs.History.{FitsInto}
 use Rattle.cb_frame_types.specs.declared.frame.Body.{Body}
 use Rattle.cb_frame_types.specs.declared.frame.Body.TheVariants as body
-use Rattle.cb_holdings.specs.Holdings.{Stays}
+use Rattle.cb_frame_types.specs.declared.writes.Write.{Write}
+use Rattle.cb_links.specs.declared.sessions.Standing.{Standing}
 use Rattle.cb_outbox.specs.Messages.{short_of}
 use Rattle.cb_outbox.specs.Saying.{Says}
+use Rattle.cb_page.specs.Bounds.{Bounds}
 use Rattle.cb_protocol.specs.Basics.{Limits}
 use Rattle.cb_protocol.specs.Messages as protocol
 use Rattle.cb_protocol.specs.Messages.{AbortNow}
@@ -24,6 +25,9 @@ use Rattle.cb_protocol.specs.ServerMessages.{read_asks_below}
 use Rattle.cb_protocol.specs.Settling.{send_to, settle_pages}
 use Rattle.cb_protocol.specs.WaitsFor.{on_cycle}
 use Rattle.cb_protocol.specs.World.{messages_sent}
+use Rattle.cb_server_state.specs.Questions.{IsLastIfLive, standing_in}
+use Rattle.cb_server_state.specs.States as states
+use Rattle.cb_server_state.specs.States.{AreOf, IsAsLarge, Stays, server_of}
 use Rattle.cb_server.specs.declared.engine.Engine.{Engine}
 use Rattle.cb_server.specs.declared.engine.Met.{Met}
 use Rattle.cb_server.specs.declared.engine.Met.TheVariants as met
@@ -32,7 +36,26 @@ use Rattle.cb_server.specs.declared.engine.answers.Begun.TheVariants as begun
 
 -- the protocol's server that the engine has
 abbrev pub server_in : Engine → Server
-server_in engine = server_of engine.callbacks.tables
+server_in engine = server_of engine.callbacks.state
+
+-- there is such a client; such a page
+abbrev pub HasClient : Engine → ℕ → Type 0
+HasClient engine client = states.HasClient engine.callbacks.state client
+
+abbrev pub HasPage : Engine → ℕ → Type 0
+HasPage engine page = states.HasPage engine.callbacks.state page
+
+-- its state is of these limits
+abbrev pub HasLimits : Engine → Bounds → Type 0
+HasLimits engine limits = AreOf limits engine.callbacks.state
+
+-- the pages of a commit fit the store
+abbrev pub FitsStore : Engine → List Write → Type 0
+FitsStore engine writes = FitsInto engine.callbacks.state.commits.store writes
+
+-- so many asks more can wait for the page without memory
+abbrev pub places_at : Engine → ℕ → ℕ
+places_at engine page = room_at engine.callbacks.state.asks page
 
 -- Room for so many messages and copies of pages, of the store's size; and every ask to read that
 -- waits can have a grant number.
@@ -40,7 +63,7 @@ pub record HasRoom (engine : Engine) (messages copies : ℕ) : Type 0 where
   pub frames : length engine.outbox.sent + messages ≤ engine.outbox.room
   pub copies_of_pages : copies ≤ engine.outbox.spare
   pub grants : HasGrantsLeft (server_in engine)
-  pub size : IsAsLarge engine.outbox engine.callbacks.tables
+  pub size : IsAsLarge engine.outbox engine.callbacks.state
 
 -- how many asks to read wait
 abbrev pub read_asks_in_all : Engine → ℕ
@@ -82,7 +105,7 @@ pub record CanSay (engine : Engine) : Type 0 where
 pub record CanGrant (engine : Engine) : Type 0 where
   pub say : CanSay engine
   pub copy : 0 < engine.outbox.spare
-  pub size : IsAsLarge engine.outbox engine.callbacks.tables
+  pub size : IsAsLarge engine.outbox engine.callbacks.state
 
 -- room for the answer to a body alone
 abbrev pub CanSayTo : protocol.Body → Engine → Type 0
@@ -94,7 +117,7 @@ CanSayTo _ engine = ⊤
 -- The engine does these steps of the protocol's server, and says what they send.
 pub record Makes (old : Engine) (steps : Server → List ServerStep) (new : Engine) : Type 0 where
   pub says : Says (server_in old) steps (server_in new) old.outbox new.outbox
-  pub stays : Stays old.callbacks.tables.holdings new.callbacks.tables.holdings
+  pub stays : Stays old.callbacks.state new.callbacks.state
 
 -- There are no more spare pages than copies that one message can need: at most 32 asks to read
 -- wait, and its own comes.
@@ -105,7 +128,7 @@ HasFewSpare engine = engine.outbox.spare ≤ 33
 pub record Serves (old : Engine) (steps : Server → List ServerStep) (new : Engine) : Type 0 where
   pub becomes : server_in new ≡ server_after (server_in old) (steps (server_in old))
   pub sends : new.outbox.sent ≡ old.outbox.sent ++ messages_sent (steps (server_in old))
-  pub stays : Stays old.callbacks.tables.holdings new.callbacks.tables.holdings
+  pub stays : Stays old.callbacks.state new.callbacks.state
   pub page_size : new.outbox.page_size ≡ old.outbox.page_size
   pub few : HasFewSpare old → HasFewSpare new
 
@@ -125,30 +148,26 @@ applies server client txn writes =
     let begun = server_after server (begin_transaction server client txn) in
     may_proceed begun client txn && commit_allowed begun client writes
 
--- the message is a commit that would be applied
-abbrev pub is_applied : Server → (client : ℕ) → protocol.Body → Bool
-is_applied server client (protocol.Commit txn writes) = applies server client txn writes
-is_applied server client _ = false
-
 -- Between two messages: nothing is to be sent yet, settling would do nothing, and each ask to read
 -- that waits can have a grant number.
 pub record IsReady (engine : Engine) : Type 0 where
   pub sent : engine.outbox.sent ≡ []
   pub settled : settle_pages on_cycle (server_in engine) (server_in engine).pages ≡ []
   pub grants : HasGrantsLeft (server_in engine)
-  pub size : IsAsLarge engine.outbox engine.callbacks.tables
+  pub size : IsAsLarge engine.outbox engine.callbacks.state
 
 -- A transaction has begun where it is a later one; nothing is sent, and no room is used up.
 pub record Begins (old : Engine) (client txn : ℕ) (new : Engine) : Type 0 where
   pub makes : Makes old (λ server. begin_transaction server client txn) new
   pub outbox : new.outbox ≡ old.outbox
   pub places : (page : ℕ)
-      → room_at old.callbacks.tables.asks page ≤ room_at new.callbacks.tables.asks page
+      → room_at old.callbacks.state.asks page ≤ room_at new.callbacks.state.asks page
 
 -- Nothing changes but room.
 pub record IsLeft (old new : Engine) : Type 0 where
   pub server : server_in new ≡ server_in old
-  pub holdings : new.callbacks.tables.holdings ≡ old.callbacks.tables.holdings
+  pub rest : new.callbacks.state
+      ≡ record old.callbacks.state { asks = new.callbacks.state.asks }
   pub sent : new.outbox.sent ≡ old.outbox.sent
   pub page_size : new.outbox.page_size ≡ old.outbox.page_size
   pub few : HasFewSpare old → HasFewSpare new
@@ -158,25 +177,31 @@ abbrev pub IsCurrent : Engine → (client incarnation : ℕ) → Type 0
 IsCurrent engine client incarnation =
     incarnation ≡ ((server_in engine).session client).current
 
--- A commit of the client's current incarnation is to be applied: there is a number for it, and room
--- for its answer and for settling.
-pub record Awaits (engine : Engine) (client incarnation txn : ℕ) (writes : List protocol.PageWrite)
-    : Type 0 where
+-- So the transaction stands beside the client's last one, as it was asked before it begins.
+pub record IsStanding (engine : Engine) (client txn : ℕ) (standing : Standing) : Type 0 where
+  pub is : standing ≡ standing_in (server_in engine) client txn
+  pub last : IsLastIfLive standing (server_in engine) client txn
+
+-- A commit of the client's current incarnation is to be applied, whose transaction stands so: there
+-- is a number for it, and room for its answer and for settling.
+pub record Awaits (engine : Engine) (client incarnation txn : ℕ) (standing : Standing)
+    (writes : List protocol.PageWrite) : Type 0 where
   pub current : IsCurrent engine client incarnation
+  pub stands : IsStanding engine client txn standing
   pub room : CanAnswer engine (protocol.Commit txn writes)
   pub number : LacksNumber engine client (protocol.Commit txn writes) false
   pub allowed : applies (server_in engine) client txn writes ≡ true
 
 -- the message is such a commit
-abbrev pub AwaitsBody : Engine → (client incarnation : ℕ) → protocol.Body → Type 0
-AwaitsBody engine client incarnation (protocol.Commit txn writes) =
-    Awaits engine client incarnation txn writes
-AwaitsBody engine client incarnation _ = ⊥
+abbrev pub AwaitsBody : Engine → (client incarnation : ℕ) → Standing → protocol.Body → Type 0
+AwaitsBody engine client incarnation standing (protocol.Commit txn writes) =
+    Awaits engine client incarnation txn standing writes
+AwaitsBody engine client incarnation standing _ = ⊥
 
 -- The message is such a commit, and nothing but room has changed.
 pub record IsPutOff (old : Engine) (client incarnation : ℕ) (message : protocol.Body)
-    (new : Engine) : Type 0 where
-  pub waits : AwaitsBody new client incarnation message
+    (standing : Standing) (new : Engine) : Type 0 where
+  pub waits : AwaitsBody new client incarnation standing message
   pub left : IsLeft old new
   pub callbacks : new.callbacks ≡ old.callbacks
 
@@ -184,8 +209,8 @@ pub record IsPutOff (old : Engine) (client incarnation : ℕ) (message : protoco
 abbrev pub Meets : Engine → (Server → List ServerStep) → (client incarnation : ℕ) → protocol.Body
     → Met → Engine → Type 0
 Meets old steps client incarnation message met.Taken new = Serves old steps new
-Meets old steps client incarnation message met.Applies new =
-    IsPutOff old client incarnation message new
+Meets old steps client incarnation message (met.Applies standing) new =
+    IsPutOff old client incarnation message standing new
 
 -- How a message's transaction stands once it has begun.
 abbrev pub Stands : Begun → Server → (client txn : ℕ) → Type 0
@@ -210,21 +235,20 @@ abbrev pub HasBegunTold : Begun → Engine → (client txn : ℕ) → Engine →
 HasBegunTold begun.Doomed old client txn new = HasHeardOfDoom old client txn new
 HasBegunTold standing old client txn new = HasBegun old client txn standing new
 
--- the protocol's limits that tables are of; a pool's size says nothing of a server
+-- the protocol's limits that a state is of; a pool's size says nothing of a server
 abbrev pub limits_in : Engine → Limits
 limits_in engine = record {
   clients = (server_in engine).clients;
   pages = (server_in engine).pages;
-  page_size = engine.callbacks.tables.holdings.commits.store.page_size;
+  page_size = engine.callbacks.state.commits.store.page_size;
   slots = 0;
   keep_write = (server_in engine).store.keep_write;
 }
 
--- The body's numbers fit the tables, and a commit's pages the store.
+-- The body's numbers fit the state, and a commit's pages the store.
 abbrev pub FitsIn : Engine → Body → Type 0
 FitsIn engine (body.Short short) = BodyFits (limits_in engine) (short_of short)
-FitsIn engine (body.Commit txn writes) =
-    FitsInto engine.callbacks.tables.holdings.commits.store writes
+FitsIn engine (body.Commit txn writes) = FitsStore engine writes
 FitsIn engine (body.Granted page grant version bytes) = ⊤
 
 -- the message is a Hello

@@ -1,4 +1,4 @@
-pub mod ServerState
+pub mod ServerValue
 pub mod Taking
 pub mod Answering
 pub mod ServerLaws

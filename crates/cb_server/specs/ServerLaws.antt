@@ -9,28 +9,28 @@ use Rattle.cb_protocol.specs.Ranges.{InputTaken}
 use Rattle.cb_protocol.specs.Server.{Doom, RemoveAsk, ServerStep, server_after}
 use Rattle.cb_protocol.specs.WaitsFor.{HasAsk, LiesOnCycle, NoCycle, WaitsFor, on_cycle}
 use Rattle.cb_protocol.specs.LeavingLaws.{IsMet, IsTold, TransactionEnds, WaitsIn}
-use Rattle.cb_server.specs.ServerState.{IsServer, ServerState, limits_at, opening_at, server_of}
+use Rattle.cb_server.specs.ServerValue.{IsServer, ServerValue, limits_at, opening_at, server_of}
 use Rattle.cb_server.specs.Taking.{Does, input_of, lacks_number_for}
 
 -- The directory rule: a page with a write holder has rows of no other client. The ledger: no
 -- transaction commits twice, and the store is the opening store with the commits written over it.
 abbrev pub RulesAreKept : Type 0
-RulesAreKept = (state : ServerState) → IsServer state
+RulesAreKept = (state : ServerValue) → IsServer state
     → RulesHold (opening_at state) (server_of state)
 
 -- nobody lies on a cycle of waits
 abbrev pub NobodyIsDeadlocked : Type 0
-NobodyIsDeadlocked = (state : ServerState) → IsServer state → NoCycle (server_of state)
+NobodyIsDeadlocked = (state : ServerValue) → IsServer state → NoCycle (server_of state)
 
 -- a client has at most one ask, and none while its transaction is doomed
 abbrev pub AsksAreFew : Type 0
-AsksAreFew = (state : ServerState) → IsServer state
+AsksAreFew = (state : ServerValue) → IsServer state
     → OneAsk (server_of state).queue
     × ((client : ℕ) → (server_of state).doomed client ≡ true
     → (page : ℕ) → HasAsk client ((server_of state).queue page) → ⊥)
 
 -- as its ask was taken away, right before its transaction was doomed, the client lay on a cycle
-abbrev pub LayOnCycle : ServerState → Input → (client : ℕ) → Type 0
+abbrev pub LayOnCycle : ServerValue → Input → (client : ℕ) → Type 0
 LayOnCycle old input client = (before after : List ServerStep)
     × (input_steps on_cycle (server_of old) input
     ≡ before ++ RemoveAsk client ∷ Doom client ∷ after)
@@ -38,21 +38,21 @@ LayOnCycle old input client = (before after : List ServerStep)
 
 -- A transaction becomes doomed only where its client lay on a cycle of waits.
 abbrev pub DoomedLayOnCycle : Type 0
-DoomedLayOnCycle = (old new : ServerState) (input : Input) (messages : List Message)
+DoomedLayOnCycle = (old new : ServerValue) (input : Input) (messages : List Message)
     → IsServer old → InputTaken (limits_at old) (server_of old) input → Does old input messages new
     → (client : ℕ) → (server_of old).doomed client ≡ false → (server_of new).doomed client ≡ true
     → LayOnCycle old input client
 
 -- a frame that fits, and for which no number is lacking, is such an input
 abbrev pub FramesAreTaken : Type 0
-FramesAreTaken = (state : ServerState) (frame : Frame) → Fits state.limits frame
+FramesAreTaken = (state : ServerValue) (frame : Frame) → Fits state.limits frame
     → lacks_number_for state frame ≡ false
     → InputTaken (limits_at state) (server_of state) (input_of frame)
 
 -- An ask leaves its queue only where it is met, where its client is told that its transaction is
 -- aborted, or where that transaction ends.
 abbrev pub NoAskIsForgotten : Type 0
-NoAskIsForgotten = (old new : ServerState) (input : Input) (messages : List Message)
+NoAskIsForgotten = (old new : ServerValue) (input : Input) (messages : List Message)
     → Does old input messages new → (page client : ℕ) (write_grant : Option ℕ)
     → WaitsIn client write_grant ((server_of old).queue page)
     → WaitsIn client write_grant ((server_of new).queue page)

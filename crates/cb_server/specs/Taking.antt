@@ -15,13 +15,13 @@ use Rattle.cb_protocol.specs.Server.{Server, server_after}
 use Rattle.cb_protocol.specs.ServerMessages.{is_exhausted}
 use Rattle.cb_protocol.specs.WaitsFor.{on_cycle}
 use Rattle.cb_protocol.specs.World.{messages_sent}
-use Rattle.cb_server.specs.ServerState.{ServerState, commits_of, server_of}
+use Rattle.cb_server.specs.ServerValue.{ServerValue, commits_of, server_of}
 use Rattle.cb_server.specs.declared.server_fault.ServerFault.{ServerFault}
 use Rattle.cb_server.specs.declared.server_fault.ServerFault.TheVariants as fault
 
 -- It does what the protocol's server does at the input, and these messages are all that is sent, in
 -- order. Its limits and its opening store are as before.
-pub record Does (old : ServerState) (input : Input) (messages : List Message) (new : ServerState)
+pub record Does (old : ServerValue) (input : Input) (messages : List Message) (new : ServerValue)
     : Type 0 where
   pub sends : messages ≡ messages_sent (input_steps on_cycle (server_of old) input)
   pub becomes : server_of new
@@ -34,13 +34,13 @@ abbrev pub input_of : Frame → Input
 input_of frame = MessageComes frame.client frame.incarnation (body_of frame.body)
 
 -- no number is left for it
-abbrev pub lacks_number_for : ServerState → Frame → Bool
+abbrev pub lacks_number_for : ServerValue → Frame → Bool
 lacks_number_for state frame =
     is_exhausted (server_of state) frame.client frame.incarnation (body_of frame.body)
 
 -- The frame is taken as the protocol's table of messages says: no number is lacking for it.
-pub record Takes (old : ServerState) (frame : Frame) (messages : List Message)
-    (new : ServerState) : Type 0 where
+pub record Takes (old : ServerValue) (frame : Frame) (messages : List Message)
+    (new : ServerValue) : Type 0 where
   pub taken : lacks_number_for old frame ≡ false
   pub does : Does old (input_of frame) messages new
 
@@ -58,24 +58,24 @@ may_want_memory server client incarnation body =
     (incarnation == (server.session client).current) && to_server body
 
 -- A frame for which memory may be wanted.
-abbrev pub MayWantMemory : ServerState → Frame → Type 0
+abbrev pub MayWantMemory : ServerValue → Frame → Type 0
 MayWantMemory state frame =
     may_want_memory (server_of state) frame.client frame.incarnation (body_of frame.body) ≡ true
 
 -- A frame is refused as exhausted exactly where a number is lacking for it.
-abbrev pub Refuses : ServerState → Frame → ServerFault → Type 0
+abbrev pub Refuses : ServerValue → Frame → ServerFault → Type 0
 Refuses state frame refused = lacks_number_for state frame ≡ is_exhaustion refused
 
 -- The bytes begin with a frame, of that many bytes, which is taken.
-pub record TakesBytes (old : ServerState) (bytes : List ℕ) (used : ℕ) (messages : List Message)
-    (new : ServerState) : Type 0 where
+pub record TakesBytes (old : ServerValue) (bytes : List ℕ) (used : ℕ) (messages : List Message)
+    (new : ServerValue) : Type 0 where
   pub frame : Frame
   pub read : IsFrameInSome old.limits frame (take used bytes)
   pub within : used ≤ length bytes
   pub takes : Takes old frame messages new
 
 -- The bytes begin with a frame, for which memory may be wanted, and which is refused.
-pub record RefusesBytes (state : ServerState) (bytes : List ℕ) (refused : ServerFault)
+pub record RefusesBytes (state : ServerValue) (bytes : List ℕ) (refused : ServerFault)
     : Type 0 where
   pub frame : Frame
   pub used : ℕ
@@ -85,7 +85,7 @@ pub record RefusesBytes (state : ServerState) (bytes : List ℕ) (refused : Serv
   pub needed : MayWantMemory state frame
 
 -- the bytes begin with no frame, for that cause; or with one that is refused
-abbrev pub IsBytesFault : ServerState → List ℕ → BytesFault ServerFault → Type 0
+abbrev pub IsBytesFault : ServerValue → List ℕ → BytesFault ServerFault → Type 0
 IsBytesFault state bytes (reading.Frame found) =
     first_fault (causes state.limits bytes) ≡ fault_in_bytes found
 IsBytesFault state bytes (reading.Taker refused) = RefusesBytes state bytes refused

@@ -2,20 +2,20 @@
 ghost use Rattle.std.specs.Prelude.{◌≡◌, ◌==◌, ◌<◌, ◌≤◌, ◌∷◌, [], ℕ, false, true, IfErr, IfOk};
 ghost use Rattle.std.specs.Prelude.{OnErr};
 ghost use Rattle.std.specs.Prelude.{◌+◌, OnOk, max};
-ghost use Rattle.cb_tables.specs.Tables.{HasClient};
-ghost use Rattle.cb_tables.specs.Waits.{IsGreeted};
-ghost use Rattle.cb_holdings.specs.Holdings.{AreOf};
-ghost use Rattle.cb_outbox.specs.Messages.{body_of};
+ghost use Rattle.cb_server_state.specs.Waits.{IsGreeted};
+ghost use Rattle.cb_outbox.specs.Messages.{body_of, short_of};
 ghost use Rattle.cb_protocol.specs.Messages.{Hello, Welcome, to_server};
+ghost use Rattle.cb_protocol.specs.Ranges.{BodyFits};
 ghost use Rattle.cb_protocol.specs.Resend.{server_again};
 ghost use Rattle.cb_protocol.specs.Server.{Send};
 ghost use Rattle.cb_protocol.specs.ServerMessages.{admit_incarnation, is_exhausted};
 ghost use Rattle.cb_protocol.specs.ServerMessages.{server_take, take_current};
 ghost use Rattle.cb_protocol.specs.Settling.{settle_pages};
 ghost use Rattle.cb_protocol.specs.WaitsFor.{on_cycle};
-ghost use Rattle.cb_server.specs.Answering.{CanAnswer, CanSettle, FitsIn, IsCurrent, IsLeft};
-ghost use Rattle.cb_server.specs.Answering.{IsReady, LacksNumber, Makes, Meets, Serves, is_hello};
-ghost use Rattle.cb_server.specs.Answering.{copies_for_body, messages_for_body};
+ghost use Rattle.cb_server.specs.Answering.{CanSettle, FitsIn, HasClient, HasLimits, HasRoom};
+ghost use Rattle.cb_server.specs.Answering.{IsCurrent, IsLeft, IsReady, LacksNumber, Makes, Meets};
+ghost use Rattle.cb_server.specs.Answering.{Serves, copies_for_body, is_hello, limits_in};
+ghost use Rattle.cb_server.specs.Answering.{messages_for_body, messages_in_all};
 ghost use Rattle.cb_server.specs.Answering.{read_asks_in_all, server_in};
 ghost use Rattle.cb_server.specs.Taking.{is_exhaustion, may_want_memory};
 
@@ -27,7 +27,7 @@ mod copying;
 use crate::server_fault::ServerFault;
 use cb_callbacks::Callbacks;
 use cb_frame::{Body, ShortBody};
-use cb_links::Admission;
+use cb_links::{Admission, Standing};
 use cb_outbox::Outbox;
 use cb_page::{ClientNo, Incarnation, Limits};
 use std::alloc::{AllocError, Global};
@@ -37,11 +37,12 @@ use std::alloc::{AllocError, Global};
 pub(crate) enum Met {
     /// It was taken.
     Taken,
-    /// It is a commit that is to be applied. There is room for what follows; nothing else changed.
-    Applies,
+    /// It is a commit that is to be applied, whose transaction stands so. There is room for what
+    /// follows; nothing else changed.
+    Applies(Standing),
 }
 
-/// The tables, and what is said while a message is taken.
+/// What the server has, and what is said while a message is taken.
 #[derive(Drop)]
 pub(crate) struct Engine {
     pub(crate) callbacks: Callbacks,
@@ -60,8 +61,8 @@ impl Engine {
         body: &Body,
     ) -> Result<(), ServerFault>
         requires ready { IsReady self.old }
-        requires of { AreOf limits.now self.old.callbacks.tables.holdings }
-        requires client { HasClient self.old.callbacks.tables client }
+        requires of { HasLimits self.old limits.now }
+        requires client { HasClient self.old client }
         requires fits { FitsIn self.old body.now }
         ensures ok { OnOk result (Serves self.old (λ server.
             server_take on_cycle server client incarnation (body_of body.now)) self.new) }
@@ -78,7 +79,9 @@ impl Engine {
         let met = self.meet(alloc, limits, client, incarnation, body)?;
         match met {
             Met::Taken => Ok(()),
-            Met::Applies => Ok(self.apply_copy(alloc, client, incarnation, body)?),
+            Met::Applies(standing) => {
+                Ok(self.apply_copy(alloc, client, incarnation, standing, body)?)
+            }
         }
     }
 
@@ -93,8 +96,8 @@ impl Engine {
         body: Body,
     ) -> Result<(), (ServerFault, Body)>
         requires ready { IsReady self.old }
-        requires of { AreOf limits.now self.old.callbacks.tables.holdings }
-        requires client { HasClient self.old.callbacks.tables client }
+        requires of { HasLimits self.old limits.now }
+        requires client { HasClient self.old client }
         requires fits { FitsIn self.old body }
         ensures ok { OnOk result (Serves self.old
             (λ server. server_take on_cycle server client incarnation (body_of body)) self.new) }
@@ -111,7 +114,7 @@ impl Engine {
         match self.meet(alloc, limits, client, incarnation, &body) {
             Err(fault) => Err((fault, body)),
             Ok(Met::Taken) => Ok(()),
-            Ok(Met::Applies) => self.apply_body(client, incarnation, body),
+            Ok(Met::Applies(standing)) => self.apply_body(client, incarnation, standing, body),
         }
     }
 
@@ -125,8 +128,8 @@ impl Engine {
         body: &Body,
     ) -> Result<Met, ServerFault>
         requires ready { IsReady self.old }
-        requires of { AreOf limits.now self.old.callbacks.tables.holdings }
-        requires client { HasClient self.old.callbacks.tables client }
+        requires of { HasLimits self.old limits.now }
+        requires client { HasClient self.old client }
         requires fits { FitsIn self.old body.now }
         ensures ok { IfOk result (λ met. Meets self.old (λ server.
             server_take on_cycle server client incarnation (body_of body.now))
@@ -162,8 +165,8 @@ impl Engine {
         body: &Body,
     ) -> Result<Met, ServerFault>
         requires ready { IsReady self.old }
-        requires of { AreOf limits.now self.old.callbacks.tables.holdings }
-        requires client { HasClient self.old.callbacks.tables client }
+        requires of { HasLimits self.old limits.now }
+        requires client { HasClient self.old client }
         requires current { IsCurrent self.old client incarnation }
         requires fits { FitsIn self.old body.now }
         ensures ok { IfOk result (λ met. Meets self.old
@@ -175,19 +178,55 @@ impl Engine {
         ensures needed { OnErr result (to_server (body_of body.now) ≡ true) }
         ensures left { OnErr result (IsLeft self.old self.new) }
     {
-        if self.lacks_number(client, body) {
+        match body {
+            Body::Commit { txn, writes } => {
+                self.meet_commit(alloc, limits, client, incarnation, *txn, writes)
+            }
+            Body::Granted { .. } => Ok(Met::Taken),
+            Body::Short(body) => {
+                self.serve(alloc, limits, client, incarnation, body)?;
+                Ok(Met::Taken)
+            }
+        }
+    }
+
+    /// Takes another message than Hello, of the current incarnation and without page bytes.
+    fn serve(
+        &mut self,
+        alloc: Global,
+        limits: &Limits,
+        client: ClientNo,
+        incarnation: Incarnation,
+        body: &ShortBody,
+    ) -> Result<(), ServerFault>
+        requires ready { IsReady self.old }
+        requires of { HasLimits self.old limits.now }
+        requires client { HasClient self.old client }
+        requires current { IsCurrent self.old client incarnation }
+        requires fits { BodyFits (limits_in self.old) (short_of body.now) }
+        ensures ok { OnOk result (Serves self.old
+            (λ server. take_current on_cycle server client (short_of body.now)) self.new) }
+        ensures taken { OnOk result (LacksNumber self.old client (short_of body.now) false) }
+        ensures err { IfErr result (λ fault.
+            LacksNumber self.old client (short_of body.now) (is_exhaustion fault)) }
+        ensures needed { OnErr result (to_server (short_of body.now) ≡ true) }
+        ensures left { OnErr result (IsLeft self.old self.new) }
+    {
+        if self.lacks_grant(client, body) {
             return Err(ServerFault::Exhausted);
         }
         if !is_for_server(body) {
-            return Ok(Met::Taken);
+            return Ok(());
         }
-        self.reserve(alloc, limits, body)?;
-        if self.is_applied(client, body) {
-            return Ok(Met::Applies);
-        }
-        self.answer(client, incarnation, body)?;
+        self.reserve(
+            alloc,
+            limits,
+            messages_for_body(limits, body),
+            copies_for_body(body),
+        )?;
+        self.answer(client, incarnation, *body)?;
         self.settle();
-        Ok(Met::Taken)
+        Ok(())
     }
 
     /// Whether no number is left for a message of the client's incarnation.
@@ -197,7 +236,7 @@ impl Engine {
         incarnation: Incarnation,
         body: &Body,
     ) -> bool
-        requires client { HasClient self.now.callbacks.tables client }
+        requires client { HasClient self.now client }
         requires fits { FitsIn self.now body.now }
         ensures { result
             ≡ is_exhausted (server_in self.now) client incarnation (body_of body.now) }
@@ -207,23 +246,34 @@ impl Engine {
 
     /// Whether the client's current incarnation is this one.
     fn is_current(&self, client: ClientNo, incarnation: Incarnation) -> bool
-        requires { HasClient self.now.callbacks.tables client }
+        requires { HasClient self.now client }
         ensures { result ≡ (incarnation == ((server_in self.now).session client).current) }
     {
-        self.callbacks.holdings().admission(client, incarnation) == Admission::Current
+        self.callbacks.state().admission(client, incarnation) == Admission::Current
     }
 
     /// Whether no number would be left for the message, once its transaction has begun.
     fn lacks_number(&self, client: ClientNo, body: &Body) -> bool
-        requires client { HasClient self.now.callbacks.tables client }
+        requires client { HasClient self.now client }
         requires fits { FitsIn self.now body.now }
         ensures { LacksNumber self.now client (body_of body.now) result }
     {
         match body {
-            Body::Short(ShortBody::AskRead { txn, page }) => {
-                self.callbacks.lacks_grant(client, *txn, *page)
-            }
+            Body::Short(body) => self.lacks_grant(client, body),
             Body::Commit { txn, writes } => self.lacks_commit(client, *txn, writes),
+            Body::Granted { .. } => false,
+        }
+    }
+
+    /// The same of a message without page bytes: whether it is an ask to read for which no grant
+    /// number would be left.
+    fn lacks_grant(&self, client: ClientNo, body: &ShortBody) -> bool
+        requires client { HasClient self.now client }
+        requires fits { BodyFits (limits_in self.now) (short_of body.now) }
+        ensures { LacksNumber self.now client (short_of body.now) result }
+    {
+        match body {
+            ShortBody::AskRead { txn, page } => self.callbacks.lacks_grant(client, *txn, *page),
             _ => false,
         }
     }
@@ -237,15 +287,15 @@ impl Engine {
         incarnation: Incarnation,
     ) -> Result<(), AllocError>
         requires ready { IsReady self.old }
-        requires of { AreOf limits.now self.old.callbacks.tables.holdings }
-        requires client { HasClient self.old.callbacks.tables client }
+        requires of { HasLimits self.old limits.now }
+        requires client { HasClient self.old client }
         ensures ok { OnOk result (Serves self.old
             (λ server. server_take on_cycle server client incarnation Hello) self.new) }
         ensures needed { OnErr result
             (((server_in self.old).session client).current ≤ incarnation) }
         ensures left { OnErr result (IsLeft self.old self.new) }
     {
-        match self.callbacks.holdings().admission(client, incarnation) {
+        match self.callbacks.state().admission(client, incarnation) {
             Admission::Stale => Ok(()),
             Admission::Current => self.welcome(alloc, client, incarnation),
             Admission::Unknown => self.admit(alloc, limits, client, incarnation),
@@ -277,32 +327,42 @@ impl Engine {
         incarnation: Incarnation,
     ) -> Result<(), AllocError>
         requires ready { IsReady self.old }
-        requires of { AreOf limits.now self.old.callbacks.tables.holdings }
-        requires client { HasClient self.old.callbacks.tables client }
+        requires of { HasLimits self.old limits.now }
+        requires client { HasClient self.old client }
         requires newer { ((server_in self.old).session client).current < incarnation }
         ensures ok { OnOk result (Serves self.old
             (λ server. admit_incarnation on_cycle server client incarnation) self.new) }
         ensures left { OnErr result (IsLeft self.old self.new) }
     {
-        self.reserve(alloc, limits, &Body::Short(ShortBody::Hello))?;
+        self.reserve(alloc, limits, 1, 0)?;
         self.callbacks.admit(client, incarnation);
         self.outbox.say(client, incarnation, ShortBody::Welcome);
         self.settle();
         Ok(())
     }
 
-    /// Room for the body's answer, and for settling once it is answered.
-    fn reserve(&mut self, alloc: Global, limits: &Limits, body: &Body) -> Result<(), AllocError>
+    /// Room for an answer of so many messages and copies of pages, and for settling once that is
+    /// given.
+    pub(crate) fn reserve(
+        &mut self,
+        alloc: Global,
+        limits: &Limits,
+        messages: usize,
+        copies: usize,
+    ) -> Result<(), AllocError>
         requires ready { IsReady self.old }
-        requires of { AreOf limits.now self.old.callbacks.tables.holdings }
-        ensures ok { OnOk result (CanAnswer self.new (body_of body.now)) }
+        requires of { HasLimits self.old limits.now }
+        requires few { messages ≤ 33 }
+        requires one { copies ≤ 1 }
+        ensures ok { OnOk result (HasRoom self.new (messages_in_all self.new + messages)
+            (read_asks_in_all self.new + copies)) }
         ensures most { self.new.outbox.spare ≤ max self.old.outbox.spare
-            (read_asks_in_all self.old + copies_for_body (body_of body.now)) }
+            (read_asks_in_all self.old + copies) }
         ensures callbacks { self.new.callbacks ≡ self.old.callbacks }
         ensures left { IsLeft self.old self.new }
     {
-        let messages = self.callbacks.messages_to_settle(limits) + messages_for_body(limits, body);
-        let copies = self.callbacks.read_asks() + copies_for_body(body);
+        let messages = self.callbacks.messages_to_settle(limits) + messages;
+        let copies = self.callbacks.read_asks() + copies;
         self.outbox.reserve(alloc, messages, copies)
     }
 
@@ -318,7 +378,7 @@ impl Engine {
 
     /// What may be lost is said again.
     pub(crate) fn again(&mut self, alloc: Global, limits: &Limits) -> Result<(), AllocError>
-        requires of { AreOf limits.now self.old.callbacks.tables.holdings }
+        requires of { HasLimits self.old limits.now }
         requires greeted { (client : ℕ) → (server_in self.old).doomed client ≡ true
             → IsGreeted (server_in self.old) client }
         ensures ok { OnOk result (Serves self.old server_again self.new) }
@@ -346,45 +406,41 @@ fn is_hello(body: &Body) -> bool
 }
 
 /// Whether the server does anything for a body of that kind: the others go to clients.
-fn is_for_server(body: &Body) -> bool
-    ensures { result ≡ to_server (body_of body.now) }
+fn is_for_server(body: &ShortBody) -> bool
+    ensures { result ≡ to_server (short_of body.now) }
 {
     match body {
-        Body::Commit { .. } => true,
-        Body::Granted { .. } => false,
-        Body::Short(body) => match body {
-            ShortBody::Welcome
-            | ShortBody::MayWrite { .. }
-            | ShortBody::Callback { .. }
-            | ShortBody::Done { .. }
-            | ShortBody::AbortNow { .. }
-            | ShortBody::Downgrade { .. } => false,
-            _ => true,
-        },
+        ShortBody::Welcome
+        | ShortBody::MayWrite { .. }
+        | ShortBody::Callback { .. }
+        | ShortBody::Done { .. }
+        | ShortBody::AbortNow { .. }
+        | ShortBody::Downgrade { .. } => false,
+        _ => true,
     }
 }
 
 /// How many messages a body can need beside those for the asks that wait: its answer, or what
 /// settling may send for its ask.
-fn messages_for_body(limits: &Limits, body: &Body) -> usize
-    ensures messages { result ≡ messages_for_body limits.now.clients (body_of body.now) }
+fn messages_for_body(limits: &Limits, body: &ShortBody) -> usize
+    ensures messages { result ≡ messages_for_body limits.now.clients (short_of body.now) }
     ensures few { result ≤ 33 }
 {
     match body {
-        Body::Short(ShortBody::AskRead { .. }) => 2,
-        Body::Short(ShortBody::AskWrite { .. }) => usize::from(limits.clients()) + 1,
-        Body::Short(ShortBody::Hello) | Body::Commit { .. } => 1,
+        ShortBody::AskRead { .. } => 2,
+        ShortBody::AskWrite { .. } => usize::from(limits.clients()) + 1,
+        ShortBody::Hello => 1,
         _ => 0,
     }
 }
 
 /// How many copies of pages a body can need beside those for the asks to read that wait.
-fn copies_for_body(body: &Body) -> usize
-    ensures copies { result ≡ copies_for_body (body_of body.now) }
+fn copies_for_body(body: &ShortBody) -> usize
+    ensures copies { result ≡ copies_for_body (short_of body.now) }
     ensures few { result ≤ 1 }
 {
     match body {
-        Body::Short(ShortBody::AskRead { .. }) => 1,
+        ShortBody::AskRead { .. } => 1,
         _ => 0,
     }
 }

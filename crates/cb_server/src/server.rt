@@ -9,14 +9,14 @@ ghost use Rattle.cb_frame.specs.Checks.{has_pages, kind_of};
 ghost use Rattle.cb_frame.specs.declared.fault.BytesFault.TheVariants as reading;
 ghost use Rattle.cb_frame.specs.declared.fault.FrameFault.TheVariants as fault;
 ghost use Rattle.cb_frame_types.specs.Grammar.{Fits};
-ghost use Rattle.cb_holdings.specs.Commits.{batch_of};
-ghost use Rattle.cb_holdings.specs.Holdings.{AreOf, newest_first};
 ghost use Rattle.cb_outbox.specs.Messages.{messages_of};
 ghost use Rattle.cb_protocol.specs.AnyMessages.{ReachesDisk, SendsAgain};
 ghost use Rattle.cb_protocol.specs.Flush.{can_flush, next_batch};
-ghost use Rattle.cb_server.specs.ServerState.{IsNew, IsServer, IsUnchanged, commits_of, server_of};
+ghost use Rattle.cb_server.specs.ServerValue.{IsNew, IsServer, IsUnchanged, commits_of, server_of};
 ghost use Rattle.cb_server.specs.Taking.{Does, IsBytesFault, MayWantMemory, Refuses, Takes};
 ghost use Rattle.cb_server.specs.Taking.{TakesBytes, lacks_number_for};
+ghost use Rattle.cb_server_state.specs.Commits.{batch_of};
+ghost use Rattle.cb_server_state.specs.States.{AreOf, PartsAgree, newest_first};
 ghost use Rattle.cb_waits.specs.Follows.{Follows};
 
 use crate::engine::Engine;
@@ -24,9 +24,9 @@ use crate::server_fault::ServerFault;
 use cb_callbacks::Callbacks;
 use cb_commit::{Batch, Commit, Store};
 use cb_frame::{BytesFault, Frame, decode};
-use cb_holdings::Holdings;
 use cb_outbox::Outbox;
 use cb_page::{CommitNo, Limits};
+use cb_server_state::ServerState;
 use cb_waits::View;
 use std::alloc::{AllocError, Global};
 use std::marker::Model;
@@ -52,18 +52,18 @@ impl Drop for Server {
 }
 
 impl Model for Server {
-    ghost use Rattle.cb_server.specs.ServerState.{IsAtRest, ServerState};
+    ghost use Rattle.cb_server.specs.ServerValue.{IsAtRest, ServerValue};
 
-    ghost Value = { ServerState };
+    ghost Value = { ServerValue };
 
     ghost view = { λ server. record {
       limits = server.limits;
-      tables = server.engine.callbacks.tables;
+      state = server.engine.callbacks.state;
     } };
 
     ghost invariant = { λ server. IsAtRest (record {
       limits = server.limits;
-      tables = server.engine.callbacks.tables;
+      state = server.engine.callbacks.state;
     }) server.engine.outbox };
 }
 
@@ -220,14 +220,14 @@ impl Server {
         ensures err { OnErr result
             ((server_of self.now).flushed < (server_of self.now).store.last_commit) }
     {
-        self.engine.callbacks.holdings().batch(alloc)
+        self.engine.callbacks.state().commits.batch(alloc)
     }
 
     /// Whether that commit was made and isn't on disk yet.
     pub fn can_flush(&self, number: CommitNo) -> bool
         ensures { result ≡ can_flush (server_of self.now) number }
     {
-        self.engine.callbacks.holdings().can_flush(number)
+        self.engine.callbacks.state().commits.can_flush(number)
     }
 
     /// The commits up to this number are on disk now: a Done for each that wasn't before, in order.
@@ -248,15 +248,16 @@ impl Server {
     pub fn committed(&self) -> &[Commit]
         ensures { newest_first result.now ≡ (server_of self.now).commits }
     {
-        self.engine.callbacks.holdings().committed()
+        self.engine.callbacks.state().commits.committed()
     }
 
-    /// What it has of its clients and pages, but for who waits and which pages are in use.
-    pub fn holdings(&self) -> &Holdings
-        ensures value { result.now ≡ self.now.tables.holdings }
+    /// What it has of its clients and pages, who waits, and who uses a page. Its parts agree.
+    pub fn state(&self) -> &ServerState
+        ensures value { result.now ≡ self.now.state }
+        ensures agree { PartsAgree result.now }
         ensures of { AreOf self.now.limits result.now }
     {
-        self.engine.callbacks.holdings()
+        self.engine.callbacks.state()
     }
 
     /// Who waits for whom, as it is kept.

@@ -17,7 +17,8 @@ use Rattle.cb_hands.specs.declared.grant.Held.{Held}
 use Rattle.cb_hands.proofs.Noting.{new_server_is_noted}
 use Rattle.cb_hands.specs.Running.{Replays}
 use Rattle.cb_hands.specs.declared.entry.Entry.{Entry}
-use Rattle.cb_holdings.specs.Holdings.{HoldingsState, limits_of, opening_of as opening_in, server_of as holdings_in}
+use Rattle.cb_server_state.specs.States.{limits_of, opening_of as opening_in, server_of as state_in}
+use Rattle.cb_server_state.specs.declared.server_state.ServerState.{ServerState}
 use Rattle.cb_hands.specs.Joined.{Follow, IsHeld, stored_at}
 use Rattle.cb_station.proofs.Following.{follow_length, has_place}
 use Rattle.cb_station.proofs.Keeping.{Step, commit_others_stored, commit_stored, follow_stored, goes_stored, new_stored, others_stored, own_stored_by, received_stored, told_stored}
@@ -41,7 +42,7 @@ use Rattle.cb_protocol.specs.Messages.{Commit, GiveBack, Hello, Message, PageWri
 use Rattle.cb_protocol.specs.Server.{Server}
 use Rattle.cb_protocol.specs.StepsKeep.{KeepsClient}
 use Rattle.cb_protocol.specs.WaitsFor.{on_cycle}
-use Rattle.cb_server.specs.ServerState.{IsNew, IsServer, ServerState, commits_of, server_of as server_in}
+use Rattle.cb_server.specs.ServerValue.{IsNew, IsServer, ServerValue, commits_of, server_of as server_in}
 use Rattle.cb_server.specs.Taking.{Does}
 
 -- a new station
@@ -285,13 +286,13 @@ pub hand_station : (old new : StationState) (hand other : HandState) → IsStati
     → IsStored (server_of old) old.dispatcher.server.limits.pages hand.client other → IsStation new
 hand_station old new hand other is same history flags held follow stored = keeps_station old new is
     (record {
-      step = record { arose = is.arisen; arises = subst IsServer (sym same) is.arisen; opening = ap (λ (x : ServerState). (commits_of x).opening) same };
-      limits = ap (λ (x : ServerState). x.limits) same;
+      step = record { arose = is.arisen; arises = subst IsServer (sym same) is.arisen; opening = ap (λ (x : ServerValue). (commits_of x).opening) same };
+      limits = ap (λ (x : ServerValue). x.limits) same;
       hands = follow_length old.hands new.hands hand other follow;
       flags = flags;
     })
-    (ap (λ (x : ServerState). (server_in x).commits) same) history
-    (subst (λ (x : ServerState). (d : ℕ) (h : HandState) → stored_at new.hands d ≡ Some h → IsStored (server_in x) x.limits.pages d h) (sym same)
+    (ap (λ (x : ServerValue). (server_in x).commits) same) history
+    (subst (λ (x : ServerValue). (d : ℕ) (h : HandState) → stored_at new.hands d ≡ Some h → IsStored (server_in x) x.limits.pages d h) (sym same)
     (follow_stored (IsStored (server_of old) old.dispatcher.server.limits.pages) old.hands new.hands hand other follow (has_place old.hands hand.client hand held) stored (λ d h n e. is.hand d h e)))
 
 pub collected_stored : (server : Server) (pages client : ℕ) (hand : HandState) (frame : Option Frame) → IsStored server pages client hand → IsStored server pages client (collected server hand frame)
@@ -325,17 +326,17 @@ ok_fact (Ok x) P e p = p
 ok_fact (Err x) P e p = absurd (true≢false e)
 
 -- the pages of a stored hand are the store's
-pub store_pages : (station : StationState) (hand : HandState) (h : HoldingsState) → IsStation station → IsHeld station.hands hand → h ≡ station.dispatcher.server.tables.holdings → (k : ℕ) → k < length hand.held → k < length h.commits.store.pages
+pub store_pages : (station : StationState) (hand : HandState) (h : ServerState) → IsStation station → IsHeld station.hands hand → h ≡ station.dispatcher.server.state → (k : ℕ) → k < length hand.held → k < length h.commits.store.pages
 store_pages station hand h is held e k lt =
     let a = (is.hand hand.client hand held).size in let b = is.arisen.of.store.count in
-    let c = ap (λ (x : HoldingsState). length x.commits.store.pages) e in omega (arith, a, b, c, lt)
+    let c = ap (λ (x : ServerState). length x.commits.store.pages) e in omega (arith, a, b, c, lt)
 
--- the hand as the holdings have it is as the server has it
-pub received_by : (x : ServerState) (h : HoldingsState) (hand : HandState) (b : Body) → h ≡ x.tables.holdings → received_of (holdings_in h) hand b ≡ received_of (server_in x) hand b
-received_by x h hand b e = ap (λ (k : HoldingsState). received_of (holdings_in k) hand b) e
+-- the hand as the state has it is as the server has it
+pub received_by : (x : ServerValue) (h : ServerState) (hand : HandState) (b : Body) → h ≡ x.state → received_of (state_in h) hand b ≡ received_of (server_in x) hand b
+received_by x h hand b e = ap (λ (k : ServerState). received_of (state_in k) hand b) e
 
-pub ended_by : (x : ServerState) (h : HoldingsState) (hand : HandState) → h ≡ x.tables.holdings → ended_if_over (holdings_in h) hand ≡ ended_if_over (server_in x) hand
-ended_by x h hand e = ap (λ (k : HoldingsState). ended_if_over (holdings_in k) hand) e
+pub ended_by : (x : ServerValue) (h : ServerState) (hand : HandState) → h ≡ x.state → ended_if_over (state_in h) hand ≡ ended_if_over (server_in x) hand
+ended_by x h hand e = ap (λ (k : ServerState). ended_if_over (state_in k) hand) e
 
 -- a hand stays its client's
 pub same_client : (hand : HandState) (x : Body) → (given_back hand x).client ≡ hand.client

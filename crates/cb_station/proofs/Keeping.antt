@@ -13,7 +13,7 @@ use Rattle.cb_commit.specs.Stores.{StoreState}
 use Rattle.cb_frame_types.specs.declared.writes.Write.{Write}
 use Rattle.cb_hands.specs.Hands.{HandState, IsHand, at_version, empty_hand, held_at, permitted, restamped, with_copy, without_copy, without_permissions}
 use Rattle.cb_hands.specs.declared.grant.Held.{Held}
-use Rattle.cb_holdings.specs.Holdings.{opening_of}
+use Rattle.cb_server_state.specs.States.{opening_of}
 use Rattle.cb_hands.specs.Joined.{Follow, stored_at}
 use Rattle.cb_station.proofs.Onward.{Onward, goes_on}
 use Rattle.cb_station.proofs.Reached.{in_order, keeps_none}
@@ -30,7 +30,7 @@ use Rattle.cb_protocol.specs.Server.{Server, has_row, is_write_holder, server_af
 use Rattle.cb_protocol.specs.ServerMessages.{server_take}
 use Rattle.cb_protocol.specs.StepsKeep.{KeepsClient}
 use Rattle.cb_protocol.specs.WaitsFor.{on_cycle}
-use Rattle.cb_server.specs.ServerState.{IsServer, ServerState, commits_of, opening_at, server_of}
+use Rattle.cb_server.specs.ServerValue.{IsServer, ServerValue, commits_of, opening_at, server_of}
 
 none_some : {A : Type 0} (x : A) → None ≡ Some x → ⊥
 none_some x e = cc
@@ -42,16 +42,16 @@ no_flag pages page e = elim (cases_lt page pages) [
 ]
 
 -- a step between two servers over one opening store
-pub record Step (before after : ServerState) : Type 0 where
+pub record Step (before after : ServerValue) : Type 0 where
   pub arose : IsServer before
   pub arises : IsServer after
   pub opening : (commits_of after).opening ≡ (commits_of before).opening
 
-pub ledgers : (before after : ServerState) → Step before after → Ledger (opening_at before) (server_of before) × Ledger (opening_at before) (server_of after)
+pub ledgers : (before after : ServerValue) → Step before after → Ledger (opening_at before) (server_of before) × Ledger (opening_at before) (server_of after)
 ledgers before after step = ((rules_kept before step.arose).1, subst (λ (o : StoreState). Ledger (opening_of o) (server_of after)) step.opening (rules_kept after step.arises).1)
 
 -- another client's hand, where no commit is applied
-pub others_stored : (before after : ServerState) (pages d : ℕ) (hand : HandState) → Step before after → (server_of after).commits ≡ (server_of before).commits
+pub others_stored : (before after : ServerValue) (pages d : ℕ) (hand : HandState) → Step before after → (server_of after).commits ≡ (server_of before).commits
     → KeepsClient (server_of before) (server_of after) d → IsStored (server_of before) pages d hand → IsStored (server_of after) pages d hand
 others_stored before after pages d hand step commits keeps is = record {
   name = is.name;
@@ -65,7 +65,7 @@ others_stored before after pages d hand step commits keeps is = record {
 }
 
 -- and where one is, of pages that its client alone may write
-pub commit_others_stored : (before after : ServerState) (pages d c i txn : ℕ) (writes : List PageWrite) (hand : HandState) → Step before after
+pub commit_others_stored : (before after : ServerValue) (pages d c i txn : ℕ) (writes : List PageWrite) (hand : HandState) → Step before after
     → IsApplied (server_of before) (server_of after) c i txn writes → ((write : PageWrite) → IsIn write writes → (server_of before).store.holder write.page ≡ Some c) → d ≢ c
     → KeepsClient (server_of before) (server_of after) d → IsStored (server_of before) pages d hand → IsStored (server_of after) pages d hand
 commit_others_stored before after pages d c i txn writes hand step applied holders apart keeps is = record {
@@ -194,7 +194,7 @@ told_stored server pages client txn page grant hand is = go (is_by (held_at hand
     }
 
 -- a message of its own, that gives back nothing which the hand holds and applies no commit
-module _ (before after : ServerState) (pages c i : ℕ) (b : Body) (hand : HandState) (step : Step before after) (plain : before.limits.keep_write ≡ false) (other : b ≢ Hello)
+module _ (before after : ServerValue) (pages c i : ℕ) (b : Body) (hand : HandState) (step : Step before after) (plain : before.limits.keep_write ≡ false) (other : b ≢ Hello)
     (becomes : server_of after ≡ server_after (server_of before) (server_take on_cycle (server_of before) c i b)) (commits : (server_of after).commits ≡ (server_of before).commits)
     (holds : (page : ℕ) (held : Held) → held_at hand.held page ≡ Some held → b ≢ GiveBack page held.grant) (is : IsStored (server_of before) pages c hand) where
   abbrev s : Server
@@ -243,7 +243,7 @@ module _ (before after : ServerState) (pages c i : ℕ) (b : Body) (hand : HandS
       go None e = stays (unmarked e) (λ txn f. absurd (none_some txn (sym e ∙ f)))
       go (Some txn) e = by txn e _ _ refl refl
 
-pub own_stored_by : (before after : ServerState) (pages c i : ℕ) (b : Body) (hand : HandState) → Step before after → before.limits.keep_write ≡ false → b ≢ Hello
+pub own_stored_by : (before after : ServerValue) (pages c i : ℕ) (b : Body) (hand : HandState) → Step before after → before.limits.keep_write ≡ false → b ≢ Hello
     → server_of after ≡ server_after (server_of before) (server_take on_cycle (server_of before) c i b) → (server_of after).commits ≡ (server_of before).commits
     → ((page : ℕ) (held : Held) → held_at hand.held page ≡ Some held → b ≢ GiveBack page held.grant) → IsStored (server_of before) pages c hand
     → IsStored (server_of after) pages c (ended_if_over (server_of after) hand)
@@ -266,7 +266,7 @@ pub restamped_client : (hand : HandState) (pages : List ℕ) (version : ℕ) →
 restamped_client hand pages version = (all_same_but hand pages version).client
 
 -- its own commit
-pub commit_stored : (before after : ServerState) (pages c i txn : ℕ) (writes : List Write) (hand : HandState) → Step before after → before.limits.keep_write ≡ false
+pub commit_stored : (before after : ServerValue) (pages c i txn : ℕ) (writes : List Write) (hand : HandState) → Step before after → before.limits.keep_write ≡ false
     → server_of after ≡ server_after (server_of before) (server_take on_cycle (server_of before) c i (Commit txn (page_writes writes)))
     → IsApplied (server_of before) (server_of after) c hand.incarnation txn (page_writes writes)
     → ((write : PageWrite) → IsIn write (page_writes writes) → write.page < length hand.held) → IsStored (server_of before) pages c hand

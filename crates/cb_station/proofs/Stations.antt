@@ -13,8 +13,10 @@ use Rattle.cb_hands.proofs.Noting.{no_other_changes, noted_commit_follows}
 use Rattle.cb_hands.specs.Running.{IsLegal, Replays, noted, pages_of}
 use Rattle.cb_hands.specs.declared.entry.Entry.{Entry}
 use Rattle.cb_hands.specs.declared.entry.Read.{Read}
-use Rattle.cb_holdings.specs.Holdings.{AreOf, HoldingsState, limits_of, opening_of as opening_in}
+use Rattle.cb_server_state.specs.States.{AreOf, limits_of, opening_of as opening_in}
+use Rattle.cb_server_state.specs.declared.server_state.ServerState.{ServerState}
 use Rattle.cb_hands.specs.Joined.{stored_at}
+use Rattle.cb_server.proofs.Arising.{of_left}
 use Rattle.cb_station.proofs.Keeping.{Step, ledgers}
 use Rattle.cb_station.specs.Commits.{is_live}
 use Rattle.cb_station.specs.Flags.{AreFlags}
@@ -31,8 +33,8 @@ use Rattle.cb_protocol.specs.Ranges.{InputTaken, StoreFits}
 use Rattle.cb_protocol.specs.Server.{ChangeSession, ForgetTransaction, Server, has_not_ended, server_after}
 use Rattle.cb_protocol.specs.Session.{BeginTransaction}
 use Rattle.cb_protocol.specs.WaitsFor.{on_cycle}
-use Rattle.cb_server.specs.ServerState as server
-use Rattle.cb_server.specs.ServerState.{IsServer, ServerState, commits_of, opening_at}
+use Rattle.cb_server.specs.ServerValue as server
+use Rattle.cb_server.specs.ServerValue.{IsServer, ServerValue, commits_of, opening_at}
 
 -- a step of the server between two stations
 pub record Steps (old new : StationState) : Type 0 where
@@ -61,20 +63,23 @@ keeps_station old new is steps commits history stored = record {
 }
 
 -- where nothing changes but room
-pub arises_unchanged : (before after : ServerState) → IsServer before → server.IsUnchanged before after → IsServer after
+pub arises_unchanged : (before after : ServerValue) → IsServer before → server.IsUnchanged before after → IsServer after
 arises_unchanged before after is same = record {
-  opening = subst (λ (h : HoldingsState). StoreFits (limits_of after.limits) (opening_in h.commits.opening)) (sym same.holdings)
+  opening = subst (λ (o : StoreState). StoreFits (limits_of after.limits) (opening_in o)) (sym opening)
       (subst (λ (l : Bounds). StoreFits (limits_of l) (opening_at before)) (sym same.limits) is.opening);
-  reached = subst (λ (h : HoldingsState). ReachedBy (limits_of after.limits) on_cycle (opening_in h.commits.opening) (InputTaken (limits_of after.limits)) (server.server_of after)) (sym same.holdings)
+  reached = subst (λ (o : StoreState). ReachedBy (limits_of after.limits) on_cycle (opening_in o) (InputTaken (limits_of after.limits)) (server.server_of after)) (sym opening)
       (subst (λ (l : Bounds). ReachedBy (limits_of l) on_cycle (opening_at before) (InputTaken (limits_of l)) (server.server_of after)) (sym same.limits)
       (subst (λ (s : Server). ReachedBy (limits_of before.limits) on_cycle (opening_at before) (InputTaken (limits_of before.limits)) s) (sym same.server) is.reached));
-  of = subst (λ (h : HoldingsState). AreOf after.limits h) (sym same.holdings) (subst (λ (l : Bounds). AreOf l before.tables.holdings) (sym same.limits) is.of);
+  of = of_left after.limits before.state after.state same.rest (subst (λ (l : Bounds). AreOf l before.state) (sym same.limits) is.of);
 }
+  where
+    opening : after.state.commits.opening ≡ before.state.commits.opening
+    opening = ap (λ (h : ServerState). h.commits.opening) same.rest
 
 pub unchanged_station : (old new : StationState) → IsStation old → IsUnchanged old new → IsStation new
 unchanged_station old new is same = keeps_station old new is
     (record {
-      step = record { arose = is.arisen; arises = arises_unchanged old.dispatcher.server new.dispatcher.server is.arisen same.dispatcher.server; opening = ap (λ (h : HoldingsState). h.commits.opening) same.dispatcher.server.holdings };
+      step = record { arose = is.arisen; arises = arises_unchanged old.dispatcher.server new.dispatcher.server is.arisen same.dispatcher.server; opening = ap (λ (h : ServerState). h.commits.opening) same.dispatcher.server.rest };
       limits = same.dispatcher.server.limits;
       hands = ap length same.hands;
       flags = same.flags;

@@ -13,7 +13,7 @@ use Rattle.cb_station.specs.declared.station.flags.Flags.{Flags}
 use Rattle.cb_page.specs.Flags.{has}
 use Rattle.cb_protocol.specs.Server.{Server}
 use Rattle.cb_protocol.specs.World.{Opening}
-use Rattle.cb_server.specs.ServerState.{IsServer, opening_at}
+use Rattle.cb_server.specs.ServerValue.{IsServer, opening_at}
 
 -- the server with its mailboxes, what is stored of each client's hand, the history of commits, the
 -- first one first, and what the threads that share it tell each other

@@ -5,13 +5,13 @@ ghost use Rattle.std.specs.Option.{option_map};
 ghost use Rattle.cb_hands.specs.Agreement.{Meet};
 ghost use Rattle.cb_commit.specs.History.{CatchesUp};
 ghost use Rattle.cb_commit.specs.Stores.{IsOf};
-ghost use Rattle.cb_holdings.specs.Commits.{batch_of};
+ghost use Rattle.cb_server_state.specs.Commits.{batch_of};
 ghost use Rattle.cb_hands.specs.Joined.{IsHeld};
 ghost use Rattle.cb_station.specs.Moves.{IsOwn};
 ghost use Rattle.cb_station.specs.Stations.{IsStation, mailbox_of, server_of};
 ghost use Rattle.cb_station.specs.declared.office_fault.OfficeFault.TheVariants as office;
 ghost use Rattle.cb_protocol.specs.Flush.{can_flush, next_batch};
-ghost use Rattle.cb_server.specs.ServerState.{IsNew, commits_of};
+ghost use Rattle.cb_server.specs.ServerValue.{IsNew, commits_of};
 
 mod collecting;
 mod committing;
@@ -145,7 +145,8 @@ impl Station {
         ensures { IsTrue result ↔ ((client < self.now.dispatcher.server.limits.clients)
             × (mailbox_of self.now client ≢ [])) }
     {
-        self.dispatcher.limits().has_client(client.get()) && self.dispatcher.has_frame_for(client)
+        self.dispatcher.server().limits().has_client(client.get())
+            && self.dispatcher.has_frame_for(client)
     }
 
     /// What is to be written to disk next; `None` where every commit is on disk.
@@ -160,7 +161,7 @@ impl Station {
             IfSome batch (λ b. can_flush (server_of self.now) b.number ≡ true)) }
         ensures err { IfErr result (λ fault. fault ≡ office.Memory) }
     {
-        Ok(self.dispatcher.batch(alloc)?)
+        Ok(self.dispatcher.server().batch(alloc)?)
     }
 
     /// Whether the frame fits the limits and is of the hand's client and incarnation, and the hand
@@ -170,7 +171,7 @@ impl Station {
     {
         frame.client == hand.client()
             && frame.incarnation == hand.incarnation()
-            && frame.fits(self.dispatcher.limits())
+            && frame.fits(self.dispatcher.server().limits())
             && self.hands.knows(hand)
     }
 }

@@ -1,3 +1,3 @@
 -- What is proved where.
--- Of: holdings of some limits stay so.
+-- Of: a state of some limits stays so.
 pub mod Of

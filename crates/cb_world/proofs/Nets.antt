@@ -32,8 +32,8 @@ use Rattle.cb_protocol.specs.WaitsFor.{on_cycle}
 use Rattle.cb_protocol.specs.Serial.{Operation}
 use Rattle.cb_protocol.specs.World.{SentPacket as Packet}
 use Rattle.cb_protocol.specs.World.{ClientCalls, Event, EventChoiceAllowed, FlushAll, FlushTo, MessageChoiceAllowed, Restart, ServerAgain, StepResult, TakePacket, World, answer_only, answer_with, client_does, deliver, flush_up_to, messages_sent, numbered_from, packet_at, server_does, step, take_packet}
-use Rattle.cb_holdings.specs.Holdings.{HoldingsState}
-use Rattle.cb_server.specs.ServerState.{IsUnchanged, ServerState, commits_of, server_of}
+use Rattle.cb_server_state.specs.declared.server_state.ServerState.{ServerState}
+use Rattle.cb_server.specs.ServerValue.{IsUnchanged, ServerValue, commits_of, server_of}
 use Rattle.cb_server.specs.Taking.{Does, Takes}
 use Rattle.cb_world_clients.specs.ByWorld.{Answers, Delivers}
 use Rattle.cb_world_clients.specs.WorldClientsState as world_clients
@@ -108,7 +108,7 @@ world_clients_become n s e word frames a is answers allowed fits word_is sent = 
 }) fits word_is sent
 
 -- the server does something at an event that is none of a packet
-server_moves : (n : NetState) (v : ServerState) (e : Event) (word : AnswerWord) (input : Input) (messages : List Message) → Does n.server input messages v
+server_moves : (n : NetState) (v : ServerValue) (e : Event) (word : AnswerWord) (input : Input) (messages : List Message) → Does n.server input messages v
     → ((w : World) → RepresentsNet n w → EventChoiceAllowed (limits_of n.world_clients.limits) w e None × (step (limits_of n.world_clients.limits) on_cycle w e None ≡ server_does w e word (input_steps on_cycle w.server input)))
     → Moved n e word messages (record n { server = v })
 server_moves n v e word input messages does steps = record {
@@ -127,7 +127,7 @@ server_moves n v e word input messages does steps = record {
 }
 
 -- it sends again
-pub again_becomes : (n : NetState) (v : ServerState) (frames : List Frame) (a : Answer) → IsNet n → Does n.server SendsAgain (messages_of frames) v
+pub again_becomes : (n : NetState) (v : ServerValue) (frames : List Frame) (a : Answer) → IsNet n → Does n.server SendsAgain (messages_of frames) v
     → AllByRecursion (Fits n.world_clients.limits) frames → word_of a.word ≡ AnsweredOk → a.sent ≡ sent_as (length n.packets.sent) frames → NetBecomes n ServerAgain a (sending (record n { server = v }) frames)
 again_becomes n v frames a is does fits word_is sent = becomes_sending n (record n { server = v }) ServerAgain AnsweredOk frames a refl is.packets
     (server_moves n v ServerAgain AnsweredOk SendsAgain (messages_of frames) does (λ w sh. (tt, step_again (limits_of n.world_clients.limits) on_cycle w None))) fits word_is sent
@@ -197,7 +197,7 @@ client_becomes n k f s frames a is at t delivers fits word_is sent = becomes_sen
 }) fits word_is sent
 
 -- the server takes a packet
-pub server_becomes : (n : NetState) (k : ℕ) (f : Frame) (v : ServerState) (frames : List Frame) (a : Answer) → IsNet n → IsFrameAt n.packets k f → to_server (body_of f.body) ≡ true
+pub server_becomes : (n : NetState) (k : ℕ) (f : Frame) (v : ServerValue) (frames : List Frame) (a : Answer) → IsNet n → IsFrameAt n.packets k f → to_server (body_of f.body) ≡ true
     → Takes n.server f (messages_of frames) v → AllByRecursion (Fits n.world_clients.limits) frames → word_of a.word ≡ Taken → a.sent ≡ sent_as (length n.packets.sent) frames
     → NetBecomes n (TakePacket k) a (sending (record n { server = v }) frames)
 server_becomes n k f v frames a is at t takes fits word_is sent = becomes_sending n (record n { server = v }) (TakePacket k) Taken frames a refl is.packets (record {
@@ -273,7 +273,7 @@ no_packet_becomes n k a h word_is sent = record {
     none_at None (Some m) e s = absurd s
 
 -- the commits up to a number are on disk
-pub flushed_becomes : (n : NetState) (v : ServerState) (e : Event) (number : ℕ) (frames : List Frame) (a : Answer) → IsNet n → FlushesTo n e number → can_flush (server_of n.server) number ≡ true
+pub flushed_becomes : (n : NetState) (v : ServerValue) (e : Event) (number : ℕ) (frames : List Frame) (a : Answer) → IsNet n → FlushesTo n e number → can_flush (server_of n.server) number ≡ true
     → Does n.server (ReachesDisk number) (messages_of frames) v → AllByRecursion (Fits n.world_clients.limits) frames → word_of a.word ≡ Flushed number → a.sent ≡ sent_as (length n.packets.sent) frames
     → NetBecomes n e a (sending (record n { server = v }) frames)
 flushed_becomes n v e number frames a is event can does fits word_is sent = becomes_sending n (record n { server = v }) e (Flushed number) frames a refl is.packets
@@ -324,10 +324,10 @@ with_sends k w fs frames r m P same step h = IfOk-weaker r (λ a. Sends k w fs a
     (λ a s. subst (λ (x : NetState). P a x) (sym (s.becomes ∙ ap (λ (xs : List Frame). sending k xs) same)) (step a (ap word_of s.word) (s.sent ∙ ap (λ (xs : List Frame). sent_as (length k.packets.sent) xs) same))) h
 
 -- the server's room is no part of the protocol
-pub unchanged_becomes : (n : NetState) (v : ServerState) (e : Event) (a : Answer) → IsUnchanged n.server v → NetBecomes n e a n → NetBecomes n e a (record n { server = v })
+pub unchanged_becomes : (n : NetState) (v : ServerValue) (e : Event) (a : Answer) → IsUnchanged n.server v → NetBecomes n e a n → NetBecomes n e a (record n { server = v })
 unchanged_becomes n v e a same b = record {
   limits = b.limits;
-  opening = ap (λ (h : HoldingsState). h.commits.opening) same.holdings;
+  opening = ap (λ (h : ServerState). h.commits.opening) same.rest;
   packets = record { sent = b.packets.sent; all = b.packets.all; counted = b.packets.counted; spelled = b.packets.spelled };
   by_event = λ w sh.
       let by = b.by_event w sh in (

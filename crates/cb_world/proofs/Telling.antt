@@ -5,8 +5,8 @@ use mathlib.Core.List.{reverse-cons}
 use Rattle.std.proofs.lemmas.List.{reverse-append, reverse-reverse, map-append, length-map, length-append, drop-map}
 use Rattle.std.proofs.Math.Seq.{drop-append_seam}
 use Rattle.cb_commit.specs.declared.commit.Commit.{Commit}
-use Rattle.cb_holdings.specs.Commits.{applied_commit}
-use Rattle.cb_holdings.specs.Holdings.{newest_first}
+use Rattle.cb_server_state.specs.Commits.{applied_commit}
+use Rattle.cb_server_state.specs.States.{newest_first}
 use Rattle.cb_cache.specs.CacheState.{limits_of}
 use Rattle.cb_world.specs.NetMoves.{NetBecomes}
 use Rattle.cb_world.specs.NetState.{NetState, limits_in}
@@ -29,7 +29,7 @@ use Rattle.cb_protocol.specs.Session.{SessionChange, Admit, BeginTransaction, Dr
 use Rattle.cb_protocol.specs.Transcript.{transcript_operations}
 use Rattle.cb_protocol.specs.WaitsFor.{on_cycle}
 use Rattle.cb_protocol.specs.World.{Event, World, StepResult, step, packet_at, ClientCalls, TakePacket, Restart, ServerAgain, FlushAll, FlushTo, take_packet, flush_up_to, answer_with}
-use Rattle.cb_server.specs.ServerState.{server_of}
+use Rattle.cb_server.specs.ServerValue.{server_of}
 use Rattle.cb_world.specs.WorldState.{IsTold, Represents, Tells, WorldState, opened, told}
 
 -- the later list is the earlier one with more before it

@@ -13,7 +13,7 @@ use Rattle.cb_world.specs.NetMoves as net
 use Rattle.cb_world.specs.Plays.{IsWorld, IsReached, Steps}
 use Rattle.cb_transcript.specs.ProtocolEvents.{event_of, answer_of, word_of, sent_of, entry_of, transcript_of}
 use Rattle.cb_cache.specs.CacheState.{limits_of}
-use Rattle.cb_holdings.specs.Holdings.{opening_of}
+use Rattle.cb_server_state.specs.States.{opening_of}
 use Rattle.cb_world_clients.specs.Packets.{IsSpelled}
 use Rattle.cb_world.specs.NetState.{NetState, RepresentsNet, limits_in}
 use Rattle.cb_transcript.specs.Transcripts.{name_of}

@@ -13,7 +13,7 @@ use Rattle.cb_protocol.specs.Messages.{Message}
 use Rattle.cb_protocol.specs.WaitsFor.{on_cycle}
 use Rattle.cb_protocol.specs.World.{Event, EventChoiceAllowed, World, answer_with, flush_up_to}
 use Rattle.cb_protocol.specs.World.{numbered_from, step}
-use Rattle.cb_server.specs.ServerState.{commits_of, server_of}
+use Rattle.cb_server.specs.ServerValue.{commits_of, server_of}
 use Rattle.cb_transcript.specs.ProtocolEvents.{sent_of, word_of}
 use Rattle.cb_transcript.specs.declared.answer.Answer.{Answer}
 use Rattle.cb_transcript.specs.declared.answer.AnswerWord.{AnswerWord as Word}

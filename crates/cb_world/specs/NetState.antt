@@ -4,13 +4,13 @@ use Rattle.cb_world_clients.specs.Packets.{PacketsState}
 use Rattle.cb_world_clients.specs.Wire.{AllSpell}
 use Rattle.cb_page.specs.Bounds.{Bounds}
 use Rattle.cb_protocol.specs.World as protocol
-use Rattle.cb_server.specs.ServerState.{ServerState, server_of}
+use Rattle.cb_server.specs.ServerValue.{ServerValue, server_of}
 use Rattle.cb_world_clients.specs.WorldClientsState as world_clients
 use Rattle.cb_world_clients.specs.WorldClientsState.{WorldClientsState}
 
 -- the server, the clients at their present incarnations, and every packet that was ever sent
 pub record NetState : Type 0 where
-  pub server : ServerState
+  pub server : ServerValue
   pub world_clients : WorldClientsState
   pub packets : PacketsState
 

@@ -2,7 +2,7 @@
 use Rattle.std.specs.Prelude.{◌≡◌, ◌++◌, Bool, List, map, reverse}
 use Rattle.cb_page.specs.Bounds.{Bounds}
 use Rattle.cb_commit.specs.Stores.{StoreState}
-use Rattle.cb_holdings.specs.Holdings.{opening_of}
+use Rattle.cb_server_state.specs.States.{opening_of}
 use Rattle.cb_world.specs.NetState.{NetState, RepresentsNet}
 use Rattle.cb_transcript.specs.ProtocolEvents.{transcript_of}
 use Rattle.cb_transcript.specs.Transcripts.{TranscriptState, name_of}
@@ -11,7 +11,7 @@ use Rattle.cb_transcript.specs.declared.transcript.TransactionName.{TransactionN
 use Rattle.cb_protocol.specs.AnyMessages.{committed_names}
 use Rattle.cb_protocol.specs.Server.{AppliedCommit}
 use Rattle.cb_protocol.specs.World as protocol
-use Rattle.cb_server.specs.ServerState.{server_of}
+use Rattle.cb_server.specs.ServerValue.{server_of}
 
 -- the limits, the net, the store before any event, every event so far with its answer, the
 -- transactions that were committed, and whether want of memory stopped the world

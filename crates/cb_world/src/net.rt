@@ -9,7 +9,7 @@ ghost use Rattle.cb_commit.specs.Stores.{IsOf};
 ghost use Rattle.cb_cache.specs.CacheState.{limits_of};
 ghost use Rattle.cb_frame_types.specs.Grammar.{Fits};
 ghost use Rattle.cb_frame_types.specs.Kinds.{goes_to_server, kind_of_body};
-ghost use Rattle.cb_holdings.specs.Holdings.{opening_of};
+ghost use Rattle.cb_server_state.specs.States.{opening_of};
 ghost use Rattle.cb_world.specs.NetMoves.{CanFlush, FlushesTo, IsAccepted, NetBecomes, Sends};
 ghost use Rattle.cb_world.specs.NetMoves.{sent_as};
 ghost use Rattle.cb_world.specs.NetState.{RepresentsNet, limits_in};
@@ -18,7 +18,7 @@ ghost use Rattle.cb_protocol.specs.World.{Event as WorldEvent};
 ghost use Rattle.cb_protocol.specs.World.{ClientCalls, FlushAll, Restart as RestartEvent};
 ghost use Rattle.cb_protocol.specs.World.{ServerAgain, TakePacket, new_world};
 ghost use Rattle.cb_outbox.specs.Messages.{messages_of};
-ghost use Rattle.cb_server.specs.ServerState.{IsUnchanged, commits_of};
+ghost use Rattle.cb_server.specs.ServerValue.{IsUnchanged, commits_of};
 ghost use Rattle.cb_server.specs.Taking.{Refuses, Takes, lacks_number_for};
 ghost use Rattle.cb_transcript.specs.ProtocolEvents.{call_of, event_of};
 
@@ -227,7 +227,7 @@ impl<Q: Chooser> Net<Q> {
         ensures ok { IfOk result (λ answer. NetBecomes self.old FlushAll answer self.new) }
         ensures err { OnErr result (self.new.packets ≡ self.old.packets) }
     {
-        let last = self.server.holdings().store().number();
+        let last = self.server.state().commits.store().number();
         self.flush_to(alloc, last)
     }
 
@@ -250,7 +250,7 @@ impl<Q: Chooser> Net<Q> {
     fn can_flush(&self, number: u64) -> Option<CommitNo>
         ensures { CanFlush self.now number result }
     {
-        if number > self.server.holdings().store().number() {
+        if number > self.server.state().commits.store().number() {
             return None;
         }
         let commit = CommitNo::checked(number)?;

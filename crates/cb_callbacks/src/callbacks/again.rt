@@ -1,12 +1,11 @@
 //! What may be lost is sent again.
 ghost use Rattle.std.specs.Prelude.{◌≡◌, ◌≤◌, ◌+◌, ◌*◌, ℕ, true, length};
 ghost use Rattle.cb_asks.specs.Asks.{asks_below};
-ghost use Rattle.cb_tables.specs.Tables.{server_of};
-ghost use Rattle.cb_tables.specs.Waits.{IsGreeted};
-ghost use Rattle.cb_holdings.specs.Holdings.{AreOf};
 ghost use Rattle.cb_outbox.specs.Saying.{HasRoomFor, OutboxState, Says};
 ghost use Rattle.cb_protocol.specs.Numbers.{messages_for_pages};
 ghost use Rattle.cb_protocol.specs.Resend.{server_again};
+ghost use Rattle.cb_server_state.specs.States.{AreOf, server_of};
+ghost use Rattle.cb_server_state.specs.Waits.{IsGreeted};
 
 use crate::Callbacks;
 use cb_outbox::Outbox;
@@ -16,15 +15,15 @@ impl Callbacks {
     /// What may be lost is sent again: for the first ask of each page, Callbacks or a Downgrade to
     /// those that have not said InUse; and AbortNow to each client whose transaction is doomed.
     pub fn again(&self, limits: &Limits, outbox: &mut Outbox)
-        requires of { AreOf limits.now self.now.tables.holdings }
-        requires greeted { (client : ℕ) → (server_of self.now.tables).doomed client ≡ true
-            → IsGreeted (server_of self.now.tables) client }
-        requires room { HasRoomFor (server_again (server_of self.now.tables)) outbox.old }
-        ensures { Says (server_of self.now.tables) server_again (server_of self.now.tables)
+        requires of { AreOf limits.now self.now.state }
+        requires greeted { (client : ℕ) → (server_of self.now.state).doomed client ≡ true
+            → IsGreeted (server_of self.now.state) client }
+        requires room { HasRoomFor (server_again (server_of self.now.state)) outbox.old }
+        ensures { Says (server_of self.now.state) server_again (server_of self.now.state)
             outbox.old outbox.new }
     {
-        self.tables.again_pages(outbox);
-        self.tables.again_doomed(limits.clients(), outbox);
+        self.state.again_pages(outbox);
+        self.state.again_doomed(limits.clients(), outbox);
     }
 
     /// It sends at most as many messages as settling may, so at most 33 for each ask that waits, an
@@ -33,15 +32,15 @@ impl Callbacks {
     /// It does nothing: who is to send again cites it for the room that is needed.
     pub fn resending_is_bounded(&self)
         ensures by_kind { (outbox : OutboxState) → length outbox.sent
-            + (messages_for_pages (server_of self.now.tables) (server_of self.now.tables).pages
-            + (server_of self.now.tables).clients) ≤ outbox.room
-            → HasRoomFor (server_again (server_of self.now.tables)) outbox }
+            + (messages_for_pages (server_of self.now.state) (server_of self.now.state).pages
+            + (server_of self.now.state).clients) ≤ outbox.room
+            → HasRoomFor (server_again (server_of self.now.state)) outbox }
         ensures room { (outbox : OutboxState) → length outbox.sent
-            + (33 * asks_below (server_of self.now.tables) (server_of self.now.tables).pages
-            + (server_of self.now.tables).clients) ≤ outbox.room
-            → HasRoomFor (server_again (server_of self.now.tables)) outbox }
+            + (33 * asks_below (server_of self.now.state) (server_of self.now.state).pages
+            + (server_of self.now.state).clients) ≤ outbox.room
+            → HasRoomFor (server_again (server_of self.now.state)) outbox }
     {
         // To look at a field shows the invariant.
-        let _known = &self.tables;
+        let _known = &self.state;
     }
 }

@@ -1,5 +1,5 @@
 //! Who waits for whom, built anew.
-ghost use Rattle.cb_tables.specs.Tables.{server_of};
+ghost use Rattle.cb_server_state.specs.States.{server_of};
 ghost use Rattle.cb_waits.specs.Follows.{Follows};
 
 use crate::Callbacks;
@@ -10,10 +10,10 @@ impl Callbacks {
     /// Who waits for whom, built anew from the queues of asks: the slow form, to compare with
     /// [`Callbacks::kept_view`]. Both have the same rows.
     pub fn view(&self) -> View
-        ensures { Follows result (server_of self.now.tables) }
+        ensures { Follows result (server_of self.now.state) }
     {
         let mut view = View::nobody();
-        follow_pages(&mut view, &self.tables);
+        follow_pages(&mut view, &self.state);
         view
     }
 }

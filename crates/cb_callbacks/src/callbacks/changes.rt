@@ -1,11 +1,7 @@
 //! Changes at one page.
 ghost use Rattle.std.specs.Prelude.{◌≡◌, ◌≢◌, ◌∷◌, ◌<◌, [], ℕ, true, false, OnErr, OnOk};
 ghost use Rattle.cb_asks.specs.Asks.{room_at};
-ghost use Rattle.cb_callbacks.specs.Callbacks.{Changes};
 ghost use Rattle.cb_callbacks.specs.Following.{FollowsPage};
-ghost use Rattle.cb_tables.specs.Tables.{AreTables, HasClient, HasPage, server_of};
-ghost use Rattle.cb_tables.specs.Waits.{HasBegun, IsGreeted};
-ghost use Rattle.cb_holdings.specs.Holdings.{Stays};
 ghost use Rattle.cb_outbox.specs.Saying.{HasRoomFor, Says};
 ghost use Rattle.cb_protocol.specs.Server.{ChangeSession, EnterQueue, MarkInUse, UnmarkInUse};
 ghost use Rattle.cb_protocol.specs.Server.{after_server_step};
@@ -13,47 +9,50 @@ ghost use Rattle.cb_protocol.specs.ServerMessages.{enter_queue, has_waiting_ask,
 ghost use Rattle.cb_protocol.specs.Session.{EndPermission, RemoveRow, has_live_txn};
 ghost use Rattle.cb_protocol.specs.Settling.{give_permission, no_other_holder, sole_row};
 ghost use Rattle.cb_protocol.specs.WaitsFor.{on_cycle};
+ghost use Rattle.cb_server_state.specs.States.{Does, HasClient, HasPage, PartsAgree, Stays};
+ghost use Rattle.cb_server_state.specs.States.{server_of};
+ghost use Rattle.cb_server_state.specs.Waits.{HasBegun, IsGreeted};
 
 use crate::Callbacks;
 use cb_outbox::Outbox;
 use cb_page::{ClientNo, GrantNo, PageNo};
-use cb_tables::Tables;
+use cb_server_state::ServerState;
 use cb_waits::View;
 use std::alloc::AllocError;
 
 impl Callbacks {
     /// The client said that its transaction uses the page.
     pub fn mark_in_use(&mut self, client: ClientNo, page: PageNo)
-        requires client { HasClient self.old.tables client }
-        requires page { HasPage self.old.tables page }
-        ensures { Changes self.old.tables (MarkInUse client page ∷ []) self.new.tables }
+        requires client { HasClient self.old.state client }
+        requires page { HasPage self.old.state page }
+        ensures { Does self.old.state (MarkInUse client page ∷ []) self.new.state }
     {
-        self.tables.marks.mark(client, page);
-        follow_page(&mut self.view, &self.tables, page);
+        self.state.marks.mark(client, page);
+        follow_page(&mut self.view, &self.state, page);
     }
 
     /// The client's copy of the page was given back, and it doesn't use the page.
     pub fn give_back(&mut self, client: ClientNo, page: PageNo)
-        requires client { HasClient self.old.tables client }
-        requires page { HasPage self.old.tables page }
-        ensures { (grant : ℕ) → Changes self.old.tables
+        requires client { HasClient self.old.state client }
+        requires page { HasPage self.old.state page }
+        ensures { (grant : ℕ) → Does self.old.state
             (UnmarkInUse client page ∷ ChangeSession client (RemoveRow page grant) ∷ [])
-            self.new.tables }
+            self.new.state }
     {
-        self.tables.marks.unmark(client, page);
-        self.tables.holdings.give_back(client, page);
-        follow_page(&mut self.view, &self.tables, page);
+        self.state.marks.unmark(client, page);
+        self.state.give_back(client, page);
+        follow_page(&mut self.view, &self.state, page);
     }
 
     /// The client is not the page's write holder any more; its copy stays.
     pub fn end_permission(&mut self, client: ClientNo, page: PageNo)
-        requires client { HasClient self.old.tables client }
-        requires page { HasPage self.old.tables page }
-        ensures { (grant tag : ℕ) → Changes self.old.tables
-            (ChangeSession client (EndPermission page grant tag) ∷ []) self.new.tables }
+        requires client { HasClient self.old.state client }
+        requires page { HasPage self.old.state page }
+        ensures { (grant tag : ℕ) → Does self.old.state
+            (ChangeSession client (EndPermission page grant tag) ∷ []) self.new.state }
     {
-        self.tables.holdings.end_permission(client, page);
-        follow_page(&mut self.view, &self.tables, page);
+        self.state.end_permission(client, page);
+        follow_page(&mut self.view, &self.state, page);
     }
 
     /// The page's write holder is permitted again, for its last transaction, and hears so.
@@ -64,23 +63,23 @@ impl Callbacks {
         grant: GrantNo,
         outbox: &mut Outbox,
     )
-        requires client { HasClient self.old.tables client }
-        requires page { HasPage self.old.tables page }
-        requires greeted { IsGreeted (server_of self.old.tables) client }
-        requires begun { HasBegun (server_of self.old.tables) client }
-        requires alone { no_other_holder ((server_of self.old.tables).store.holder page) client
+        requires client { HasClient self.old.state client }
+        requires page { HasPage self.old.state page }
+        requires greeted { IsGreeted (server_of self.old.state) client }
+        requires begun { HasBegun (server_of self.old.state) client }
+        requires alone { no_other_holder ((server_of self.old.state).store.holder page) client
             ≡ true }
-        requires sole { sole_row (server_of self.old.tables) page client
-            (server_of self.old.tables).clients ≡ true }
-        requires room { HasRoomFor (give_permission (server_of self.old.tables) client page grant)
+        requires sole { sole_row (server_of self.old.state) page client
+            (server_of self.old.state).clients ≡ true }
+        requires room { HasRoomFor (give_permission (server_of self.old.state) client page grant)
             outbox.old }
-        ensures says { Says (server_of self.old.tables)
+        ensures says { Says (server_of self.old.state)
             (λ server. give_permission server client page grant)
-            (server_of self.new.tables) outbox.old outbox.new }
-        ensures stays { Stays self.old.tables.holdings self.new.tables.holdings }
+            (server_of self.new.state) outbox.old outbox.new }
+        ensures stays { Stays self.old.state self.new.state }
     {
-        self.tables.give_permission(client, page, grant, outbox);
-        follow_page(&mut self.view, &self.tables, page);
+        self.state.give_permission(client, page, grant, outbox);
+        follow_page(&mut self.view, &self.state, page);
     }
 
     /// Makes room for one more ask at the page. Whether it is refused or not, nothing else changes.
@@ -88,14 +87,14 @@ impl Callbacks {
     /// `AllocError` only where memory was refused, so never where there is room, as where nobody
     /// waits for the page.
     pub fn reserve_ask(&mut self, page: PageNo) -> Result<(), AllocError>
-        requires { HasPage self.old.tables page }
-        ensures changes { Changes self.old.tables [] self.new.tables }
-        ensures holdings { self.new.tables.holdings ≡ self.old.tables.holdings }
-        ensures ok { OnOk result (0 < room_at self.new.tables.asks page) }
-        ensures err { OnErr result ((server_of self.old.tables).queue page ≢ []) }
-        ensures full { OnErr result (room_at self.old.tables.asks page ≡ 0) }
+        requires { HasPage self.old.state page }
+        ensures changes { Does self.old.state [] self.new.state }
+        ensures rest { self.new.state ≡ record self.old.state { asks = self.new.state.asks } }
+        ensures ok { OnOk result (0 < room_at self.new.state.asks page) }
+        ensures err { OnErr result ((server_of self.old.state).queue page ≢ []) }
+        ensures full { OnErr result (room_at self.old.state.asks page ≡ 0) }
     {
-        self.tables.asks.reserve(page)
+        self.state.asks.reserve(page)
     }
 
     /// An ask of the client goes to the end of the page's queue: to write by the grant of its copy,
@@ -107,21 +106,21 @@ impl Callbacks {
         write_grant: Option<GrantNo>,
         outbox: &mut Outbox,
     )
-        requires client { HasClient self.old.tables client }
-        requires page { HasPage self.old.tables page }
-        requires greeted { IsGreeted (server_of self.old.tables) client }
-        requires live { has_live_txn ((server_of self.old.tables).session client) ≡ true }
-        requires new { has_waiting_ask (server_of self.old.tables) client
-            (server_of self.old.tables).pages ≡ false }
-        requires place { 0 < room_at self.old.tables.asks page }
-        requires room { HasRoomFor (enter_queue on_cycle (server_of self.old.tables) page
+        requires client { HasClient self.old.state client }
+        requires page { HasPage self.old.state page }
+        requires greeted { IsGreeted (server_of self.old.state) client }
+        requires live { has_live_txn ((server_of self.old.state).session client) ≡ true }
+        requires new { has_waiting_ask (server_of self.old.state) client
+            (server_of self.old.state).pages ≡ false }
+        requires place { 0 < room_at self.old.state.asks page }
+        requires room { HasRoomFor (enter_queue on_cycle (server_of self.old.state) page
             (new_ask client write_grant)) outbox.old }
-        ensures says { Says (server_of self.old.tables)
+        ensures says { Says (server_of self.old.state)
             (λ server. enter_queue on_cycle server page (new_ask client write_grant))
-            (server_of self.new.tables) outbox.old outbox.new }
-        ensures stays { Stays self.old.tables.holdings self.new.tables.holdings }
+            (server_of self.new.state) outbox.old outbox.new }
+        ensures stays { Stays self.old.state self.new.state }
     {
-        let is_first = self.tables.asks.queue(page).is_empty();
+        let is_first = self.state.asks.queue(page).is_empty();
         self.enter_last(client, page, write_grant);
         if !is_first && self.closes_cycle(client) {
             self.doom(client, page, outbox);
@@ -130,28 +129,28 @@ impl Callbacks {
 
     /// An ask goes to the end of the queue, and the view follows.
     fn enter_last(&mut self, client: ClientNo, page: PageNo, write_grant: Option<GrantNo>)
-        requires client { HasClient self.old.tables client }
-        requires page { HasPage self.old.tables page }
-        requires greeted { IsGreeted (server_of self.old.tables) client }
-        requires live { has_live_txn ((server_of self.old.tables).session client) ≡ true }
-        requires new { has_waiting_ask (server_of self.old.tables) client
-            (server_of self.old.tables).pages ≡ false }
-        requires place { 0 < room_at self.old.tables.asks page }
-        ensures becomes { server_of self.new.tables ≡ after_server_step
-            (server_of self.old.tables) (EnterQueue page (new_ask client write_grant)) }
-        ensures stays { self.new.tables.holdings ≡ self.old.tables.holdings }
+        requires client { HasClient self.old.state client }
+        requires page { HasPage self.old.state page }
+        requires greeted { IsGreeted (server_of self.old.state) client }
+        requires live { has_live_txn ((server_of self.old.state).session client) ≡ true }
+        requires new { has_waiting_ask (server_of self.old.state) client
+            (server_of self.old.state).pages ≡ false }
+        requires place { 0 < room_at self.old.state.asks page }
+        ensures becomes { server_of self.new.state ≡ after_server_step
+            (server_of self.old.state) (EnterQueue page (new_ask client write_grant)) }
+        ensures stays { Stays self.old.state self.new.state }
     {
-        self.tables.asks.enter(page, client, write_grant);
-        follow_page(&mut self.view, &self.tables, page);
+        self.state.asks.enter(page, client, write_grant);
+        follow_page(&mut self.view, &self.state, page);
     }
 }
 
 /// The view follows a page that has changed.
-pub(crate) fn follow_page(view: &mut View, tables: &Tables, page: PageNo)
-    requires are { AreTables tables.now }
-    requires page { HasPage tables.now page }
-    ensures { FollowsPage view.old (server_of tables.now) page view.new }
+pub(crate) fn follow_page(view: &mut View, state: &ServerState, page: PageNo)
+    requires agree { PartsAgree state.now }
+    requires page { HasPage state.now page }
+    ensures { FollowsPage view.old (server_of state.now) page view.new }
 {
-    let held_up_by = tables.held_up_by(page);
-    view.follow(tables.asks.queue(page), held_up_by);
+    let held_up_by = state.held_up_by(page);
+    view.follow(state.asks.queue(page), held_up_by);
 }

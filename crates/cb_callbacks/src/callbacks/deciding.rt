@@ -1,19 +1,16 @@
 //! What is done about the first ask of a page.
 ghost use Rattle.std.specs.Prelude.{◌≡◌, ◌≤◌, ◌+◌, [], true, None, Some};
 ghost use Rattle.cb_asks.specs.Queues.{waiting_ask};
-ghost use Rattle.cb_tables.specs.Tables.{IsAsLarge};
 ghost use Rattle.cb_callbacks.specs.Deciding.{IsFirst};
-ghost use Rattle.cb_tables.specs.Tables.{HasPage, server_of};
-ghost use Rattle.cb_holdings.specs.Holdings.{Stays};
 ghost use Rattle.cb_outbox.specs.Saying.{Decides, HasRoomFor, Says};
 ghost use Rattle.cb_protocol.specs.Basics.{is_none, max_number};
 ghost use Rattle.cb_protocol.specs.Numbers.{first_free_grant};
 ghost use Rattle.cb_protocol.specs.Server.{has_ask, has_row};
 ghost use Rattle.cb_protocol.specs.Settling.{call_back_once, decide, decide_read, decide_write};
-ghost use Rattle.cb_protocol.specs.Settling.{decision_steps, downgrade_once};
-ghost use Rattle.cb_protocol.specs.Settling.{no_other_holder, sole_row};
-ghost use Rattle.cb_protocol.specs.Settling.{wait_or_doom};
+ghost use Rattle.cb_protocol.specs.Settling.{decision_steps, downgrade_once, no_other_holder};
+ghost use Rattle.cb_protocol.specs.Settling.{sole_row, wait_or_doom};
 ghost use Rattle.cb_protocol.specs.WaitsFor.{on_cycle};
+ghost use Rattle.cb_server_state.specs.States.{HasPage, IsAsLarge, Stays, server_of};
 
 use crate::Callbacks;
 use cb_asks::Waiting;
@@ -24,17 +21,17 @@ impl Callbacks {
     /// What is done about the first ask of the page. The next ask is to be looked at where it
     /// answers true; else the page is settled.
     pub(crate) fn decide(&mut self, page: PageNo, outbox: &mut Outbox) -> bool
-        requires page { HasPage self.old.tables page }
-        requires left { first_free_grant (server_of self.old.tables) ≤ max_number + 1 }
-        requires size { IsAsLarge outbox.old self.old.tables }
-        requires room { HasRoomFor (decision_steps (decide on_cycle (server_of self.old.tables)
-            page ((server_of self.old.tables).queue page))) outbox.old }
-        ensures decides { Decides (server_of self.old.tables)
+        requires page { HasPage self.old.state page }
+        requires left { first_free_grant (server_of self.old.state) ≤ max_number + 1 }
+        requires size { IsAsLarge outbox.old self.old.state }
+        requires room { HasRoomFor (decision_steps (decide on_cycle (server_of self.old.state)
+            page ((server_of self.old.state).queue page))) outbox.old }
+        ensures decides { Decides (server_of self.old.state)
             (λ server. decide on_cycle server page (server.queue page))
-            (server_of self.new.tables) result outbox.old outbox.new }
-        ensures stays { Stays self.old.tables.holdings self.new.tables.holdings }
+            (server_of self.new.state) result outbox.old outbox.new }
+        ensures stays { Stays self.old.state self.new.state }
     {
-        let Some(first) = self.tables.asks.queue(page).first() else {
+        let Some(first) = self.state.asks.queue(page).first() else {
             return false;
         };
         match first.write_grant {
@@ -46,22 +43,22 @@ impl Callbacks {
     /// The first ask is to read: it is granted where the client has no copy and no other client has
     /// the write permission.
     fn decide_read(&mut self, page: PageNo, first: Waiting, outbox: &mut Outbox) -> bool
-        requires page { HasPage self.old.tables page }
-        requires first { IsFirst self.old.tables page (waiting_ask first) }
+        requires page { HasPage self.old.state page }
+        requires first { IsFirst self.old.state page (waiting_ask first) }
         requires reads { first.write_grant ≡ None }
-        requires left { first_free_grant (server_of self.old.tables) ≤ max_number + 1 }
-        requires size { IsAsLarge outbox.old self.old.tables }
+        requires left { first_free_grant (server_of self.old.state) ≤ max_number + 1 }
+        requires size { IsAsLarge outbox.old self.old.state }
         requires room { HasRoomFor (decision_steps
-            (decide_read on_cycle (server_of self.old.tables) page (waiting_ask first)))
+            (decide_read on_cycle (server_of self.old.state) page (waiting_ask first)))
             outbox.old }
-        ensures decides { Decides (server_of self.old.tables)
+        ensures decides { Decides (server_of self.old.state)
             (λ server. decide_read on_cycle server page (waiting_ask first))
-            (server_of self.new.tables) result outbox.old outbox.new }
-        ensures stays { Stays self.old.tables.holdings self.new.tables.holdings }
+            (server_of self.new.state) result outbox.old outbox.new }
+        ensures stays { Stays self.old.state self.new.state }
     {
         let client = first.client;
-        let is_free = self.tables.holdings.no_other_holder(client, page);
-        let has_none = self.tables.holdings.row(client, page).is_none();
+        let is_free = self.state.no_other_holder(client, page);
+        let has_none = self.state.directory.row(client, page).is_none();
         if is_free && has_none {
             self.grant_first(client, page, outbox);
             true
@@ -80,21 +77,21 @@ impl Callbacks {
         grant: GrantNo,
         outbox: &mut Outbox,
     ) -> bool
-        requires page { HasPage self.old.tables page }
-        requires first { IsFirst self.old.tables page (waiting_ask first) }
-        requires size { IsAsLarge outbox.old self.old.tables }
+        requires page { HasPage self.old.state page }
+        requires first { IsFirst self.old.state page (waiting_ask first) }
+        requires size { IsAsLarge outbox.old self.old.state }
         requires room { HasRoomFor (decision_steps
-            (decide_write on_cycle (server_of self.old.tables) page (waiting_ask first) grant))
+            (decide_write on_cycle (server_of self.old.state) page (waiting_ask first) grant))
             outbox.old }
-        ensures decides { Decides (server_of self.old.tables)
+        ensures decides { Decides (server_of self.old.state)
             (λ server. decide_write on_cycle server page (waiting_ask first) grant)
-            (server_of self.new.tables) result outbox.old outbox.new }
-        ensures stays { Stays self.old.tables.holdings self.new.tables.holdings }
+            (server_of self.new.state) result outbox.old outbox.new }
+        ensures stays { Stays self.old.state self.new.state }
     {
         let client = first.client;
-        let is_free = self.tables.holdings.no_other_holder(client, page);
-        let has_copy = self.tables.holdings.has_row(client, page, grant);
-        let is_alone = self.tables.holdings.sole_row(client, page);
+        let is_free = self.state.no_other_holder(client, page);
+        let has_copy = self.state.has_row(client, page, grant);
+        let is_alone = self.state.sole_row(client, page);
         if is_free && has_copy && is_alone {
             self.permit_first(client, page, grant, outbox);
             true
@@ -107,15 +104,15 @@ impl Callbacks {
     /// The first ask can't be met: where its client lies on a cycle of waits, its transaction is
     /// doomed.
     fn wait_or_doom(&mut self, client: ClientNo, page: PageNo, outbox: &mut Outbox) -> bool
-        requires page { HasPage self.old.tables page }
-        requires here { has_ask client ((server_of self.old.tables).queue page) ≡ true }
+        requires page { HasPage self.old.state page }
+        requires here { has_ask client ((server_of self.old.state).queue page) ≡ true }
         requires room { HasRoomFor
-            (decision_steps (wait_or_doom on_cycle (server_of self.old.tables) client []))
+            (decision_steps (wait_or_doom on_cycle (server_of self.old.state) client []))
             outbox.old }
-        ensures decides { Decides (server_of self.old.tables)
+        ensures decides { Decides (server_of self.old.state)
             (λ server. wait_or_doom on_cycle server client [])
-            (server_of self.new.tables) result outbox.old outbox.new }
-        ensures stays { Stays self.old.tables.holdings self.new.tables.holdings }
+            (server_of self.new.state) result outbox.old outbox.new }
+        ensures stays { Stays self.old.state self.new.state }
     {
         if self.closes_cycle(client) {
             self.doom(client, page, outbox);
@@ -127,46 +124,46 @@ impl Callbacks {
 
     /// Callbacks for the first ask, once.
     fn call_back_once(&mut self, page: PageNo, first: Waiting, outbox: &mut Outbox)
-        requires page { HasPage self.old.tables page }
-        requires first { IsFirst self.old.tables page (waiting_ask first) }
+        requires page { HasPage self.old.state page }
+        requires first { IsFirst self.old.state page (waiting_ask first) }
         requires room { HasRoomFor
-            (call_back_once (server_of self.old.tables) page (waiting_ask first)) outbox.old }
-        ensures says { Says (server_of self.old.tables)
+            (call_back_once (server_of self.old.state) page (waiting_ask first)) outbox.old }
+        ensures says { Says (server_of self.old.state)
             (λ server. call_back_once server page (waiting_ask first))
-            (server_of self.new.tables) outbox.old outbox.new }
-        ensures here { has_ask first.client ((server_of self.new.tables).queue page) ≡ true }
-        ensures stays { Stays self.old.tables.holdings self.new.tables.holdings }
+            (server_of self.new.state) outbox.old outbox.new }
+        ensures here { has_ask first.client ((server_of self.new.state).queue page) ≡ true }
+        ensures stays { Stays self.old.state self.new.state }
     {
         if !first.called_back {
             let nobody = ClientSet::empty();
-            self.tables.call_back(first.client, page, nobody, outbox);
-            self.tables.asks.mark_called_back(page);
+            self.state.call_back(first.client, page, nobody, outbox);
+            self.state.asks.mark_called_back(page);
         }
     }
 
     /// A Downgrade to another client that merely keeps the write permission, once for each tag.
     fn downgrade_once(&mut self, page: PageNo, first: Waiting, outbox: &mut Outbox)
-        requires page { HasPage self.old.tables page }
-        requires first { IsFirst self.old.tables page (waiting_ask first) }
+        requires page { HasPage self.old.state page }
+        requires first { IsFirst self.old.state page (waiting_ask first) }
         requires room { HasRoomFor
-            (downgrade_once (server_of self.old.tables) page (waiting_ask first)) outbox.old }
-        ensures says { Says (server_of self.old.tables)
+            (downgrade_once (server_of self.old.state) page (waiting_ask first)) outbox.old }
+        ensures says { Says (server_of self.old.state)
             (λ server. downgrade_once server page (waiting_ask first))
-            (server_of self.new.tables) outbox.old outbox.new }
-        ensures here { has_ask first.client ((server_of self.new.tables).queue page) ≡ true }
-        ensures stays { Stays self.old.tables.holdings self.new.tables.holdings }
+            (server_of self.new.state) outbox.old outbox.new }
+        ensures here { has_ask first.client ((server_of self.new.state).queue page) ≡ true }
+        ensures stays { Stays self.old.state self.new.state }
     {
-        if !self.tables.holdings.keep_write() {
+        if !self.state.keep_write {
             return;
         }
-        let Some(keeper) = self.tables.keeper(page, first.client) else {
+        let Some(keeper) = self.state.keeper(page, first.client) else {
             return;
         };
-        let tag = self.tables.tag(page);
+        let tag = self.state.tag(page);
         if first.downgrade_sent == Some(tag) {
             return;
         }
-        self.tables.ask_down(keeper, page, tag, outbox);
-        self.tables.asks.mark_downgrade_sent(page, tag);
+        self.state.ask_down(keeper, page, tag, outbox);
+        self.state.asks.mark_downgrade_sent(page, tag);
     }
 }

@@ -1,66 +1,62 @@
 //! Transactions and incarnations end: their asks and marks go.
 ghost use Rattle.std.specs.Prelude.{◌≡◌, ◌∷◌, ◌<◌, ◌+◌, [], true, IfErr, IfOk, OnOk, OnErr};
-ghost use Rattle.cb_callbacks.specs.Callbacks.{Changes};
 ghost use Rattle.cb_callbacks.specs.Following.{FollowsAll, FollowsPages};
-ghost use Rattle.cb_tables.specs.Tables.{AreTables, HasClient, server_of};
-ghost use Rattle.cb_tables.specs.Waits.{Waits};
 ghost use Rattle.cb_commit.specs.History.{FitsInto};
 ghost use Rattle.cb_outbox.specs.Messages.{messages_of, page_writes};
 ghost use Rattle.cb_protocol.specs.Basics.{max_number};
 ghost use Rattle.cb_protocol.specs.Flush.{can_flush, server_flush};
 ghost use Rattle.cb_protocol.specs.Server.{ChangeSession, ForgetTransaction};
-ghost use Rattle.cb_protocol.specs.Session.{Admit, ApplyCommit, BeginTransaction};
-ghost use Rattle.cb_protocol.specs.Session.{DropTransaction, has_live_txn};
+ghost use Rattle.cb_protocol.specs.Session.{Admit, ApplyCommit, BeginTransaction, DropTransaction};
+ghost use Rattle.cb_protocol.specs.Session.{has_live_txn};
 ghost use Rattle.cb_protocol.specs.World.{messages_sent};
+ghost use Rattle.cb_server_state.specs.States.{Does, HasClient, PartsAgree, server_of};
+ghost use Rattle.cb_server_state.specs.Waits.{Waits};
 
 use crate::Callbacks;
 use crate::callbacks::changes::follow_page;
 use cb_frame::{Frame, Writes};
 use cb_page::{ClientNo, ClientSet, CommitNo, Incarnation, TxnNo};
-use cb_tables::Tables;
+use cb_server_state::ServerState;
 use cb_waits::View;
 use std::alloc::{AllocError, AllocFailed, Global};
 
 impl Callbacks {
     /// A greater incarnation of the client becomes current: all of the old one goes.
     pub fn admit(&mut self, client: ClientNo, incarnation: Incarnation)
-        requires client { HasClient self.old.tables client }
-        requires newer { ((server_of self.old.tables).session client).current < incarnation }
-        ensures { Changes self.old.tables
+        requires client { HasClient self.old.state client }
+        requires newer { ((server_of self.old.state).session client).current < incarnation }
+        ensures { Does self.old.state
             (ForgetTransaction client ∷ ChangeSession client (Admit incarnation) ∷ [])
-            self.new.tables }
+            self.new.state }
     {
-        self.tables.holdings.admit(client, incarnation);
-        self.tables.forget(client);
-        follow_all(&mut self.view, &self.tables, client);
+        self.state.admit(client, incarnation);
+        follow_all(&mut self.view, &self.state, client);
     }
 
     /// A later transaction of the client begins; the one before it, if it lives, ends as dropped.
     pub fn begin(&mut self, client: ClientNo, txn: TxnNo)
-        requires client { HasClient self.old.tables client }
-        requires later { ((server_of self.old.tables).session client).txn < txn }
-        ensures { Changes self.old.tables
+        requires client { HasClient self.old.state client }
+        requires later { ((server_of self.old.state).session client).txn < txn }
+        ensures { Does self.old.state
             (ForgetTransaction client ∷ ChangeSession client (BeginTransaction txn) ∷ [])
-            self.new.tables }
+            self.new.state }
     {
-        self.tables.holdings.begin(client, txn);
-        self.tables.forget(client);
-        follow_all(&mut self.view, &self.tables, client);
+        self.state.begin(client, txn);
+        follow_all(&mut self.view, &self.state, client);
     }
 
     /// The client's live transaction ends as dropped.
     pub fn drop_transaction(&mut self, client: ClientNo)
-        requires client { HasClient self.old.tables client }
-        requires live { has_live_txn ((server_of self.old.tables).session client) ≡ true }
-        ensures { Changes self.old.tables
+        requires client { HasClient self.old.state client }
+        requires live { has_live_txn ((server_of self.old.state).session client) ≡ true }
+        ensures { Does self.old.state
             (ForgetTransaction client
             ∷ ChangeSession client
-            (DropTransaction ((server_of self.old.tables).session client).txn) ∷ [])
-            self.new.tables }
+            (DropTransaction ((server_of self.old.state).session client).txn) ∷ [])
+            self.new.state }
     {
-        self.tables.holdings.drop_transaction(client);
-        self.tables.forget(client);
-        follow_all(&mut self.view, &self.tables, client);
+        self.state.drop_transaction(client);
+        follow_all(&mut self.view, &self.state, client);
     }
 
     /// The client's live transaction, which is handed in, ends by the next commit, whose number is
@@ -74,27 +70,23 @@ impl Callbacks {
         txn: TxnNo,
         writes: Writes,
     ) -> Result<CommitNo, AllocFailed<Writes>>
-        requires client { HasClient self.old.tables client }
-        requires current { incarnation ≡ ((server_of self.old.tables).session client).current }
-        requires txn { txn ≡ ((server_of self.old.tables).session client).txn }
-        requires live { has_live_txn ((server_of self.old.tables).session client) ≡ true }
-        requires left { (server_of self.old.tables).store.last_commit < max_number }
-        requires fit { FitsInto self.old.tables.holdings.commits.store writes }
+        requires client { HasClient self.old.state client }
+        requires current { incarnation ≡ ((server_of self.old.state).session client).current }
+        requires txn { txn ≡ ((server_of self.old.state).session client).txn }
+        requires live { has_live_txn ((server_of self.old.state).session client) ≡ true }
+        requires left { (server_of self.old.state).store.last_commit < max_number }
+        requires fit { FitsInto self.old.state.commits.store writes }
         ensures number { IfOk result (λ number.
-            number ≡ (server_of self.old.tables).store.last_commit + 1) }
-        ensures ok { OnOk result (Changes self.old.tables
+            number ≡ (server_of self.old.state).store.last_commit + 1) }
+        ensures ok { OnOk result (Does self.old.state
             (ForgetTransaction client
             ∷ ChangeSession client (ApplyCommit txn (page_writes writes)) ∷ [])
-            self.new.tables) }
+            self.new.state) }
         ensures err { OnErr result (self.new ≡ self.old) }
         ensures back { IfErr result (λ failed. failed.value ≡ writes) }
     {
-        let number = self
-            .tables
-            .holdings
-            .apply_commit(client, incarnation, txn, writes)?;
-        self.tables.forget(client);
-        follow_all(&mut self.view, &self.tables, client);
+        let number = self.state.apply_commit(client, incarnation, txn, writes)?;
+        follow_all(&mut self.view, &self.state, client);
         Ok(number)
     }
 
@@ -110,27 +102,23 @@ impl Callbacks {
         txn: TxnNo,
         writes: Writes,
     ) -> Result<CommitNo, AllocFailed<Writes>>
-        requires client { HasClient self.old.tables client }
-        requires current { incarnation ≡ ((server_of self.old.tables).session client).current }
-        requires later { ((server_of self.old.tables).session client).txn < txn }
-        requires left { (server_of self.old.tables).store.last_commit < max_number }
-        requires fit { FitsInto self.old.tables.holdings.commits.store writes }
+        requires client { HasClient self.old.state client }
+        requires current { incarnation ≡ ((server_of self.old.state).session client).current }
+        requires later { ((server_of self.old.state).session client).txn < txn }
+        requires left { (server_of self.old.state).store.last_commit < max_number }
+        requires fit { FitsInto self.old.state.commits.store writes }
         ensures number { IfOk result (λ number.
-            number ≡ (server_of self.old.tables).store.last_commit + 1) }
-        ensures ok { OnOk result (Changes self.old.tables
+            number ≡ (server_of self.old.state).store.last_commit + 1) }
+        ensures ok { OnOk result (Does self.old.state
             (ForgetTransaction client ∷ ChangeSession client (BeginTransaction txn)
             ∷ ForgetTransaction client
             ∷ ChangeSession client (ApplyCommit txn (page_writes writes)) ∷ [])
-            self.new.tables) }
+            self.new.state) }
         ensures err { OnErr result (self.new ≡ self.old) }
         ensures back { IfErr result (λ failed. failed.value ≡ writes) }
     {
-        let commit = self
-            .tables
-            .holdings
-            .commit_later(client, incarnation, txn, writes)?;
-        self.tables.forget(client);
-        follow_all(&mut self.view, &self.tables, client);
+        let commit = self.state.commit_later(client, incarnation, txn, writes)?;
+        follow_all(&mut self.view, &self.state, client);
         Ok(commit)
     }
 
@@ -138,37 +126,37 @@ impl Callbacks {
     ///
     /// `AllocError` only where memory was refused.
     pub fn flushed(&mut self, alloc: Global, number: CommitNo) -> Result<Vec<Frame>, AllocError>
-        requires { can_flush (server_of self.old.tables) number ≡ true }
+        requires { can_flush (server_of self.old.state) number ≡ true }
         ensures dones { IfOk result (λ frames. messages_of frames.items
-            ≡ messages_sent (server_flush (server_of self.old.tables) number)) }
-        ensures ok { OnOk result (Changes self.old.tables
-            (server_flush (server_of self.old.tables) number) self.new.tables) }
+            ≡ messages_sent (server_flush (server_of self.old.state) number)) }
+        ensures ok { OnOk result (Does self.old.state
+            (server_flush (server_of self.old.state) number) self.new.state) }
         ensures err { OnErr result (self.new ≡ self.old) }
     {
-        let dones = self.tables.holdings.flushed(alloc, number)?;
+        let dones = self.state.commits.flushed(alloc, number)?;
         Ok(dones)
     }
 }
 
 /// The view follows the end of the client's transaction: at each page with asks.
-fn follow_all(view: &mut View, tables: &Tables, client: ClientNo)
-    requires are { AreTables tables.now }
-    requires waits { Waits (server_of tables.now) }
-    ensures { FollowsAll view.old (server_of tables.now) client view.new }
+fn follow_all(view: &mut View, state: &ServerState, client: ClientNo)
+    requires agree { PartsAgree state.now }
+    requires waits { Waits (server_of state.now) }
+    ensures { FollowsAll view.old (server_of state.now) client view.new }
 {
     view.put_row(client, ClientSet::empty());
-    follow_pages(view, tables);
+    follow_pages(view, state);
 }
 
 /// The view follows each page with asks.
-pub(crate) fn follow_pages(view: &mut View, tables: &Tables)
-    requires are { AreTables tables.now }
-    requires waits { Waits (server_of tables.now) }
-    ensures { FollowsPages view.old (server_of tables.now) (server_of tables.now).pages view.new }
+pub(crate) fn follow_pages(view: &mut View, state: &ServerState)
+    requires agree { PartsAgree state.now }
+    requires waits { Waits (server_of state.now) }
+    ensures { FollowsPages view.old (server_of state.now) (server_of state.now).pages view.new }
 {
     let mut from = 0;
-    while let Some(page) = tables.asks.next_page(from) {
-        follow_page(view, tables, page);
+    while let Some(page) = state.asks.next_page(from) {
+        follow_page(view, state, page);
         from = page.index() + 1;
     }
 }

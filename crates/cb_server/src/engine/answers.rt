@@ -1,17 +1,16 @@
 //! The direct answers to messages, once their transactions have begun.
-ghost use Rattle.std.specs.Prelude.{◌≡◌, ℕ, false, OnErr, OnOk};
-ghost use Rattle.cb_tables.specs.Tables.{HasClient, HasPage};
-ghost use Rattle.cb_outbox.specs.Messages.{body_of, short_of};
+ghost use Rattle.std.specs.Prelude.{◌≡◌, ℕ, OnErr, OnOk};
+ghost use Rattle.cb_outbox.specs.Messages.{short_of};
 ghost use Rattle.cb_protocol.specs.Messages.{Downgraded, Drop as DropBody, GiveBack, InUse};
 ghost use Rattle.cb_protocol.specs.Ranges.{BodyFits};
 ghost use Rattle.cb_protocol.specs.Server.{Server, has_not_ended};
 ghost use Rattle.cb_protocol.specs.WaitsFor.{on_cycle};
-ghost use Rattle.cb_server.specs.Answering.{Begins, CanSay, CanSayTo, FitsIn, HasBegunTold};
-ghost use Rattle.cb_server.specs.Answering.{IsCurrent, IsLeft, Makes, Stands};
-ghost use Rattle.cb_server.specs.Answering.{answer_to, is_applied, limits_in, server_in};
+ghost use Rattle.cb_server.specs.Answering.{Begins, CanSay, CanSayTo, HasBegunTold, HasClient};
+ghost use Rattle.cb_server.specs.Answering.{HasPage, IsCurrent, IsLeft, IsStanding, Makes, Stands};
+ghost use Rattle.cb_server.specs.Answering.{answer_to, limits_in, server_in};
 
 use crate::engine::Engine;
-use cb_frame::{Body, ShortBody};
+use cb_frame::ShortBody;
 use cb_links::Standing;
 use cb_page::{ClientNo, GrantNo, Incarnation, PageNo, TxnNo};
 use std::alloc::AllocError;
@@ -41,40 +40,17 @@ impl Begun {
 }
 
 impl Engine {
-    /// The message's transaction begins where it is a later one, and the message is answered.
+    /// A message without page bytes is answered; its transaction begins where it is a later one.
     ///
     /// `AllocError` only where memory was refused for an ask's place; then nothing has begun
-    /// either. A commit that is applied is for `apply`.
+    /// either.
     pub(crate) fn answer(
-        &mut self,
-        client: ClientNo,
-        incarnation: Incarnation,
-        body: &Body,
-    ) -> Result<(), AllocError>
-        requires client { HasClient self.old.callbacks.tables client }
-        requires current { IsCurrent self.old client incarnation }
-        requires fits { FitsIn self.old body.now }
-        requires room { CanSayTo (body_of body.now) self.old }
-        requires not { is_applied (server_in self.old) client (body_of body.now) ≡ false }
-        ensures ok { OnOk result (Makes self.old (answer_to on_cycle client (body_of body.now))
-            self.new) }
-        ensures left { OnErr result (IsLeft self.old self.new) }
-    {
-        match body {
-            Body::Short(body) => self.answer_short(client, incarnation, *body),
-            Body::Commit { txn, .. } => Ok(self.pass_over(client, incarnation, *txn)),
-            Body::Granted { .. } => Ok(()),
-        }
-    }
-
-    /// A message without page bytes.
-    fn answer_short(
         &mut self,
         client: ClientNo,
         incarnation: Incarnation,
         body: ShortBody,
     ) -> Result<(), AllocError>
-        requires client { HasClient self.old.callbacks.tables client }
+        requires client { HasClient self.old client }
         requires current { IsCurrent self.old client incarnation }
         requires fits { BodyFits (limits_in self.old) (short_of body) }
         requires room { CanSayTo (short_of body) self.old }
@@ -97,13 +73,15 @@ impl Engine {
         }
     }
 
-    /// The transaction begins where it is a later one. How it stands then is answered.
-    fn begin(&mut self, client: ClientNo, txn: TxnNo) -> Begun
-        requires { HasClient self.old.callbacks.tables client }
+    /// The transaction, which stands so, begins where it is a later one. How it stands then is
+    /// answered.
+    fn begin(&mut self, client: ClientNo, txn: TxnNo, standing: Standing) -> Begun
+        requires client { HasClient self.old client }
+        requires stands { IsStanding self.old client txn standing }
         ensures begins { Begins self.old client txn self.new }
         ensures stands { Stands result (server_in self.new) client txn }
     {
-        match self.callbacks.holdings().standing(client, txn) {
+        match standing {
             Standing::Later => {
                 self.callbacks.begin(client, txn);
                 Begun::Live
@@ -114,20 +92,22 @@ impl Engine {
         }
     }
 
-    /// The transaction of an ask or a commit begins where it is a later one; a doomed one's client
-    /// hears AbortNow. How it stands is answered.
+    /// The transaction of an ask or a commit, which stands so, begins where it is a later one; a
+    /// doomed one's client hears AbortNow. How it stands then is answered.
     pub(crate) fn begin_or_abort(
         &mut self,
         client: ClientNo,
         incarnation: Incarnation,
         txn: TxnNo,
+        standing: Standing,
     ) -> Begun
-        requires client { HasClient self.old.callbacks.tables client }
+        requires client { HasClient self.old client }
         requires current { IsCurrent self.old client incarnation }
+        requires stands { IsStanding self.old client txn standing }
         requires room { CanSay self.old }
         ensures { HasBegunTold result self.old client txn self.new }
     {
-        match self.begin(client, txn) {
+        match self.begin(client, txn, standing) {
             Begun::Live => Begun::Live,
             Begun::Doomed => {
                 self.outbox
@@ -140,43 +120,45 @@ impl Engine {
 
     /// GiveBack: the copy of that grant goes.
     fn give_back(&mut self, client: ClientNo, page: PageNo, grant: GrantNo)
-        requires client { HasClient self.old.callbacks.tables client }
-        requires page { HasPage self.old.callbacks.tables page }
+        requires client { HasClient self.old client }
+        requires page { HasPage self.old page }
         ensures { Makes self.old (answer_to on_cycle client (GiveBack page grant)) self.new }
     {
-        if self.callbacks.holdings().has_row(client, page, grant) {
+        if self.callbacks.state().has_row(client, page, grant) {
             self.callbacks.give_back(client, page);
         }
     }
 
     /// InUse: the copy of that grant is marked as in use.
     fn in_use(&mut self, client: ClientNo, txn: TxnNo, page: PageNo, grant: GrantNo)
-        requires client { HasClient self.old.callbacks.tables client }
-        requires page { HasPage self.old.callbacks.tables page }
+        requires client { HasClient self.old client }
+        requires page { HasPage self.old page }
         ensures { Makes self.old (answer_to on_cycle client (InUse txn page grant)) self.new }
     {
-        if !self.begin(client, txn).lives() {
+        let standing = self.callbacks.state().standing(client, txn);
+        if !self.begin(client, txn, standing).lives() {
             return;
         }
-        if self.callbacks.holdings().has_row(client, page, grant) {
+        if self.callbacks.state().has_row(client, page, grant) {
             self.callbacks.mark_in_use(client, page);
         }
     }
 
     /// Drop: the transaction ends as dropped.
     fn drop_transaction(&mut self, client: ClientNo, txn: TxnNo)
-        requires client { HasClient self.old.callbacks.tables client }
+        requires client { HasClient self.old client }
         ensures { Makes self.old (answer_to on_cycle client (DropBody txn)) self.new }
     {
-        if self.begin(client, txn).lives() {
+        let standing = self.callbacks.state().standing(client, txn);
+        if self.begin(client, txn, standing).lives() {
             self.callbacks.drop_transaction(client);
         }
     }
 
     /// Downgraded: the write permission of that very grant and tag ends, where such are kept.
     fn downgraded(&mut self, client: ClientNo, page: PageNo, grant: GrantNo, tag: TxnNo)
-        requires client { HasClient self.old.callbacks.tables client }
-        requires page { HasPage self.old.callbacks.tables page }
+        requires client { HasClient self.old client }
+        requires page { HasPage self.old page }
         ensures { Makes self.old (answer_to on_cycle client (Downgraded page grant tag)) self.new }
     {
         if self.callbacks.has_kept_permission(client, page, grant, tag) {

@@ -1,7 +1,5 @@
 //! Asks to read and to write.
 ghost use Rattle.std.specs.Prelude.{◌≡◌, ◌<◌, ◌∷◌, [], if◌then◌else◌, true, OnErr, OnOk};
-ghost use Rattle.cb_asks.specs.Asks.{room_at};
-ghost use Rattle.cb_tables.specs.Tables.{HasClient, HasPage};
 ghost use Rattle.cb_protocol.specs.Messages.{AskRead, AskWrite};
 ghost use Rattle.cb_protocol.specs.Server.{is_write_holder};
 ghost use Rattle.cb_protocol.specs.ServerMessages.{enter_queue, has_waiting_ask, new_ask};
@@ -9,8 +7,8 @@ ghost use Rattle.cb_protocol.specs.ServerMessages.{take_ask_read, take_ask_write
 ghost use Rattle.cb_protocol.specs.Session.{has_live_txn};
 ghost use Rattle.cb_protocol.specs.Settling.{give_permission, send_granted, sole_row};
 ghost use Rattle.cb_protocol.specs.WaitsFor.{on_cycle};
-ghost use Rattle.cb_server.specs.Answering.{CanGrant, CanSay, IsCurrent, IsLeft, Makes};
-ghost use Rattle.cb_server.specs.Answering.{answer_to, server_in};
+ghost use Rattle.cb_server.specs.Answering.{CanGrant, CanSay, HasClient, HasPage, IsCurrent};
+ghost use Rattle.cb_server.specs.Answering.{IsLeft, Makes, answer_to, places_at, server_in};
 
 use crate::engine::Engine;
 use crate::engine::answers::Begun;
@@ -27,8 +25,8 @@ impl Engine {
         txn: TxnNo,
         page: PageNo,
     ) -> Result<(), AllocError>
-        requires client { HasClient self.old.callbacks.tables client }
-        requires page { HasPage self.old.callbacks.tables page }
+        requires client { HasClient self.old client }
+        requires page { HasPage self.old page }
         requires current { IsCurrent self.old client incarnation }
         requires room { CanGrant self.old }
         ensures ok { OnOk result (Makes self.old (answer_to on_cycle client (AskRead txn page))
@@ -36,7 +34,8 @@ impl Engine {
         ensures left { OnErr result (IsLeft self.old self.new) }
     {
         self.callbacks.reserve_ask(page)?;
-        match self.begin_or_abort(client, incarnation, txn) {
+        let standing = self.callbacks.state().standing(client, txn);
+        match self.begin_or_abort(client, incarnation, txn, standing) {
             Begun::Live => self.ask_to_read(client, incarnation, page),
             Begun::Doomed => {}
             Begun::Ended => {}
@@ -47,17 +46,17 @@ impl Engine {
     /// A live transaction asks to read: it gets its copy again where it has one, else its ask
     /// waits.
     fn ask_to_read(&mut self, client: ClientNo, incarnation: Incarnation, page: PageNo)
-        requires client { HasClient self.old.callbacks.tables client }
-        requires page { HasPage self.old.callbacks.tables page }
+        requires client { HasClient self.old client }
+        requires page { HasPage self.old page }
         requires current { IsCurrent self.old client incarnation }
         requires live { has_live_txn ((server_in self.old).session client) ≡ true }
-        requires place { 0 < room_at self.old.callbacks.tables.asks page }
+        requires place { 0 < places_at self.old page }
         requires room { CanGrant self.old }
         ensures { Makes self.old
             (λ server. take_ask_read on_cycle server client page ((server.session client).row page))
             self.new }
     {
-        match self.callbacks.holdings().row(client, page) {
+        match self.callbacks.state().directory.row(client, page) {
             Some(grant) => self.grant_again(client, incarnation, page, grant),
             None => self.enter(client, incarnation, page, None),
         }
@@ -71,12 +70,12 @@ impl Engine {
         page: PageNo,
         grant: GrantNo,
     )
-        requires page { HasPage self.old.callbacks.tables page }
+        requires page { HasPage self.old page }
         requires current { IsCurrent self.old client incarnation }
         requires room { CanGrant self.old }
         ensures { Makes self.old (λ server. send_granted server client page grant ∷ []) self.new }
     {
-        let store = self.callbacks.holdings().store();
+        let store = self.callbacks.state().commits.store();
         let version = store.version(page);
         self.outbox.grant(client, incarnation, page, grant, version, store.bytes(page));
     }
@@ -89,11 +88,11 @@ impl Engine {
         page: PageNo,
         write_grant: Option<GrantNo>,
     )
-        requires client { HasClient self.old.callbacks.tables client }
-        requires page { HasPage self.old.callbacks.tables page }
+        requires client { HasClient self.old client }
+        requires page { HasPage self.old page }
         requires current { IsCurrent self.old client incarnation }
         requires live { has_live_txn ((server_in self.old).session client) ≡ true }
-        requires place { 0 < room_at self.old.callbacks.tables.asks page }
+        requires place { 0 < places_at self.old page }
         requires room { CanSay self.old }
         ensures { Makes self.old
             (λ server. if has_waiting_ask server client server.pages then []
@@ -119,8 +118,8 @@ impl Engine {
         page: PageNo,
         grant: GrantNo,
     ) -> Result<(), AllocError>
-        requires client { HasClient self.old.callbacks.tables client }
-        requires page { HasPage self.old.callbacks.tables page }
+        requires client { HasClient self.old client }
+        requires page { HasPage self.old page }
         requires current { IsCurrent self.old client incarnation }
         requires room { CanSay self.old }
         ensures ok { OnOk result (Makes self.old
@@ -128,7 +127,8 @@ impl Engine {
         ensures left { OnErr result (IsLeft self.old self.new) }
     {
         self.callbacks.reserve_ask(page)?;
-        match self.begin_or_abort(client, incarnation, txn) {
+        let standing = self.callbacks.state().standing(client, txn);
+        match self.begin_or_abort(client, incarnation, txn, standing) {
             Begun::Live => self.ask_to_write(client, incarnation, page, grant),
             Begun::Doomed => {}
             Begun::Ended => {}
@@ -145,19 +145,19 @@ impl Engine {
         page: PageNo,
         grant: GrantNo,
     )
-        requires client { HasClient self.old.callbacks.tables client }
-        requires page { HasPage self.old.callbacks.tables page }
+        requires client { HasClient self.old client }
+        requires page { HasPage self.old page }
         requires current { IsCurrent self.old client incarnation }
         requires live { has_live_txn ((server_in self.old).session client) ≡ true }
-        requires place { 0 < room_at self.old.callbacks.tables.asks page }
+        requires place { 0 < places_at self.old page }
         requires room { CanSay self.old }
         ensures { Makes self.old
             (λ server. take_ask_write on_cycle server client page grant) self.new }
     {
-        if !self.callbacks.holdings().has_row(client, page, grant) {
+        if !self.callbacks.state().has_row(client, page, grant) {
             return;
         }
-        if self.callbacks.holdings().is_write_holder(client, page) {
+        if self.callbacks.state().is_write_holder(client, page) {
             self.permit_again(client, incarnation, page, grant);
         } else {
             self.enter(client, incarnation, page, Some(grant));
@@ -172,8 +172,8 @@ impl Engine {
         page: PageNo,
         grant: GrantNo,
     )
-        requires client { HasClient self.old.callbacks.tables client }
-        requires page { HasPage self.old.callbacks.tables page }
+        requires client { HasClient self.old client }
+        requires page { HasPage self.old page }
         requires current { IsCurrent self.old client incarnation }
         requires live { has_live_txn ((server_in self.old).session client) ≡ true }
         requires holder { is_write_holder (server_in self.old) client page ≡ true }

@@ -1,84 +1,126 @@
 //! Commits.
-ghost use Rattle.std.specs.Prelude.{◌≡◌, false, true, IfErr, List, OnErr, OnOk};
-ghost use Rattle.cb_tables.specs.Tables.{HasClient};
-ghost use Rattle.cb_commit.specs.History.{FitsInto};
+ghost use Rattle.std.specs.Prelude.{◌≡◌, false, true, IfErr, IfOk, List, OnErr, OnOk};
 ghost use Rattle.cb_outbox.specs.Messages.{body_of, page_writes};
 ghost use Rattle.cb_protocol.specs.Messages.{Commit, PageWrite};
 ghost use Rattle.cb_protocol.specs.Server.{has_not_ended};
 ghost use Rattle.cb_protocol.specs.ServerMessages.{take_commit, take_current};
 ghost use Rattle.cb_protocol.specs.WaitsFor.{on_cycle};
-ghost use Rattle.cb_server.specs.Answering.{Awaits, AwaitsBody, CanSay, FitsIn, IsCurrent, IsLeft};
-ghost use Rattle.cb_server.specs.Answering.{LacksNumber, Makes, answer_to, applies, is_applied};
-ghost use Rattle.cb_server.specs.Answering.{server_in};
+ghost use Rattle.cb_server.specs.Answering.{Awaits, AwaitsBody, CanSay, FitsIn, FitsStore};
+ghost use Rattle.cb_server.specs.Answering.{HasClient, HasLimits, IsCurrent, IsLeft, IsReady};
+ghost use Rattle.cb_server.specs.Answering.{IsStanding, LacksNumber, Makes, Meets, answer_to};
+ghost use Rattle.cb_server.specs.Answering.{applies, server_in};
+ghost use Rattle.cb_server.specs.Taking.{is_exhaustion};
 
-use crate::engine::Engine;
 use crate::engine::answers::Begun;
 use crate::engine::copying::copy_of;
+use crate::engine::{Engine, Met};
 use crate::server_fault::ServerFault;
 use cb_frame::{Body, ShortBody, Writes};
 use cb_links::Standing;
-use cb_page::{ClientNo, Incarnation, TxnNo};
+use cb_page::{ClientNo, Incarnation, Limits, TxnNo};
 use std::alloc::{AllocError, AllocFailed, Global};
 
 impl Engine {
-    /// Whether a commit would be applied, and no commit number is left for it.
-    pub(crate) fn lacks_commit(&self, client: ClientNo, txn: TxnNo, writes: &Writes) -> bool
-        requires client { HasClient self.now.callbacks.tables client }
-        requires fits { FitsInto self.now.callbacks.tables.holdings.commits.store writes.now }
-        ensures { LacksNumber self.now client (Commit txn (page_writes writes.now)) result }
+    /// Takes a commit of the current incarnation, unless it is to be applied.
+    pub(crate) fn meet_commit(
+        &mut self,
+        alloc: Global,
+        limits: &Limits,
+        client: ClientNo,
+        incarnation: Incarnation,
+        txn: TxnNo,
+        writes: &Writes,
+    ) -> Result<Met, ServerFault>
+        requires ready { IsReady self.old }
+        requires of { HasLimits self.old limits.now }
+        requires client { HasClient self.old client }
+        requires current { IsCurrent self.old client incarnation }
+        requires fits { FitsStore self.old writes.now }
+        ensures ok { IfOk result (λ met. Meets self.old
+            (λ server. take_current on_cycle server client (Commit txn (page_writes writes.now)))
+            client incarnation (Commit txn (page_writes writes.now)) met self.new) }
+        ensures taken { OnOk result
+            (LacksNumber self.old client (Commit txn (page_writes writes.now)) false) }
+        ensures err { IfErr result (λ fault. LacksNumber self.old client
+            (Commit txn (page_writes writes.now)) (is_exhaustion fault)) }
+        ensures left { OnErr result (IsLeft self.old self.new) }
     {
-        if self.callbacks.holdings().next_commit().is_some() {
-            return false;
+        let standing = self.callbacks.state().standing(client, txn);
+        let is_applied = self.is_applied(client, txn, standing, writes);
+        if self.lacks_number_if_applied(client, txn, is_applied) {
+            return Err(ServerFault::Exhausted);
         }
-        self.applies(client, txn, writes)
+        self.reserve(alloc, limits, 1, 0)?;
+        if is_applied {
+            return Ok(Met::Applies(standing));
+        }
+        self.pass_over(client, incarnation, txn, standing);
+        self.settle();
+        Ok(Met::Taken)
     }
 
-    /// Whether a commit would be applied.
-    fn applies(&self, client: ClientNo, txn: TxnNo, writes: &Writes) -> bool
-        requires client { HasClient self.now.callbacks.tables client }
-        requires fits { FitsInto self.now.callbacks.tables.holdings.commits.store writes.now }
+    /// Whether a commit would be applied, and no commit number is left for it.
+    pub(crate) fn lacks_commit(&self, client: ClientNo, txn: TxnNo, writes: &Writes) -> bool
+        requires client { HasClient self.now client }
+        requires fits { FitsStore self.now writes.now }
+        ensures { LacksNumber self.now client (Commit txn (page_writes writes.now)) result }
+    {
+        let standing = self.callbacks.state().standing(client, txn);
+        let is_applied = self.is_applied(client, txn, standing, writes);
+        self.lacks_number_if_applied(client, txn, is_applied)
+    }
+
+    /// Whether no number is left for the client's commit, of which it was asked whether it would be
+    /// applied.
+    fn lacks_number_if_applied(&self, client: ClientNo, txn: TxnNo, is_applied: bool) -> bool
+        ensures { (writes : List PageWrite)
+            → is_applied ≡ applies (server_in self.now) client txn writes
+            → LacksNumber self.now client (Commit txn writes) result }
+    {
+        is_applied && self.callbacks.state().commits.next_number().is_none()
+    }
+
+    /// Whether a commit would be applied, whose transaction stands so.
+    fn is_applied(&self, client: ClientNo, txn: TxnNo, standing: Standing, writes: &Writes) -> bool
+        requires client { HasClient self.now client }
+        requires fits { FitsStore self.now writes.now }
+        requires stands { IsStanding self.now client txn standing }
         ensures { result ≡ applies (server_in self.now) client txn (page_writes writes.now) }
     {
-        let holdings = self.callbacks.holdings();
-        match holdings.standing(client, txn) {
-            Standing::Later => holdings.commit_allowed_later(client, writes.as_slice()),
-            Standing::Live => holdings.commit_allowed(client, writes.as_slice()),
+        let state = self.callbacks.state();
+        match standing {
+            Standing::Later => state.commit_allowed_later(client, writes.as_slice()),
+            Standing::Live => state.commit_allowed(client, writes.as_slice()),
             Standing::Doomed => false,
             Standing::Ended => false,
         }
     }
 
-    /// Whether the message is a commit that is to be applied.
-    pub(crate) fn is_applied(&self, client: ClientNo, body: &Body) -> bool
-        requires client { HasClient self.now.callbacks.tables client }
-        requires fits { FitsIn self.now body.now }
-        ensures { result ≡ is_applied (server_in self.now) client (body_of body.now) }
-    {
-        match body {
-            Body::Commit { txn, writes } => self.applies(client, *txn, writes),
-            Body::Short(_) => false,
-            Body::Granted { .. } => false,
-        }
-    }
-
-    /// A commit that isn't applied: its transaction begins where it is a later one. Of the
-    /// transaction that ended last it is a repetition.
-    pub(crate) fn pass_over(&mut self, client: ClientNo, incarnation: Incarnation, txn: TxnNo)
-        requires client { HasClient self.old.callbacks.tables client }
+    /// A commit that isn't applied, whose transaction stands so: it begins where it is a later one.
+    /// Of the transaction that ended last the commit is a repetition.
+    fn pass_over(
+        &mut self,
+        client: ClientNo,
+        incarnation: Incarnation,
+        txn: TxnNo,
+        standing: Standing,
+    )
+        requires client { HasClient self.old client }
         requires current { IsCurrent self.old client incarnation }
+        requires stands { IsStanding self.old client txn standing }
         requires room { CanSay self.old }
         ensures { (writes : List PageWrite) → applies (server_in self.old) client txn writes ≡ false
             → Makes self.old (answer_to on_cycle client (Commit txn writes)) self.new }
     {
-        match self.begin_or_abort(client, incarnation, txn) {
+        match self.begin_or_abort(client, incarnation, txn, standing) {
             Begun::Live => {}
             Begun::Doomed => {}
             Begun::Ended => self.done_again(client, incarnation, txn),
         }
     }
 
-    /// A commit of which `meet` said that it is to be applied is applied, and all pages are
-    /// settled.
+    /// A commit of which `meet` said that it is to be applied, and how its transaction stands, is
+    /// applied, and all pages are settled.
     ///
     /// Refused only where memory was, and the pages come back; nothing changes then.
     pub(crate) fn apply(
@@ -86,17 +128,18 @@ impl Engine {
         client: ClientNo,
         incarnation: Incarnation,
         txn: TxnNo,
+        standing: Standing,
         writes: Writes,
     ) -> Result<(), AllocFailed<Writes>>
-        requires client { HasClient self.old.callbacks.tables client }
-        requires fits { FitsInto self.old.callbacks.tables.holdings.commits.store writes }
-        requires waits { Awaits self.old client incarnation txn (page_writes writes) }
+        requires client { HasClient self.old client }
+        requires fits { FitsStore self.old writes }
+        requires waits { Awaits self.old client incarnation txn standing (page_writes writes) }
         ensures ok { OnOk result (Makes self.old (λ server.
             take_current on_cycle server client (Commit txn (page_writes writes))) self.new) }
         ensures left { OnErr result (IsLeft self.old self.new) }
         ensures back { IfErr result (λ failed. failed.value ≡ writes) }
     {
-        self.commit(client, incarnation, txn, writes)?;
+        self.commit(client, incarnation, txn, standing, writes)?;
         self.settle();
         Ok(())
     }
@@ -109,11 +152,12 @@ impl Engine {
         alloc: Global,
         client: ClientNo,
         incarnation: Incarnation,
+        standing: Standing,
         body: &Body,
     ) -> Result<(), AllocError>
-        requires client { HasClient self.old.callbacks.tables client }
+        requires client { HasClient self.old client }
         requires fits { FitsIn self.old body.now }
-        requires waits { AwaitsBody self.old client incarnation (body_of body.now) }
+        requires waits { AwaitsBody self.old client incarnation standing (body_of body.now) }
         ensures ok { OnOk result (Makes self.old
             (λ server. take_current on_cycle server client (body_of body.now)) self.new) }
         ensures left { OnErr result (IsLeft self.old self.new) }
@@ -122,7 +166,7 @@ impl Engine {
             unreachable!()
         };
         let copy = copy_of(alloc, writes.as_slice())?;
-        Ok(self.apply(client, incarnation, *txn, copy)?)
+        Ok(self.apply(client, incarnation, *txn, standing, copy)?)
     }
 
     /// The same of a commit's body that is handed over: it comes back where memory is refused.
@@ -130,11 +174,12 @@ impl Engine {
         &mut self,
         client: ClientNo,
         incarnation: Incarnation,
+        standing: Standing,
         body: Body,
     ) -> Result<(), (ServerFault, Body)>
-        requires client { HasClient self.old.callbacks.tables client }
+        requires client { HasClient self.old client }
         requires fits { FitsIn self.old body }
-        requires waits { AwaitsBody self.old client incarnation (body_of body) }
+        requires waits { AwaitsBody self.old client incarnation standing (body_of body) }
         ensures ok { OnOk result (Makes self.old
             (λ server. take_current on_cycle server client (body_of body)) self.new) }
         ensures err { IfErr result (λ refused. refused.0 ≡ ServerFault.Memory) }
@@ -144,7 +189,7 @@ impl Engine {
         let Body::Commit { txn, writes } = body else {
             unreachable!()
         };
-        match self.apply(client, incarnation, txn, writes) {
+        match self.apply(client, incarnation, txn, standing, writes) {
             Ok(()) => Ok(()),
             Err(failed) => Err((
                 ServerFault::Memory,
@@ -162,11 +207,13 @@ impl Engine {
         client: ClientNo,
         incarnation: Incarnation,
         txn: TxnNo,
+        standing: Standing,
         writes: Writes,
     ) -> Result<(), AllocFailed<Writes>>
-        requires client { HasClient self.old.callbacks.tables client }
+        requires client { HasClient self.old client }
         requires current { IsCurrent self.old client incarnation }
-        requires fits { FitsInto self.old.callbacks.tables.holdings.commits.store writes }
+        requires fits { FitsStore self.old writes }
+        requires stands { IsStanding self.old client txn standing }
         requires number { LacksNumber self.old client (Commit txn (page_writes writes)) false }
         requires applies { applies (server_in self.old) client txn (page_writes writes) ≡ true }
         ensures ok { OnOk result (Makes self.old
@@ -174,7 +221,7 @@ impl Engine {
         ensures left { OnErr result (IsLeft self.old self.new) }
         ensures back { IfErr result (λ failed. failed.value ≡ writes) }
     {
-        match self.callbacks.holdings().standing(client, txn) {
+        match standing {
             Standing::Later => {
                 self.callbacks
                     .commit_later(client, incarnation, txn, writes)?;
@@ -190,21 +237,21 @@ impl Engine {
     /// A commit of a transaction that has ended: of the last one it is a repetition, and its client
     /// hears Done again where it is on disk.
     fn done_again(&mut self, client: ClientNo, incarnation: Incarnation, txn: TxnNo)
-        requires client { HasClient self.old.callbacks.tables client }
+        requires client { HasClient self.old client }
         requires current { IsCurrent self.old client incarnation }
         requires ended { has_not_ended (server_in self.old) client txn ≡ false }
         requires room { CanSay self.old }
         ensures { (writes : List PageWrite) → Makes self.old
             (λ server. take_commit server client txn writes) self.new }
     {
-        let holdings = self.callbacks.holdings();
-        if holdings.txn(client) != Some(txn) {
+        let state = self.callbacks.state();
+        if state.sessions.session(client).transaction.txn() != Some(txn) {
             return;
         }
-        let Some(number) = holdings.outcome(client) else {
+        let Some(number) = state.sessions.session(client).transaction.commit() else {
             return;
         };
-        if number.get() <= holdings.last_flushed() {
+        if number.get() <= state.commits.last_flushed() {
             let done = ShortBody::Done { txn, number };
             self.outbox.say(client, incarnation, done);
         }

@@ -2,22 +2,22 @@
 ghost use Rattle.std.specs.Prelude.{◌≡◌, ◌↔◌, ◌<◌, ◌⊎◌, ◌&&◌, ℕ, Err, None, Some};
 ghost use Rattle.std.specs.Prelude.{length, IfErr, IfOk, OnErr, OnOk, slice_get};
 ghost use Rattle.cb_mailboxes.specs.Dispatching.{without_oldest};
-ghost use Rattle.cb_holdings.specs.Holdings.{HasClient, HasPage};
-ghost use Rattle.cb_holdings.specs.Holdings.{server_of as server_in};
 ghost use Rattle.cb_hands.specs.Joined.{Follow, IsHeld};
 ghost use Rattle.cb_station.specs.Moves.{collected, is_lasting, received, received_of};
 ghost use Rattle.cb_station.specs.Moves.{told};
 ghost use Rattle.cb_station.specs.Stations.{IsUnchanged, mailbox_of, server_of};
 ghost use Rattle.cb_station.specs.declared.office_fault.OfficeFault.TheVariants as office;
 ghost use Rattle.cb_protocol.specs.Server.{is_write_holder};
+ghost use Rattle.cb_server_state.specs.States.{HasClient, HasPage, PartsAgree};
+ghost use Rattle.cb_server_state.specs.States.{server_of as server_in};
 
 use crate::office_fault::OfficeFault;
 use crate::station::Station;
 use cb_frame::{Body, Frame, ShortBody};
 use cb_hands::{Hand, JoinedHands};
-use cb_holdings::Holdings;
 use cb_links::Standing;
 use cb_page::{ClientNo, GrantNo, PageNo, TxnNo};
+use cb_server_state::ServerState;
 
 impl Station {
     /// The oldest frame to the client; `None` exactly where its mailbox is empty. A grant that
@@ -49,24 +49,25 @@ impl Station {
         let Some(frame) = self.dispatcher.collect(hand.client())? else {
             return Ok(None);
         };
-        let holdings = self.dispatcher.holdings();
-        take_in(holdings, &mut self.hands, hand, &frame.body);
+        let state = self.dispatcher.server().state();
+        take_in(state, &mut self.hands, hand, &frame.body);
         Ok(Some(frame))
     }
 }
 
 /// What such a frame makes of the hand.
-fn take_in(holdings: &Holdings, hands: &mut JoinedHands, hand: &mut Hand, body: &Body)
+fn take_in(state: &ServerState, hands: &mut JoinedHands, hand: &mut Hand, body: &Body)
     requires held { IsHeld hands.old hand.old }
-    requires client { HasClient holdings.now hand.old.client }
-    requires pages { (k : ℕ) → k < length hand.old.held → HasPage holdings.now k }
-    ensures hand { hand.new ≡ received_of (server_in holdings.now) hand.old body.now }
+    requires agree { PartsAgree state.now }
+    requires client { HasClient state.now hand.old.client }
+    requires pages { (k : ℕ) → k < length hand.old.held → HasPage state.now k }
+    ensures hand { hand.new ≡ received_of (server_in state.now) hand.old body.now }
     ensures stored { Follow hands.old hands.new hand.old hand.new }
 {
     match body {
-        Body::Granted { page, grant, .. } => receive(holdings, hands, hand, *page, *grant),
+        Body::Granted { page, grant, .. } => receive(state, hands, hand, *page, *grant),
         Body::Short(ShortBody::MayWrite { txn, page, grant }) => {
-            permit(holdings, hands, hand, *txn, *page, *grant);
+            permit(state, hands, hand, *txn, *page, *grant);
         }
         Body::Short(_) => {}
         Body::Commit { .. } => {}
@@ -75,21 +76,22 @@ fn take_in(holdings: &Holdings, hands: &mut JoinedHands, hand: &mut Hand, body: 
 
 /// The hand holds the page, if its row stands and it doesn't yet.
 fn receive(
-    holdings: &Holdings,
+    state: &ServerState,
     hands: &mut JoinedHands,
     hand: &mut Hand,
     page: PageNo,
     grant: GrantNo,
 )
     requires held { IsHeld hands.old hand.old }
-    requires client { HasClient holdings.now hand.old.client }
-    requires pages { (k : ℕ) → k < length hand.old.held → HasPage holdings.now k }
-    ensures hand { hand.new ≡ received (server_in holdings.now) hand.old page grant }
+    requires agree { PartsAgree state.now }
+    requires client { HasClient state.now hand.old.client }
+    requires pages { (k : ℕ) → k < length hand.old.held → HasPage state.now k }
+    ensures hand { hand.new ≡ received (server_in state.now) hand.old page grant }
     ensures stored { Follow hands.old hands.new hand.old hand.new }
 {
     if page.index() < hand.pages() && hand.held(page).is_none() {
-        if holdings.has_row(hand.client(), page, grant) {
-            let version = holdings.version(page);
+        if state.has_row(hand.client(), page, grant) {
+            let version = state.commits.store().version(page);
             hands.receive(hand, page, grant, version);
         }
     }
@@ -98,7 +100,7 @@ fn receive(
 /// The hand may write the page, if it holds it by that grant and the transaction has the
 /// permission.
 fn permit(
-    holdings: &Holdings,
+    state: &ServerState,
     hands: &mut JoinedHands,
     hand: &mut Hand,
     txn: TxnNo,
@@ -106,27 +108,29 @@ fn permit(
     grant: GrantNo,
 )
     requires held { IsHeld hands.old hand.old }
-    requires client { HasClient holdings.now hand.old.client }
-    requires pages { (k : ℕ) → k < length hand.old.held → HasPage holdings.now k }
-    ensures hand { hand.new ≡ told (server_in holdings.now) hand.old txn page grant }
+    requires agree { PartsAgree state.now }
+    requires client { HasClient state.now hand.old.client }
+    requires pages { (k : ℕ) → k < length hand.old.held → HasPage state.now k }
+    ensures hand { hand.new ≡ told (server_in state.now) hand.old txn page grant }
     ensures stored { Follow hands.old hands.new hand.old hand.new }
 {
     if let Some(held) = hand.held(page) {
-        if held.grant == grant && has_permission(holdings, hand.client(), txn, page) {
+        if held.grant == grant && has_permission(state, hand.client(), txn, page) {
             hands.permit(hand, page, txn);
         }
     }
 }
 
 /// Whether that transaction of the client lasts and has the permission to write the page.
-fn has_permission(holdings: &Holdings, client: ClientNo, txn: TxnNo, page: PageNo) -> bool
-    requires client { HasClient holdings.now client }
-    requires page { HasPage holdings.now page }
-    ensures { result ≡ (is_lasting (server_in holdings.now) client txn
-        && is_write_holder (server_in holdings.now) client page) }
+fn has_permission(state: &ServerState, client: ClientNo, txn: TxnNo, page: PageNo) -> bool
+    requires agree { PartsAgree state.now }
+    requires client { HasClient state.now client }
+    requires page { HasPage state.now page }
+    ensures { result ≡ (is_lasting (server_in state.now) client txn
+        && is_write_holder (server_in state.now) client page) }
 {
-    match holdings.standing(client, txn) {
-        Standing::Live | Standing::Doomed => holdings.is_write_holder(client, page),
+    match state.standing(client, txn) {
+        Standing::Live | Standing::Doomed => state.is_write_holder(client, page),
         Standing::Ended | Standing::Later => false,
     }
 }

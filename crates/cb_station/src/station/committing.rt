@@ -120,7 +120,7 @@ impl Station {
         if !self.is_live(hand.client(), *txn) {
             return Err(OfficeFault::NotLive);
         }
-        let Some(number) = self.dispatcher.holdings().next_commit() else {
+        let Some(number) = self.dispatcher.server().state().commits.next_number() else {
             return Err(OfficeFault::Exhausted);
         };
         Ok(number)
@@ -131,7 +131,7 @@ impl Station {
         requires { client < self.now.dispatcher.server.limits.clients }
         ensures { result ≡ is_live (server_of self.now) client txn }
     {
-        match self.dispatcher.holdings().standing(client, txn) {
+        match self.dispatcher.server().state().standing(client, txn) {
             Standing::Live | Standing::Later => true,
             Standing::Ended | Standing::Doomed => false,
         }

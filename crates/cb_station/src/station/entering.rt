@@ -45,7 +45,7 @@ impl Station {
         ensures history { self.new.history ≡ self.old.history }
         ensures flags { self.new.flags ≡ self.old.flags }
     {
-        let limits = self.dispatcher.limits();
+        let limits = self.dispatcher.server().limits();
         if !limits.has_client(client.get()) {
             return Err(OfficeFault::Foreign);
         }
@@ -71,7 +71,14 @@ impl Station {
         ensures err { IfErr result (λ fault. (fault ≡ office.Exhausted)
             × (max_number ≤ ((server_of self.now).session client).current)) }
     {
-        match self.dispatcher.holdings().incarnation(client) {
+        match self
+            .dispatcher
+            .server()
+            .state()
+            .sessions
+            .session(client)
+            .incarnation
+        {
             None => Ok(Incarnation::new(1)),
             Some(last) => match last.next() {
                 Some(next) => Ok(next),

@@ -2,8 +2,6 @@
 ghost use Rattle.std.specs.Prelude.{◌≡◌, ◌↔◌, ◌⊎◌, ◌<◌, true, false, IfErr, Ok};
 ghost use Rattle.std.specs.Prelude.{Err, OnErr, OnOk};
 ghost use Rattle.cb_mailboxes.specs.Dispatching.{Everybody, Posts};
-ghost use Rattle.cb_holdings.specs.Holdings.{HasClient};
-ghost use Rattle.cb_holdings.specs.Holdings.{server_of as server_in};
 ghost use Rattle.cb_hands.specs.Joined.{Follow, IsHeld};
 ghost use Rattle.cb_station.specs.Moves.{IsOwn, ended_if_over, given_back, is_plain, is_stray};
 ghost use Rattle.cb_station.specs.Stations.{IsUnchanged, mailbox_of, server_of};
@@ -11,15 +9,17 @@ ghost use Rattle.cb_station.specs.declared.office_fault.OfficeFault.TheVariants 
 ghost use Rattle.cb_protocol.specs.AnyMessages.{ReachesDisk};
 ghost use Rattle.cb_protocol.specs.Flush.{can_flush};
 ghost use Rattle.cb_server.specs.Taking.{input_of, lacks_number_for};
+ghost use Rattle.cb_server_state.specs.States.{HasClient, PartsAgree};
+ghost use Rattle.cb_server_state.specs.States.{server_of as server_in};
 
 use crate::office_fault::OfficeFault;
 use crate::station::Station;
 use cb_frame::{Body, Frame, ShortBody};
 use cb_hands::{Hand, JoinedHands};
-use cb_holdings::Holdings;
 use cb_links::Standing;
 use cb_page::CommitNo;
 use cb_server::ServerFault;
+use cb_server_state::ServerState;
 use std::alloc::Global;
 
 impl Station {
@@ -65,7 +65,7 @@ impl Station {
             Err(ServerFault::Memory) => return Err(OfficeFault::Memory),
         }
         give_back(&mut self.hands, hand, &frame.body);
-        end_if_over(self.dispatcher.holdings(), &mut self.hands, hand);
+        end_if_over(self.dispatcher.server().state(), &mut self.hands, hand);
         Ok(())
     }
 
@@ -85,7 +85,7 @@ impl Station {
         ensures history { self.new.history ≡ self.old.history }
         ensures flags { self.new.flags ≡ self.old.flags }
     {
-        if !self.dispatcher.can_flush(number) {
+        if !self.dispatcher.server().can_flush(number) {
             return Ok(());
         }
         self.dispatcher.flushed(alloc, number)?;
@@ -132,14 +132,15 @@ fn give_back(hands: &mut JoinedHands, hand: &mut Hand, body: &Body)
 }
 
 /// Takes the permissions to write from a hand whose transaction has ended.
-fn end_if_over(holdings: &Holdings, hands: &mut JoinedHands, hand: &mut Hand)
+fn end_if_over(state: &ServerState, hands: &mut JoinedHands, hand: &mut Hand)
     requires held { IsHeld hands.old hand.old }
-    requires client { HasClient holdings.now hand.old.client }
-    ensures hand { hand.new ≡ ended_if_over (server_in holdings.now) hand.old }
+    requires agree { PartsAgree state.now }
+    requires client { HasClient state.now hand.old.client }
+    ensures hand { hand.new ≡ ended_if_over (server_in state.now) hand.old }
     ensures stored { Follow hands.old hands.new hand.old hand.new }
 {
     if let Some(txn) = hand.txn() {
-        match holdings.standing(hand.client(), txn) {
+        match state.standing(hand.client(), txn) {
             Standing::Ended => hands.end_permissions(hand),
             Standing::Later | Standing::Live | Standing::Doomed => {}
         }

@@ -1,6 +1,6 @@
 //! Who waits and who is called back, by the calls that a server makes of them.
 ghost use Rattle.std.specs.Prelude.{◌<◌};
-ghost use Rattle.cb_holdings.specs.Holdings.{AreOf};
+ghost use Rattle.cb_server_state.specs.States.{AreOf};
 
 use cb_callbacks::{Callbacks, an_ask_sends_at_most_one};
 use cb_commit::Store;
@@ -14,15 +14,15 @@ use std::test::Fail;
 /// The client greets, and begins its first transaction.
 fn greet(limits: &Limits, callbacks: &mut Callbacks, client: ClientNo)
     requires client { client < limits.now.clients }
-    requires of { AreOf limits.now callbacks.old.tables.holdings }
-    ensures { AreOf limits.now callbacks.new.tables.holdings }
+    requires of { AreOf limits.now callbacks.old.state }
+    ensures { AreOf limits.now callbacks.new.state }
 {
     let first = Incarnation::new(1);
-    match callbacks.holdings().admission(client, first) {
+    match callbacks.state().admission(client, first) {
         Admission::Unknown => callbacks.admit(client, first),
         Admission::Current | Admission::Stale => {}
     }
-    match callbacks.holdings().standing(client, TxnNo::new(1)) {
+    match callbacks.state().standing(client, TxnNo::new(1)) {
         Standing::Later => callbacks.begin(client, TxnNo::new(1)),
         Standing::Live | Standing::Doomed | Standing::Ended => {}
     }
@@ -32,8 +32,8 @@ fn greet(limits: &Limits, callbacks: &mut Callbacks, client: ClientNo)
 fn give_back(limits: &Limits, callbacks: &mut Callbacks, client: ClientNo, page: PageNo)
     requires client { client < limits.now.clients }
     requires page { page < limits.now.pages }
-    requires of { AreOf limits.now callbacks.old.tables.holdings }
-    ensures { AreOf limits.now callbacks.new.tables.holdings }
+    requires of { AreOf limits.now callbacks.old.state }
+    ensures { AreOf limits.now callbacks.new.state }
 {
     callbacks.give_back(client, page);
 }
@@ -49,22 +49,22 @@ fn ask(
 ) -> Result<Vec<Frame>, AllocError>
     requires client { client < limits.now.clients }
     requires page { page < limits.now.pages }
-    requires of { AreOf limits.now callbacks.old.tables.holdings }
-    ensures { AreOf limits.now callbacks.new.tables.holdings }
+    requires of { AreOf limits.now callbacks.old.state }
+    ensures { AreOf limits.now callbacks.new.state }
 {
     let mut outbox = Outbox::new(alloc, limits);
     callbacks.reserve_ask(page)?;
     outbox.reserve(alloc, 1, 0)?;
     an_ask_sends_at_most_one();
-    let Some(incarnation) = callbacks.holdings().incarnation(client) else {
+    let Some(incarnation) = callbacks.state().sessions.session(client).incarnation else {
         return Ok(outbox.take(alloc));
     };
-    let Some(txn) = callbacks.holdings().txn(client) else {
+    let Some(txn) = callbacks.state().sessions.session(client).transaction.txn() else {
         return Ok(outbox.take(alloc));
     };
     // It isn't 0, which stands for a client that never greeted.
     let _known = incarnation.get();
-    let lives = callbacks.holdings().standing(client, txn) == Standing::Live;
+    let lives = callbacks.state().standing(client, txn) == Standing::Live;
     if lives && !callbacks.waits(client) {
         callbacks.enter(client, page, write_grant, &mut outbox);
     }
@@ -77,13 +77,13 @@ fn settle(
     limits: &Limits,
     callbacks: &mut Callbacks,
 ) -> Result<Vec<Frame>, AllocError>
-    requires of { AreOf limits.now callbacks.old.tables.holdings }
-    ensures { AreOf limits.now callbacks.new.tables.holdings }
+    requires of { AreOf limits.now callbacks.old.state }
+    ensures { AreOf limits.now callbacks.new.state }
 {
     let mut outbox = Outbox::new(alloc, limits);
     let reads = callbacks.read_asks();
     outbox.reserve(alloc, 33 * callbacks.waiting_asks(), reads)?;
-    let Some(next) = callbacks.holdings().next_grant() else {
+    let Some(next) = callbacks.state().directory.next_grant() else {
         return Ok(outbox.take(alloc));
     };
     if reads > 32 || next.get() > 1_000_000 {
@@ -103,8 +103,8 @@ fn writes_after_callback(
 ) -> Result<bool, AllocError>
     requires clients { 1 < limits.now.clients }
     requires page { 3 < limits.now.pages }
-    requires of { AreOf limits.now callbacks.old.tables.holdings }
-    ensures { AreOf limits.now callbacks.new.tables.holdings }
+    requires of { AreOf limits.now callbacks.old.state }
+    ensures { AreOf limits.now callbacks.new.state }
 {
     let (reader, writer, page) = (ClientNo::new(0), ClientNo::new(1), PageNo::new(3));
     greet(limits, callbacks, reader);
@@ -112,7 +112,7 @@ fn writes_after_callback(
     ask(alloc, limits, callbacks, reader, page, None)?;
     ask(alloc, limits, callbacks, writer, page, None)?;
     let granted = settle(alloc, limits, callbacks)?.len();
-    let held = callbacks.holdings().row(writer, page);
+    let held = callbacks.state().directory.row(writer, page);
     ask(alloc, limits, callbacks, writer, page, held)?;
     let called = settle(alloc, limits, callbacks)?.len();
     give_back(limits, callbacks, reader, page);

@@ -3,7 +3,7 @@ use Rattle.std.proofs.Common.{◌≡◌, ◌∙◌, ◌++◌, ℕ, List, ap, dro
 use Rattle.cb_commit.specs.declared.commit.Commit.{Commit}
 use Rattle.cb_world.specs.NetState.{NetState}
 use Rattle.cb_world_clients.specs.Packets.{PacketsState}
-use Rattle.cb_server.specs.ServerState.{ServerState, server_of}
+use Rattle.cb_server.specs.ServerValue.{ServerValue, server_of}
 use Rattle.cb_transcript.specs.Transcripts.{TranscriptState, committed_name}
 use Rattle.cb_transcript.specs.declared.transcript.TransactionName.{TransactionName}
 use Rattle.cb_world.specs.WorldState.{Tells}
@@ -21,7 +21,7 @@ returns-then-is_err-clause-packets g c =
 pub untold-applied-requires : goal.untold-applied-requires
 untold-applied-requires g c =
     let names = c.args.transcript.now.commits in
-    let listed = c.committed.ensures ∙ ap (λ (s : ServerState). (server_of s).commits) c.server.ensures in
+    let listed = c.committed.ensures ∙ ap (λ (s : ServerValue). (server_of s).commits) c.server.ensures in
     let more = follows c.args.net.now c.event.new.self _ c.in_ok-answer.answer names c.committed.result.now c.requires c.in_ok-answer.ensures.ok listed in
     rw c.commits.ensures (enough c.event.new.self names c.committed.result.now more)
 
@@ -29,7 +29,7 @@ pub returns-else-is_err-clause-ok : goal.returns-else-is_err-clause-ok
 returns-else-is_err-clause-ok g c =
     let names = c.args.transcript.now.commits in
     let commits = c.committed.result.now in
-    let listed = c.committed.ensures ∙ ap (λ (s : ServerState). (server_of s).commits) c.server.ensures in
+    let listed = c.committed.ensures ∙ ap (λ (s : ServerValue). (server_of s).commits) c.server.ensures in
     let more = follows c.args.net.now c.event.new.self _ c.in_ok-answer.answer names commits c.requires c.in_ok-answer.ensures.ok listed in
     let applied = c.untold-applied.ensures ∙ ap (λ (ns : List TransactionName). drop (length ns) commits) c.commits.ensures in
     if_ok c.tell-told.result c.tell-told.ensures.ok (λ told. (

@@ -3,7 +3,7 @@ use Rattle.std.proofs.Common.{◌≡◌, ◌∙◌, ◌&&◌, ◌==◌, not, ap}
 use Rattle.cb_asks.specs.Asks.{queue_at}
 use Rattle.cb_asks.specs.Queues.{QueueState}
 use Rattle.cb_page.specs.Clients.{has}
-use Rattle.cb_tables.specs.Tables.{server_of}
+use Rattle.cb_server_state.specs.States.{server_of}
 use Rattle.cb_callbacks.proofs.Left.{held_up_front, if_none}
 use Rattle.cb_protocol.specs.Server.{has_ask}
 use Rattle.cb_callbacks.proofs.callbacks.settling.follow_left.Goals as goal
@@ -12,12 +12,12 @@ pub returns : goal.returns
 returns c = record {
   asks = λ front back ask is last other.
       c.follow.ensures.asks front back ask (queue ∙ is) last other
-      ∙ ap (λ b. not (ask.client == other) && b) (held_up_front (server_of c.args.tables.now) c.args.page (has c.held_up_by-held_up_by.result) front back ask is
+      ∙ ap (λ b. not (ask.client == other) && b) (held_up_front (server_of c.args.state.now) c.args.page (has c.held_up_by-held_up_by.result) front back ask is
       c.held_up_by-held_up_by.ensures.first other);
   left = λ none other. c.follow.ensures.rest c.args.client other (ap (has_ask c.args.client) queue ∙ none)
       ∙ (c.put_row.ensures.row other ∙ if_none _ _ (c.empty.ensures other));
   rest = λ waiting other ne none. c.follow.ensures.rest waiting other (ap (has_ask waiting) queue ∙ none) ∙ c.put_row.ensures.rest waiting other ne;
 }
   where
-    queue : c.queue.result.now.asks ≡ queue_at c.args.tables.now.asks c.args.page
+    queue : c.queue.result.now.asks ≡ queue_at c.args.state.now.asks c.args.page
     queue = ap (λ (q : QueueState). q.asks) c.queue.ensures

@@ -9,13 +9,13 @@ use Rattle.cb_mailboxes.proofs.dispatcher.Dispatcher.collect.Goals as goal
 pub returns-in_err-make_ready-clause-unchanged : goal.returns-in_err-make_ready-clause-unchanged
 returns-in_err-make_ready-clause-unchanged c =
     let d : DispatcherState = record { server = c.self.inside.server; mailboxes = c.self.inside.mailboxes } in
-    let ready = by_server c.self.inside.server c.holdings.result.now c.self.inside.mailboxes c.make_ready.new.self c.holdings.ensures.value c.make_ready.ensures.as_before in
+    let ready = by_server c.self.inside.server c.state.result.now c.self.inside.mailboxes c.make_ready.new.self c.state.ensures.value c.make_ready.ensures.as_before in
     on_err c.from_residual.result _ (subst (λ (v : DispatcherState). IsUnchanged v (record { server = c.self.inside.server; mailboxes = c.make_ready.new.self })) c.self.view_is (unchanged d c.make_ready.new.self ready))
 
 pub returns-clause-rest : goal.returns-clause-rest
 returns-clause-rest c =
     let d : DispatcherState = record { server = c.self.inside.server; mailboxes = c.self.inside.mailboxes } in
-    let ready = by_server c.self.inside.server c.holdings.result.now c.self.inside.mailboxes c.make_ready.new.self c.holdings.ensures.value c.make_ready.ensures.as_before in
+    let ready = by_server c.self.inside.server c.state.result.now c.self.inside.mailboxes c.make_ready.new.self c.state.ensures.value c.make_ready.ensures.as_before in
     let sizes : length c.make_ready.new.self.boxes ≡ c.self.inside.server.limits.clients = c.make_ready.ensures.as_before.clients ∙ c.self.invariant in
     let there : c.args.client < c.self.inside.server.limits.clients = subst (λ (v : DispatcherState). c.args.client < v.server.limits.clients) (sym c.self.view_is) c.requires in
     let lt : c.args.client < length c.make_ready.new.self.boxes = subst (λ (n : ℕ). c.args.client < n) (sym sizes) there in

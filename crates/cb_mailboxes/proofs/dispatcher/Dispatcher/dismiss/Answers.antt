@@ -11,13 +11,13 @@ use Rattle.cb_mailboxes.proofs.dispatcher.Dispatcher.dismiss.Goals as goal
 pub returns-in_err-make_ready-clause-unchanged : goal.returns-in_err-make_ready-clause-unchanged
 returns-in_err-make_ready-clause-unchanged c =
     let d : DispatcherState = record { server = c.self.inside.server; mailboxes = c.self.inside.mailboxes } in
-    let ready = by_server c.self.inside.server c.holdings.result.now c.self.inside.mailboxes c.make_ready.new.self c.holdings.ensures.value c.make_ready.ensures.as_before in
+    let ready = by_server c.self.inside.server c.state.result.now c.self.inside.mailboxes c.make_ready.new.self c.state.ensures.value c.make_ready.ensures.as_before in
     on_err c.from_residual.result _ (subst (λ (v : DispatcherState). IsUnchanged v (record { server = c.self.inside.server; mailboxes = c.make_ready.new.self })) c.self.view_is (unchanged d c.make_ready.new.self ready))
 
 pub returns-in_err-said-clause-unchanged : goal.returns-in_err-said-clause-unchanged
 returns-in_err-said-clause-unchanged c =
     let d : DispatcherState = record { server = c.self.inside.server; mailboxes = c.self.inside.mailboxes } in
-    let ready = by_server c.self.inside.server c.holdings.result.now c.self.inside.mailboxes c.make_ready.new.self c.holdings.ensures.value c.make_ready.ensures.as_before in
+    let ready = by_server c.self.inside.server c.state.result.now c.self.inside.mailboxes c.make_ready.new.self c.state.ensures.value c.make_ready.ensures.as_before in
     on_err c.from_residual-in_err-said.result _ (subst (λ (v : DispatcherState). IsUnchanged v (record { server = c.hello.new.server; mailboxes = c.make_ready.new.self })) c.self.view_is
     (unchanged_too d c.make_ready.new.self c.hello.new.server ready c.in_err-said.ensures.unchanged))
 
@@ -30,7 +30,7 @@ put-requires-clause-clients c =
 pub returns-clause-ok : goal.returns-clause-ok
 returns-clause-ok c =
     let d : DispatcherState = record { server = c.self.inside.server; mailboxes = c.self.inside.mailboxes } in
-    let ready = by_server c.self.inside.server c.holdings.result.now c.self.inside.mailboxes c.make_ready.new.self c.holdings.ensures.value c.make_ready.ensures.as_before in
+    let ready = by_server c.self.inside.server c.state.result.now c.self.inside.mailboxes c.make_ready.new.self c.state.ensures.value c.make_ready.ensures.as_before in
     let sizes : length c.make_ready.new.self.boxes ≡ c.self.inside.server.limits.clients = c.make_ready.ensures.as_before.clients ∙ c.self.invariant in
     let there : c.args.client < c.self.inside.server.limits.clients = subst (λ (v : DispatcherState). c.args.client < v.server.limits.clients) (sym c.self.view_is) c.requires in
     let lt : c.args.client < length c.make_ready.new.self.boxes = subst (λ (n : ℕ). c.args.client < n) (sym sizes) there in
@@ -41,7 +41,7 @@ returns-clause-ok c =
 pub returns-clause-silent : goal.returns-clause-silent
 returns-clause-silent c =
     let d : DispatcherState = record { server = c.self.inside.server; mailboxes = c.self.inside.mailboxes } in
-    let ready = by_server c.self.inside.server c.holdings.result.now c.self.inside.mailboxes c.make_ready.new.self c.holdings.ensures.value c.make_ready.ensures.as_before in
+    let ready = by_server c.self.inside.server c.state.result.now c.self.inside.mailboxes c.make_ready.new.self c.state.ensures.value c.make_ready.ensures.as_before in
     let sizes : length c.make_ready.new.self.boxes ≡ c.self.inside.server.limits.clients = c.make_ready.ensures.as_before.clients ∙ c.self.invariant in
     let there : c.args.client < c.self.inside.server.limits.clients = subst (λ (v : DispatcherState). c.args.client < v.server.limits.clients) (sym c.self.view_is) c.requires in
     let lt : c.args.client < length c.make_ready.new.self.boxes = subst (λ (n : ℕ). c.args.client < n) (sym sizes) there in

@@ -14,8 +14,8 @@ again-requires-clause-room c =
 pub returns-clause-ok : goal.returns-clause-ok
 returns-clause-ok c =
     serves c.args.self.now middle (record { callbacks = c.args.self.now.callbacks; outbox = c.again.new.outbox }) server_again
-    (record { server = refl; holdings = refl; sent = c.reserve.ensures.sent; page_size = c.reserve.ensures.page_size; few = λ few. let most = c.reserve.ensures.most in omega (arith, few, most) })
-    (record { says = c.again.ensures; stays = stays_same c.args.self.now.callbacks.tables.holdings })
+    (record { server = refl; rest = refl; sent = c.reserve.ensures.sent; page_size = c.reserve.ensures.page_size; few = λ few. let most = c.reserve.ensures.most in omega (arith, few, most) })
+    (record { says = c.again.ensures; stays = stays_same c.args.self.now.callbacks.state })
   where
     middle : Engine
     middle = record { callbacks = c.args.self.now.callbacks; outbox = c.reserve.new.self }
@@ -23,7 +23,7 @@ returns-clause-ok c =
 pub returns-in_err-reserve-clause-left : goal.returns-in_err-reserve-clause-left
 returns-in_err-reserve-clause-left c = if_err c.from_residual.result (record {
   server = refl;
-  holdings = refl;
+  rest = refl;
   sent = c.reserve.ensures.sent;
   page_size = c.reserve.ensures.page_size;
   few = λ few. let most = c.reserve.ensures.most in omega (arith, few, most);

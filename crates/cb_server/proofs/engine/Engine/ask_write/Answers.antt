@@ -5,7 +5,7 @@ use Rattle.cb_protocol.specs.ServerMessages.{direct_answer, take_ask_write}
 use Rattle.cb_protocol.specs.Settling.{send_to}
 use Rattle.cb_protocol.specs.WaitsFor.{on_cycle}
 use Rattle.cb_server.specs.Answering.{server_in}
-use Rattle.cb_server.proofs.Beginning.{current_begun, current_reserved}
+use Rattle.cb_server.proofs.Beginning.{current_begun, current_reserved, stands_in}
 use Rattle.cb_server.proofs.DirectAnswers.{doomed_answer, ended_answer, live_answer}
 use Rattle.cb_server.proofs.Making.{answers_reserved, makes_as, makes_nothing, reserved}
 use Rattle.cb_server.proofs.engine.Engine.ask_write.Goals as goal
@@ -40,3 +40,8 @@ returns-in-Ended-clause-ok c =
     (reserved c.args.self.now (record { callbacks = c.reserve_ask.new.self; outbox = c.args.self.now.outbox }) c.in_ok-reserve_ask.ensures.changes refl) c.in-Ended.ensures.begins
     (makes_as c.begin_or_abort.new.self c.begin_or_abort.new.self (λ s. direct_answer on_cycle s c.args.client (AskWrite c.args.txn c.args.page c.args.grant)) (λ s. [])
     (ended_answer (server_in c.begin_or_abort.new.self) c.args.client c.args.txn _ c.in-Ended.ensures.stands) (makes_nothing c.begin_or_abort.new.self))
+
+pub begin_or_abort-requires-clause-stands : goal.begin_or_abort-requires-clause-stands
+begin_or_abort-requires-clause-stands c =
+    stands_in (record { callbacks = c.reserve_ask.new.self; outbox = c.args.self.now.outbox }) c.state.result.now c.args.client c.args.txn c.standing-standing.result
+    c.state.ensures.value c.standing-standing.ensures.value c.standing-standing.ensures.last

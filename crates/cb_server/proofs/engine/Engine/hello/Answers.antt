@@ -1,6 +1,6 @@
 -- Goals of `Engine::hello`.
 use Rattle.std.proofs.Common.{rules, ◌≡◌, [], ◌∷◌, arith}
-use Rattle.cb_holdings.specs.Questions.{admission_in}
+use Rattle.cb_server_state.specs.Questions.{admission_in}
 use Rattle.cb_links.specs.declared.sessions.Admission.TheVariants as admission
 use Rattle.cb_protocol.specs.Messages.{Hello, Welcome}
 use Rattle.cb_protocol.specs.Server.{Send}

@@ -5,11 +5,11 @@ use Rattle.cb_server.proofs.engine.Engine.reserve.Goals as goal
 pub returns-clause-left : goal.returns-clause-left
 returns-clause-left c = record {
   server = refl;
-  holdings = refl;
+  rest = refl;
   sent = c.reserve.ensures.sent;
   page_size = c.reserve.ensures.page_size;
-  few = λ few. let most = c.reserve.ensures.most in let reads = c.read_asks.ensures.few in let more = c.copies_for_body.ensures.few in omega (arith, few, most, reads, more);
+  few = λ few. let most = c.reserve.ensures.most in let reads = c.read_asks.ensures.few in let more = c.requires.one in omega (arith, few, most, reads, more);
 }
 
 pub returns-clause-most : goal.returns-clause-most
-returns-clause-most c = let most = c.reserve.ensures.most in let reads = c.read_asks.ensures.reads in let more = c.copies_for_body.ensures.copies in omega (arith, most, reads, more)
+returns-clause-most c = let most = c.reserve.ensures.most in let reads = c.read_asks.ensures.reads in omega (arith, most, reads)

@@ -12,4 +12,4 @@ pub returns-in_ok-apply_copy-in-Applies-clause-ok : goal.returns-in_ok-apply_cop
 returns-in_ok-apply_copy-in-Applies-clause-ok c =
     let put = subst (λ (m : Met). Meets c.args.self.now (λ s. server_take on_cycle s c.args.client c.args.incarnation (body_of c.args.body.now)) c.args.client c.args.incarnation (body_of c.args.body.now) m c.meet.new.self)
     c.in-Applies.is c.in_ok-met.ensures.ok in
-    applied c.args.self.now c.meet.new.self c.apply_copy.new.self c.args.client c.args.incarnation (body_of c.args.body.now) put c.in_ok-apply_copy-in-Applies.ensures.ok
+    applied c.args.self.now c.meet.new.self c.apply_copy.new.self c.args.client c.args.incarnation (body_of c.args.body.now) c.in-Applies.standing put c.in_ok-apply_copy-in-Applies.ensures.ok

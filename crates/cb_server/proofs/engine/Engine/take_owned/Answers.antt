@@ -13,4 +13,4 @@ pub returns-in-Ok-Applies-clause-ok : goal.returns-in-Ok-Applies-clause-ok
 returns-in-Ok-Applies-clause-ok c =
     let put = subst (λ (m : Met). Meets c.args.self.now (λ s. server_take on_cycle s c.args.client c.args.incarnation (body_of c.args.body)) c.args.client c.args.incarnation (body_of c.args.body) m c.meet.new.self)
     c.in-Ok-Applies.field-0-is c.in-Ok-Applies.ensures.ok in
-    on_ok c.apply_body.result (applied c.args.self.now c.meet.new.self c.apply_body.new.self c.args.client c.args.incarnation (body_of c.args.body) put) c.apply_body.ensures.ok
+    on_ok c.apply_body.result (applied c.args.self.now c.meet.new.self c.apply_body.new.self c.args.client c.args.incarnation (body_of c.args.body) c.in-Ok-Applies.standing put) c.apply_body.ensures.ok

@@ -9,7 +9,7 @@ pub returns-clause-ok : goal.returns-clause-ok
 returns-clause-ok c = record {
   becomes = refl;
   sends = ap (λ (x : OutboxState). x.sent) c.say.ensures ∙ ap (λ l. l ++ record { client = c.args.client; incarnation = c.args.incarnation; body = Welcome } ∷ []) c.in_ok-reserve.ensures.sent;
-  stays = stays_same c.args.self.now.callbacks.tables.holdings;
+  stays = stays_same c.args.self.now.callbacks.state;
   page_size = ap (λ (x : OutboxState). x.page_size) c.say.ensures ∙ c.in_ok-reserve.ensures.page_size;
   few = λ few. let same = ap (λ (x : OutboxState). x.spare) c.say.ensures in let most = c.in_ok-reserve.ensures.most in omega (arith, few, same, most);
 }
@@ -17,7 +17,7 @@ returns-clause-ok c = record {
 pub returns-in_err-reserve-clause-left : goal.returns-in_err-reserve-clause-left
 returns-in_err-reserve-clause-left c = if_err c.from_residual.result (record {
   server = refl;
-  holdings = refl;
+  rest = refl;
   sent = c.reserve.ensures.sent;
   page_size = c.reserve.ensures.page_size;
   few = λ few. let most = c.reserve.ensures.most in omega (arith, few, most);

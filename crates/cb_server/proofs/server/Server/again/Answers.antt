@@ -3,7 +3,7 @@ use Rattle.std.proofs.Common.{subst}
 use Rattle.std.specs.List.{AllByRecursion}
 use Rattle.cb_frame_types.specs.Grammar.{Fits}
 use Rattle.cb_protocol.specs.AnyMessages.{SendsAgain}
-use Rattle.cb_server.specs.ServerState.{ServerState}
+use Rattle.cb_server.specs.ServerValue.{ServerValue}
 use Rattle.cb_server.proofs.Resending.{doomed_greeted}
 use Rattle.cb_server.proofs.Serving.{fits_said, rests, state}
 use Rattle.cb_server.proofs.server.Server.again.Goals as goal
@@ -18,6 +18,6 @@ invariant_of-self-2 c =
 
 pub returns-clause-fits : goal.returns-clause-fits
 returns-clause-fits c =
-    subst (λ (v : ServerState). AllByRecursion (Fits v.limits) c.take.result.items) c.self.view_is
+    subst (λ (v : ServerValue). AllByRecursion (Fits v.limits) c.take.result.items) c.self.view_is
     (fits_said c.self.inside.limits c.self.inside.engine c.again.new.self SendsAgain c.take.result.items c.self.invariant tt
     c.in_ok-again.ensures.ok c.take.ensures.frames)

@@ -2,7 +2,7 @@
 use Rattle.std.proofs.Common.{sym, subst}
 use Rattle.std.specs.List.{AllByRecursion}
 use Rattle.cb_frame_types.specs.Grammar.{Fits}
-use Rattle.cb_server.specs.ServerState.{ServerState}
+use Rattle.cb_server.specs.ServerValue.{ServerValue}
 use Rattle.cb_server.specs.Taking.{input_of}
 use Rattle.cb_server.proofs.Serving.{fits_said, input_taken, ready, rests}
 use Rattle.cb_server.proofs.server.Server.take_owned.Goals as goal
@@ -13,12 +13,12 @@ take_owned-requires-clause-ready c = ready c.self.inside.limits c.self.inside.en
 pub invariant_of-self : goal.invariant_of-self
 invariant_of-self c =
     rests c.self.inside.limits c.self.inside.engine c.take_owned.new.self c.take.new.self (input_of c.args.frame) c.self.invariant
-    (input_taken c.self.inside.limits c.self.inside.engine c.args.frame (subst (λ (v : ServerState). Fits v.limits c.args.frame) (sym c.self.view_is) c.requires) c.in-Ok.ensures.taken)
+    (input_taken c.self.inside.limits c.self.inside.engine c.args.frame (subst (λ (v : ServerValue). Fits v.limits c.args.frame) (sym c.self.view_is) c.requires) c.in-Ok.ensures.taken)
     c.in-Ok.ensures.ok c.take.ensures.left c.take.ensures.page_size c.take.ensures.spare
 
 pub returns-in-Ok-clause-fits : goal.returns-in-Ok-clause-fits
 returns-in-Ok-clause-fits c =
-    subst (λ (v : ServerState). AllByRecursion (Fits v.limits) c.take.result.items) c.self.view_is
+    subst (λ (v : ServerValue). AllByRecursion (Fits v.limits) c.take.result.items) c.self.view_is
     (fits_said c.self.inside.limits c.self.inside.engine c.take_owned.new.self (input_of c.args.frame) c.take.result.items c.self.invariant
-    (input_taken c.self.inside.limits c.self.inside.engine c.args.frame (subst (λ (v : ServerState). Fits v.limits c.args.frame) (sym c.self.view_is) c.requires) c.in-Ok.ensures.taken)
+    (input_taken c.self.inside.limits c.self.inside.engine c.args.frame (subst (λ (v : ServerValue). Fits v.limits c.args.frame) (sym c.self.view_is) c.requires) c.in-Ok.ensures.taken)
     c.in-Ok.ensures.ok c.take.ensures.frames)

@@ -6,7 +6,7 @@ use Rattle.cb_station.proofs.Following.{follow_same}
 use Rattle.cb_station.specs.Stations.{IsStored, server_of}
 use Rattle.cb_hands.specs.Hands.{HandState}
 use Rattle.cb_hands.specs.Joined.{IsHeld}
-use Rattle.cb_server.specs.ServerState.{ServerState}
+use Rattle.cb_server.specs.ServerValue.{ServerValue}
 use Rattle.cb_station.specs.Moves.{collected}
 use Rattle.cb_station.proofs.station.Station.collect.Goals as goal
 
@@ -22,16 +22,16 @@ invariant_of-self-in_default c =
 pub take_in-requires-clause-pages : goal.take_in-requires-clause-pages
 take_in-requires-clause-pages c =
     let held : IsHeld c.self.inside.hands c.args.hand.now = search rules in
-    let holdings : c.holdings-holdings.result.now ≡ c.self.inside.dispatcher.server.tables.holdings = c.holdings-holdings.ensures ∙ ap (λ (x : ServerState). x.tables.holdings) c.collect.ensures.server in
-    store_pages (record { dispatcher = c.self.inside.dispatcher; hands = c.self.inside.hands; history = c.self.inside.history.items; flags = c.self.inside.flags }) c.args.hand.now c.holdings-holdings.result.now c.self.invariant held holdings
+    let state : c.state-state.result.now ≡ c.self.inside.dispatcher.server.state = c.state-state.ensures.value ∙ ap (λ (x : ServerValue). x.state) (c.server.ensures ∙ c.collect.ensures.server) in
+    store_pages (record { dispatcher = c.self.inside.dispatcher; hands = c.self.inside.hands; history = c.self.inside.history.items; flags = c.self.inside.flags }) c.args.hand.now c.state-state.result.now c.self.invariant held state
 
 pub invariant_of-self-2 : goal.invariant_of-self-2
 invariant_of-self-2 c =
     let held : IsHeld c.self.inside.hands c.args.hand.now = search rules in
     let stored = c.self.invariant.hand c.args.hand.now.client c.args.hand.now held in
-    let holdings : c.holdings-holdings.result.now ≡ c.self.inside.dispatcher.server.tables.holdings = c.holdings-holdings.ensures ∙ ap (λ (x : ServerState). x.tables.holdings) c.collect.ensures.server in
+    let state : c.state-state.result.now ≡ c.self.inside.dispatcher.server.state = c.state-state.ensures.value ∙ ap (λ (x : ServerValue). x.state) (c.server.ensures ∙ c.collect.ensures.server) in
     let other : c.take_in.new.hand ≡ collected (server_of (record { dispatcher = c.self.inside.dispatcher; hands = c.self.inside.hands; history = c.self.inside.history.items; flags = c.self.inside.flags })) c.args.hand.now (Some c.in-Some.frame) =
-    c.take_in.ensures.hand ∙ received_by c.self.inside.dispatcher.server c.holdings-holdings.result.now c.args.hand.now c.in-Some.frame.body holdings in
+    c.take_in.ensures.hand ∙ received_by c.self.inside.dispatcher.server c.state-state.result.now c.args.hand.now c.in-Some.frame.body state in
     hand_station (record { dispatcher = c.self.inside.dispatcher; hands = c.self.inside.hands; history = c.self.inside.history.items; flags = c.self.inside.flags }) (record { dispatcher = c.collect.new.self; hands = c.take_in.new.hands; history = c.self.inside.history.items; flags = c.self.inside.flags }) c.args.hand.now c.take_in.new.hand c.self.invariant c.collect.ensures.server refl refl held c.take_in.ensures.stored
     (subst (λ (h : HandState). IsStored (server_of (record { dispatcher = c.self.inside.dispatcher; hands = c.self.inside.hands; history = c.self.inside.history.items; flags = c.self.inside.flags })) c.self.inside.dispatcher.server.limits.pages c.args.hand.now.client h) (sym other)
     (collected_stored (server_of (record { dispatcher = c.self.inside.dispatcher; hands = c.self.inside.hands; history = c.self.inside.history.items; flags = c.self.inside.flags })) c.self.inside.dispatcher.server.limits.pages c.args.hand.now.client c.args.hand.now (Some c.in-Some.frame) stored))

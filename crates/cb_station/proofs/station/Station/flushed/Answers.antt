@@ -1,11 +1,13 @@
 -- Goals of `Station::flushed`.
-use Rattle.std.proofs.Common.{refl, sym, ◌∙◌, subst}
+use Rattle.std.proofs.Common.{refl, sym, ap, ◌∙◌, subst}
 use Rattle.cb_mailboxes.specs.Dispatching.{Everybody, Posts}
 use Rattle.cb_station.proofs.Calls.{flushed_station}
 use Rattle.cb_station.proofs.Stations.{unchanged_station}
 use Rattle.cb_station.specs.Stations.{StationState, mailbox_of}
 use Rattle.cb_outbox.specs.Messages.{messages_of}
 use Rattle.cb_protocol.specs.AnyMessages.{ReachesDisk}
+use Rattle.cb_protocol.specs.Flush.{can_flush}
+use Rattle.cb_server.specs.ServerValue.{ServerValue, server_of as server_in}
 use Rattle.cb_station.proofs.station.Station.flushed.Goals as goal
 
 pub invariant_of-self : goal.invariant_of-self
@@ -16,7 +18,7 @@ invariant_of-self-2 c =
     flushed_station (record { dispatcher = c.self.inside.dispatcher; hands = c.self.inside.hands; history = c.self.inside.history.items; flags = c.self.inside.flags }) (record { dispatcher = c.flushed.new.self; hands = c.self.inside.hands; history = c.self.inside.history.items; flags = c.self.inside.flags }) c.self.invariant c.in_ok-flushed.ensures.arose c.args.number (messages_of c.in_ok-flushed.ensures.ok.said) c.in_ok-flushed.ensures.ok.does refl refl refl
 
 pub flushed-requires : goal.flushed-requires
-flushed-requires c = sym c.can_flush.ensures ∙ c.if-not-can_flush.false
+flushed-requires c = sym (c.can_flush.ensures ∙ ap (λ (x : ServerValue). can_flush (server_in x) c.args.number) c.server.ensures) ∙ c.if-not-can_flush.false
 
 pub returns-clause-posts : goal.returns-clause-posts
 returns-clause-posts c = λ e. subst (λ (v : StationState). Posts v.dispatcher (ReachesDisk c.args.number) (mailbox_of v) Everybody c.flushed.new.self) c.self.view_is c.in_ok-flushed.ensures.ok

@@ -1,5 +1,5 @@
 -- Goals of `Station::join`.
-use Rattle.std.proofs.Common.{rules, ◌≡◌, ◌<◌, ◌+◌, ℕ, None, Some, true, false, is_err, length, refl, sym, ap, ◌∙◌, subst, arith}
+use Rattle.std.proofs.Common.{rules, ◌≡◌, ◌<◌, ◌+◌, ℕ, None, true, false, is_err, length, refl, sym, ap, ◌∙◌, subst, arith}
 use Rattle.cb_station.proofs.Calls.{enters_station, err_fact, ok_fact}
 use Rattle.cb_station.proofs.Stations.{unchanged_station}
 use Rattle.cb_station.proofs.Following.{joined_held, left_again}

@@ -4,5 +4,5 @@ use Rattle.cb_tests.proofs.server.callbacks.give_back.Goals as goal
 
 pub returns : goal.returns
 returns c =
-    still_of c.args.limits.now c.args.callbacks.now.tables.holdings c.give_back.new.self.tables.holdings c.requires.of
+    still_of c.args.limits.now c.args.callbacks.now.state c.give_back.new.self.state c.requires.of
     (c.give_back.ensures 0).stays

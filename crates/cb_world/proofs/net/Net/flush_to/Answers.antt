@@ -5,7 +5,7 @@ use Rattle.cb_frame_types.specs.Grammar.{Fits}
 use Rattle.cb_page.specs.Bounds.{Bounds}
 use Rattle.std.specs.Prelude.{ℕ, true, false}
 use Rattle.cb_protocol.specs.Flush.{can_flush}
-use Rattle.cb_server.specs.ServerState.{server_of}
+use Rattle.cb_server.specs.ServerValue.{server_of}
 use Rattle.cb_protocol.specs.World.{Event}
 use Rattle.cb_transcript.specs.ProtocolEvents.{word_of}
 use Rattle.cb_transcript.specs.declared.answer.AnswerWord.TheVariants as word

@@ -1,6 +1,6 @@
 -- Goals of `World::committed`.
 use Rattle.std.proofs.Common.{◌≡◌, ◌∙◌, ap, map, subst}
-use Rattle.cb_server.specs.ServerState.{ServerState, server_of}
+use Rattle.cb_server.specs.ServerValue.{ServerValue, server_of}
 use Rattle.cb_transcript.specs.Transcripts.{committed_name}
 use Rattle.cb_world.specs.WorldState.{WorldState}
 use Rattle.cb_world.proofs.Telling.{listed_are_told}
@@ -20,6 +20,6 @@ returns-clause-told g c =
       stopped = c.self.inside.stopped;
     } in
     let reached = c.self.invariant.running c.if-self.false in
-    let listed = c.committed.ensures ∙ ap (λ (s : ServerState). (server_of s).commits) c.server.ensures in
+    let listed = c.committed.ensures ∙ ap (λ (s : ServerValue). (server_of s).commits) c.server.ensures in
     subst (λ (w : WorldState). map committed_name c.committed.result.now ≡ w.commits) c.self.view_is
     (listed_are_told v reached.world c.committed.result.now reached.represents listed)

@@ -4,7 +4,7 @@ use Rattle.cb_protocol.specs.Headline.{Promise}
 use Rattle.cb_protocol.specs.World.{Opening, new_world}
 use Rattle.cb_cache.specs.CacheState.{limits_of}
 use Rattle.cb_transcript.specs.Transcripts.{TranscriptState}
-use Rattle.cb_holdings.specs.Holdings.{opening_of}
+use Rattle.cb_server_state.specs.States.{opening_of}
 use Rattle.cb_world.specs.WorldState.{WorldState}
 use Rattle.cb_world.proofs.Telling.{told_is_serial}
 use Rattle.cb_world.proofs.Worlds.{first_promise, sound_opening, reached_at_first}

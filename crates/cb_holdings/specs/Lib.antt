@@ -1,3 +1,0 @@
-pub mod Commits
-pub mod Holdings
-pub mod Questions

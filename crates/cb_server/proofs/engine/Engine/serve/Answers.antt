@@ -1,0 +1,45 @@
+-- Goals of `Engine::serve`.
+use Rattle.std.proofs.Common.{rules, ◌≡◌, ◌∙◌, [], false, sym, subst}
+use Rattle.cb_outbox.specs.Messages.{short_of}
+use Rattle.cb_protocol.specs.Server.{Server, server_after}
+use Rattle.cb_protocol.specs.ServerMessages.{begin_transaction, lacks_number, named_txn, take_current}
+use Rattle.cb_protocol.specs.WaitsFor.{on_cycle}
+use Rattle.cb_server.specs.Answering.{server_in}
+use Rattle.cb_server.proofs.Greeting.{ignored, lacks_at_server}
+use Rattle.cb_server.proofs.Making.{if_err, left_then, serves, serves_as, serves_nothing, takes}
+use Rattle.cb_server.proofs.Rooms.{can_answer, can_say_to, settles_after_answer}
+use Rattle.cb_server.proofs.engine.Engine.serve.Goals as goal
+
+pub answer-requires-clause-room : goal.answer-requires-clause-room
+answer-requires-clause-room c =
+    can_say_to c.reserve.new.self (short_of c.args.body.now)
+    (can_answer c.args.self.now c.reserve.new.self c.args.limits.now (short_of c.args.body.now) c.messages_for_body.result c.copies_for_body.result c.requires.of c.in_ok-reserve.ensures.left.server
+    c.messages_for_body.ensures.messages c.copies_for_body.ensures.copies c.in_ok-reserve.ensures.ok)
+
+pub returns-then-not-is_for_server-clause-ok : goal.returns-then-not-is_for_server-clause-ok
+returns-then-not-is_for_server-clause-ok c =
+    serves_as c.args.self.now c.args.self.now (λ s. take_current on_cycle s c.args.client (short_of c.args.body.now)) (λ s. [])
+    (ignored (server_in c.args.self.now) c.args.client (short_of c.args.body.now) (search rules) c.requires.ready.settled) (serves_nothing c.args.self.now)
+
+pub settle-requires : goal.settle-requires
+settle-requires c =
+    settles_after_answer c.reserve.new.self c.answer.new.self c.args.client (short_of c.args.body.now)
+    (can_answer c.args.self.now c.reserve.new.self c.args.limits.now (short_of c.args.body.now) c.messages_for_body.result c.copies_for_body.result c.requires.of c.in_ok-reserve.ensures.left.server
+    c.messages_for_body.ensures.messages c.copies_for_body.ensures.copies c.in_ok-reserve.ensures.ok)
+    (subst (λ (s : Server). lacks_number (server_after s (begin_transaction s c.args.client (named_txn (short_of c.args.body.now)))) c.args.client (short_of c.args.body.now) ≡ false)
+    (sym c.in_ok-reserve.ensures.left.server) (c.lacks_grant.ensures ∙ c.if-lacks_grant.false))
+    c.in_ok-answer.ensures.ok
+
+pub returns-clause-ok : goal.returns-clause-ok
+returns-clause-ok c =
+    serves c.args.self.now c.reserve.new.self c.settle.new.self (λ s. take_current on_cycle s c.args.client (short_of c.args.body.now)) c.in_ok-reserve.ensures.left
+    (takes c.reserve.new.self c.answer.new.self c.settle.new.self c.args.client (short_of c.args.body.now) c.in_ok-answer.ensures.ok c.settle.ensures)
+
+pub returns-then-lacks_grant-clause-needed : goal.returns-then-lacks_grant-clause-needed
+returns-then-lacks_grant-clause-needed c =
+    lacks_at_server (server_after (server_in c.args.self.now) (begin_transaction (server_in c.args.self.now) c.args.client (named_txn (short_of c.args.body.now)))) c.args.client (short_of c.args.body.now)
+    (c.lacks_grant.ensures ∙ c.if-lacks_grant.true)
+
+pub returns-in_err-answer-clause-left : goal.returns-in_err-answer-clause-left
+returns-in_err-answer-clause-left c =
+    if_err c.from_residual-in_err-answer.result (left_then c.args.self.now c.reserve.new.self c.answer.new.self c.in_ok-reserve.ensures.left c.in_err-answer.ensures.left)

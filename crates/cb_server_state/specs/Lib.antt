@@ -1,0 +1,5 @@
+pub mod States
+pub mod Commits
+pub mod Questions
+pub mod Waits
+pub mod Asking
