@@ -1,12 +1,12 @@
 #!/usr/bin/env bash
 # Times runs of workers beside short programs that do as many such jobs, each in a transaction of its own (WAL, synchronous FULL), on
 # one disk, in turn: `run`, whose clients all fight for pages 0 and 1, and the program run_speed/own_pages.txt, whose clients have
-# two pages each that no other uses; beside them run_speed/kit_jobs.txt over the same database library as these, and run_speed/jobs.c
+# two pages each that no other uses, or all the same two, as `run`'s, with the number of aborted tries; beside them run_speed/kit_jobs.txt over the same database library as these, and run_speed/jobs.c
 # over SQLite's own, that also with 32 jobs in a transaction.
 #
 #   scripts/run_speed.sh [JOBS [TURNS]]      40,000 jobs in all, three turns
 #
-# It prints durable jobs a second of each, and how many batches carried the commits of own pages. ROOM is the folder of the stores
+# It prints durable jobs a second of each, and how many batches carried the commits of own_pages.txt. ROOM is the folder of the stores
 # (the system's temporary one if it isn't set). SYNC makes each sync of a file take so many microseconds longer, in all programs
 # alike, as on a slower disk. PLAY, OWN and ALONE (kit_jobs.txt) name built programs; else they are built first, by `rt run` (RT is
 # that command, `rt` if it isn't set). Nothing of this is in the gate.
@@ -38,8 +38,8 @@ build() {
 
 own=${OWN:-}
 if [ -z "$own" ]; then
-  build own_pages "cb_page cb_twoq cb_commit cb_station cb_shelf cb_worker cb_jobs cb_run sqlite anyhow" \
-    "$room/first.db" 1 1
+  build own_pages "cb_page cb_twoq cb_commit cb_admission cb_station cb_shelf cb_worker cb_jobs cb_run sqlite anyhow" \
+    "$room/first.db" 1 1 own
   own=$built
 fi
 alone=${ALONE:-}
@@ -67,10 +67,12 @@ for turn in $(seq "$turns"); do
   timed "the same library alone, turn $turn" "$((jobs / 4))" "$alone" "$room/kit_$turn.db" "$((jobs / 4))"
   timed "sqlite alone, turn $turn" "$((jobs / 4))" "$room/jobs" "$room/alone_$turn.db" "$((jobs / 4))"
   timed "sqlite alone, 32 jobs a transaction, turn $turn" "$((jobs / 32 * 32))" "$room/jobs" "$room/together_$turn.db" "$jobs" 32
-  for clients in 1 4 32; do
+  for clients in 1 4 8 32; do
     each=$((jobs / clients))
     printf 'clients = %d\npages = 2\npage_size = 16\nslots = 2\njobs = %d\n' "$clients" "$each" >"$room/run.toml"
     timed "run, $clients clients, turn $turn" "$((clients * each))" "$play" run "$room/run.toml" "$room/run_${clients}_$turn.db"
-    timed "own pages, $clients clients, turn $turn" "$((clients * each))" "$own" "$room/own_${clients}_$turn.db" "$clients" "$each"
+    timed "own pages, $clients clients, turn $turn" "$((clients * each))" "$own" "$room/own_${clients}_$turn.db" "$clients" "$each" own
+    timed "the same two pages, $clients clients, turn $turn" "$((clients * each))" "$own" "$room/shared_${clients}_$turn.db" "$clients" \
+      "$each" shared
   done
 done

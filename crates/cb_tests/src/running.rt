@@ -4,6 +4,7 @@
 mod alone;
 mod balky;
 mod commits;
+mod contention;
 mod counting;
 mod crashes;
 mod cut_off;
@@ -11,6 +12,7 @@ mod disks;
 mod flags;
 mod gates;
 mod giving_up;
+mod hurried;
 mod late;
 mod lines;
 mod refusals;

@@ -21,6 +21,7 @@ use sqlite::Alter;
 use std::alloc::Global;
 use std::sync::Wait;
 use std::thread::Threads;
+use std::time::Clock;
 
 /// What is tried over an office and a shelf, both of zeros.
 #[derive(Clone, Copy)]
@@ -75,7 +76,7 @@ fn works<Q: Chooser, R: Wait>(
 }
 
 /// What comes of it in an office over a shelf.
-fn comes_with<R: Wait + Threads + Sync, S: Alter>(
+fn comes_with<R: Wait + Threads + Clock + Sync, S: Alter>(
     trial: Trial<'_>,
     rt: &R,
     alloc: Global,
@@ -100,7 +101,7 @@ fn comes_with<R: Wait + Threads + Sync, S: Alter>(
 }
 
 /// What comes of it over a shelf: the office is over what that holds.
-pub(crate) fn comes_over<R: Wait + Threads + Sync, S: Alter>(
+pub(crate) fn comes_over<R: Wait + Threads + Clock + Sync, S: Alter>(
     trial: Trial<'_>,
     rt: &R,
     alloc: Global,
@@ -124,6 +125,10 @@ pub(crate) fn comes_over<R: Wait + Threads + Sync, S: Alter>(
 }
 
 /// Whether it goes well over a new database.
-pub(crate) fn goes_well<R: Wait + Threads + Sync>(trial: Trial<'_>, rt: &R, alloc: Global) -> bool {
+pub(crate) fn goes_well<R: Wait + Threads + Clock + Sync>(
+    trial: Trial<'_>,
+    rt: &R,
+    alloc: Global,
+) -> bool {
     opened(rt, alloc, ["", ""], Deed::Try(trial)) == Outcome::Well(true)
 }
