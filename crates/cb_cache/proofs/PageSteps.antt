@@ -13,7 +13,8 @@ use Rattle.cb_cache.specs.CacheState.{CacheState, content_at, copy_at}
 use Rattle.cb_locks.specs.declared.callback_due.CallbackDue.{CallbackDue}
 use Rattle.cb_locks.specs.declared.dues.DueDowngrade as locks
 use Rattle.cb_locks.specs.declared.dues.PageDue.{PageDue}
-use Rattle.cb_locks.specs.Dues.{bit, called_by, copy_first, is_due}
+use Rattle.cb_page.specs.Counting.{bit}
+use Rattle.cb_locks.specs.Dues.{called_by, copy_first, is_due}
 use Rattle.cb_locks.specs.Locks.{LocksState, callback, callback_by, due_at, owed_at}
 use Rattle.cb_cache.specs.Owing.{downgrade_of, holder}
 use Rattle.cb_cache.specs.Ending.{page_steps}

@@ -2,7 +2,7 @@
 use Rattle.std.proofs.Common.{◌≡◌, ◌<◌, ◌≤◌, ◌+◌, ◌-◌, ◌&&◌, ℕ, zero, suc, Bool, true, false, refl, ap, ◌∙◌, arith}
 use Rattle.cb_page.specs.Flags.{has}
 use Rattle.cb_cache.specs.CacheState.{CacheState}
-use Rattle.cb_locks.specs.Dues.{bit}
+use Rattle.cb_page.specs.Counting.{bit}
 use Rattle.cb_locks.specs.Locks.{LocksState}
 use Rattle.cb_cache.specs.Room.{room_below, speaks}
 

@@ -5,10 +5,12 @@ use Rattle.std.specs.Option.{is_some}
 use Rattle.cb_page.specs.Bounds.{Bounds, AreInRange}
 use Rattle.cb_page.specs.Flags as flags
 use Rattle.cb_pool.specs.PoolState.{PoolState, copy_of, empty_pool}
-use Rattle.cb_protocol.specs.Basics.{Bytes, Limits}
+use Rattle.cb_protocol.specs.Basics.{Bytes}
 use Rattle.cb_protocol.specs.Client.{Client, has_room}
 use Rattle.cb_cache.specs.declared.table.PageCopy.{PageCopy}
 use Rattle.cb_cache.specs.Rows.{no_copy, row_at}
+-- the protocol's limits at those of the store
+pub use Rattle.cb_protocol.specs.StoreLimits.{limits_of}
 
 -- What is known of each page, which pages the client may write, which of them its transaction wrote
 -- or asked to write, and the pool of bytes.
@@ -65,16 +67,6 @@ pub record AreCopies (copies : CacheState) : Type 0 where
   -- the pool may not let a page go that the transaction wrote or asked to write
   pub fixed : (page : ℕ) → flags.has copies.pool.fixed page
       ≡ (flags.has copies.wanted page || flags.has copies.wrote page)
-
--- the protocol's limits at these
-abbrev pub limits_of : Bounds → Limits
-limits_of limits = record {
-  clients = limits.clients;
-  pages = limits.pages;
-  page_size = limits.page_size;
-  slots = limits.slots;
-  keep_write = limits.keep_write;
-}
 
 -- the client with these copies in place of its own; all else stays
 abbrev pub client_with : CacheState → Client → Client

@@ -1,9 +1,10 @@
 -- How many frames the end of a transaction may say of its pages.
 use Rattle.std.specs.Prelude.{◌+◌, ℕ, zero, suc, Bool, true, false, ◌&&◌, ◌||◌, not}
 use Rattle.std.specs.Option.{is_some}
+use Rattle.cb_page.specs.Counting.{bit}
 use Rattle.cb_page.specs.Flags.{has}
 use Rattle.cb_cache.specs.CacheState.{CacheState, content_at}
-use Rattle.cb_locks.specs.Dues.{bit, is_due}
+use Rattle.cb_locks.specs.Dues.{is_due}
 use Rattle.cb_locks.specs.Locks.{LocksState, due_at}
 
 -- something is due of the page that is answered at the end: a permission alone isn't where the

@@ -164,13 +164,15 @@ impl<Q: Chooser> Cache<Q> {
         self.pool.bytes(page)
     }
 
-    /// Refers to a page, if its bytes are in the pool.
+    /// Refers to a page, if its bytes are in the pool, and says whether they are.
     ///
     /// The copies are the same, save that the pool may let another page go later.
-    pub fn refer(&mut self, page: PageNo)
-        ensures { self.new ≡ self.old }
+    pub fn refer(&mut self, page: PageNo) -> bool
+        ensures here { result ≡ is_some (content_at self.old page) }
+        ensures same { self.new ≡ self.old }
+        ensures sound { AreCopies self.new }
     {
-        self.pool.touch(page);
+        self.pool.touch(page)
     }
 
     /// Whether the pool can take in one more page.

@@ -1,5 +1,5 @@
 -- What the table says of reading, wanting and writing a page.
-use Rattle.std.proofs.Common.{if◌then◌else◌, ◌≡◌, ◌<◌, ◌==◌, ℕ, Bool, true, false, List, [], ◌∷◌, length, slice_set, Option, Some, None, unwrap_or, refl, sym, ◌∙◌, ap}
+use Rattle.std.proofs.Common.{if◌then◌else◌, ◌≡◌, ◌<◌, ◌==◌, ◌&&◌, ℕ, Bool, true, false, List, [], ◌∷◌, length, slice_set, Option, Some, None, unwrap_or, refl, sym, ◌∙◌, ap, subst}
 use Rattle.std.proofs.Math.ListN.{length-set}
 use Rattle.std.specs.Option.{is_some}
 use Rattle.cb_page.specs.Flags.{has}
@@ -16,12 +16,12 @@ use Rattle.cb_cache.specs.ByTable.{Does}
 use Rattle.cb_cache.proofs.Changing.{put_entry}
 use Rattle.cb_client_core.specs.ClientState.{ClientState, HasRoomLeft, IsClient, base_of, client_of, locks_with}
 use Rattle.cb_client.specs.ByTable.{Called, Calls, IsRefusal, IsRefused, as_before, limits_at, messages_from, refusal}
-use Rattle.cb_client.specs.CallAnswers.{Answers, after_read, bytes_at, page_asked, page_read, puts, read_ask, sees}
+use Rattle.cb_client.specs.CallAnswers.{Answers, after_read, after_read_here, bytes_at, page_asked, page_read, puts, read_ask, reads_here, sees}
 use Rattle.cb_client_core.specs.declared.stage.PendingAsk.TheVariants as asks
 use Rattle.cb_client.specs.declared.client_fault.ClientFault.{ClientFault}
 use Rattle.cb_client.specs.declared.client_fault.ClientFault.TheVariants as fault
 use Rattle.cb_client.proofs.CallSteps.{FindsNone, accepted, accepts, refused}
-use Rattle.cb_client.proofs.Refusals.{FirstIs, fetch_full, fetch_here, fetch_is, fetch_room, fetch_shut, of_page}
+use Rattle.cb_client.proofs.Refusals.{FirstIs, FreeIs, fetch_full, fetch_here, fetch_is, fetch_room, fetch_shut, of_page, page_within}
 use Rattle.cb_client_core.proofs.Keeping.{keeps}
 use Rattle.cb_client_core.proofs.Reaching.{calls_reach}
 
@@ -116,6 +116,40 @@ finds_full v page n out full = refused v (CallRead page) fault.PoolFull (fetch_i
 
 pub finds_room : (v : ClientState) (page : ℕ) → FirstIs v (of_page v page) None → ((other : Client) → true ≡ has_room (limits_at v) (client_with v.copies other)) → FindsNone v (CallRead page)
 finds_room v page n room = fetch_is v page None (fetch_room v page n room)
+
+-- whether the page is read where it is here, and what the client is then
+and_false : (b : Bool) → (b && false) ≡ false
+and_false true = refl
+and_false false = refl
+
+pub refused_here : (v : ClientState) (page : ℕ) (f : ClientFault) → IsRefused v (CallRead page) f → reads_here v page ≡ false
+refused_here v page f r = rw (r.refuses []) (and_false (is_some (content_at v.copies page)))
+
+absent_here : (v : ClientState) (page : ℕ) → is_some (content_at v.copies page) ≡ false → reads_here v page ≡ false
+absent_here v page out = rw out refl
+
+found_here : (v : ClientState) (page : ℕ) → FindsNone v (CallRead page) → is_some (content_at v.copies page) ≡ true → reads_here v page ≡ true
+found_here v page h here = rw (here, none_refused v page h) refl
+
+pub stays_here : (v : ClientState) (page : ℕ) → reads_here v page ≡ false → v ≡ after_read_here v page
+stays_here v page e = rw e refl
+
+read_here_is : (v : ClientState) (page : ℕ) → reads_here v page ≡ true → page_read v page ≡ after_read_here v page
+read_here_is v page e = rw e refl
+
+pub copied : (old new : ClientState) (page : ℕ) → FreeIs old None → (result : Bool) → result ≡ is_some (content_at old.copies page)
+    → (result ≡ true → new ≡ page_read old page) → (result ≡ false → new ≡ old) → (result ≡ true → page < old.copies.limits.pages) → (result ≡ true → page < length old.locks.locked)
+    → (result ≡ reads_here old page) × (new ≡ after_read_here old page)
+    × (result ≡ true → Calls old (CallRead page) (table.AnsweredBytes (bytes_at old page)) [] (sees page (bytes_at old page)) new)
+copied old new page free true here read away within locks =
+    let finds = finds_here old page (page_within old page free (within refl)) (sym here) in
+    let found = found_here old page finds (sym here) in (
+      sym found,
+      read refl ∙ read_here_is old page found,
+      λ _. subst (λ (w : ClientState). Calls old (CallRead page) (table.AnsweredBytes (bytes_at old page)) [] (sees page (bytes_at old page)) w) (sym (read refl)) (reads old page finds (locks refl) (sym here)),
+    )
+copied old new page free false here read away within locks =
+    let none = absent_here old page (sym here) in (sym none, away refl ∙ stays_here old page none, λ e. absurd cc)
 
 -- a locked page stays locked where another one is
 stays_locked : (flags : List Bool) (page q : ℕ) → page < length flags → has flags q ≡ true → has (slice_set flags page true) q ≡ true

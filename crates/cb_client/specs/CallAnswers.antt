@@ -1,6 +1,6 @@
 -- What each call of an application answers, by the protocol's table.
-use Rattle.std.specs.Prelude.{if◌then◌else◌, ◌≡◌, ℕ, List, [], ◌∷◌, Option, Some, None, Result}
-use Rattle.std.specs.Prelude.{Ok, Err, ⊤, true, slice_set, unwrap_or}
+use Rattle.std.specs.Prelude.{if◌then◌else◌, ◌≡◌, ◌&&◌, ℕ, Bool, List, [], ◌∷◌, Option, Some, None}
+use Rattle.std.specs.Prelude.{Result, Ok, Err, ⊤, true, slice_set, unwrap_or}
 use Rattle.std.specs.Option.{is_some}
 use Rattle.cb_cache.specs.CacheState.{content_at, copy_at}
 use Rattle.cb_frame_types.specs.Grammar.{Fits}
@@ -118,6 +118,15 @@ after_read client page =
     then if is_some (content_at client.copies page) then page_read client page
     else page_asked client page
     else client
+
+-- The page can be read without the server: its bytes are in the pool, and a read isn't refused.
+abbrev pub reads_here : ClientState → (page : ℕ) → Bool
+reads_here client page = is_some (content_at client.copies page)
+    && is_none (call_fault (limits_at client) (client_of client []) (CallRead page))
+
+-- what a client is that reads the page where it can without the server: read, else as it was
+abbrev pub after_read_here : ClientState → (page : ℕ) → ClientState
+after_read_here client page = if reads_here client page then page_read client page else client
 
 -- the page may be written, or the permission is asked for, or the call is refused
 abbrev pub Wants : (old : ClientState) → (page : ℕ) → Result WantAnswer ClientFault

@@ -2,7 +2,7 @@
 -- pool beside.
 use Rattle.std.specs.Prelude.{if◌then◌else◌, ◌+◌, ℕ, Bool, true, false, not, ◌&&◌, []}
 use Rattle.cb_cache.specs.Room.{room_below}
-use Rattle.cb_locks.specs.Dues.{bit}
+use Rattle.cb_page.specs.Counting.{bit}
 use Rattle.cb_pool.specs.PoolState.{has_free_slot}
 use Rattle.cb_protocol.specs.ClientMessages.{of_committing_txn, of_open_txn}
 use Rattle.cb_protocol.specs.Messages.{AbortNow, Body, Callback, Done, Downgrade, Granted}

@@ -1,24 +1,15 @@
 -- The flags and the count of the pages of which something is due.
-use Rattle.std.proofs.Common.{◌≡◌, true≢false, ◌<◌, ◌≤◌, ◌+◌, ◌^◌, ℕ, suc, zero, Bool, true, false, cond, nat_lt, List, ◌∷◌, length, map, count_by, replicate, MatchOption, refl, sym, ◌∙◌, ◌||◌, ap, arith, Option, Some, None}
+use Rattle.std.proofs.Common.{◌≡◌, true≢false, ◌<◌, ◌≤◌, ◌+◌, ◌^◌, ℕ, suc, zero, Bool, true, false, nat_lt, List, ◌∷◌, length, map, count_by, replicate, MatchOption, refl, sym, ◌∙◌, ◌||◌, ap, arith, Option, Some, None}
 use Rattle.std.proofs.lemmas.Grind.{common_steps}
 use Rattle.std.proofs.Math.ListN.{get_or, set, get_or-map}
 use Rattle.std.proofs.lemmas.List.{get_or_past, map-set}
-use Rattle.std.proofs.lemmas.List.Sums.{sum_by-set, count_by-le-length}
+use Rattle.std.proofs.lemmas.List.Sums.{count_by-le-length}
 use Rattle.std.specs.Option.{is_some}
 use Rattle.cb_locks.specs.declared.dues.DueDowngrade.{DueDowngrade}
 use Rattle.cb_locks.specs.declared.dues.PageDue.{PageDue}
-use Rattle.cb_locks.specs.Dues.{AreCounted, bit, is_due, nothing_due}
-
-bit_cond : (b : Bool) → cond b 1 0 ≡ bit b
-bit_cond true = refl
-bit_cond false = refl
-
--- the count, once another thing is due of a page
-pub count_set : (dues : List PageDue) (page : ℕ) (due : PageDue) → page < length dues
-    → count_by is_due (set dues page due) + bit (is_due (get_or dues page nothing_due)) ≡ count_by is_due dues + bit (is_due due)
-count_set dues page due lt =
-    let s = sum_by-set (λ x. cond (is_due x) 1 0) dues page due nothing_due lt in
-    let a = bit_cond (is_due (get_or dues page nothing_due)) in let b = bit_cond (is_due due) in omega arith
+use Rattle.cb_page.specs.Counting.{bit}
+use Rattle.cb_page.proofs.Counting.{count_set}
+use Rattle.cb_locks.specs.Dues.{AreCounted, is_due, nothing_due}
 
 -- the flag of a page
 pub flag_at : (dues : List PageDue) (page : ℕ) → get_or (map is_due dues) page false ≡ is_due (get_or dues page nothing_due)
@@ -60,7 +51,7 @@ next_due dues flags from found are next = by found next
 
 -- a page of which something is due is counted
 pub one_counted : (dues : List PageDue) (page : ℕ) → is_due (get_or dues page nothing_due) ≡ true → page < length dues → count_by is_due (set dues page nothing_due) + 1 ≡ count_by is_due dues
-one_counted dues page is lt = let s = count_set dues page nothing_due lt in let b = ap bit is in omega arith
+one_counted dues page is lt = let s = count_set is_due dues page nothing_due nothing_due lt in let b = ap bit is in omega arith
 
 -- nothing is due of any page
 none_due : (n : ℕ) → count_by is_due (replicate n nothing_due) ≡ 0
@@ -77,7 +68,7 @@ counted_none n = record { flags_are = no_flags n; count_is = sym (none_due n) }
 module _ (dues : List PageDue) (flags : List Bool) (count : ℕ) (counted : AreCounted dues flags count) where
   -- what may be counted less is counted
   pub some_due : (page : ℕ) → page < length dues → bit (is_due (get_or dues page nothing_due)) ≤ count
-  some_due page lt = let s = count_set dues page nothing_due lt in let c = counted.count_is in omega arith
+  some_due page lt = let s = count_set is_due dues page nothing_due nothing_due lt in let c = counted.count_is in omega arith
 
   pub at_most : length dues < 2 ^ 63 → count < 2 ^ 63
   at_most short = let l = count_by-le-length is_due dues in let c = counted.count_is in omega arith
@@ -87,5 +78,5 @@ module _ (dues : List PageDue) (flags : List Bool) (count : ℕ) (counted : AreC
       → after + bit (is_due (get_or dues page nothing_due)) ≡ count + bit (is_due due) → AreCounted (set dues page due) (set flags page (is_due due)) after
   counted_put page due after lt e = record {
     flags_are = ap (λ fs. set fs page (is_due due)) counted.flags_are ∙ sym (map-set is_due dues page due);
-    count_is = let s = count_set dues page due lt in let c = counted.count_is in omega arith;
+    count_is = let s = count_set is_due dues page due nothing_due lt in let c = counted.count_is in omega arith;
   }

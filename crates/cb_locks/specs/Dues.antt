@@ -30,11 +30,6 @@ noted due grant None = record due { callback = Some grant }
 noted due grant (Some tag) =
     record due { downgrade = Some (record { grant = grant; tag = tag }) }
 
--- 1 for true
-abbrev pub bit : Bool → ℕ
-bit true = 1
-bit false = 0
-
 -- the flags and the count of the pages of which something is due
 pub record AreCounted (dues : List PageDue) (flags : List Bool) (count : ℕ) : Type 0 where
   pub flags_are : flags ≡ map is_due dues

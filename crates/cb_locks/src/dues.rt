@@ -1,9 +1,9 @@
 //! What is due of each page.
-ghost use Rattle.std.specs.Prelude.{◌≡◌, ℕ, ◌+◌, ◌<◌, ◌≤◌, ◌^◌, false, true, length, map, count_by};
+ghost use Rattle.std.specs.Prelude.{◌≡◌, ℕ, ◌<◌, ◌≤◌, false, true, length, map, count_by};
 ghost use Rattle.std.specs.Prelude.{replicate, slice_index_or, slice_set, IfOk, MatchOption};
-ghost use Rattle.cb_locks.specs.Dues.{bit, called_by, is_due, noted, nothing_due};
+ghost use Rattle.cb_locks.specs.Dues.{called_by, is_due, noted, nothing_due};
 
-use cb_page::{GrantNo, PageNo, PageSet, TxnNo};
+use cb_page::{GrantNo, PageNo, PageSet, TxnNo, recount};
 use std::alloc::{AllocError, Global};
 use std::marker::Model;
 
@@ -142,7 +142,7 @@ impl Dues {
     {
         let was = self.at(page).is_due();
         let is = due.is_due();
-        self.count = changed(self.count, was, is);
+        self.count = recount(self.count, was, is);
         flag(&mut self.pages, page, is);
         self.entries[page.index()] = due;
     }
@@ -158,15 +158,6 @@ impl Dues {
             from = page.index() + 1;
         }
     }
-}
-
-/// A count once a page that was due or not is due or not.
-fn changed(count: usize, was: bool, is: bool) -> usize
-    requires some { bit was ≤ count }
-    requires most { count < 2 ^ 63 }
-    ensures { result + bit was ≡ count + bit is }
-{
-    count - was as usize + is as usize
 }
 
 /// Puts the page in, or takes it out.

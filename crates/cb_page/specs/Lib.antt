@@ -3,6 +3,7 @@ pub mod Numbers
 pub mod Rising
 pub mod Bounds
 pub mod Limits
+pub mod Counting
 pub mod Flags
 pub mod Words
 pub mod Clients

@@ -6,12 +6,14 @@
 #![tactic(auto)]
 
 mod client_set;
+mod counts;
 mod limits;
 mod numbers;
 mod page;
 mod page_set;
 
 pub use client_set::ClientSet;
+pub use counts::recount;
 pub use limits::{LimitFault, Limits};
 pub use numbers::{ClientNo, CommitNo, GrantNo, Incarnation, MAX_NUMBER, PageNo, TxnNo, Version};
 pub use page::Page;

@@ -7,7 +7,7 @@ use Rattle.std.proofs.lemmas.List.{get_or-set_same, get_or-set_other}
 use Rattle.cb_twoq.specs.Pages.{has}
 use Rattle.cb_twoq.specs.Law.{Chooses, Forgets}
 use Rattle.cb_pool.specs.PoolState.{PoolState, held, let_go, AreSized}
-use Rattle.cb_pool.specs.CopiesState.{bit}
+use Rattle.cb_page.specs.Counting.{bit}
 use Rattle.cb_pool.specs.Agree.{Agrees}
 use Rattle.cb_pool.proofs.Counted.{Pages, here, held_set, within_pages}
 

@@ -4,10 +4,12 @@ use Rattle.std.proofs.lemmas.Grind.{common_steps}
 use Rattle.std.specs.Option.{is_some}
 use Rattle.std.proofs.Math.ListN.{get_or, set, length-set, length-replicate}
 use Rattle.std.proofs.lemmas.List.{get_or_past}
-use Rattle.std.proofs.lemmas.List.Sums.{sum_by-set, sum_by-cons, count_by-le-length}
+use Rattle.std.proofs.lemmas.List.Sums.{sum_by-cons, count_by-le-length}
 use Rattle.cb_page.specs.Flags as flags
 use Rattle.cb_pool.specs.PoolState.{held, HasLoose}
-use Rattle.cb_pool.specs.CopiesState.{bit, held_fixed, AreCounted, IfHere}
+use Rattle.cb_page.specs.Counting.{bit}
+use Rattle.cb_page.proofs.Counting.{bit_cond, count_set}
+use Rattle.cb_pool.specs.CopiesState.{held_fixed, AreCounted, IfHere}
 
 abbrev pub Pages : Type 0
 Pages = List (Option (List ℕ))
@@ -15,15 +17,9 @@ Pages = List (Option (List ℕ))
 abbrev pub here : Pages → ℕ → Bool
 here pages p = is_some (get_or pages p None)
 
-bit_cond : (b : Bool) → cond b 1 0 ≡ bit b
-bit_cond true = refl
-bit_cond false = refl
-
 -- the pages here, once one was put in or taken out
 pub held_set : (pages : Pages) (i : ℕ) (v : Option (List ℕ)) → i < length pages → held (set pages i v) + bit (here pages i) ≡ held pages + bit (is_some v)
-held_set pages i v lt =
-    let s = sum_by-set (λ x. cond (is_some x) 1 0) pages i v None lt in
-    let a = bit_cond (here pages i) in let b = bit_cond (is_some v) in omega arith
+held_set pages i v lt = count_set is_some pages i v None lt
 
 -- the fixed pages here, once one was put in or taken out
 pub held_fixed_set : (pages : Pages) (fixed : List Bool) (i : ℕ) (v : Option (List ℕ)) → length fixed ≡ length pages → i < length pages

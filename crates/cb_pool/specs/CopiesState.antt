@@ -1,18 +1,14 @@
 -- The pages of a pool with their counts.
-use Rattle.std.specs.Prelude.{◌≡◌, ℕ, ◌+◌, Bool, true, false, ◌&&◌, List, [], ◌∷◌, length, Option}
+use Rattle.std.specs.Prelude.{◌≡◌, ℕ, ◌+◌, Bool, ◌&&◌, List, [], ◌∷◌, length, Option}
 use Rattle.std.specs.Prelude.{Some, None}
 use Rattle.std.specs.Option.{is_some}
+use Rattle.cb_page.specs.Counting.{bit}
 use Rattle.cb_pool.specs.PoolState.{held}
 
 -- which pages are fixed, and the bytes of each page that is here
 pub record CopiesState : Type 0 where
   pub fixed : List Bool
   pub pages : List (Option (List ℕ))
-
--- 1 for true
-abbrev pub bit : Bool → ℕ
-bit true = 1
-bit false = 0
 
 -- how many pages are here and fixed
 abbrev pub held_fixed : List (Option (List ℕ)) → List Bool → ℕ

@@ -1,13 +1,13 @@
 //! The bytes of the pages that are here, which pages are fixed, and how many of both.
 
-ghost use Rattle.std.specs.Prelude.{◌≡◌, ◌+◌, ◌<◌, ◌≤◌, ◌^◌, ◌↔◌, ◌&&◌, ℕ, List, length, replicate};
+ghost use Rattle.std.specs.Prelude.{◌≡◌, ◌<◌, ◌≤◌, ◌↔◌, ◌&&◌, ℕ, List, length, replicate};
 ghost use Rattle.std.specs.Prelude.{slice_index_or, slice_set, true, false, Some, None, IfOk};
 ghost use Rattle.std.specs.Prelude.{IfSome, IsTrue};
 ghost use Rattle.std.specs.Option.{is_some, option_copied};
 ghost use Rattle.cb_pool.specs.PoolState.{HasLoose, HasNoneBut, held, let_go};
-ghost use Rattle.cb_pool.specs.CopiesState.{CopiesState, bit, IfHere};
+ghost use Rattle.cb_pool.specs.CopiesState.{CopiesState, IfHere};
 
-use cb_page::{Page, PageNo, PageSet};
+use cb_page::{Page, PageNo, PageSet, recount};
 use std::alloc::{AllocError, Global};
 use std::marker::Model;
 
@@ -107,8 +107,8 @@ impl Copies {
         let was = is_here(&self.pages, page);
         let is = bytes.is_some();
         let is_fixed = self.fixed.contains(page);
-        self.here = changed(self.here, was, is);
-        self.here_fixed = changed(self.here_fixed, both(was, is_fixed), both(is, is_fixed));
+        self.here = recount(self.here, was, is);
+        self.here_fixed = recount(self.here_fixed, both(was, is_fixed), both(is, is_fixed));
         self.pages[page.index()] = bytes;
     }
 
@@ -143,7 +143,7 @@ impl Copies {
     {
         let here = is_here(&self.pages, page);
         let was = both(here, self.fixed.contains(page));
-        self.here_fixed = changed(self.here_fixed, was, here);
+        self.here_fixed = recount(self.here_fixed, was, here);
         self.fixed.insert(page);
     }
 
@@ -179,15 +179,6 @@ fn both(a: bool, b: bool) -> bool
     ensures { result ≡ (a && b) }
 {
     a && b
-}
-
-/// A count once something that was counted or not is counted or not.
-fn changed(count: usize, was: bool, is: bool) -> usize
-    requires some { bit was ≤ count }
-    requires most { count < 2 ^ 63 }
-    ensures { result + bit was ≡ count + bit is }
-{
-    count - was as usize + is as usize
 }
 
 /// Takes the bytes of these pages away, which are all that may be here.

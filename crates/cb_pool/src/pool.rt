@@ -132,19 +132,23 @@ impl<Q: Chooser> Pool<Q> {
         ensures* ends { sem 𝓛 (pool_ends_as Q.row Q.Chooser self.entry self.old) }
         ensures bytes { option_copied result ≡ copy_of self.old page }
     {
-        self.touch(page);
-        self.peek(page)
+        let bytes = self.copies.get(page)?;
+        let _gone = self.chooser.reference(page, self.copies.fixed());
+        Some(bytes)
     }
 
-    /// Refers to a page, if it is here.
+    /// Refers to a page, if it is here, and says whether it is.
     ///
     /// The pool is the same, save that the chooser may let another page go later.
-    pub fn touch(&mut self, page: PageNo)
-        ensures { self.new ≡ self.old }
+    pub fn touch(&mut self, page: PageNo) -> bool
+        ensures here { result ≡ is_some (copy_of self.old page) }
+        ensures same { self.new ≡ self.old }
     {
-        if self.copies.has(page) {
+        let here = self.copies.has(page);
+        if here {
             let _gone = self.chooser.reference(page, self.copies.fixed());
         }
+        here
     }
 
     /// Takes in a page's bytes, which counts as a reference to it, and answers the page let go for

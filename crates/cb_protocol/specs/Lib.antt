@@ -33,6 +33,7 @@ pub mod ServerMessages
 pub mod Session
 pub mod Settling
 pub mod StepsKeep
+pub mod StoreLimits
 pub mod Transcript
 pub mod WaitsFor
 pub mod World

@@ -1,11 +1,12 @@
 //! The calls of an application: what each is refused for, and what it does.
 ghost use Rattle.std.specs.Prelude.{◌≡◌, ◌≢◌, ◌+◌, ◌<◌, List, ◌∷◌, ◌++◌, [], Ok, Some, None};
 ghost use Rattle.std.specs.Prelude.{IfOk, IfSome, IsOk, IsTrue, option_to_list, length, nat_le};
-ghost use Rattle.std.specs.Prelude.{false, true, unwrap_or};
+ghost use Rattle.std.specs.Prelude.{false, true, unwrap_or, ⊤};
 ghost use Rattle.std.specs.Borrow.{sem};
 ghost use Rattle.std.specs.Option.{is_some, option_copied, option_map};
 ghost use Rattle.cb_client.specs.ByTable.{Called, Calls, IsDecided, IsFirst, as_before, limits_at};
-ghost use Rattle.cb_client.specs.CallAnswers.{AnswersRead, Begins, after_read};
+ghost use Rattle.cb_client.specs.CallAnswers.{AnswersRead, Begins, after_read, after_read_here};
+ghost use Rattle.cb_client.specs.CallAnswers.{bytes_at, page_read, reads_here, sees};
 ghost use Rattle.cb_client.specs.CallAnswers.{ShortFrameFits, WantFits, Wants, Writes};
 ghost use Rattle.cb_frame_types.specs.Grammar.{Fits};
 ghost use Rattle.cb_client.specs.Lending.{client_ends_as};
@@ -13,8 +14,8 @@ ghost use Rattle.cb_client_core.specs.declared.stage.PendingAsk.TheVariants.{Not
 ghost use Rattle.cb_client_core.specs.declared.stage.Stage.TheVariants.{Idle, Open};
 ghost use Rattle.cb_cache.specs.CacheState.{content_at, copy_at};
 ghost use Rattle.cb_outbox.specs.Messages.{message_of};
-ghost use Rattle.cb_protocol.specs.Answers.{AnsweredOk};
-ghost use Rattle.cb_protocol.specs.ClientCalls.{CallBegin, CallHello, CallPeek};
+ghost use Rattle.cb_protocol.specs.Answers.{AnsweredBytes, AnsweredOk};
+ghost use Rattle.cb_protocol.specs.ClientCalls.{CallBegin, CallFinish, CallHello, CallPeek};
 ghost use Rattle.cb_protocol.specs.ClientCalls.{CallRead, CallWrite, open_causes};
 ghost use Rattle.cb_protocol.specs.ClientCalls.{page_causes, peek_word, read_causes, say_ask};
 ghost use Rattle.cb_protocol.specs.Client.{bodies_said};
@@ -178,6 +179,59 @@ impl<Q: Chooser> Client<Q> {
         Ok(())
     }
 
+    /// Reads the page where its bytes are in the pool, and says whether they are: a transaction is
+    /// open, and waits for nothing.
+    fn read_copy(&mut self, page: PageNo) -> bool
+        requires free { IsDecided {X = ⊤} self.old CallFinish (Ok tt) }
+        ensures here { result ≡ is_some (content_at self.old.copies page) }
+        ensures read { IsTrue result → self.new ≡ page_read self.old page }
+        ensures away { result ≡ false → self.new ≡ self.old }
+        ensures page { IsTrue result → page < self.old.copies.limits.pages }
+        ensures locks { IsTrue result → page < length self.old.locks.locked }
+    {
+        if !self.core.copies.refer(page) {
+            return false;
+        }
+        self.core.locks.lock(page);
+        true
+    }
+
+    /// Reads a page in the open transaction where its bytes are in the pool, which is a reference
+    /// to it, and says whether it did: as `read` where that answers Bytes. Else nothing changes,
+    /// and nothing is asked for.
+    pub fn read_here(&mut self, page: PageNo) -> bool
+        ensures here { result ≡ reads_here self.old page }
+        ensures after { self.new ≡ after_read_here self.old page }
+        ensures by_table { IsTrue result
+            → Calls self.old (CallRead page) (AnsweredBytes (bytes_at self.old page)) []
+            (sees page (bytes_at self.old page)) self.new }
+    {
+        match self.check_finish() {
+            Ok(()) => self.read_copy(page),
+            Err(_) => false,
+        }
+    }
+
+    /// Asks for a page whose bytes aren't in the pool, if there is room for them: a transaction is
+    /// open, and waits for nothing.
+    fn ask_to_read(&mut self, page: PageNo) -> Result<(), ClientFault>
+        requires free { IsDecided {X = ⊤} self.old CallFinish (Ok tt) }
+        requires away { is_some (content_at self.old.copies page) ≡ false }
+        ensures decided { IsDecided self.old (CallRead page) result }
+        ensures after { self.new ≡ after_read self.old page }
+        ensures called { Called self.old (CallRead page) self.new }
+        ensures kept { self.new.copies ≡ self.old.copies }
+    {
+        if self.is_past(page) {
+            return Err(ClientFault::PageRange);
+        }
+        if !self.core.copies.has_room() {
+            return Err(ClientFault::PoolFull);
+        }
+        self.core.ask = PendingAsk::Read(page);
+        Ok(())
+    }
+
     /// Reads the page where its bytes are in the pool, and says whether they are; else an ask for
     /// it is out, if there is room for them.
     fn read_or_ask(&mut self, page: PageNo) -> Result<bool, ClientFault>
@@ -188,18 +242,10 @@ impl<Q: Chooser> Client<Q> {
         ensures page { IfOk result (λ here. IsTrue here → page < length self.old.locks.locked) }
     {
         self.check_finish()?;
-        if self.is_here(page) {
-            self.core.copies.refer(page);
-            self.core.locks.lock(page);
+        if self.read_copy(page) {
             return Ok(true);
         }
-        if self.is_past(page) {
-            return Err(ClientFault::PageRange);
-        }
-        if !self.core.copies.has_room() {
-            return Err(ClientFault::PoolFull);
-        }
-        self.core.ask = PendingAsk::Read(page);
+        self.ask_to_read(page)?;
         Ok(false)
     }
 

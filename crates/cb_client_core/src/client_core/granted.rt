@@ -67,28 +67,14 @@ impl<Q: Chooser> ClientCore<Q> {
         }
     }
 
-    /// Whether the grant is greater than all that came for the page.
-    fn is_new(&self, page: PageNo, grant: GrantNo) -> bool
-        requires page { page < self.now.copies.limits.pages }
-        requires grant { IsNumber grant }
-        ensures { result ≡ nat_lt (unwrap_or (copy_at self.now.copies page).seen 0) grant }
-    {
-        match self.copies.at(page).seen {
-            Some(seen) => seen < grant,
-            None => true,
-        }
-    }
-
-    /// Whether bytes of that version are wanted for the grant held: it is bare and was asked for.
-    fn wants_bytes(&self, page: PageNo, version: Version) -> bool
-        requires { page < self.now.copies.limits.pages }
+    /// Whether bytes, of the version held or not, are wanted for the grant of a page that is held:
+    /// it is bare, and was asked for.
+    fn wants_bytes(&self, page: PageNo, same_version: bool) -> bool
         ensures { result ≡ (not (is_some (content_at self.now.copies page))
-            && (((copy_at self.now.copies page).version == version)
-            && asks_to_read (ask_of self.now.ask) page)) }
+            && (same_version && asks_to_read (ask_of self.now.ask) page)) }
     {
         let bare = self.copies.peek(page).is_none();
-        let same = self.copies.at(page).version == version;
-        bare && same && self.asks_to_read(page)
+        bare && same_version && self.asks_to_read(page)
     }
 
     /// What becomes of a grant.
@@ -97,11 +83,12 @@ impl<Q: Chooser> ClientCore<Q> {
         requires grant { IsNumber grant }
         ensures { result ≡ case_at (client_in self.now) page grant version }
     {
-        match self.copies.at(page).held {
+        let copy = self.copies.at(page);
+        match copy.held {
             Some(held) if held != grant => GrantCase::Refused,
-            Some(_) if self.wants_bytes(page, version) => GrantCase::Filled,
+            Some(_) if self.wants_bytes(page, copy.version == version) => GrantCase::Filled,
             Some(_) => GrantCase::Ignored,
-            None if self.is_new(page, grant) && self.asks_to_read(page) => GrantCase::Installed,
+            None if is_new(copy.seen, grant) && self.asks_to_read(page) => GrantCase::Installed,
             None => GrantCase::Refused,
         }
     }
@@ -196,6 +183,17 @@ impl<Q: Chooser> ClientCore<Q> {
                 Ok(frame)
             }
         }
+    }
+}
+
+/// Whether the grant is greater than the greatest one that came before it.
+fn is_new(seen: Option<GrantNo>, grant: GrantNo) -> bool
+    requires { IsNumber grant }
+    ensures { result ≡ nat_lt (unwrap_or seen 0) grant }
+{
+    match seen {
+        Some(seen) => seen < grant,
+        None => true,
     }
 }
 

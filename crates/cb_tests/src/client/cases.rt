@@ -155,18 +155,20 @@ fn begins<Q: Chooser>(client: &mut Client<Q>, txn: TxnNo) -> bool {
 }
 
 /// Whether the chooser that was handed in was called for these, in order: a transaction asks for a
-/// page and reads it, and the copy is called back after its end.
+/// page and reads it twice, and the copy is called back after its end.
 fn refers_as_wanted<Q: Chooser>(alloc: Global, client: &mut Client<Recorder<Q>>) -> bool {
     let (page, grant, txn) = (PageNo::new(0), GrantNo::new(1), TxnNo::new(1));
     gives_back_once(client);
     let played = refuses(client, page, ClientFault::NotWelcome)
         && says(alloc, client, ShortBody::Welcome, &[])
         && begins(client, txn)
+        && !client.read_here(page)
         && asks(client, txn, page)
         && refuses(client, page, ClientFault::Waiting)
         && granted(alloc, client, (page, grant), &[])
         && granted(alloc, client, (page, grant), &[])
         && reads(client, page)
+        && client.read_here(page)
         && client.peek(page).is_some()
         && drops(alloc, client, txn);
     let given = match called(alloc, client, page, grant) {
@@ -175,6 +177,7 @@ fn refers_as_wanted<Q: Chooser>(alloc: Global, client: &mut Client<Recorder<Q>>)
     };
     let calls = [
         Called::Reference(PageNo::new(7)),
+        Called::Reference(page),
         Called::Reference(page),
         Called::Reference(page),
         Called::Forget(page),

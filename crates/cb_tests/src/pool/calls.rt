@@ -113,8 +113,9 @@ fn calls_of_a_pool(rt: HostRuntime) -> Result<(), Fail> {
     Ok(())
 }
 
-/// A drawn call, and what it has to call the chooser for: an install refers, a hit does if the page
-/// is here, whether or not it is fixed and the pool is full, and a removal has the page forgotten.
+/// A drawn call, and what it has to call the chooser for: an install refers, a hit and a touch do
+/// if the page is here, whether or not it is fixed and the pool is full, and a removal has the page
+/// forgotten.
 fn drawn_call<Q: Chooser>(alloc: Global, pool: &mut Pool<Q>, draw: &mut Draw) -> Option<Called>
     requires pages { 8 ≤ length pool.old.fixed }
     requires size { pool.old.page_size ≡ 16 }
@@ -133,7 +134,12 @@ fn drawn_call<Q: Chooser>(alloc: Global, pool: &mut Pool<Q>, draw: &mut Draw) ->
             let _asked = pool.room() && pool.peek(page).is_some();
         }
         6 | 7 => write(pool, page, 9),
-        8..=13 => return pool.hit(page).map(|_| Called::Reference(page)),
+        8..=10 => return pool.hit(page).map(|_| Called::Reference(page)),
+        11..=13 => {
+            if pool.touch(page) {
+                return Some(Called::Reference(page));
+            }
+        }
         _ => {
             let _gone = put(alloc, pool, page, 7);
             return Some(Called::Reference(page));

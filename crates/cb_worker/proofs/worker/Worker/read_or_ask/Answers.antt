@@ -1,11 +1,12 @@
--- Goals of `Worker::ask_for`.
+-- Goals of `Worker::read_or_ask`.
 use Rattle.std.proofs.Common.{◌∙◌, Ok, None, [], inr, ap}
 use Rattle.cb_client.specs.CallAnswers.{AnswersRead, after_read}
 use Rattle.cb_client.specs.declared.answers.ReadAnswer.TheVariants as read
 use Rattle.cb_worker.proofs.Asking.{asks_for, says_it}
+use Rattle.cb_worker.proofs.Reading.{at_hand, unshown}
 use Rattle.cb_worker.proofs.Refusing.{lacks_grant}
 use Rattle.cb_worker.specs.Workers.{WorkerState}
-use Rattle.cb_worker.proofs.worker.Worker.ask_for.Goals as goal
+use Rattle.cb_worker.proofs.worker.Worker.read_or_ask.Goals as goal
 
 pub returns-in-Bytes-clause-refused : goal.returns-in-Bytes-clause-refused
 returns-in-Bytes-clause-refused g c =
@@ -14,12 +15,12 @@ returns-in-Bytes-clause-refused g c =
     (c.read.follows.holds-at-none ∙ ap (λ (w : WorkerState). after_read w.client c.args.page) c.self.view_is)
     (ap (λ (w : WorkerState). w.hand) c.self.view_is) n)
 
-pub returns-in-Some-clause-asks : goal.returns-in-Some-clause-asks
-returns-in-Some-clause-asks g c =
+pub returns-in-Some-clause-reads : goal.returns-in-Some-clause-reads
+returns-in-Some-clause-reads g c =
     let a : AnswersRead c.self.inside.client c.args.page (Ok read.Asked) = rw c.in-Asked.is at c.in_ok-read.ensures.answer in
     asks_for c.args.self.now _ c.args.page c.in-Some.ask (rw (← c.self.view_is) a) (rw (← c.self.view_is) c.read.follows.holds-at-none) c.in-Some.ensures.by_table c.keep.ensures
 
-pub returns-in_default-clause-asks : goal.returns-in_default-clause-asks
-returns-in_default-clause-asks g c =
+pub returns-in_default-clause-reads : goal.returns-in_default-clause-reads
+returns-in_default-clause-reads g c =
     let a : AnswersRead c.self.inside.client c.args.page (Ok read.Asked) = rw c.in-Asked.is at c.in_ok-read.ensures.answer in
     absurd (says_it c.self.inside.client c.read.follows.lender-at-none c.args.page a c.read.follows.holds-at-none c.in_default.ensures.by_table)

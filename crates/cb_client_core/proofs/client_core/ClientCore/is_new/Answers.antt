@@ -1,6 +1,0 @@
--- Goals of `ClientCore::is_new`.
-use Rattle.std.proofs.Common.{rules}
-use Rattle.cb_client_core.proofs.client_core.ClientCore.is_new.Goals as goal
-
-pub returns-in-Some : goal.returns-in-Some
-returns-in-Some g c = search rules
