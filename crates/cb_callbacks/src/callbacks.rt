@@ -51,7 +51,7 @@ impl Model for Callbacks {
 impl Callbacks {
     /// No client is known, and nobody waits.
     ///
-    /// It copies the store. `AllocError` only where memory was refused.
+    /// The store isn't copied. `AllocError` only where memory was refused.
     pub fn new(alloc: Global, limits: &Limits, store: Store) -> Result<Callbacks, AllocError>
         requires { IsOf limits.now store }
         ensures server { IfOk result (λ callbacks. server_of callbacks.state

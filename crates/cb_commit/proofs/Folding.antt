@@ -33,6 +33,7 @@ applied_are s c are is rising = record {
   page_size = are.page_size;
   from_opening = are.from_opening;
   to_last = omega (arith, is, are.to_last);
+  forgotten_on_disk = are.forgotten_on_disk;
 }
 
 numbered_drop : (count : ℕ) (cs : List Commit) (last : ℕ) → Numbered last cs → count ≤ length cs → Numbered (last + count) (drop count cs)

@@ -1,6 +1,7 @@
 -- Commits over an opening store, and how far they are on disk.
 use Rattle.std.specs.Prelude.{◌≡◌, ℕ, ◌+◌, ◌-◌, ◌<◌, ◌≤◌, nat_lt, nat_le, ◌&&◌, if◌then◌else◌, List}
-use Rattle.std.specs.Prelude.{[], ◌∷◌, ◌++◌, map, take, length, slice_set, Option, Some, None}
+use Rattle.std.specs.Prelude.{[], ◌∷◌, ◌++◌, map, take, drop, length, slice_set}
+use Rattle.std.specs.Prelude.{Option, Some, None}
 use Rattle.std.specs.List.{All}
 use Rattle.cb_frame.specs.Grammar.{page_of}
 use Rattle.cb_page.specs.Rising.{IsRising}
@@ -32,12 +33,14 @@ abbrev pub store_after : StoreState → List Commit → StoreState
 store_after store [] = store
 store_after store (commit ∷ commits) = store_after (written store commit) commits
 
--- The opening store, the store now, the commits since, the first one first, and the number of the
--- last commit on disk.
+-- The opening store, the store now, all commits since, the first one first, how many of them were
+-- forgotten, and the number of the last commit on disk. Of what was forgotten, and of the opening
+-- store, memory has nothing; it stands here all the same.
 pub record CommitsState : Type 0 where
   pub opening : StoreState
   pub store : StoreState
   pub commits : List Commit
+  pub forgotten : ℕ
   pub flushed : ℕ
 
 -- a page that the store has, with as many bytes as a page has
@@ -56,8 +59,8 @@ Numbered last [] = Unit {0}
 Numbered last (commit ∷ commits) = (commit.number ≡ last + 1) × Numbered (last + 1) commits
 
 -- The store is the opening store with the commits written over it; they are numbered on from the
--- opening store's, and each writes a page once; no later commit is on disk than there is (this
--- project's rule).
+-- opening store's, and each writes a page once; no later commit is on disk than there is, and what
+-- was forgotten is on disk (this project's rule).
 pub record AreCommits (s : CommitsState) : Type 0 where
   pub folded : s.store ≡ store_after s.opening s.commits
   pub numbered : Numbered s.opening.number s.commits
@@ -67,10 +70,20 @@ pub record AreCommits (s : CommitsState) : Type 0 where
   pub page_size : s.opening.page_size ≡ s.store.page_size
   pub from_opening : s.opening.number ≤ s.flushed
   pub to_last : s.flushed ≤ s.store.number
+  pub forgotten_on_disk : s.opening.number + s.forgotten ≤ s.flushed
 
--- nothing committed yet; what the store opens with is on disk
+-- nothing committed yet, so nothing forgotten; what the store opens with is on disk
 abbrev pub begun : StoreState → CommitsState
-begun s = record { opening = s; store = s; commits = []; flushed = s.number }
+begun s = record { opening = s; store = s; commits = []; forgotten = 0; flushed = s.number }
+
+-- the commits that weren't forgotten, the first one first
+abbrev pub remembered : CommitsState → List Commit
+remembered s = drop s.forgotten s.commits
+
+-- the commits up to a number are forgotten; of those that were before, nothing changes
+abbrev pub forgot : CommitsState → ℕ → CommitsState
+forgot s number =
+    record s { forgotten = s.forgotten + (number - (s.opening.number + s.forgotten)) }
 
 -- one more commit
 abbrev pub applied : CommitsState → Commit → CommitsState

@@ -2,3 +2,4 @@ pub mod Stores
 pub mod Batches
 pub mod History
 pub mod Changes
+pub mod Memory

@@ -4,6 +4,8 @@ ghost use Rattle.cb_commit.specs.History.{done_of};
 
 use cb_frame::{Frame, ShortBody, ShortFrame, Writes};
 use cb_page::{ClientNo, CommitNo, Incarnation, TxnNo};
+use cb_past::Hollow;
+use std::alloc::Global;
 
 /// A transaction that was committed, with the pages that it wrote.
 #[derive(Drop)]
@@ -30,5 +32,11 @@ impl Commit {
             },
         }
         .into()
+    }
+}
+
+impl Hollow for Commit {
+    fn hollow(&mut self, alloc: Global) {
+        self.writes = Writes::from_vec(Vec::new(alloc));
     }
 }

@@ -8,22 +8,28 @@ ghost use Rattle.cb_commit.specs.Stores.{IsOf, version_at};
 ghost use Rattle.cb_commit.specs.Changes.{marked};
 ghost use Rattle.cb_commit.specs.Batches.{changed_below};
 ghost use Rattle.cb_commit.specs.History.{AreCommits, CanFlush, CatchesUp, FitsInto, applied};
-ghost use Rattle.cb_commit.specs.History.{begun, done_of, dones_between, next_batch};
+ghost use Rattle.cb_commit.specs.History.{begun, done_of, dones_between, forgot, next_batch};
+ghost use Rattle.cb_commit.specs.History.{remembered};
 
 use crate::{Batch, BatchPage, Commit, Store};
 use cb_frame::{Frame, Writes};
 use cb_page::{ClientNo, CommitNo, Incarnation, Limits, Page, PageSet, TxnNo};
+use cb_past::Past;
+use http_server::Log;
 use std::alloc::{AllocError, AllocFailed, Global};
 use std::marker::Model;
 
 /// A page store, the commits that made it from its opening state, and the number of the last commit
 /// on disk.
 ///
-/// Commit numbers go on from the opening store's. The commits are kept for good.
+/// Commit numbers go on from the opening store's. A commit's pages stay in memory until it is
+/// forgotten. In contracts nothing is forgotten: the opening store and all commits stand there for
+/// good, beside how many of the commits were forgotten.
 pub struct Commits {
-    opening: Store,
+    /// The opening store, for proofs alone.
+    opening: Log<Store, ()>,
     store: Store,
-    commits: Vec<Commit>,
+    commits: Past<Commit>,
     flushed: u64,
     /// The pages whose last commit isn't on disk yet.
     changed: PageSet,
@@ -43,43 +49,32 @@ impl Drop for Commits {
 }
 
 impl Model for Commits {
-    ghost use Rattle.std.specs.Prelude.{◌≡◌, length};
     ghost use Rattle.cb_commit.specs.History.{CommitsState, AreCommits};
     ghost use Rattle.cb_commit.specs.Changes.{AreChanged};
+    ghost use Rattle.cb_commit.specs.Memory.{commits_in};
 
     ghost Value = { CommitsState };
 
-    ghost view = { λ c. record {
-      opening = c.opening;
-      store = c.store;
-      commits = c.commits.items;
-      flushed = c.flushed;
-    } };
+    ghost view = { λ c. commits_in c.opening.items c.store c.commits c.flushed };
 
-    ghost invariant = { λ c. AreCommits (record {
-      opening = c.opening;
-      store = c.store;
-      commits = c.commits.items;
-      flushed = c.flushed;
-    })
+    ghost invariant = { λ c. AreCommits (commits_in c.opening.items c.store c.commits c.flushed)
         × AreChanged c.flushed c.store.pages c.changed };
 }
 
 impl Commits {
     /// No commits yet, over a store of these limits; what the store opens with counts as on disk.
     ///
-    /// It copies the store. `AllocError` only where memory was refused.
+    /// The store isn't copied. `AllocError` only where memory was refused.
     pub fn new(alloc: Global, limits: &Limits, store: Store) -> Result<Commits, AllocError>
         requires { IsOf limits.now store }
         ensures { IfOk result (λ commits. commits ≡ begun store) }
     {
-        let opening = store.copy(alloc)?;
         let changed = PageSet::new(alloc, limits.pages() as usize)?;
         Ok(Commits {
+            opening: Log::new().and(&store, &()),
             flushed: store.number(),
-            opening,
             store,
-            commits: Vec::new(alloc),
+            commits: Past::new(alloc),
             changed,
         })
     }
@@ -116,7 +111,7 @@ impl Commits {
         ensures err { OnErr result (self.new ≡ self.old) }
         ensures back { IfErr result (λ failed. failed.value ≡ writes) }
     {
-        if self.commits.reserve(1).is_err() {
+        if self.commits.reserve_one().is_err() {
             return Err(AllocFailed { value: writes });
         }
         let number = CommitNo::new(self.store.number() + 1);
@@ -167,21 +162,26 @@ impl Commits {
         ensures ok { OnOk result (self.new ≡ record self.old { flushed = number }) }
         ensures err { OnErr result (self.new ≡ self.old) }
     {
-        let opening = self.opening.number();
-        let from = (self.flushed - opening) as usize;
-        let to = (number.get() - opening) as usize;
-        let frames = dones(alloc, &self.commits[from..to])?;
+        let last = self.store.number();
+        let commits = self.commits.remembered();
+        let from = commits.len() - (last - self.flushed) as usize;
+        let to = commits.len() - (last - number.get()) as usize;
+        let frames = dones(alloc, &commits[from..to])?;
         unmark(&mut self.changed, &self.store, number);
         self.flushed = number.get();
         Ok(frames)
     }
 
-    /// The store that was opened with.
-    pub fn opening(&self) -> &Store
-        ensures value { result.now ≡ self.now.opening }
-        ensures sound { AreCommits self.now }
+    /// The commits up to this number, which are on disk, are forgotten: they leave memory. It costs
+    /// no more than they are, whatever is left. Nothing changes where they were forgotten before,
+    /// or where no commit has a number as low.
+    pub fn forget(&mut self, number: CommitNo)
+        requires on_disk { number ≤ self.old.flushed }
+        ensures { self.new ≡ forgot self.old number }
     {
-        &self.opening
+        let forgotten = self.store.number() - self.commits.remembered().len() as u64;
+        let count = number.get().saturating_sub(forgotten);
+        self.commits.forget(count as usize);
     }
 
     /// The store with all commits in it.
@@ -192,12 +192,12 @@ impl Commits {
         &self.store
     }
 
-    /// All commits, the first one first.
+    /// The commits that weren't forgotten, the first one first: all, where none was.
     pub fn committed(&self) -> &[Commit]
-        ensures value { result.now ≡ self.now.commits }
+        ensures value { result.now ≡ remembered self.now }
         ensures sound { AreCommits self.now }
     {
-        self.commits.as_slice()
+        self.commits.remembered()
     }
 
     /// The number of the last commit on disk, or the opening store's before any.

@@ -1,6 +1,8 @@
 //! One committed transaction.
 
 use cb_page::{ClientNo, Incarnation, PageNo, TxnNo, Version};
+use cb_past::Hollow;
+use std::alloc::Global;
 
 /// A page that a committed transaction read, at its version then.
 #[derive(Clone, Copy, Debug, PartialEq, Eq)]
@@ -20,4 +22,11 @@ pub struct Entry {
     pub reads: Vec<Read>,
     /// The pages that it wrote.
     pub writes: Vec<PageNo>,
+}
+
+impl Hollow for Entry {
+    fn hollow(&mut self, alloc: Global) {
+        self.reads = Vec::new(alloc);
+        self.writes = Vec::new(alloc);
+    }
 }

@@ -18,6 +18,10 @@ pub record DispatcherState : Type 0 where
 abbrev pub server_of : DispatcherState → Server
 server_of state = server.server_of state.server
 
+-- the commits up to a number are forgotten
+abbrev pub forgot : DispatcherState → ℕ → DispatcherState
+forgot state number = record state { server = server.forgot state.server number }
+
 -- what is to be sent to a client, the oldest frame first
 abbrev pub mailbox_of : DispatcherState → (client : ℕ) → List Frame
 mailbox_of state client = mailbox_in (current_in (server_of state)) state.mailboxes client

@@ -1,10 +1,10 @@
 //! The type, its opening, what it takes, and what it shows.
-ghost use Rattle.std.specs.Prelude.{◌≡◌, ◌≢◌, ◌↔◌, ◌<◌, ℕ, [], slice_get, IfErr, IfOk};
+ghost use Rattle.std.specs.Prelude.{◌≡◌, ◌≢◌, ◌↔◌, ◌<◌, ◌≤◌, ℕ, [], slice_get, IfErr, IfOk};
 ghost use Rattle.std.specs.Prelude.{IsTrue, OnErr, OnOk, true, false, not, ◌==◌};
 ghost use Rattle.std.specs.List.{AllByRecursion, filter};
 ghost use Rattle.cb_commit.specs.Stores.{IsOf};
 ghost use Rattle.cb_mailboxes.specs.Dispatching.{Everybody, IsUnchanged, Others, Posts, emptied};
-ghost use Rattle.cb_mailboxes.specs.Dispatching.{mailbox_of, server_of, without_oldest};
+ghost use Rattle.cb_mailboxes.specs.Dispatching.{forgot, mailbox_of, server_of, without_oldest};
 ghost use Rattle.cb_frame_types.specs.Grammar.{Fits};
 ghost use Rattle.cb_mailboxes.specs.Mailboxes.{AsBefore, current_in};
 ghost use Rattle.cb_outbox.specs.Messages.{messages_of};
@@ -24,7 +24,7 @@ use std::marker::Model;
 
 /// A server, and a mailbox for each of its clients.
 ///
-/// Every call but `server` and `has_frame_for` takes memory.
+/// Every call but `server`, `has_frame_for` and `forget` takes memory.
 pub struct Dispatcher {
     server: Server,
     mailboxes: Mailboxes,
@@ -55,7 +55,7 @@ impl Dispatcher {
     /// A server over a store, all of which counts as on disk. No client is known, and nothing is to
     /// be sent.
     ///
-    /// It copies the store. `AllocError` only where memory was refused.
+    /// The store isn't copied. `AllocError` only where memory was refused.
     pub fn new(alloc: Global, limits: &Limits, store: Store) -> Result<Dispatcher, AllocError>
         requires { IsOf limits.now store }
         ensures new { IfOk result (λ d. IsNew limits.now store d.server) }
@@ -212,6 +212,15 @@ impl Dispatcher {
         // The server still arises by the protocol's steps.
         let _known = self.server.limits();
         Ok(())
+    }
+
+    /// The commits up to this number, which are on disk, are forgotten: they leave memory. What is
+    /// to be sent stays.
+    pub fn forget(&mut self, number: CommitNo)
+        requires on_disk { number ≤ (server_of self.old).flushed }
+        ensures { self.new ≡ forgot self.old number }
+    {
+        self.server.forget(number);
     }
 }
 

@@ -63,8 +63,8 @@ pub(crate) fn next_batch<R: Wait, W: Watch>(
     unreachable!()
 }
 
-/// The office, to which a batch is reported under its lock. What that makes of the station no
-/// contract says.
+/// The office, to which a batch is reported under its lock; what was reported is forgotten. What
+/// that makes of the station no contract says.
 #[derive(Drop)]
 struct Desk<'a, R> {
     rt: &'a R,
@@ -81,6 +81,9 @@ impl<R: Wait> Reports for Desk<'_, R> {
     fn report(&mut self, alloc: Global, number: CommitNo) -> Result<(), AllocError> {
         let mut station = self.office.lock(self.rt);
         let reported = station.flushed(alloc, number);
+        if station.is_on_disk(number) {
+            station.forget(number);
+        }
         self.office.tell_clients(&station);
         drop(station);
         match reported {

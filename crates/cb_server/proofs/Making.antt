@@ -19,7 +19,7 @@ use Rattle.cb_server.specs.Answering.{Begins, IsLeft, Makes, Serves, answer_to, 
 use Rattle.cb_server.specs.declared.engine.Engine.{Engine}
 
 pub stays_same : (h : ServerState) → Stays h h
-stays_same h = record { keep_write = refl; clients = refl; pages = refl; page_size = refl; opening = refl }
+stays_same h = record { keep_write = refl; clients = refl; pages = refl; page_size = refl; opening = refl; forgotten = refl }
 
 pub makes_nothing : (e : Engine) → Makes e (λ s. []) e
 makes_nothing e = record { says = says_nothing (server_in e) e.outbox; stays = stays_same e.callbacks.state }
@@ -96,6 +96,7 @@ stays_left old mid new rest s = record {
   pages = s.pages ∙ ap (λ (h : ServerState). length h.commits.store.pages) rest;
   page_size = s.page_size ∙ ap (λ (h : ServerState). h.commits.store.page_size) rest;
   opening = s.opening ∙ ap (λ (h : ServerState). h.commits.opening) rest;
+  forgotten = s.forgotten ∙ ap (λ (h : ServerState). h.commits.forgotten) rest;
 }
 
 -- where room was made before

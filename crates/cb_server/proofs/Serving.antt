@@ -19,7 +19,7 @@ use Rattle.cb_protocol.specs.ServerMessages.{is_exhausted}
 use Rattle.cb_protocol.specs.WaitsFor.{on_cycle}
 use Rattle.cb_protocol.specs.World.{messages_sent, opening_store}
 use Rattle.cb_server.specs.Answering.{FitsIn, IsLeft, IsReady, Serves, server_in}
-use Rattle.cb_server.specs.ServerValue.{IsAtRest, IsUnchanged, ServerValue}
+use Rattle.cb_server.specs.ServerValue.{IsAtRest, IsServer, IsUnchanged, ServerValue, forgot}
 use Rattle.cb_server.specs.Taking.{Does, Takes, input_of}
 use Rattle.cb_server.specs.declared.engine.Engine.{Engine}
 use Rattle.cb_protocol.proofs.SettlingAgain.{settled}
@@ -89,6 +89,7 @@ does limits old new input frames rest serves is = record {
   becomes = serves.becomes;
   limits = refl;
   opening = serves.stays.opening;
+  forgotten = serves.stays.forgotten;
 }
 
 pub takes_frame : (limits : Bounds) (old new : Engine) (frame : Frame) (frames : List Frame) → IsAtRest (state limits old) old.outbox
@@ -124,3 +125,11 @@ begins_at_rest limits store kept outbox sound of are commits server sent size sp
   where
     same : kept.commits.opening ≡ store
     same = ap (λ (k : CommitsState). k.opening) commits
+
+-- where commits were forgotten
+pub arises_forgotten : (value : ServerValue) (number : ℕ) → IsServer value → IsServer (forgot value number)
+arises_forgotten value number is = record {
+  opening = is.opening;
+  reached = is.reached;
+  of = record { clients = is.of.clients; store = is.of.store; keep_write = is.of.keep_write };
+}

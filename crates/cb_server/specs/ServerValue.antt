@@ -1,5 +1,5 @@
 -- A server as its callers see it: the protocol's server, and how it arose.
-use Rattle.std.specs.Prelude.{◌≡◌, ◌≤◌, []}
+use Rattle.std.specs.Prelude.{◌≡◌, ◌≤◌, ℕ, []}
 use Rattle.cb_commit.specs.History.{CommitsState, begun}
 use Rattle.cb_commit.specs.Stores.{StoreState}
 use Rattle.cb_outbox.specs.Saying.{OutboxState}
@@ -26,6 +26,10 @@ server_of value = states.server_of value.state
 -- the commits over its opening store
 abbrev pub commits_of : ServerValue → CommitsState
 commits_of value = value.state.commits
+
+-- the commits up to a number are forgotten
+abbrev pub forgot : ServerValue → ℕ → ServerValue
+forgot value number = record value { state = states.forgot value.state number }
 
 -- the limits that the protocol speaks of, and the store before the first commit
 abbrev pub limits_at : ServerValue → Limits

@@ -20,7 +20,7 @@ use Rattle.cb_server.specs.declared.server_fault.ServerFault.{ServerFault}
 use Rattle.cb_server.specs.declared.server_fault.ServerFault.TheVariants as fault
 
 -- It does what the protocol's server does at the input, and these messages are all that is sent, in
--- order. Its limits and its opening store are as before.
+-- order. Its limits and its opening store are as before, and it forgets no commit.
 pub record Does (old : ServerValue) (input : Input) (messages : List Message) (new : ServerValue)
     : Type 0 where
   pub sends : messages ≡ messages_sent (input_steps on_cycle (server_of old) input)
@@ -28,6 +28,7 @@ pub record Does (old : ServerValue) (input : Input) (messages : List Message) (n
       ≡ server_after (server_of old) (input_steps on_cycle (server_of old) input)
   pub limits : new.limits ≡ old.limits
   pub opening : (commits_of new).opening ≡ (commits_of old).opening
+  pub forgotten : (commits_of new).forgotten ≡ (commits_of old).forgotten
 
 -- what comes by a frame
 abbrev pub input_of : Frame → Input

@@ -1,9 +1,10 @@
 //! The type, its opening, what it takes, and what it shows.
-ghost use Rattle.std.specs.Prelude.{◌≡◌, ◌≢◌, ◌<◌, [], ◌∷◌, IfErr, IfOk, IfSome, OnErr, Err};
+ghost use Rattle.std.specs.Prelude.{◌≡◌, ◌≢◌, ◌<◌, ◌≤◌, [], ◌∷◌, IfErr, IfOk, IfSome, OnErr};
+ghost use Rattle.std.specs.Prelude.{Err};
 ghost use Rattle.std.specs.Prelude.{slice_index, false, true};
 ghost use Rattle.std.specs.List.{AllByRecursion};
 ghost use Rattle.std.specs.Option.{option_map};
-ghost use Rattle.cb_commit.specs.History.{CatchesUp};
+ghost use Rattle.cb_commit.specs.History.{CatchesUp, remembered};
 ghost use Rattle.cb_commit.specs.Stores.{IsOf};
 ghost use Rattle.cb_frame.specs.Checks.{has_pages, kind_of};
 ghost use Rattle.cb_frame.specs.declared.fault.BytesFault.TheVariants as reading;
@@ -12,7 +13,8 @@ ghost use Rattle.cb_frame_types.specs.Grammar.{Fits};
 ghost use Rattle.cb_outbox.specs.Messages.{messages_of};
 ghost use Rattle.cb_protocol.specs.AnyMessages.{ReachesDisk, SendsAgain};
 ghost use Rattle.cb_protocol.specs.Flush.{can_flush, next_batch};
-ghost use Rattle.cb_server.specs.ServerValue.{IsNew, IsServer, IsUnchanged, commits_of, server_of};
+ghost use Rattle.cb_server.specs.ServerValue.{IsNew, IsServer, IsUnchanged, commits_of, forgot};
+ghost use Rattle.cb_server.specs.ServerValue.{server_of};
 ghost use Rattle.cb_server.specs.Taking.{Does, IsBytesFault, MayWantMemory, Refuses, Takes};
 ghost use Rattle.cb_server.specs.Taking.{TakesBytes, lacks_number_for};
 ghost use Rattle.cb_server_state.specs.Commits.{batch_of};
@@ -70,7 +72,7 @@ impl Model for Server {
 impl Server {
     /// A server over a store, all of which counts as on disk. No client is known.
     ///
-    /// It copies the store. `AllocError` only where memory was refused.
+    /// The store isn't copied. `AllocError` only where memory was refused.
     pub fn new(alloc: Global, limits: &Limits, store: Store) -> Result<Server, AllocError>
         requires { IsOf limits.now store }
         ensures { IfOk result (IsNew limits.now store) }
@@ -244,9 +246,20 @@ impl Server {
         Ok(dones)
     }
 
-    /// All commits, the first one first.
+    /// The commits up to this number, which is on disk, are forgotten: they leave memory. It costs
+    /// no more than they are. What is said, who waits and what is on disk stay as they are.
+    pub fn forget(&mut self, number: CommitNo)
+        requires on_disk { number ≤ (server_of self.old).flushed }
+        ensures { self.new ≡ forgot self.old number }
+    {
+        self.engine.callbacks.forget(number);
+    }
+
+    /// The commits that weren't forgotten, the first one first: all, where none was.
     pub fn committed(&self) -> &[Commit]
-        ensures { newest_first result.now ≡ (server_of self.now).commits }
+        ensures value { result.now ≡ remembered (commits_of self.now) }
+        ensures all { (commits_of self.now).forgotten ≡ 0 →
+            newest_first result.now ≡ (server_of self.now).commits }
     {
         self.engine.callbacks.state().commits.committed()
     }

@@ -110,6 +110,7 @@ applies v c i t ws d asks marks agree a p gone = rw is (record {
     pages = rewritten_length ws number v.commits.store.pages;
     page_size = refl;
     opening = refl;
+    forgotten = refl;
   };
   room = gone.removed.room;
 })

@@ -213,7 +213,7 @@ pub flushed_does : (v : ServerState) (number : ℕ)
     (record v { commits = record v.commits { flushed = number } })
 flushed_does v number = record {
   becomes = flushes (server_of v) number;
-  stays = record { keep_write = refl; clients = refl; pages = refl; page_size = refl; opening = refl };
+  stays = record { keep_write = refl; clients = refl; pages = refl; page_size = refl; opening = refl; forgotten = refl };
   room = λ page. omega arith;
 }
 

@@ -63,6 +63,7 @@ stays_then before middle after a b = record {
   pages = b.pages ∙ a.pages;
   page_size = b.page_size ∙ a.page_size;
   opening = b.opening ∙ a.opening;
+  forgotten = b.forgotten ∙ a.forgotten;
 }
 
 -- some steps, then others

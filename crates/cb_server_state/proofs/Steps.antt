@@ -52,6 +52,7 @@ does_alike v steps u same setting clients room alike = record {
     pages = ap (λ (s : CommitsState). length s.store.pages) same;
     page_size = ap (λ (s : CommitsState). s.store.page_size) same;
     opening = ap (λ (s : CommitsState). s.opening) same;
+    forgotten = ap (λ (s : CommitsState). s.forgotten) same;
   };
   room = room;
 }

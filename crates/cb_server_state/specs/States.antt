@@ -4,6 +4,7 @@ use Rattle.std.specs.Prelude.{◌≡◌, ℕ, ◌-◌, ◌<◌, ◌≤◌, Bool,
 use Rattle.std.specs.Prelude.{◌∷◌, length, map, reverse, Option, Some, None}
 use Rattle.cb_asks.specs.Asks.{queue_at, room_at}
 use Rattle.cb_asks.specs.Marks.{is_in_use}
+use Rattle.cb_commit.specs.History as history
 use Rattle.cb_commit.specs.Stores.{IsOf, StoreState, bytes_at, version_at}
 use Rattle.cb_commit.specs.declared.commit.Commit.{Commit}
 use Rattle.cb_directory.specs.Directories.{holder, row, tag}
@@ -12,9 +13,10 @@ use Rattle.cb_links.specs.declared.sessions.Transaction.{Transaction}
 use Rattle.cb_links.specs.declared.sessions.Transaction.TheVariants.{NotBegun, Live, Ended}
 use Rattle.cb_outbox.specs.Saying.{OutboxState}
 use Rattle.cb_page.specs.Bounds.{Bounds}
-use Rattle.cb_protocol.specs.Basics.{Limits, same_transaction}
+use Rattle.cb_protocol.specs.Basics.{same_transaction}
 use Rattle.cb_protocol.specs.Server.{AppliedCommit, Server, ServerStep, server_after}
 use Rattle.cb_protocol.specs.Session as protocol
+pub use Rattle.cb_protocol.specs.StoreLimits.{limits_of}
 use Rattle.cb_protocol.specs.World.{Opening}
 use Rattle.cb_server_state.specs.Commits.{applied_commit}
 use Rattle.cb_server_state.specs.declared.server_state.ServerState.{ServerState}
@@ -91,16 +93,6 @@ server_of state = record {
   pages = length state.commits.store.pages;
 }
 
--- the limits that the protocol speaks of
-abbrev pub limits_of : Bounds → Limits
-limits_of limits = record {
-  clients = limits.clients;
-  pages = limits.pages;
-  page_size = limits.page_size;
-  slots = limits.slots;
-  keep_write = limits.keep_write;
-}
-
 -- a store before the first commit on it
 abbrev pub opening_of : StoreState → Opening
 opening_of store =
@@ -134,13 +126,19 @@ pub record PartsAgree (state : ServerState) : Type 0 where
   pub marked_clients : length state.marks.by_client ≡ length state.sessions
   pub marked_pages : length state.marks.by_page ≡ length state.commits.store.pages
 
--- Clients and pages are as many and pages as large, over the same opening store and setting.
+-- Clients and pages are as many and pages as large, over the same opening store and setting, and no
+-- commit is forgotten.
 pub record Stays (before after : ServerState) : Type 0 where
   pub keep_write : after.keep_write ≡ before.keep_write
   pub clients : length after.sessions ≡ length before.sessions
   pub pages : length after.commits.store.pages ≡ length before.commits.store.pages
   pub page_size : after.commits.store.page_size ≡ before.commits.store.page_size
   pub opening : after.commits.opening ≡ before.commits.opening
+  pub forgotten : after.commits.forgotten ≡ before.commits.forgotten
+
+-- the commits up to a number are forgotten
+abbrev pub forgot : ServerState → ℕ → ServerState
+forgot state number = record state { commits = history.forgot state.commits number }
 
 -- It becomes what the protocol's server becomes by these steps, with no less room for asks.
 pub record Does (before : ServerState) (steps : List ServerStep) (after : ServerState)

@@ -57,7 +57,7 @@ impl ServerState {
     /// No client is known, nobody waits, and nothing is committed over the store, which counts as
     /// on disk.
     ///
-    /// It copies the store. `AllocError` only where memory was refused.
+    /// The store isn't copied. `AllocError` only where memory was refused.
     pub fn new(alloc: Global, limits: &Limits, store: Store) -> Result<ServerState, AllocError>
         requires { IsOf limits.now store }
         ensures agree { IfOk result PartsAgree }

@@ -99,6 +99,7 @@ reports commits held (Some batch) tables number h = record {
     page_size = h.are.page_size;
     from_opening = omega (arith, h.are.from_opening, h.written.0.above);
     to_last = h.written.0.there;
+    forgotten_on_disk = omega (arith, h.are.forgotten_on_disk, h.written.0.above);
   };
   least = omega (arith, h.written.1);
   most = h.most;
@@ -146,6 +147,7 @@ begins store sound = record {
     page_size = refl;
     from_opening = omega arith;
     to_last = omega arith;
+    forgotten_on_disk = omega arith;
   };
   least = omega arith;
   most = omega arith;

@@ -17,6 +17,7 @@ use Rattle.cb_shelf.specs.declared.opening.TablesFound.TheVariants.{New as newer
 use Rattle.cb_shelf.specs.declared.opening.Found.{Found}
 use Rattle.cb_shelf.specs.declared.opening.Found.TheVariants.{Nothing, Old, New}
 use Rattle.cb_sql.specs.Statements.{Statement, MakesAll, page_statements}
+use Rattle.cb_sql.specs.declared.writing.PageRows.TheVariants.{Absent}
 use Rattle.cb_sql.specs.Asking.{RepliesRow, RepliesElse}
 use Rattle.cb_shelf.specs.declared.reading.Generation.TheVariants.{Older, Newer}
 use Rattle.cb_shelf.specs.Reading.{question, number_values, IsNumber, Holds, Misfits}
@@ -40,9 +41,10 @@ part_table = codes "CREATE TABLE part(no INTEGER NOT NULL, place INTEGER NOT NUL
 abbrev pub table_statements : List Statement
 table_statements = plain mark_table ∷ plain page_table ∷ plain part_table ∷ []
 
--- sets a page of a store
+-- puts a page of a store in
 abbrev pub stored_statements : StoreState → ℕ → List Statement
-stored_statements store page = page_statements page (version_at store page) (bytes_at store page)
+stored_statements store page =
+    page_statements Absent page (version_at store page) (bytes_at store page)
 
 -- sets the first pages of a store, so many
 abbrev pub first_pages : StoreState → ℕ → List Statement

@@ -16,7 +16,7 @@ ghost use Rattle.cb_shelf.specs.Opening.{clear_statements, first_pages, laid, ma
 use crate::reading::{Generation, ask_number, read_store};
 use cb_commit::Store;
 use cb_page::{Limits, PageNo};
-use cb_sql::{ShelfFault, is_there, put_page, run};
+use cb_sql::{PageRows, ShelfFault, is_there, put_page, run};
 use sqlite::{Alter, Connection, Transaction, params};
 use std::alloc::Global;
 
@@ -259,7 +259,13 @@ fn put_store<S: Alter>(
 {
     for place in 0..count {
         let page = PageNo::new(place);
-        put_page(tx, page, store.version(page), store.bytes(page))?;
+        put_page(
+            tx,
+            PageRows::Absent,
+            page,
+            store.version(page),
+            store.bytes(page),
+        )?;
     }
     Ok(())
 }

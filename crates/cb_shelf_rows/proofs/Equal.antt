@@ -1,19 +1,21 @@
 -- SQL's equality of a value and a number.
-use Rattle.std.proofs.Common.{◌≡◌, ℕ, ℤ, pos, arith, Bool, true, false, ◌||◌, cond, Ordering, Less, Equal, Greater, refl, sym, ◌∙◌, true≢false, Some}
+use Rattle.std.proofs.Common.{◌≡◌, ℕ, ℤ, pos, arith, Bool, true, false, ◌||◌, cond, Ordering, Less, Equal, Greater, refl, sym, ◌∙◌, subst, true≢false, Some}
 use Rattle.std.specs.Ordering.{is_eq, int_cmp}
+use Rattle.std.proofs.lemmas.Bool.{and_parts}
 use Rattle.std.proofs.lemmas.Cmp.{tied_itself}
 use Rattle.std.proofs.lemmas.Int.{ints}
 use Rattle.std.proofs.lemmas.Bool.Decides.{nat_tests}
 use Rattle.sqlite_value.specs.declared.value.Value.{Value}
-use Rattle.sqlite_value.specs.declared.value.Value.TheVariants.{Null, Int}
+use Rattle.sqlite_value.specs.declared.value.Value.TheVariants.{Null, Int, Real, Text, Blob}
 use Rattle.sqlite_value.specs.declared.keys.Collation.TheVariants.{Binary}
 use Rattle.sqlite_value.specs.Order.{value_cmp}
 use Rattle.sqlite_value.specs.Keys.{plain, first_key}
 use Rattle.sqlite_value.proofs.OrderLemmas.{value_cmp_total, value_cmp-Int}
-use Rattle.sqlite_sql.specs.Ops.{binary, unary, is_null, is_true, from_truth}
+use Rattle.sqlite_sql.specs.Ops.{binary, unary, numeric, is_null, is_true, from_truth}
+use Rattle.sqlite_sql.specs.declared.ops.UnaryOp.TheVariants.{ToInt}
 use Rattle.sqlite_schema.specs.Rules.{equal}
 use Rattle.sqlite_schema.specs.declared.schema.Kind.TheVariants.{Integer}
-use Rattle.sqlite_rules.specs.Cast.{cast}
+use Rattle.sqlite_rules.specs.Cast.{cast, as_integer}
 
 parts : (null test : Bool) → is_true (cond null Null (from_truth (Some test))) ≡ true → (null ≡ false) × (test ≡ true)
 parts true test h = absurd (true≢false (sym h))
@@ -62,6 +64,32 @@ either false x = refl
 pub cast_number : (n : ℤ) → cast Integer (Int n) ≡ Int n
 unfolding unary
 cast_number n = either _ (Int n)
+
+-- what ties with a number is one
+some_number : (v : Value) (n : ℤ) → value_cmp v (Int n) ≡ Equal → is_null v ≡ false
+unfolding value_cmp
+some_number Null n h = absurd cc
+some_number _ n h = refl
+
+numeric_same : (v : Value) (n : ℤ) → value_cmp v (Int n) ≡ Equal → numeric v ≡ v
+unfolding value_cmp
+numeric_same Null n h = refl
+numeric_same (Int m) n h = refl
+numeric_same (Real x) n h = refl
+numeric_same (Text t) n h = absurd cc
+numeric_same (Blob b) n h = absurd cc
+
+either_ties : (b : Bool) (v w : Value) (n : ℤ) → value_cmp v (Int n) ≡ Equal → (b ≡ true → value_cmp w v ≡ Equal) → value_cmp (cond b w v) (Int n) ≡ Equal
+either_ties true v w n h same = value_cmp_total.congr w v (Int n) (same refl) ∙ h
+either_ties false v w n h same = h
+
+-- what is equal to a number still is once it is cast
+pub cast_equal : (v : Value) (n : ℤ) → equal Binary v (Int n) ≡ true → equal Binary (cast Integer v) (Int n) ≡ true
+cast_equal v n h =
+    let ties = equal_ties v (Int n) h in
+    let still : value_cmp (as_integer v) (Int n) ≡ Equal = either_ties _ v (unary ToInt v) n ties (λ both. tied _ (and_parts _ _ both).0) in
+    let cast_ties : value_cmp (cast Integer v) (Int n) ≡ Equal = subst (λ w. value_cmp (as_integer w) (Int n) ≡ Equal) (sym (numeric_same v n ties)) still in
+    ties_equal (cast Integer v) n (some_number (cast Integer v) n cast_ties) cast_ties
 
 pub plain_key : first_key plain ≡ record { collation = Binary; descending = false }
 unfolding first_key

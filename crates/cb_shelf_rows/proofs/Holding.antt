@@ -1,12 +1,10 @@
 -- The rows of the tables are a store's where what the tables answer is that store.
-use Rattle.std.proofs.Common.{◌≡◌, ℕ, ◌<◌, pos, Bool, true, false, ◌&&◌, List, [], ◌∷◌, map, filter, length, length-set, refl, sym, ap, ◌∙◌, subst, subst₂, arith, ◌*◌}
+use Rattle.std.proofs.Common.{◌≡◌, ℕ, ◌<◌, pos, List, [], ◌∷◌, map, filter, length, length-set, refl, sym, ap, ◌∙◌, subst, subst₂, arith, ◌*◌}
 use Rattle.sqlite_value.specs.declared.value.Value.TheVariants.{Int, Blob}
 use Rattle.sqlite_value.specs.declared.keys.Collation.TheVariants.{Binary}
 use Rattle.sqlite_value.specs.Order.{Row, column}
 use Rattle.sqlite_trees.specs.declared.store.Store.{Ghosts}
-use Rattle.sqlite_sql.specs.Term.{Term, col, op2}
-use Rattle.sqlite_sql.specs.declared.ops.BinaryOp.TheVariants.{Compare}
-use Rattle.sqlite_sql.specs.declared.ops.CompareOp.TheVariants.{Eq}
+use Rattle.sqlite_sql.specs.Term.{Term, col}
 use Rattle.sqlite_schema.specs.Rules.{equal}
 use Rattle.sqlite.specs.Effect.{Database}
 use Rattle.cb_page.specs.Bounds.{Bounds}
@@ -25,8 +23,8 @@ use Rattle.cb_shelf_rows.proofs.Counting.{all_pass, tells_count}
 use Rattle.cb_shelf_rows.proofs.Lists.{filter_same}
 use Rattle.cb_shelf_rows.proofs.Marking.{one_mapped}
 use Rattle.cb_shelf_rows.proofs.Paging.{writes_batch}
-use Rattle.cb_shelf_rows.proofs.Selecting.{passes, told_row, tells_row}
-use Rattle.cb_shelf_rows.proofs.Texts.{marks_text, marks_get, marks_unlisted, version_text, version_get, version_unlisted, bytes_text, bytes_get, bytes_unlisted, pages_text, pages_get, pages_unlisted, parts_text, parts_get, parts_unlisted}
+use Rattle.cb_shelf_rows.proofs.Selecting.{one_test, two_tests, passes, told_row, tells_row}
+use Rattle.cb_shelf_rows.proofs.Texts.{by_page, by_place, marks_text, marks_get, marks_unlisted, version_text, version_get, version_unlisted, bytes_text, bytes_get, bytes_unlisted, pages_text, pages_get, pages_unlisted, parts_text, parts_get, parts_unlisted}
 
 abbrev version_of : ℕ → Statement
 version_of page = record { text = version_text; params = Int (pos page) ∷ [] }
@@ -34,18 +32,7 @@ version_of page = record { text = version_text; params = Int (pos page) ∷ [] }
 abbrev part_of : ℕ → ℕ → Statement
 part_of page place = record { text = bytes_text; params = Int (pos page) ∷ Int (pos place) ∷ [] }
 
-one_test : (x : Bool) → (x && true) ≡ x
-one_test true = refl
-one_test false = refl
-
-two_tests : (x y : Bool) → (x && (y && true)) ≡ (x && y)
-two_tests true y = one_test y
-two_tests false y = refl
-
 -- ---- the version of a page
-
-abbrev by_page : List Term
-by_page = op2 (Compare Eq Binary) (col 1 0) (col 0 0) ∷ []
 
 of_page : (db : Database) (page : ℕ) → filter (passes page_tree by_page (col 1 2 ∷ []) (Int (pos page) ∷ [])) (db.trees page_tree) ≡ page_rows db page
 of_page db page = filter_same _ _ (db.trees page_tree) (λ r here. one_test (is_of_page page r))
@@ -62,9 +49,6 @@ version_tells db after page before version has still h is =
     tells_row version_text page_tree by_page (col 1 2 ∷ []) _ version_get version_unlisted (Int (pos page) ∷ []) db after (number_values before) (number_values version) has still h r.0 (of_page after page ∙ r.1) (r.2, tt)
 
 -- ---- a part
-
-abbrev by_place : List Term
-by_place = op2 (Compare Eq Binary) (col 1 1) (col 0 0) ∷ op2 (Compare Eq Binary) (col 1 2) (col 0 1) ∷ []
 
 at_place : (db : Database) (page place : ℕ) → filter (passes part_tree by_place (col 1 3 ∷ []) (Int (pos page) ∷ Int (pos place) ∷ [])) (db.trees part_tree) ≡ part_rows db page place
 at_place db page place = filter_same _ _ (db.trees part_tree) (λ r here. two_tests (equal Binary (column r 1) (Int (pos page))) (equal Binary (column r 2) (Int (pos place))))

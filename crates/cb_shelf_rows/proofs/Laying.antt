@@ -22,6 +22,7 @@ use Rattle.sqlite.specs.Listing.{understood}
 use Rattle.sqlite.proofs.Callers.{runs_as, statement_of, one_step}
 use Rattle.cb_commit.specs.Stores.{StoreState, IsSound, no_page, version_at, bytes_at}
 use Rattle.cb_sql.specs.Statements.{Makes, MakesAll, part_at, part_count}
+use Rattle.cb_sql.specs.declared.writing.PageRows.TheVariants.{Absent}
 use Rattle.cb_shelf.specs.Opening.{stored_statements, first_pages, mark_row, laid, table_statements}
 use Rattle.cb_shelf_rows.specs.Tables.{schema, no_schema, mark_tree, page_tree, part_tree}
 use Rattle.cb_shelf_rows.specs.Rows.{IsShelf, is_of_page, is_at, page_rows, part_rows, mark_columns, SetsNumber, HasVersion, HasPart, HasStore, HasFullPages}
@@ -91,7 +92,7 @@ puts_pages g store [] before after shelf m = record {
 puts_pages g store (page ∷ pages) before after shelf m =
     let split = makes_split g (stored_statements store page) (flat_map (stored_statements store) pages) before after m in
     let mid = split.0 in
-    let p = puts_page g page (version_at store page) (bytes_at store page) before mid shelf split.1 in
+    let p = puts_page g Absent page (version_at store page) (bytes_at store page) before mid shelf tt (λ at low. tt) split.1 in
     let more = puts_pages g store pages mid after p.shelf split.2 in
     record {
       shelf = more.shelf;

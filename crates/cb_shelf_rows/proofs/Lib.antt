@@ -3,8 +3,9 @@
 -- Texts: what each text is to the schema of the tables.
 -- Replacing: what INSERT OR REPLACE of one row makes of a table.
 -- Equal: sQL's equality of a value and a number.
--- Putting: what the statements of a page make of the tables.
+-- Putting: what the statements that put a page in make of the tables.
 -- Selecting: what a question by a key answers, by the rows that have the key.
+-- Setting: what the statements of a page whose rows are there make of the tables.
 -- Marking: what the statement of a batch's number makes of the tables.
 -- Counting: what a question for a count answers.
 -- Paging: what the statements of a batch make of the tables, one page after another.
@@ -19,6 +20,7 @@ pub mod Replacing
 pub mod Equal
 pub mod Putting
 pub mod Selecting
+pub mod Setting
 pub mod Marking
 pub mod Counting
 pub mod Paging

@@ -13,12 +13,15 @@ use Rattle.cb_commit.specs.declared.batch.BatchPage.{BatchPage}
 use Rattle.cb_commit.specs.declared.store.StoredPage.{StoredPage}
 use Rattle.cb_commit.specs.Stores.{StoreState, IsOf, no_page, version_at, bytes_at}
 use Rattle.cb_commit.specs.Batches.{BatchState, overwritten, after_batch}
-use Rattle.cb_sql.specs.Statements.{Statement, Makes, MakesAll, part_at, part_count, part_statement, page_statements, statements_of, pages_statements, mark_statement, batch_statements}
+use Rattle.cb_sql.specs.Statements.{Statement, Makes, MakesAll, part_at, part_count, page_statement, part_statement, page_statements, statements_of, pages_statements, mark_statement, batch_statements}
+use Rattle.cb_sql.specs.declared.writing.PageRows.{PageRows}
+use Rattle.cb_sql.specs.declared.writing.PageRows.TheVariants.{Absent, Present}
 use Rattle.cb_sql.specs.Writing.{IsOfSize, Fits}
 use Rattle.cb_shelf_rows.specs.Tables.{mark_tree, page_tree, part_tree}
 use Rattle.cb_shelf_rows.specs.Rows.{IsShelf, is_of_page, is_at, page_rows, part_rows, PutsPart, mark_columns, IsMarked, HasVersion, HasPart, HasStore, IsAsLarge}
 use Rattle.cb_shelf_rows.proofs.Marking.{mark_sets, one_mapped}
 use Rattle.cb_shelf_rows.proofs.Putting.{page_puts, part_puts}
+use Rattle.cb_shelf_rows.proofs.Setting.{page_sets, part_sets}
 
 pub same_or_not : (m n : ℕ) → (m ≡ n) ⊎ (m ≢ n)
 same_or_not zero zero = inl refl
@@ -49,7 +52,43 @@ makes_split g (x ∷ xs) ys before after m = let rest = makes_split g xs ys m.0 
 one_long : {X Y : Type 0} (f : X → Y) (xs : List X) (y : Y) → map f xs ≡ y ∷ [] → length xs ≡ 1
 one_long f xs y e = ap length (one_mapped f xs y e).1
 
+-- ---- the version of a page
+
+-- a page that is to be set has one row
+abbrev pub MayPutVersion : PageRows → Database → ℕ → Type 0
+MayPutVersion Absent db page = Unit {0}
+MayPutVersion Present db page = (old : ℕ) × HasVersion db page old
+
+record PutsVersionBy (page version : ℕ) (before after : Database) : Type 0 where
+  shelf : IsShelf after
+  put : HasVersion after page version
+  others : (other : ℕ) → other ≢ page → page_rows after other ≡ page_rows before other
+  count : length (page_rows before page) ≡ 1 → length (after.trees page_tree) ≡ length (before.trees page_tree)
+  marks : after.trees mark_tree ≡ before.trees mark_tree
+  parts : after.trees part_tree ≡ before.trees part_tree
+
+puts_version : {S : Type 0} (g : Ghosts S) (rows : PageRows) (before after : Database) (page version : ℕ) → IsShelf before → MayPutVersion rows before page → Makes g (page_statement rows page version) before after → PutsVersionBy page version before after
+puts_version g Absent before after page version shelf may m =
+    let p = page_puts g before after page version shelf m in
+    record { shelf = p.shelf; put = ap (map (λ (r : Row). column r 2)) p.put; others = p.others; count = λ one. omega (arith, p.count, one); marks = p.marks; parts = p.parts }
+puts_version g Present before after page version shelf may m =
+    let p = page_sets g before after page may.0 version shelf may.1 m in
+    record { shelf = p.shelf; put = p.put; others = p.others; count = λ one. p.count; marks = p.marks; parts = p.parts }
+
 -- ---- the parts of a page
+
+-- a part that is to be set has one row
+abbrev pub MayPutPart : PageRows → Database → ℕ → ℕ → Type 0
+MayPutPart Absent db page place = Unit {0}
+MayPutPart Present db page place = (old : List ℕ) × HasPart db page place old
+
+may_still : (rows : PageRows) (a b : Database) (page place : ℕ) → part_rows b page place ≡ part_rows a page place → MayPutPart rows a page place → MayPutPart rows b page place
+may_still Absent a b page place same may = tt
+may_still Present a b page place same may = (may.0, ap (map (λ (r : Row). column r 3)) same ∙ may.1)
+
+may_now : (rows : PageRows) (db : Database) (page place : ℕ) (bytes : List ℕ) → HasPart db page place bytes → MayPutPart rows db page place
+may_now Absent db page place bytes has = tt
+may_now Present db page place bytes has = (bytes, has)
 
 bytes_in : (r : Row) (a b c : Value) → drop 1 r ≡ a ∷ b ∷ c ∷ [] → column r 3 ≡ c
 bytes_in [] a b c e = absurd cc
@@ -60,6 +99,23 @@ part_there page place bytes before after p =
     let one = one_mapped (drop 1) (part_rows after page place) _ p.put in
     ap (map (λ (r : Row). column r 3)) one.1 ∙ ap (λ v. v ∷ []) (bytes_in one.0 _ _ _ one.2)
 
+record PutsPartBy (page place : ℕ) (bytes : List ℕ) (before after : Database) : Type 0 where
+  shelf : IsShelf after
+  put : HasPart after page place bytes
+  others : (other at : ℕ) → (other ≢ page) ⊎ (at ≢ place) → part_rows after other at ≡ part_rows before other at
+  count : length (part_rows before page place) ≡ 1 → length (after.trees part_tree) ≡ length (before.trees part_tree)
+  marks : after.trees mark_tree ≡ before.trees mark_tree
+  pages : after.trees page_tree ≡ before.trees page_tree
+
+puts_part : {S : Type 0} (g : Ghosts S) (rows : PageRows) (before after : Database) (page place : ℕ) (bytes : List ℕ) → IsShelf before → MayPutPart rows before page place → Makes g (part_statement rows page bytes place) before after
+    → PutsPartBy page place (part_at bytes place) before after
+puts_part g Absent before after page place bytes shelf may m =
+    let p = part_puts g before after page place bytes shelf m in
+    record { shelf = p.shelf; put = part_there page place (part_at bytes place) before after p; others = p.others; count = λ one. omega (arith, p.count, one); marks = p.marks; pages = p.pages }
+puts_part g Present before after page place bytes shelf may m =
+    let p = part_sets g before after page place may.0 bytes shelf may.1 m in
+    record { shelf = p.shelf; put = p.put; others = p.others; count = λ one. p.count; marks = p.marks; pages = p.pages }
+
 record PutsParts (page : ℕ) (bytes : List ℕ) (places : List ℕ) (before after : Database) : Type 0 where
   shelf : IsShelf after
   put : (at : ℕ) → Has places at → HasPart after page at (part_at bytes at)
@@ -68,8 +124,9 @@ record PutsParts (page : ℕ) (bytes : List ℕ) (places : List ℕ) (before aft
   marks : after.trees mark_tree ≡ before.trees mark_tree
   versions : after.trees page_tree ≡ before.trees page_tree
 
-puts_parts : {S : Type 0} (g : Ghosts S) (page : ℕ) (bytes places : List ℕ) (before after : Database) → IsShelf before → MakesAll g (map (part_statement page bytes) places) before after → PutsParts page bytes places before after
-puts_parts g page bytes [] before after shelf m = record {
+puts_parts : {S : Type 0} (g : Ghosts S) (rows : PageRows) (page : ℕ) (bytes places : List ℕ) (before after : Database) → IsShelf before → ((at : ℕ) → Has places at → MayPutPart rows before page at)
+    → MakesAll g (map (part_statement rows page bytes) places) before after → PutsParts page bytes places before after
+puts_parts g rows page bytes [] before after shelf may m = record {
   shelf = subst IsShelf m shelf;
   put = λ at h. absurd h;
   others = λ other at apart. ap (λ (d : Database). part_rows d other at) (sym m);
@@ -77,11 +134,15 @@ puts_parts g page bytes [] before after shelf m = record {
   marks = ap (λ (d : Database). d.trees mark_tree) (sym m);
   versions = ap (λ (d : Database). d.trees page_tree) (sym m);
 }
-puts_parts g page bytes (place ∷ places) before after shelf m =
+puts_parts g rows page bytes (place ∷ places) before after shelf may m =
     let mid = m.0 in
-    let one = part_puts g before mid page place bytes shelf m.1 in
-    let more = puts_parts g page bytes places mid after one.shelf m.2 in
-    let there = part_there page place (part_at bytes place) before mid one in
+    let one = puts_part g rows before mid page place bytes shelf (may place (inl refl)) m.1 in
+    let there = one.put in
+    let may_more : (at : ℕ) → Has places at → MayPutPart rows mid page at = λ at h. elim (same_or_not at place) [
+      | inl e ↦ subst (MayPutPart rows mid page) (sym e) (may_now rows mid page place (part_at bytes place) there)
+      | inr apart ↦ may_still rows before mid page at (one.others page at (inr apart)) (may at (inr h))
+    ] in
+    let more = puts_parts g rows page bytes places mid after one.shelf may_more m.2 in
     record {
       shelf = more.shelf;
       put = λ at h. elim h [
@@ -97,7 +158,7 @@ puts_parts g page bytes (place ∷ places) before after shelf m =
         | inr none ↦ more.others other at (inr (λ h. none (inr h))) ∙ one.others other at (inr (λ e. none (inl e)))
       ];
       count = λ ones.
-          let same : length (mid.trees part_tree) ≡ length (before.trees part_tree) = omega (arith, one.count, ones place (inl refl)) in
+          let same = one.count (ones place (inl refl)) in
           more.count (λ at h. elim (same_or_not at place) [
             | inl e ↦ subst (λ k. length (part_rows mid page k) ≡ 1) (sym e) (one_long (λ (r : Row). column r 3) (part_rows mid page place) _ there)
             | inr apart ↦ ap length (one.others page at (inr apart)) ∙ ones at (inr h)
@@ -118,19 +179,21 @@ pub record PutsPage (page version : ℕ) (bytes : List ℕ) (before after : Data
   pub parts_count : ((at : ℕ) → at < part_count (length bytes) → length (part_rows before page at) ≡ 1) → length (after.trees part_tree) ≡ length (before.trees part_tree)
   pub marks : after.trees mark_tree ≡ before.trees mark_tree
 
-pub puts_page : {S : Type 0} (g : Ghosts S) (page version : ℕ) (bytes : List ℕ) (before after : Database) → IsShelf before → MakesAll g (page_statements page version bytes) before after → PutsPage page version bytes before after
-puts_page g page version bytes before after shelf m =
+pub puts_page : {S : Type 0} (g : Ghosts S) (rows : PageRows) (page version : ℕ) (bytes : List ℕ) (before after : Database) → IsShelf before → MayPutVersion rows before page
+    → ((at : ℕ) → at < part_count (length bytes) → MayPutPart rows before page at) → MakesAll g (page_statements rows page version bytes) before after → PutsPage page version bytes before after
+puts_page g rows page version bytes before after shelf may may_parts m =
     let mid = m.0 in
     let n = part_count (length bytes) in
-    let one = page_puts g before mid page version shelf m.1 in
-    let more = puts_parts g page bytes (range_with_len 0 n) mid after one.shelf m.2 in
+    let one = puts_version g rows before mid page version shelf may m.1 in
+    let each : (at : ℕ) → Has (range_with_len 0 n) at → MayPutPart rows mid page at = λ at h. may_still rows before mid page at (ap (filter (is_at page at)) one.parts) (may_parts at (omega (arith, of_range n 0 at h))) in
+    let more = puts_parts g rows page bytes (range_with_len 0 n) mid after one.shelf each m.2 in
     record {
       shelf = more.shelf;
-      put = ap (λ l. map (λ (r : Row). column r 2) (filter (is_of_page page) l)) more.versions ∙ ap (map (λ (r : Row). column r 2)) one.put;
+      put = ap (λ l. map (λ (r : Row). column r 2) (filter (is_of_page page) l)) more.versions ∙ one.put;
       parts = λ at low. more.put at (in_range n 0 at (omega arith) (omega (arith, low)));
       other_versions = λ other apart. ap (filter (is_of_page other)) more.versions ∙ one.others other apart;
       other_parts = λ other at apart. more.others other at (inl apart) ∙ ap (filter (is_at other at)) one.parts;
-      count = λ is. ap length more.versions ∙ omega (arith, one.count, is);
+      count = λ is. ap length more.versions ∙ one.count is;
       parts_count = λ ones.
           more.count (λ at h. ap (λ l. length (filter (is_at page at) l)) one.parts ∙ ones at (omega (arith, of_range n 0 at h))) ∙ ap length one.parts;
       marks = more.marks ∙ one.marks;
@@ -148,9 +211,10 @@ with_page store w = record store { pages = set store.pages w.page (record { vers
 writes_page : {S : Type 0} (g : Ghosts S) (limits : Bounds) (store : StoreState) (w : BatchPage) (before after : Database) → IsOf limits store → IsOfSize limits w → HasStore before store
     → MakesAll g (statements_of w) before after → HasStore after (with_page store w) × IsAsLarge before after
 writes_page g limits store w before after of fits has m =
-    let p = puts_page g w.page w.version w.bytes before after has.shelf m in
     let low : w.page < length store.pages = omega (arith, fits.page, of.count) in
     let size : length w.bytes ≡ store.page_size = fits.bytes ∙ sym of.page_size in
+    let has_part : (at : ℕ) → at < part_count (length w.bytes) → HasPart before w.page at (part_at (bytes_at store w.page) at) = λ at within. has.parts w.page at low (subst (λ n. at < part_count n) size within) in
+    let p = puts_page g Present w.page w.version w.bytes before after has.shelf (version_at store w.page, has.versions w.page low) (λ at within. (part_at (bytes_at store w.page) at, has_part at within)) m in
     let long = length-set store.pages w.page (record { version = w.version; bytes = w.bytes }) in
     let now : StoredPage = record { version = w.version; bytes = w.bytes } in
     let here : get_or (with_page store w).pages w.page no_page ≡ now = get_or-set_same store.pages w.page now no_page low in
@@ -175,7 +239,7 @@ writes_page g limits store w before after of fits has m =
       },
       record {
         versions = p.count (one_long (λ (r : Row). column r 2) (page_rows before w.page) _ (has.versions w.page low));
-        parts = p.parts_count (λ at within. one_long (λ (r : Row). column r 3) (part_rows before w.page at) _ (has.parts w.page at low (subst (λ n. at < part_count n) size within)));
+        parts = p.parts_count (λ at within. one_long (λ (r : Row). column r 3) (part_rows before w.page at) _ (has_part at within));
       },
     )
 

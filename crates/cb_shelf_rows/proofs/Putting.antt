@@ -1,4 +1,4 @@
--- What the statements of a page make of the tables.
+-- What the statements that put a page in make of the tables.
 use Rattle.std.proofs.Common.{◌≡◌, ◌≢◌, ◌⊎◌, inl, inr, ℕ, ℤ, pos, Bool, true, false, not, ◌&&◌, ◌||◌, List, [], ◌∷◌, drop, map, None, Ok, refl, sym, ap, ◌∙◌, subst, subst₂, arith, true≢false}
 use Rattle.std.specs.Ordering.{is_eq}
 use Rattle.std.proofs.lemmas.Bool.{false_from_ne_true, and_parts, and_from}
@@ -32,6 +32,7 @@ use Rattle.sqlite.specs.Held.{state}
 use Rattle.sqlite.specs.Listing.{understood}
 use Rattle.sqlite.proofs.Callers.{runs_as, statement_of}
 use Rattle.cb_sql.specs.Statements.{Makes, page_statement, part_statement, part_at}
+use Rattle.cb_sql.specs.declared.writing.PageRows.TheVariants.{Absent}
 use Rattle.cb_shelf_rows.specs.Tables as tables
 use Rattle.cb_shelf_rows.specs.Tables.{schema, mark_tree, page_tree, part_tree}
 use Rattle.cb_shelf_rows.specs.Rows.{IsShelf, is_of_page, is_at, PutsVersion, PutsPart}
@@ -102,7 +103,7 @@ page_executes old new count page version shelf h =
       parts = parts;
     }
 
-pub page_puts : {S : Type 0} (g : Ghosts S) (before after : Database) (page version : ℕ) → IsShelf before → Makes g (page_statement page version) before after → PutsVersion page version before after
+pub page_puts : {S : Type 0} (g : Ghosts S) (before after : Database) (page version : ℕ) → IsShelf before → Makes g (page_statement Absent page version) before after → PutsVersion page version before after
 page_puts g before after page version shelf m =
     subst₂ (PutsVersion page version) m.starts m.ends (page_executes (state g m.from) (state g m.to) m.count page version (subst IsShelf (sym m.starts) shelf) m.runs)
 
@@ -183,7 +184,7 @@ part_executes old new count page place bytes shelf h =
     apart_at page place other at (inl apart) same there = apart (sym same)
     apart_at page place other at (inr apart) same there = apart (sym there)
 
-pub part_puts : {S : Type 0} (g : Ghosts S) (before after : Database) (page place : ℕ) (bytes : List ℕ) → IsShelf before → Makes g (part_statement page bytes place) before after
+pub part_puts : {S : Type 0} (g : Ghosts S) (before after : Database) (page place : ℕ) (bytes : List ℕ) → IsShelf before → Makes g (part_statement Absent page bytes place) before after
     → PutsPart page place (part_at bytes place) before after
 part_puts g before after page place bytes shelf m =
     subst₂ (PutsPart page place (part_at bytes place)) m.starts m.ends

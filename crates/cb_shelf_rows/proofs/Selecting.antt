@@ -1,5 +1,5 @@
 -- What a question by a key answers, by the rows that have the key.
-use Rattle.std.proofs.Common.{◌≡◌, ℕ, Bool, true, false, cond, List, [], ◌∷◌, ◌++◌, length, map, filter, flat_map, None, refl, sym, ap, ◌∙◌, subst, subst₂, arith, slice_get, nat_le, ◌^◌, ◌-◌, unwrap_or, IsPermutation}
+use Rattle.std.proofs.Common.{◌≡◌, ℕ, Bool, true, false, ◌&&◌, cond, List, [], ◌∷◌, ◌++◌, length, map, filter, flat_map, None, refl, sym, ap, ◌∙◌, subst, subst₂, arith, slice_get, nat_le, ◌^◌, ◌-◌, unwrap_or, IsPermutation}
 use Rattle.std.specs.List.{list_all}
 use Rattle.std.proofs.lemmas.List.{length-map}
 use Rattle.std.proofs.lemmas.List.Sorted.{length_permutation, IsPermutation-refl}
@@ -50,6 +50,14 @@ module _ (text : List ℕ) (q : Query) (names : List (List ℕ)) (is : command_o
       }
 
 -- ---- the rows that pass a test
+
+pub one_test : (x : Bool) → (x && true) ≡ x
+one_test true = refl
+one_test false = refl
+
+pub two_tests : (x y : Bool) → (x && (y && true)) ≡ (x && y)
+two_tests true y = one_test y
+two_tests false y = refl
 
 no_table : (b : Bool) (k : ℕ) (rows : List Row) → unwrap_or (cond b (slice_get [] k) None) rows ≡ rows
 no_table true k rows = refl

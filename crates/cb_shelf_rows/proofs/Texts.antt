@@ -14,7 +14,8 @@ use Rattle.sqlite_schema.specs.declared.command.Conflict.TheVariants.{Replace}
 use Rattle.sqlite_schema.specs.declared.command.Source.TheVariants.{Values}
 use Rattle.sqlite.specs.Listing.{understood, reads_listing}
 use Rattle.sqlite.proofs.Callers.{IsPlain, command_of}
-use Rattle.cb_sql.specs.Statements.{page_statement, part_statement, mark_statement}
+use Rattle.cb_sql.specs.Statements.{put_version_text, put_part_text, mark_statement}
+use Rattle.cb_sql.specs.declared.writing.PageRows.TheVariants.{Absent, Present}
 use Rattle.cb_shelf_rows.specs.Tables.{schema}
 
 -- ---- a page's version is put
@@ -23,7 +24,7 @@ abbrev pub page_terms : List Term
 page_terms = col 0 0 ∷ lit Null ∷ col 0 1 ∷ []
 
 abbrev pub page_text : List ℕ
-page_text = (page_statement 0 0).text
+page_text = put_version_text Absent
 
 pub page_put : command_of (understood schema page_text) ≡ InsertOr 1 Replace (Values page_terms 3) []
 unfolding understood everything
@@ -39,7 +40,7 @@ abbrev pub part_terms : List Term
 part_terms = lit Null ∷ col 0 0 ∷ col 0 1 ∷ col 0 2 ∷ []
 
 abbrev pub part_text : List ℕ
-part_text = (part_statement 0 [] 0).text
+part_text = put_part_text Absent
 
 pub part_put : command_of (understood schema part_text) ≡ InsertOr 2 Replace (Values part_terms 4) []
 unfolding understood everything
@@ -48,11 +49,6 @@ part_put = refl
 pub part_plain : IsPlain (understood schema part_text)
 unfolding understood everything
 part_plain = (refl, refl)
-
--- ---- the number is set
-
-abbrev pub mark_text : List ℕ
-mark_text = (mark_statement 0).text
 
 -- the rows of a table that pass a test, with these columns
 abbrev pub select : ℕ → List Term → List Term → Query
@@ -67,6 +63,49 @@ select tree filter project = record {
   limit = lit (Int (negsuc 0));
   offset = lit (Int (pos 0));
 }
+
+-- ---- a page that has its rows is set
+
+abbrev pub set_page_text : List ℕ
+set_page_text = put_version_text Present
+
+-- by the first parameter
+abbrev pub by_page : List Term
+by_page = op2 (Compare Eq Binary) (col 1 0) (col 0 0) ∷ []
+
+abbrev pub set_page_terms : List Term
+set_page_terms = col 1 0 ∷ col 1 0 ∷ lit Null ∷ col 0 1 ∷ []
+
+pub set_page_put : command_of (understood schema set_page_text) ≡ Update 1 (record { lets = []; body = select 1 by_page set_page_terms })
+unfolding understood everything
+set_page_put = refl
+
+pub set_page_plain : IsPlain (understood schema set_page_text)
+unfolding understood everything
+set_page_plain = (refl, refl)
+
+abbrev pub set_part_text : List ℕ
+set_part_text = put_part_text Present
+
+-- by the first two parameters
+abbrev pub by_place : List Term
+by_place = op2 (Compare Eq Binary) (col 1 1) (col 0 0) ∷ op2 (Compare Eq Binary) (col 1 2) (col 0 1) ∷ []
+
+abbrev pub set_part_terms : List Term
+set_part_terms = col 1 0 ∷ col 1 0 ∷ col 1 1 ∷ col 1 2 ∷ col 0 2 ∷ []
+
+pub set_part_put : command_of (understood schema set_part_text) ≡ Update 2 (record { lets = []; body = select 2 by_place set_part_terms })
+unfolding understood everything
+set_part_put = refl
+
+pub set_part_plain : IsPlain (understood schema set_part_text)
+unfolding understood everything
+set_part_plain = (refl, refl)
+
+-- ---- the number is set
+
+abbrev pub mark_text : List ℕ
+mark_text = (mark_statement 0).text
 
 abbrev pub mark_query : Query
 mark_query = select 0 (op2 (Compare Eq Binary) (col 1 0) (lit (Int (pos 1))) ∷ []) (col 1 0 ∷ col 1 0 ∷ lit Null ∷ col 0 0 ∷ col 1 3 ∷ col 1 4 ∷ [])

@@ -7,12 +7,14 @@ use Rattle.cb_commit.specs.Stores.{StoreState, IsOf, IsSound, zeros}
 use Rattle.cb_commit.specs.Batches.{BatchState, after_batch}
 use Rattle.cb_sql.specs.Statements.{Makes, MakesAll, page_statement, part_statement}
 use Rattle.cb_sql.specs.Statements.{mark_statement, batch_statements, part_at}
+use Rattle.cb_sql.specs.declared.writing.PageRows.TheVariants.{Absent, Present}
 use Rattle.cb_sql.specs.Writing.{Fits}
 use Rattle.cb_shelf.specs.Newer.{HoldsNewer}
 use Rattle.cb_shelf.specs.Opening.{laid, table_statements, LaysOut}
 use Rattle.cb_shelf_rows.specs.Tables.{no_schema}
 use Rattle.cb_shelf_rows.specs.Rows.{IsShelf, PutsVersion, PutsPart, SetsNumber, IsMarked, HasStore}
-use Rattle.cb_shelf_rows.specs.Rows.{HasFullPages, IsAsLarge, HasNoRows}
+use Rattle.cb_shelf_rows.specs.Rows.{HasFullPages, IsAsLarge, HasNoRows, HasVersion, HasPart}
+use Rattle.cb_shelf_rows.specs.Rows.{SetsVersion, SetsPart}
 
 -- What a shelf does to tables that it made: it opens them again, or it writes a batch.
 pub data Step : Type 0 where
@@ -50,16 +52,29 @@ module _ {S : Type 0} (g : Ghosts S) where
       → before.schema ≡ no_schema → MakesAll g (laid store false) before after
       → HasStore after store
 
-  -- the statement of a page's version
+  -- the statement that puts the version of a page in
   abbrev pub VersionsArePut : Type 0
   VersionsArePut = (before after : Database) (page version : ℕ) → IsShelf before
-      → Makes g (page_statement page version) before after → PutsVersion page version before after
+      → Makes g (page_statement Absent page version) before after → PutsVersion page version before after
 
-  -- the statement of one part of a page
+  -- the statement that puts one part of a page in
   abbrev pub PartsArePut : Type 0
   PartsArePut = (before after : Database) (page place : ℕ) (bytes : List ℕ) → IsShelf before
-      → Makes g (part_statement page bytes place) before after
+      → Makes g (part_statement Absent page bytes place) before after
       → PutsPart page place (part_at bytes place) before after
+
+  -- the statement that sets the version of a page which has a row
+  abbrev pub VersionsAreSet : Type 0
+  VersionsAreSet = (before after : Database) (page old version : ℕ) → IsShelf before
+      → HasVersion before page old → Makes g (page_statement Present page version) before after
+      → SetsVersion page version before after
+
+  -- the statement that sets a part of a page which has a row
+  abbrev pub PartsAreSet : Type 0
+  PartsAreSet = (before after : Database) (page place : ℕ) (old bytes : List ℕ) → IsShelf before
+      → HasPart before page place old
+      → Makes g (part_statement Present page bytes place) before after
+      → SetsPart page place (part_at bytes place) before after
 
   -- the statement of the last commit's number
   abbrev pub NumbersAreSet : Type 0

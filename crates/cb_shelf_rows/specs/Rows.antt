@@ -89,6 +89,26 @@ abbrev pub HasPart : Database → ℕ → ℕ → List ℕ → Type 0
 HasPart db page place bytes =
     map (λ row. column row 3) (part_rows db page place) ≡ Blob bytes ∷ []
 
+-- The page has one row, with the version. Each other page has the rows that it had, and so have the
+-- other tables; there are as many rows as before.
+pub record SetsVersion (page version : ℕ) (before after : Database) : Type 0 where
+  pub shelf : IsShelf after
+  pub put : HasVersion after page version
+  pub others : (other : ℕ) → other ≢ page → page_rows after other ≡ page_rows before other
+  pub count : length (after.trees page_tree) ≡ length (before.trees page_tree)
+  pub marks : after.trees mark_tree ≡ before.trees mark_tree
+  pub parts : after.trees part_tree ≡ before.trees part_tree
+
+-- The same of a part: the page and the place have one row, with the bytes.
+pub record SetsPart (page place : ℕ) (bytes : List ℕ) (before after : Database) : Type 0 where
+  pub shelf : IsShelf after
+  pub put : HasPart after page place bytes
+  pub others : (other at : ℕ) → (other ≢ page) ⊎ (at ≢ place)
+      → part_rows after other at ≡ part_rows before other at
+  pub count : length (after.trees part_tree) ≡ length (before.trees part_tree)
+  pub marks : after.trees mark_tree ≡ before.trees mark_tree
+  pub pages : after.trees page_tree ≡ before.trees page_tree
+
 -- the rows of the tables are those of a store
 pub record HasStore (db : Database) (store : StoreState) : Type 0 where
   pub shelf : IsShelf db

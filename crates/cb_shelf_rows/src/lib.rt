@@ -11,7 +11,7 @@
 #![tactic(auto)]
 
 ghost use Rattle.cb_shelf_rows.specs.Laws.{StoresAreLaid, VersionsArePut, PartsArePut};
-ghost use Rattle.cb_shelf_rows.specs.Laws.{NumbersAreSet};
+ghost use Rattle.cb_shelf_rows.specs.Laws.{VersionsAreSet, PartsAreSet, NumbersAreSet};
 ghost use Rattle.cb_shelf_rows.specs.Laws.{BatchesAreWritten, BatchesAreHeld, TablesAreMade};
 ghost use Rattle.cb_shelf_rows.specs.Laws.{AnswersAreTheRows, FirstLoadsAreZeros};
 ghost use Rattle.cb_shelf_rows.specs.Laws.{LoadsFollowBatches};
@@ -29,16 +29,28 @@ pub fn stores_are_laid<S: Alter>()
     ensures law { StoresAreLaid S.Store }
 {}
 
-/// The statement of a page's version puts one row with it in the place of those that the page had.
-/// Each other page keeps its rows, and so do the other tables.
+/// The statement that puts a page's version in puts one row with it in the place of those that the
+/// page had. Each other page keeps its rows, and so do the other tables.
 pub fn versions_are_put<S: Alter>()
     ensures law { VersionsArePut S.Store }
 {}
 
-/// The statement of a part puts one row with its bytes in the place of those that the page had
-/// there. Each other part keeps its rows, and so do the other tables.
+/// The statement that puts a part in puts one row with its bytes in the place of those that the
+/// page had there. Each other part keeps its rows, and so do the other tables.
 pub fn parts_are_put<S: Alter>()
     ensures law { PartsArePut S.Store }
+{}
+
+/// Where a page has a row, the statement that sets its version sets it there. Each other page keeps
+/// its rows, and so do the other tables.
+pub fn versions_are_set<S: Alter>()
+    ensures law { VersionsAreSet S.Store }
+{}
+
+/// Where a page has a row at a place, the statement that sets the part sets its bytes there. Each
+/// other part keeps its rows, and so do the other tables.
+pub fn parts_are_set<S: Alter>()
+    ensures law { PartsAreSet S.Store }
 {}
 
 /// The statement of the number sets it in the row of the mark, and nothing else.

@@ -10,6 +10,8 @@ use Rattle.sqlite.specs.State.{Executes}
 use Rattle.sqlite.specs.Held.{Held, state}
 use Rattle.cb_commit.specs.declared.batch.BatchPage.{BatchPage}
 use Rattle.cb_commit.specs.Batches.{BatchState}
+use Rattle.cb_sql.specs.declared.writing.PageRows.{PageRows}
+use Rattle.cb_sql.specs.declared.writing.PageRows.TheVariants.{Absent, Present}
 
 -- a text of SQL with its parameters
 pub record Statement : Type 0 where
@@ -40,32 +42,43 @@ part_count size = size / 4096 + (if size % 4096 == 0 then 0 else 1)
 abbrev pub part_at : List ℕ → ℕ → List ℕ
 part_at bytes place = slice_range bytes (place * 4096) (min (place * 4096 + 4096) (length bytes))
 
+-- puts the row of a page's version in, or sets it where it is there
+abbrev pub put_version_text : PageRows → List ℕ
+put_version_text Absent = codes "INSERT OR REPLACE INTO page2 (no, version) VALUES (?1, ?2)"
+put_version_text Present = codes "UPDATE page2 SET version = ?2 WHERE no = ?1"
+
+-- the same of the row of a part
+abbrev pub put_part_text : PageRows → List ℕ
+put_part_text Absent = codes "INSERT OR REPLACE INTO part (no, place, body) VALUES (?1, ?2, ?3)"
+put_part_text Present = codes "UPDATE part SET body = ?3 WHERE no = ?1 AND place = ?2"
+
 -- sets the version of a page
-abbrev pub page_statement : ℕ → ℕ → Statement
-page_statement page version = record {
-  text = codes "INSERT OR REPLACE INTO page2 (no, version) VALUES (?1, ?2)";
+abbrev pub page_statement : PageRows → ℕ → ℕ → Statement
+page_statement rows page version = record {
+  text = put_version_text rows;
   params = Int (pos page) ∷ Int (pos version) ∷ [];
 }
 
 -- sets one part of a page
-abbrev pub part_statement : ℕ → List ℕ → ℕ → Statement
-part_statement page bytes place = record {
-  text = codes "INSERT OR REPLACE INTO part (no, place, body) VALUES (?1, ?2, ?3)";
+abbrev pub part_statement : PageRows → ℕ → List ℕ → ℕ → Statement
+part_statement rows page bytes place = record {
+  text = put_part_text rows;
   params = Int (pos page) ∷ Int (pos place) ∷ Blob (part_at bytes place) ∷ [];
 }
 
 -- sets the first parts of a page, so many
-abbrev pub part_statements : ℕ → List ℕ → ℕ → List Statement
-part_statements page bytes count = map (part_statement page bytes) (range_with_len 0 count)
+abbrev pub part_statements : PageRows → ℕ → List ℕ → ℕ → List Statement
+part_statements rows page bytes count =
+    map (part_statement rows page bytes) (range_with_len 0 count)
 
 -- sets a page: its version, then each of its parts
-abbrev pub page_statements : ℕ → ℕ → List ℕ → List Statement
-page_statements page version bytes =
-    page_statement page version ∷ part_statements page bytes (part_count (length bytes))
+abbrev pub page_statements : PageRows → ℕ → ℕ → List ℕ → List Statement
+page_statements rows page version bytes =
+    page_statement rows page version ∷ part_statements rows page bytes (part_count (length bytes))
 
--- sets a page of a batch
+-- sets a page of a batch, whose rows are there
 abbrev pub statements_of : BatchPage → List Statement
-statements_of page = page_statements page.page page.version page.bytes
+statements_of page = page_statements Present page.page page.version page.bytes
 
 -- sets pages of a batch, one after the other
 abbrev pub pages_statements : List BatchPage → List Statement

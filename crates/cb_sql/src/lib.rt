@@ -12,4 +12,4 @@ mod writing;
 
 pub use fault::ShelfFault;
 pub use step::{ask, is_there, run};
-pub use writing::{PART, fits, part_count, put_mark, put_page, put_pages};
+pub use writing::{PART, PageRows, fits, part_count, put_mark, put_page, put_pages};

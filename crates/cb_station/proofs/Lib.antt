@@ -5,6 +5,7 @@
 -- Following: a hand and what is stored of it, through several changes.
 -- PagesRead: what a commit reads and writes, page by page.
 -- Receiving: what a grant whose row stands makes of the hand.
+-- Remembering: as many entries of the history are forgotten as commits.
 -- Stations: what holds of every station holds after each call.
 -- Calls: what holds of every station holds after each call, by what the call did.
 -- Admitting: what a commit is answered, by why it is refused or that it is allowed.
@@ -14,6 +15,7 @@ pub mod Keeping
 pub mod Following
 pub mod PagesRead
 pub mod Receiving
+pub mod Remembering
 pub mod Stations
 pub mod Calls
 pub mod Admitting

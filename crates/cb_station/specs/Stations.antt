@@ -1,5 +1,6 @@
 -- A station as the owner of it sees it, and what holds of every station whenever nobody has it.
-use Rattle.std.specs.Prelude.{◌≡◌, ◌<◌, ℕ, true, false, List, length, reverse, Option, Some, IsSome}
+use Rattle.std.specs.Prelude.{◌≡◌, ◌<◌, ℕ, true, false, List, drop, length, reverse, Option, Some}
+use Rattle.std.specs.Prelude.{IsSome}
 use Rattle.cb_hands.specs.Agreement.{Agrees}
 use Rattle.cb_mailboxes.specs.Dispatching as dispatching
 use Rattle.cb_mailboxes.specs.Dispatching.{DispatcherState}
@@ -13,7 +14,7 @@ use Rattle.cb_station.specs.declared.station.flags.Flags.{Flags}
 use Rattle.cb_page.specs.Flags.{has}
 use Rattle.cb_protocol.specs.Server.{Server}
 use Rattle.cb_protocol.specs.World.{Opening}
-use Rattle.cb_server.specs.ServerValue.{IsServer, opening_at}
+use Rattle.cb_server.specs.ServerValue.{IsServer, commits_of, opening_at}
 
 -- the server with its mailboxes, what is stored of each client's hand, the history of commits, the
 -- first one first, and what the threads that share it tell each other
@@ -29,6 +30,19 @@ server_of station = dispatching.server_of station.dispatcher
 
 abbrev pub opening_of : StationState → Opening
 opening_of station = opening_at station.dispatcher.server
+
+-- how many commits were forgotten, and their entries with them
+abbrev pub forgotten_in : StationState → ℕ
+forgotten_in station = (commits_of station.dispatcher.server).forgotten
+
+-- the entries of the history that weren't forgotten, the first one first
+abbrev pub remembered : StationState → List Entry
+remembered station = drop (forgotten_in station) station.history
+
+-- the commits up to a number are forgotten, and their entries with them
+abbrev pub forgot : StationState → ℕ → StationState
+forgot station number =
+    record station { dispatcher = dispatching.forgot station.dispatcher number }
 
 -- what is to be sent to a client, the oldest frame first
 abbrev pub mailbox_of : StationState → (client : ℕ) → List Frame

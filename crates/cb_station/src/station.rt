@@ -1,6 +1,6 @@
 //! The type, its opening, and what it shows.
-ghost use Rattle.std.specs.Prelude.{◌≡◌, ◌≢◌, ◌↔◌, ◌<◌, ℕ, [], true, false, IfErr, IfOk, IfSome};
-ghost use Rattle.std.specs.Prelude.{IsTrue, None, OnOk, Ok, replicate};
+ghost use Rattle.std.specs.Prelude.{◌≡◌, ◌≢◌, ◌↔◌, ◌<◌, ◌≤◌, ℕ, [], true, false, IfErr, IfOk};
+ghost use Rattle.std.specs.Prelude.{IfSome, IsTrue, None, OnOk, Ok, replicate};
 ghost use Rattle.std.specs.Option.{option_map};
 ghost use Rattle.cb_hands.specs.Agreement.{Meet};
 ghost use Rattle.cb_commit.specs.History.{CatchesUp};
@@ -8,7 +8,7 @@ ghost use Rattle.cb_commit.specs.Stores.{IsOf};
 ghost use Rattle.cb_server_state.specs.Commits.{batch_of};
 ghost use Rattle.cb_hands.specs.Joined.{IsHeld};
 ghost use Rattle.cb_station.specs.Moves.{IsOwn};
-ghost use Rattle.cb_station.specs.Stations.{IsStation, mailbox_of, server_of};
+ghost use Rattle.cb_station.specs.Stations.{IsStation, forgot, mailbox_of, remembered, server_of};
 ghost use Rattle.cb_station.specs.declared.office_fault.OfficeFault.TheVariants as office;
 ghost use Rattle.cb_protocol.specs.Flush.{can_flush, next_batch};
 ghost use Rattle.cb_server.specs.ServerValue.{IsNew, commits_of};
@@ -25,7 +25,8 @@ use cb_commit::{Batch, Store};
 use cb_frame::Frame;
 use cb_hands::{Entry, Hand, JoinedHands};
 use cb_mailboxes::Dispatcher;
-use cb_page::{ClientNo, Limits};
+use cb_page::{ClientNo, CommitNo, Limits};
+use cb_past::Past;
 use std::alloc::{AllocError, Global};
 use std::marker::Model;
 
@@ -47,7 +48,8 @@ use std::marker::Model;
 pub struct Station {
     dispatcher: Dispatcher,
     hands: JoinedHands,
-    history: Vec<Entry>,
+    /// As many of its entries are forgotten as the server forgot commits.
+    history: Past<Entry>,
     flags: Flags,
 }
 
@@ -64,7 +66,9 @@ impl Drop for Station {
 }
 
 impl Model for Station {
+    ghost use Rattle.std.specs.Prelude.{◌≡◌};
     ghost use Rattle.cb_station.specs.Stations.{IsStation, StationState};
+    ghost use Rattle.cb_server.specs.ServerValue.{commits_of};
 
     ghost Value = { StationState };
 
@@ -80,7 +84,8 @@ impl Model for Station {
       hands = station.hands;
       history = station.history.items;
       flags = station.flags;
-    }) };
+    })
+        × (station.history.forgotten ≡ (commits_of station.dispatcher.server).forgotten) };
 }
 
 impl Station {
@@ -108,18 +113,19 @@ impl Station {
         Ok(Station {
             dispatcher: Dispatcher::new(alloc, limits, store)?,
             hands: JoinedHands::new(alloc, limits.clients())?,
-            history: Vec::new(alloc),
+            history: Past::new(alloc),
             flags: Flags::new(),
         })
     }
 
-    /// The commits, the first one first. With what is stored of the hands, they are as the server
-    /// has it; a halted station is closed.
+    /// The commits that weren't forgotten, the first one first: all, where none was. With what is
+    /// stored of the hands, all that there were are as the server has it; a halted station is
+    /// closed.
     pub fn history(&self) -> &[Entry]
-        ensures value { result.now ≡ self.now.history }
+        ensures value { result.now ≡ remembered self.now }
         ensures sound { IsStation self.now }
     {
-        self.history.as_slice()
+        self.history.remembered()
     }
 
     /// Whether both hands are of two clients and each is what is stored of it. Then both show the
@@ -162,6 +168,26 @@ impl Station {
         ensures err { IfErr result (λ fault. fault ≡ office.Memory) }
     {
         Ok(self.dispatcher.server().batch(alloc)?)
+    }
+
+    /// Whether the commits up to this number are on disk.
+    pub fn is_on_disk(&self, number: CommitNo) -> bool
+        ensures { IsTrue result ↔ (number ≤ (server_of self.now).flushed) }
+    {
+        number.get() <= self.dispatcher.server().state().commits.last_flushed()
+    }
+
+    /// The commits up to this number, which are on disk, are forgotten: they leave memory, and
+    /// their entries of the history with them. It costs no more than they are, whatever is left.
+    /// Nothing changes where they were forgotten before, or where no commit has a number as low.
+    pub fn forget(&mut self, number: CommitNo)
+        requires on_disk { number ≤ (server_of self.old).flushed }
+        ensures { self.new ≡ forgot self.old number }
+    {
+        self.dispatcher.forget(number);
+        let commits = &self.dispatcher.server().state().commits;
+        let count = self.history.remembered().len() - commits.committed().len();
+        self.history.forget(count);
     }
 
     /// Whether the frame fits the limits and is of the hand's client and incarnation, and the hand

@@ -4,7 +4,7 @@ use Rattle.cb_world_clients.specs.Packets.{PacketsState}
 use Rattle.cb_world_clients.specs.Wire.{AllSpell}
 use Rattle.cb_page.specs.Bounds.{Bounds}
 use Rattle.cb_protocol.specs.World as protocol
-use Rattle.cb_server.specs.ServerValue.{ServerValue, server_of}
+use Rattle.cb_server.specs.ServerValue.{ServerValue, commits_of, server_of}
 use Rattle.cb_world_clients.specs.WorldClientsState as world_clients
 use Rattle.cb_world_clients.specs.WorldClientsState.{WorldClientsState}
 
@@ -18,10 +18,11 @@ pub record NetState : Type 0 where
 abbrev pub limits_in : NetState → Bounds
 limits_in net = net.world_clients.limits
 
--- What holds of every net: its parts are of the same limits.
+-- What holds of every net: its parts are of the same limits, and no commit is forgotten.
 pub record IsNet (net : NetState) : Type 0 where
   pub server : net.server.limits ≡ net.world_clients.limits
   pub packets : net.packets.limits ≡ net.world_clients.limits
+  pub forgotten : (commits_of net.server).forgotten ≡ 0
 
 -- The protocol's world has this server, these clients and these packets.
 pub record RepresentsNet (net : NetState) (world : protocol.World) : Type 0 where

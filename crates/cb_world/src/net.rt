@@ -89,9 +89,10 @@ impl<Q: Chooser> Net<Q> {
         })
     }
 
-    /// The server.
+    /// The server. It forgets nothing.
     pub(crate) fn server(&self) -> &Server
-        ensures { result.now ≡ self.now.server }
+        ensures value { result.now ≡ self.now.server }
+        ensures forgotten { (commits_of result.now).forgotten ≡ 0 }
     {
         &self.server
     }

@@ -1,5 +1,6 @@
 //! Transactions and incarnations end: their asks and marks go.
-ghost use Rattle.std.specs.Prelude.{◌≡◌, ◌∷◌, ◌<◌, ◌+◌, [], true, IfErr, IfOk, OnOk, OnErr};
+ghost use Rattle.std.specs.Prelude.{◌≡◌, ◌∷◌, ◌<◌, ◌≤◌, ◌+◌, [], true, IfErr, IfOk, OnOk};
+ghost use Rattle.std.specs.Prelude.{OnErr};
 ghost use Rattle.cb_callbacks.specs.Following.{FollowsAll, FollowsPages};
 ghost use Rattle.cb_commit.specs.History.{FitsInto};
 ghost use Rattle.cb_outbox.specs.Messages.{messages_of, page_writes};
@@ -9,7 +10,7 @@ ghost use Rattle.cb_protocol.specs.Server.{ChangeSession, ForgetTransaction};
 ghost use Rattle.cb_protocol.specs.Session.{Admit, ApplyCommit, BeginTransaction, DropTransaction};
 ghost use Rattle.cb_protocol.specs.Session.{has_live_txn};
 ghost use Rattle.cb_protocol.specs.World.{messages_sent};
-ghost use Rattle.cb_server_state.specs.States.{Does, HasClient, PartsAgree, server_of};
+ghost use Rattle.cb_server_state.specs.States.{Does, HasClient, PartsAgree, forgot, server_of};
 ghost use Rattle.cb_server_state.specs.Waits.{Waits};
 
 use crate::Callbacks;
@@ -135,6 +136,14 @@ impl Callbacks {
     {
         let dones = self.state.commits.flushed(alloc, number)?;
         Ok(dones)
+    }
+
+    /// The commits up to this number, which are on disk, are forgotten: they leave memory.
+    pub fn forget(&mut self, number: CommitNo)
+        requires on_disk { number ≤ (server_of self.old.state).flushed }
+        ensures { self.new ≡ record self.old { state = forgot self.old.state number } }
+    {
+        self.state.commits.forget(number);
     }
 }
 

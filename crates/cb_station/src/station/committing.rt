@@ -1,7 +1,6 @@
 //! A client commits.
 ghost use Rattle.std.specs.Prelude.{◌≡◌, ◌↔◌, ◌⊎◌, ◌+◌, ◌<◌, ◌≤◌, ◌++◌, ◌∷◌, [], true};
-ghost use Rattle.std.specs.Prelude.{false, Err, IfErr, IfOk, OnErr, OnOk, length, vec_len};
-ghost use Rattle.std.specs.Prelude.{vec_capacity};
+ghost use Rattle.std.specs.Prelude.{false, Err, IfErr, IfOk, OnErr, OnOk, length};
 ghost use Rattle.std.specs.List.{All};
 ghost use Rattle.cb_hands.specs.OwnHand.{all_restamped, pages_written};
 ghost use Rattle.cb_mailboxes.specs.Dispatching.{Everybody, Posts};
@@ -24,6 +23,7 @@ use cb_frame::{Body, Frame, Write};
 use cb_hands::{Entry, Hand, JoinedHands};
 use cb_links::Standing;
 use cb_page::{ClientNo, CommitNo, PageSet, TxnNo, Version};
+use cb_past::Past;
 use std::alloc::{AllocError, Global};
 
 impl Station {
@@ -142,7 +142,7 @@ impl Station {
 /// history.
 fn entry_of(
     alloc: Global,
-    history: &mut Vec<Entry>,
+    history: &mut Past<Entry>,
     hand: &Hand,
     txn: TxnNo,
     reads: &PageSet,
@@ -150,9 +150,10 @@ fn entry_of(
 ) -> Result<Entry, AllocError>
     ensures entry { IfOk result (IsEntryOf hand.now txn writes.now reads.now) }
     ensures same { history.new.items ≡ history.old.items }
-    ensures room { OnOk result (vec_len history.new < vec_capacity history.new) }
+    ensures forgotten { history.new.forgotten ≡ history.old.forgotten }
+    ensures room { OnOk result (0 < history.new.room) }
 {
-    history.reserve(1)?;
+    history.reserve_one()?;
     Ok(Entry {
         client: hand.client(),
         incarnation: hand.incarnation(),

@@ -103,7 +103,21 @@ fn flushes(alloc: Global, station: &mut Station, one: &mut Hand) -> Result<bool,
     good = is_told(station.collect(one), ShortBody::Done { txn, number }) && good;
     station.flushed(alloc, number)?;
     good = station.collect(one)?.is_none() && good;
-    Ok(station.batch(alloc)?.is_none() && good)
+    good = station.batch(alloc)?.is_none() && good;
+    Ok(is_forgotten(station, number) && good)
+}
+
+/// The commit is on disk and the next isn't; once it is forgotten its entry is gone, also where
+/// that is said again.
+fn is_forgotten(station: &mut Station, number: CommitNo) -> bool {
+    if !station.is_on_disk(number) || station.is_on_disk(CommitNo::new(2)) {
+        return false;
+    }
+    let before = station.history().len();
+    station.forget(number);
+    let after = station.history().len();
+    station.forget(number);
+    before == 1 && after == 0 && station.history().is_empty()
 }
 
 /// A restart in the same incarnation is refused, with the hand; in a later one the hand is empty.

@@ -3,7 +3,7 @@
 use crate::running::run::{Came, run_to_end};
 use cb_jobs::{Gate, Turn};
 use cb_page::ClientNo;
-use cb_station::Office;
+use cb_station::{Office, Station};
 use std::sync::atomic::{AtomicU64, Ordering};
 use std::sync::{Mutex, Wait};
 use std::thread;
@@ -45,6 +45,8 @@ pub(crate) struct Counts {
     calls: Mutex<u64>,
     /// How many jobs were answered as done.
     pub(crate) answered: AtomicU64,
+    /// How many entries of the history hadn't both pages read and written, as jobs were answered.
+    pub(crate) odd: AtomicU64,
     /// How many writes are left to be refused.
     pub(crate) left: AtomicU64,
     /// How many commits were on disk when the flusher last waited.
@@ -59,6 +61,7 @@ impl Counts {
             plan,
             calls: Mutex::new(0),
             answered: AtomicU64::new(0),
+            odd: AtomicU64::new(0),
             left: AtomicU64::new(0),
             waited: AtomicU64::new(0),
             turns: Mutual {
@@ -143,11 +146,24 @@ impl<R: Wait> Gate for Guarded<'_, R> {
 
     fn after_commit(&self, client: ClientNo, job: u64) {
         self.counts.answered.fetch_add(1, Ordering::SeqCst);
+        let odd = odd_entries(&self.office.lock(self.rt));
+        self.counts.odd.fetch_add(odd, Ordering::SeqCst);
         self.note_call(false);
         if let Act::Mutual = self.counts.plan.act {
             self.counts.turns.note(client.index() % 2, job);
         }
     }
+}
+
+/// How many entries in memory haven't both pages read and written.
+fn odd_entries(station: &Station) -> u64 {
+    let mut odd = 0;
+    for entry in station.history() {
+        if entry.reads.len() != 2 || entry.writes.len() != 2 {
+            odd = u64::saturating_add(odd, 1);
+        }
+    }
+    odd
 }
 
 /// How often a gate says `Later` in all.

@@ -99,16 +99,17 @@ fn ended_by(err: &[u8]) -> Came {
     Came::Wrong
 }
 
-/// Whether the office is halted, each entry of the history has both pages read and written, and the
-/// last of them was told of.
+/// Whether the office is halted, the last commit on disk was told of, and all are forgotten.
 fn is_whole(station: &Station, last: u64) -> bool {
-    let history = station.history();
-    for entry in history {
-        if entry.reads.len() != 2 || entry.writes.len() != 2 {
-            return false;
-        }
-    }
-    station.is_halted() && history.len() as u64 == last
+    let told = match CommitNo::checked(last) {
+        Some(number) => station.is_on_disk(number),
+        None => last == 0,
+    };
+    let untold = match CommitNo::checked(last.saturating_add(1)) {
+        Some(number) => station.is_on_disk(number),
+        None => false,
+    };
+    station.is_halted() && told && !untold && station.history().is_empty()
 }
 
 /// What came of a run that said this: it is to say that so many jobs were done, and the sum that
@@ -149,7 +150,8 @@ pub(crate) fn came_in<R: Threads + Wait + Sync, S: Alter>(
         rt, alloc, limits, office, shelf, jobs, &gate, &mut watch, &mut out, &mut err,
     );
     let answered = counts.answered.load(Ordering::SeqCst);
-    let whole = is_whole(&office.lock(rt), watch.told.last) && counts.turns.is_well();
+    let odd = counts.odd.load(Ordering::SeqCst);
+    let whole = is_whole(&office.lock(rt), watch.told.last) && odd == 0 && counts.turns.is_well();
     match ran.ok() {
         Some(0) if whole && err.is_empty() => came_of(alloc, shelf, answered, out.as_slice()),
         Some(3) if out.is_empty() => ended_by(err.as_slice()),

@@ -6,7 +6,7 @@ use crate::commits::{apply, commit_frame};
 use crate::stores::page_of;
 use cb_commit::{Commits, Store};
 use cb_frame::{Frame, Write};
-use cb_page::{GrantNo, Limits, PageNo, TxnNo};
+use cb_page::{CommitNo, GrantNo, Limits, PageNo, TxnNo};
 use std::alloc::{AllocError, Global};
 use std::test::Fail;
 
@@ -81,5 +81,119 @@ fn new_ones_hold_all(alloc: Global, limits: &Limits) -> Result<bool, AllocError>
 fn batches_and_dones(rt: HostRuntime) -> Result<(), Fail> {
     let limits = Limits::new(32, 4096, 4096, 1024, 1, 4096)?;
     assert!(rt; new_ones_hold_all(rt.alloc(), &limits)?);
+    Ok(())
+}
+
+/// What is done to commits, and what is then in memory.
+struct Step {
+    deed: Deed,
+    /// How many Dones there are.
+    dones: usize,
+    /// How many commits are in memory, and the number of the first, 0 where there is none.
+    left: (usize, u64),
+}
+
+enum Deed {
+    /// A commit of one page is applied, as this transaction.
+    Apply(u64),
+    /// The commits up to a number are on disk.
+    Flush(u64),
+    /// They are forgotten.
+    Forget(u64),
+}
+
+const fn step(deed: Deed, dones: usize, left: (usize, u64)) -> Step {
+    Step { deed, dones, left }
+}
+
+/// A part is forgotten, then what was before, then the rest; commits go on behind them.
+static STEPS: [Step; 15] = [
+    step(Deed::Apply(1), 0, (1, 1)),
+    step(Deed::Apply(2), 0, (2, 1)),
+    step(Deed::Apply(3), 0, (3, 1)),
+    step(Deed::Apply(4), 0, (4, 1)),
+    step(Deed::Flush(3), 3, (4, 1)),
+    step(Deed::Forget(1), 0, (3, 2)),
+    step(Deed::Forget(1), 0, (3, 2)),
+    step(Deed::Forget(3), 0, (1, 4)),
+    step(Deed::Forget(2), 0, (1, 4)),
+    step(Deed::Apply(5), 0, (2, 4)),
+    step(Deed::Flush(4), 1, (2, 4)),
+    step(Deed::Forget(4), 0, (1, 5)),
+    step(Deed::Flush(5), 1, (1, 5)),
+    step(Deed::Forget(5), 0, (0, 0)),
+    step(Deed::Apply(6), 0, (1, 6)),
+];
+
+/// The commits up to this number are on disk, if they can be: how many Dones there are.
+fn flush(alloc: Global, commits: &mut Commits, number: u64) -> Result<Option<usize>, AllocError> {
+    match CommitNo::checked(number) {
+        Some(number) if commits.can_flush(number) => {
+            Ok(Some(commits.flushed(alloc, number)?.len()))
+        }
+        _ => Ok(None),
+    }
+}
+
+/// The commits up to this number are forgotten, if they are on disk.
+fn forget(commits: &mut Commits, number: u64) -> Option<usize> {
+    let number = CommitNo::checked(number)?;
+    if commits.last_flushed() < number.get() {
+        return None;
+    }
+    commits.forget(number);
+    Some(0)
+}
+
+/// How many Dones there are; `None` where it can't be done.
+fn does(
+    alloc: Global,
+    limits: &Limits,
+    commits: &mut Commits,
+    deed: &Deed,
+) -> Result<Option<usize>, AllocError>
+    requires { IsOf limits.now commits.old.store }
+    ensures { IsOf limits.now commits.new.store }
+{
+    match deed {
+        Deed::Apply(txn) => {
+            let Some(txn) = TxnNo::checked(*txn) else {
+                return Ok(None);
+            };
+            let applied = apply(limits, commits, commit_of(alloc, limits, txn, 1)?)?;
+            Ok(applied.then_some(0))
+        }
+        Deed::Flush(number) => flush(alloc, commits, *number),
+        Deed::Forget(number) => Ok(forget(commits, *number)),
+    }
+}
+
+/// How many commits are in memory, and the number of the first.
+fn left_in(commits: &Commits) -> (usize, u64) {
+    let left = commits.committed();
+    let first = match left.first() {
+        Some(commit) => commit.number.get(),
+        None => 0,
+    };
+    (left.len(), first)
+}
+
+/// Whether each step does what is said of it.
+fn goes_by(alloc: Global, limits: &Limits) -> Result<bool, AllocError> {
+    let store = Store::zeros(alloc, limits)?;
+    let mut commits = Commits::new(alloc, limits, store)?;
+    for step in &STEPS {
+        let dones = does(alloc, limits, &mut commits, &step.deed)?;
+        if dones != Some(step.dones) || left_in(&commits) != step.left {
+            return Ok(false);
+        }
+    }
+    Ok(true)
+}
+
+#[test]
+fn what_is_on_disk_is_forgotten(rt: HostRuntime) -> Result<(), Fail> {
+    let limits = Limits::new(1, 1, 16, 2, 1, 1)?;
+    assert!(rt; goes_by(rt.alloc(), &limits)?);
     Ok(())
 }

@@ -6,5 +6,5 @@ use Rattle.cb_sql.proofs.writing.put_page.Goals as goal
 
 pub returns-clause-inside : goal.returns-clause-inside
 returns-clause-inside g c =
-    makes_then g.S.Store (page_statement c.args.page c.args.version ∷ []) (part_statements c.args.page c.args.bytes.now (part_count (length c.args.bytes.now))) _ _ _ _ _
+    makes_then g.S.Store (page_statement c.args.rows c.args.page c.args.version ∷ []) (part_statements c.args.rows c.args.page c.args.bytes.now (part_count (length c.args.bytes.now))) _ _ _ _ _
     c.in_ok-put_version.ensures.inside c.put_parts.ensures.inside

@@ -11,4 +11,4 @@ returns-clause-inside g c =
     let page : owned c.params-to_sql.result ≡ Int (pos c.args.page) = search rules in
     let place : owned c.params-to_sql-2.result ≡ Int (pos c.args.place) = search rules in
     let body : owned c.params-to_sql-3.result ≡ Blob (part_at c.args.bytes.now c.args.place) = search rules in
-    given g.S.Store _ _ _ c.args.tx.now.conn.now c.run.new.tx.conn.now c.run.result (three_bound page place body) c.run.ensures.inside
+    rw (← c.put_part_text.ensures) (given g.S.Store _ _ _ c.args.tx.now.conn.now c.run.new.tx.conn.now c.run.result (three_bound page place body) c.run.ensures.inside)

@@ -20,7 +20,7 @@ loop-place-preserved g c =
     record {
       same_reference = search rules;
       inside = makes_next g.S.Store _ _ _ _ _ _ tt (Ok tt)
-          (map-range_with_len_more (part_statement c.args.page c.args.bytes.now) 0 c.loop-place.place c.loop-place.place (omega arith))
+          (map-range_with_len_more (part_statement c.args.rows c.args.page c.args.bytes.now) 0 c.loop-place.place c.loop-place.place (omega arith))
           c.loop-place.invariant.inside c.in_ok-put_part.ensures.inside;
     }
 

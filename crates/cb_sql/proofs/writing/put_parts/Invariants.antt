@@ -9,5 +9,5 @@ use Rattle.cb_sql.proofs.writing.put_parts.Given as goal
 abbrev pub invariant-loop-place : goal.invariant-loop-place
 invariant-loop-place g l = record {
   same_reference : l.tx.conn.ghost_name ≡ l.initial.tx.conn.ghost_name;
-  inside : Inside {X = Unit {0}} {E = ShelfFault} g.S.Store (MakesAll g.S.Store (part_statements l.page l.bytes l.place)) l.initial.tx.conn.now l.tx.conn.now (Ok tt);
+  inside : Inside {X = Unit {0}} {E = ShelfFault} g.S.Store (MakesAll g.S.Store (part_statements l.rows l.page l.bytes l.place)) l.initial.tx.conn.now l.tx.conn.now (Ok tt);
 }

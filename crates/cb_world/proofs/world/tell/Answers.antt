@@ -21,7 +21,7 @@ returns-then-is_err-clause-packets g c =
 pub untold-applied-requires : goal.untold-applied-requires
 untold-applied-requires g c =
     let names = c.args.transcript.now.commits in
-    let listed = c.committed.ensures ∙ ap (λ (s : ServerValue). (server_of s).commits) c.server.ensures in
+    let listed = c.committed.ensures.all c.server.ensures.forgotten ∙ ap (λ (s : ServerValue). (server_of s).commits) c.server.ensures.value in
     let more = follows c.args.net.now c.event.new.self _ c.in_ok-answer.answer names c.committed.result.now c.requires c.in_ok-answer.ensures.ok listed in
     rw c.commits.ensures (enough c.event.new.self names c.committed.result.now more)
 
@@ -29,7 +29,7 @@ pub returns-else-is_err-clause-ok : goal.returns-else-is_err-clause-ok
 returns-else-is_err-clause-ok g c =
     let names = c.args.transcript.now.commits in
     let commits = c.committed.result.now in
-    let listed = c.committed.ensures ∙ ap (λ (s : ServerValue). (server_of s).commits) c.server.ensures in
+    let listed = c.committed.ensures.all c.server.ensures.forgotten ∙ ap (λ (s : ServerValue). (server_of s).commits) c.server.ensures.value in
     let more = follows c.args.net.now c.event.new.self _ c.in_ok-answer.answer names commits c.requires c.in_ok-answer.ensures.ok listed in
     let applied = c.untold-applied.ensures ∙ ap (λ (ns : List TransactionName). drop (length ns) commits) c.commits.ensures in
     if_ok c.tell-told.result c.tell-told.ensures.ok (λ told. (

@@ -36,6 +36,7 @@ returns c grant =
         pages = (c.give_back.ensures.does grant).stays.pages;
         page_size = (c.give_back.ensures.does grant).stays.page_size;
         opening = (c.give_back.ensures.does grant).stays.opening;
+        forgotten = (c.give_back.ensures.does grant).stays.forgotten;
       };
       room = (c.give_back.ensures.does grant).room;
     })

@@ -30,4 +30,4 @@ returns-clause-fits c =
 pub returns-clause-ok : goal.returns-clause-ok
 returns-clause-ok c =
     subst (λ (v : ServerValue). Does v (ReachesDisk c.args.number) (messages_of c.in_ok-dones.dones.items) (record { limits = c.self.inside.limits; state = c.flushed.new.self.state })) c.self.view_is
-    (record { sends = c.in_ok-dones.ensures.dones; becomes = c.in_ok-dones.ensures.ok.becomes; limits = refl; opening = c.in_ok-dones.ensures.ok.stays.opening })
+    (record { sends = c.in_ok-dones.ensures.dones; becomes = c.in_ok-dones.ensures.ok.becomes; limits = refl; opening = c.in_ok-dones.ensures.ok.stays.opening; forgotten = c.in_ok-dones.ensures.ok.stays.forgotten })

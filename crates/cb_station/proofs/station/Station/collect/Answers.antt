@@ -1,37 +1,52 @@
 -- Goals of `Station::collect`.
-use Rattle.std.proofs.Common.{rules, ◌≡◌, Some, refl, sym, ap, ◌∙◌, subst}
+use Rattle.std.proofs.Common.{rules, ◌≡◌, ℕ, Some, refl, sym, ap, ◌∙◌, subst}
 use Rattle.cb_station.proofs.Calls.{collected_stored, hand_station, received_by, store_pages}
 use Rattle.cb_station.proofs.Stations.{unchanged_station}
 use Rattle.cb_station.proofs.Following.{follow_same}
-use Rattle.cb_station.specs.Stations.{IsStored, server_of}
+use Rattle.cb_station.specs.Stations.{IsStored, StationState, mailbox_of, server_of}
+use Rattle.cb_mailboxes.specs.Dispatching as dispatching
+use Rattle.cb_mailboxes.specs.Dispatching.{without_oldest}
 use Rattle.cb_hands.specs.Hands.{HandState}
 use Rattle.cb_hands.specs.Joined.{IsHeld}
-use Rattle.cb_server.specs.ServerValue.{ServerValue}
+use Rattle.cb_server.specs.ServerValue.{ServerValue, commits_of}
 use Rattle.cb_station.specs.Moves.{collected}
+use Rattle.cb_station.proofs.Remembering.{still_forgotten}
 use Rattle.cb_station.proofs.station.Station.collect.Goals as goal
 
 pub invariant_of-self : goal.invariant_of-self
-invariant_of-self c = unchanged_station (record { dispatcher = c.self.inside.dispatcher; hands = c.self.inside.hands; history = c.self.inside.history.items; flags = c.self.inside.flags }) (record { dispatcher = c.collect.new.self; hands = c.self.inside.hands; history = c.self.inside.history.items; flags = c.self.inside.flags }) c.self.invariant (record { dispatcher = c.in_err-frame.ensures.unchanged; hands = refl; history = refl; flags = refl })
+invariant_of-self c = (
+  unchanged_station (record { dispatcher = c.self.inside.dispatcher; hands = c.self.inside.hands; history = c.self.inside.history.items; flags = c.self.inside.flags }) (record { dispatcher = c.collect.new.self; hands = c.self.inside.hands; history = c.self.inside.history.items; flags = c.self.inside.flags }) c.self.invariant.0 (record { dispatcher = c.in_err-frame.ensures.unchanged; hands = refl; history = refl; flags = refl }),
+  still_forgotten _ _ _ c.self.invariant.1 (c.in_err-frame.ensures.unchanged),
+)
 
 pub invariant_of-self-in_default : goal.invariant_of-self-in_default
 invariant_of-self-in_default c =
     let held : IsHeld c.self.inside.hands c.args.hand.now = search rules in
-    let stored = c.self.invariant.hand c.args.hand.now.client c.args.hand.now held in
-    hand_station (record { dispatcher = c.self.inside.dispatcher; hands = c.self.inside.hands; history = c.self.inside.history.items; flags = c.self.inside.flags }) (record { dispatcher = c.collect.new.self; hands = c.self.inside.hands; history = c.self.inside.history.items; flags = c.self.inside.flags }) c.args.hand.now c.args.hand.now c.self.invariant c.collect.ensures.server refl refl held (follow_same c.self.inside.hands c.args.hand.now held) stored
+    let stored = c.self.invariant.0.hand c.args.hand.now.client c.args.hand.now held in (
+      hand_station (record { dispatcher = c.self.inside.dispatcher; hands = c.self.inside.hands; history = c.self.inside.history.items; flags = c.self.inside.flags }) (record { dispatcher = c.collect.new.self; hands = c.self.inside.hands; history = c.self.inside.history.items; flags = c.self.inside.flags }) c.args.hand.now c.args.hand.now c.self.invariant.0 c.collect.ensures.server refl refl held (follow_same c.self.inside.hands c.args.hand.now held) stored,
+      c.self.invariant.1 ∙ sym (ap (λ (x : ServerValue). (commits_of x).forgotten) c.collect.ensures.server),
+    )
 
 pub take_in-requires-clause-pages : goal.take_in-requires-clause-pages
 take_in-requires-clause-pages c =
     let held : IsHeld c.self.inside.hands c.args.hand.now = search rules in
     let state : c.state-state.result.now ≡ c.self.inside.dispatcher.server.state = c.state-state.ensures.value ∙ ap (λ (x : ServerValue). x.state) (c.server.ensures ∙ c.collect.ensures.server) in
-    store_pages (record { dispatcher = c.self.inside.dispatcher; hands = c.self.inside.hands; history = c.self.inside.history.items; flags = c.self.inside.flags }) c.args.hand.now c.state-state.result.now c.self.invariant held state
+    store_pages (record { dispatcher = c.self.inside.dispatcher; hands = c.self.inside.hands; history = c.self.inside.history.items; flags = c.self.inside.flags }) c.args.hand.now c.state-state.result.now c.self.invariant.0 held state
 
 pub invariant_of-self-2 : goal.invariant_of-self-2
 invariant_of-self-2 c =
     let held : IsHeld c.self.inside.hands c.args.hand.now = search rules in
-    let stored = c.self.invariant.hand c.args.hand.now.client c.args.hand.now held in
+    let stored = c.self.invariant.0.hand c.args.hand.now.client c.args.hand.now held in
     let state : c.state-state.result.now ≡ c.self.inside.dispatcher.server.state = c.state-state.ensures.value ∙ ap (λ (x : ServerValue). x.state) (c.server.ensures ∙ c.collect.ensures.server) in
     let other : c.take_in.new.hand ≡ collected (server_of (record { dispatcher = c.self.inside.dispatcher; hands = c.self.inside.hands; history = c.self.inside.history.items; flags = c.self.inside.flags })) c.args.hand.now (Some c.in-Some.frame) =
-    c.take_in.ensures.hand ∙ received_by c.self.inside.dispatcher.server c.state-state.result.now c.args.hand.now c.in-Some.frame.body state in
-    hand_station (record { dispatcher = c.self.inside.dispatcher; hands = c.self.inside.hands; history = c.self.inside.history.items; flags = c.self.inside.flags }) (record { dispatcher = c.collect.new.self; hands = c.take_in.new.hands; history = c.self.inside.history.items; flags = c.self.inside.flags }) c.args.hand.now c.take_in.new.hand c.self.invariant c.collect.ensures.server refl refl held c.take_in.ensures.stored
-    (subst (λ (h : HandState). IsStored (server_of (record { dispatcher = c.self.inside.dispatcher; hands = c.self.inside.hands; history = c.self.inside.history.items; flags = c.self.inside.flags })) c.self.inside.dispatcher.server.limits.pages c.args.hand.now.client h) (sym other)
-    (collected_stored (server_of (record { dispatcher = c.self.inside.dispatcher; hands = c.self.inside.hands; history = c.self.inside.history.items; flags = c.self.inside.flags })) c.self.inside.dispatcher.server.limits.pages c.args.hand.now.client c.args.hand.now (Some c.in-Some.frame) stored))
+    c.take_in.ensures.hand ∙ received_by c.self.inside.dispatcher.server c.state-state.result.now c.args.hand.now c.in-Some.frame.body state in (
+      hand_station (record { dispatcher = c.self.inside.dispatcher; hands = c.self.inside.hands; history = c.self.inside.history.items; flags = c.self.inside.flags }) (record { dispatcher = c.collect.new.self; hands = c.take_in.new.hands; history = c.self.inside.history.items; flags = c.self.inside.flags }) c.args.hand.now c.take_in.new.hand c.self.invariant.0 c.collect.ensures.server refl refl held c.take_in.ensures.stored
+          (subst (λ (h : HandState). IsStored (server_of (record { dispatcher = c.self.inside.dispatcher; hands = c.self.inside.hands; history = c.self.inside.history.items; flags = c.self.inside.flags })) c.self.inside.dispatcher.server.limits.pages c.args.hand.now.client h) (sym other)
+          (collected_stored (server_of (record { dispatcher = c.self.inside.dispatcher; hands = c.self.inside.hands; history = c.self.inside.history.items; flags = c.self.inside.flags })) c.self.inside.dispatcher.server.limits.pages c.args.hand.now.client c.args.hand.now (Some c.in-Some.frame) stored)),
+      c.self.invariant.1 ∙ sym (ap (λ (x : ServerValue). (commits_of x).forgotten) c.collect.ensures.server),
+    )
+
+pub returns-clause-rest : goal.returns-clause-rest
+returns-clause-rest c =
+    subst (λ (v : StationState). (client : ℕ) → dispatching.mailbox_of c.collect.new.self client ≡ without_oldest (mailbox_of v) c.args.hand.now.client client) c.self.view_is
+    (subst (λ (k : ℕ). (client : ℕ) → dispatching.mailbox_of c.collect.new.self client ≡ without_oldest (dispatching.mailbox_of c.self.inside.dispatcher) k client) c.client.ensures c.in_ok-frame.ensures.rest)

@@ -24,6 +24,7 @@ use Rattle.cb_station.specs.Moves.{IsEntryOf, IsOwn, MayWriteAll, committed}
 use Rattle.cb_outbox.specs.Messages.{body_of, page_writes}
 use Rattle.cb_protocol.specs.CommitLaws.{IsApplied}
 use Rattle.cb_server.specs.Taking.{Does, input_of}
+use Rattle.cb_station.proofs.Remembering.{still_forgotten}
 use Rattle.cb_station.proofs.station.Station.commit.Goals as goal
 
 pub returns-in_err-number-clause-foreign : goal.returns-in_err-number-clause-foreign
@@ -54,8 +55,10 @@ restamp-requires-clause-held c = subst (λ (v : StationState). IsHeld v.hands c.
 
 pub invariant_of-self-then-is_err : goal.invariant_of-self-then-is_err
 invariant_of-self-then-is_err c =
-    let failed : is_err c.take.result ≡ true = sym c.is_err.ensures.value ∙ c.if-is_err.true in
-    unchanged_station (record { dispatcher = c.self.inside.dispatcher; hands = c.self.inside.hands; history = c.self.inside.history.items; flags = c.self.inside.flags }) (record { dispatcher = c.take.new.self; hands = c.self.inside.hands; history = c.entry_of.new.history.items; flags = c.self.inside.flags }) c.self.invariant (record { dispatcher = err_fact c.take.result _ failed c.take.ensures.unchanged; hands = refl; history = c.entry_of.ensures.same; flags = refl })
+    let failed : is_err c.take.result ≡ true = sym c.is_err.ensures.value ∙ c.if-is_err.true in (
+      unchanged_station (record { dispatcher = c.self.inside.dispatcher; hands = c.self.inside.hands; history = c.self.inside.history.items; flags = c.self.inside.flags }) (record { dispatcher = c.take.new.self; hands = c.self.inside.hands; history = c.entry_of.new.history.items; flags = c.self.inside.flags }) c.self.invariant.0 (record { dispatcher = err_fact c.take.result _ failed c.take.ensures.unchanged; hands = refl; history = c.entry_of.ensures.same; flags = refl }),
+      c.entry_of.ensures.forgotten ∙ still_forgotten _ _ _ c.self.invariant.1 (err_fact c.take.result _ failed c.take.ensures.unchanged),
+    )
 
 pub restamp-requires-clause-pages : goal.restamp-requires-clause-pages
 restamp-requires-clause-pages c =
@@ -83,9 +86,11 @@ invariant_of-self-2 c =
     let does = subst (λ (b : Body). Does c.self.inside.dispatcher.server (MessageComes c.args.frame.now.client c.args.frame.now.incarnation (body_of b)) (messages_of posts.said) c.take.new.self.server) is posts.does in
     let becomes : c.end_permissions.new.hand ≡ committed c.args.hand.now c.in-Commit.writes ((server_of (record { dispatcher = c.self.inside.dispatcher; hands = c.self.inside.hands; history = c.self.inside.history.items; flags = c.self.inside.flags })).store.last_commit + 1) = c.end_permissions.ensures.hand ∙ ap (λ (h : HandState). without_permissions h)
     (restamped ∙ ap (λ (n : ℕ). all_restamped c.args.hand.now (pages_written (page_writes c.in-Commit.writes)) n) (c.new-version.ensures ∙ c.get.ensures.value ∙ number)) in
-    let whole = commits_by (record { dispatcher = c.self.inside.dispatcher; hands = c.self.inside.hands; history = c.self.inside.history.items; flags = c.self.inside.flags }) (record { dispatcher = c.take.new.self; hands = c.end_permissions.new.self; history = c.push_reserved.new.self.items; flags = c.self.inside.flags }) c.self.invariant (ok_fact c.take.result _ done c.take.ensures.arose) c.args.frame.now c.in-Commit.txn c.in-Commit.writes (messages_of posts.said) c.args.hand.now
-    c.end_permissions.new.hand c.args.reads.now c.in_ok-entry.entry does own.held own.client own.incarnation fits.0.0 live may becomes follow entered history refl in
-    whole.0
+    let whole = commits_by (record { dispatcher = c.self.inside.dispatcher; hands = c.self.inside.hands; history = c.self.inside.history.items; flags = c.self.inside.flags }) (record { dispatcher = c.take.new.self; hands = c.end_permissions.new.self; history = c.push_reserved.new.self.items; flags = c.self.inside.flags }) c.self.invariant.0 (ok_fact c.take.result _ done c.take.ensures.arose) c.args.frame.now c.in-Commit.txn c.in-Commit.writes (messages_of posts.said) c.args.hand.now
+    c.end_permissions.new.hand c.args.reads.now c.in_ok-entry.entry does own.held own.client own.incarnation fits.0.0 live may becomes follow entered history refl in (
+      whole.0,
+      c.push_reserved.ensures.forgotten ∙ c.entry_of.ensures.forgotten ∙ c.self.invariant.1 ∙ sym posts.does.forgotten,
+    )
 
 pub returns-clause-entry : goal.returns-clause-entry
 returns-clause-entry c =
@@ -126,7 +131,7 @@ returns-clause-applied c =
     let does = subst (λ (b : Body). Does c.self.inside.dispatcher.server (MessageComes c.args.frame.now.client c.args.frame.now.incarnation (body_of b)) (messages_of posts.said) c.take.new.self.server) is posts.does in
     let becomes : c.end_permissions.new.hand ≡ committed c.args.hand.now c.in-Commit.writes ((server_of (record { dispatcher = c.self.inside.dispatcher; hands = c.self.inside.hands; history = c.self.inside.history.items; flags = c.self.inside.flags })).store.last_commit + 1) = c.end_permissions.ensures.hand ∙ ap (λ (h : HandState). without_permissions h)
     (restamped ∙ ap (λ (n : ℕ). all_restamped c.args.hand.now (pages_written (page_writes c.in-Commit.writes)) n) (c.new-version.ensures ∙ c.get.ensures.value ∙ number)) in
-    let whole = commits_by (record { dispatcher = c.self.inside.dispatcher; hands = c.self.inside.hands; history = c.self.inside.history.items; flags = c.self.inside.flags }) (record { dispatcher = c.take.new.self; hands = c.end_permissions.new.self; history = c.push_reserved.new.self.items; flags = c.self.inside.flags }) c.self.invariant (ok_fact c.take.result _ done c.take.ensures.arose) c.args.frame.now c.in-Commit.txn c.in-Commit.writes (messages_of posts.said) c.args.hand.now
+    let whole = commits_by (record { dispatcher = c.self.inside.dispatcher; hands = c.self.inside.hands; history = c.self.inside.history.items; flags = c.self.inside.flags }) (record { dispatcher = c.take.new.self; hands = c.end_permissions.new.self; history = c.push_reserved.new.self.items; flags = c.self.inside.flags }) c.self.invariant.0 (ok_fact c.take.result _ done c.take.ensures.arose) c.args.frame.now c.in-Commit.txn c.in-Commit.writes (messages_of posts.said) c.args.hand.now
     c.end_permissions.new.hand c.args.reads.now c.in_ok-entry.entry does own.held own.client own.incarnation fits.0.0 live may becomes follow entered history refl in
     subst (λ (v : StationState). IsApplied (server_of v) (server_of (record { dispatcher = c.take.new.self; hands = c.end_permissions.new.self; history = c.push_reserved.new.self.items; flags = c.self.inside.flags })) c.args.hand.now.client c.args.hand.now.incarnation (txn_of c.args.frame.now) (page_writes (writes_of c.args.frame.now))) c.self.view_is
     (subst (λ (b : Body). IsApplied (server_of (record { dispatcher = c.self.inside.dispatcher; hands = c.self.inside.hands; history = c.self.inside.history.items; flags = c.self.inside.flags })) (server_of (record { dispatcher = c.take.new.self; hands = c.end_permissions.new.self; history = c.push_reserved.new.self.items; flags = c.self.inside.flags })) c.args.hand.now.client c.args.hand.now.incarnation (txn_in b) (page_writes (writes_in b))) (sym is) whole.1)

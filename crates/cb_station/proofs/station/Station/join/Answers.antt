@@ -10,6 +10,7 @@ use Rattle.cb_hands.specs.Joined.{stored_at}
 use Rattle.cb_outbox.specs.Messages.{messages_of}
 use Rattle.cb_protocol.specs.AnyMessages.{MessageComes}
 use Rattle.cb_protocol.specs.Messages.{Hello}
+use Rattle.cb_station.proofs.Remembering.{still_forgotten}
 use Rattle.cb_station.proofs.station.Station.join.Goals as goal
 
 pub invariant_of-self : goal.invariant_of-self
@@ -19,9 +20,11 @@ pub invariant_of-self-then-is_err : goal.invariant_of-self-then-is_err
 invariant_of-self-then-is_err c =
     let failed : is_err c.greet.result ≡ true = sym c.is_err.ensures.value ∙ c.if-is_err.true in
     let none : stored_at c.self.inside.hands c.args.client ≡ None = search rules in
-    let name : c.in_ok-hand.hand.client ≡ c.args.client = ap (λ (h : HandState). h.client) c.in_ok-hand.ensures.hand in
-    unchanged_station (record { dispatcher = c.self.inside.dispatcher; hands = c.self.inside.hands; history = c.self.inside.history.items; flags = c.self.inside.flags }) (record { dispatcher = c.greet.new.self; hands = c.leave.new.self; history = c.self.inside.history.items; flags = c.self.inside.flags }) c.self.invariant
-    (record { dispatcher = err_fact c.greet.result _ failed c.greet.ensures.unchanged; hands = left_again c.self.inside.hands c.join.new.self c.leave.new.self c.args.client c.in_ok-hand.hand name none c.in_ok-hand.ensures.stored c.leave.ensures; history = refl; flags = refl })
+    let name : c.in_ok-hand.hand.client ≡ c.args.client = ap (λ (h : HandState). h.client) c.in_ok-hand.ensures.hand in (
+      unchanged_station (record { dispatcher = c.self.inside.dispatcher; hands = c.self.inside.hands; history = c.self.inside.history.items; flags = c.self.inside.flags }) (record { dispatcher = c.greet.new.self; hands = c.leave.new.self; history = c.self.inside.history.items; flags = c.self.inside.flags }) c.self.invariant.0
+          (record { dispatcher = err_fact c.greet.result _ failed c.greet.ensures.unchanged; hands = left_again c.self.inside.hands c.join.new.self c.leave.new.self c.args.client c.in_ok-hand.hand name none c.in_ok-hand.ensures.stored c.leave.ensures; history = refl; flags = refl }),
+      still_forgotten _ _ _ c.self.invariant.1 (err_fact c.greet.result _ failed c.greet.ensures.unchanged),
+    )
 
 pub returns-then-is_err-clause-err : goal.returns-then-is_err-clause-err
 returns-then-is_err-clause-err c =
@@ -44,10 +47,12 @@ invariant_of-self-else-is_err c =
     let next : c.in_ok-incarnation.incarnation ≡ ((server_of (record { dispatcher = c.self.inside.dispatcher; hands = c.self.inside.hands; history = c.self.inside.history.items; flags = c.self.inside.flags })).session c.args.client).current + 1 =
     c.in_ok-incarnation.ensures.ok ∙ ap (λ (v : StationState). ((server_of v).session c.args.client).current + 1) (sym c.self.view_is) in
     let lt : c.args.client < length c.self.inside.hands = search rules in
-    let pages : c.pages-pages.result ≡ c.self.inside.dispatcher.server.limits.pages = search rules in
-    enters_station (record { dispatcher = c.self.inside.dispatcher; hands = c.self.inside.hands; history = c.self.inside.history.items; flags = c.self.inside.flags }) (record { dispatcher = c.greet.new.self; hands = c.join.new.self; history = c.self.inside.history.items; flags = c.self.inside.flags }) c.self.invariant (ok_fact c.greet.result _ done c.greet.ensures.arose) c.args.client c.in_ok-incarnation.incarnation (messages_of posts.said) c.in_ok-hand.hand
-    posts.does (omega (arith, next)) (c.in_ok-hand.ensures.hand ∙ ap (λ (n : ℕ). empty_hand c.args.client c.in_ok-incarnation.incarnation n) pages)
-    c.in_ok-hand.ensures.stored lt refl refl
+    let pages : c.pages-pages.result ≡ c.self.inside.dispatcher.server.limits.pages = search rules in (
+      enters_station (record { dispatcher = c.self.inside.dispatcher; hands = c.self.inside.hands; history = c.self.inside.history.items; flags = c.self.inside.flags }) (record { dispatcher = c.greet.new.self; hands = c.join.new.self; history = c.self.inside.history.items; flags = c.self.inside.flags }) c.self.invariant.0 (ok_fact c.greet.result _ done c.greet.ensures.arose) c.args.client c.in_ok-incarnation.incarnation (messages_of posts.said) c.in_ok-hand.hand
+          posts.does (omega (arith, next)) (c.in_ok-hand.ensures.hand ∙ ap (λ (n : ℕ). empty_hand c.args.client c.in_ok-incarnation.incarnation n) pages)
+          c.in_ok-hand.ensures.stored lt refl refl,
+      c.self.invariant.1 ∙ sym posts.does.forgotten,
+    )
 
 pub returns-clause-posts : goal.returns-clause-posts
 returns-clause-posts c =

@@ -20,6 +20,6 @@ returns-clause-told g c =
       stopped = c.self.inside.stopped;
     } in
     let reached = c.self.invariant.running c.if-self.false in
-    let listed = c.committed.ensures ∙ ap (λ (s : ServerValue). (server_of s).commits) c.server.ensures in
+    let listed = c.committed.ensures.all c.server.ensures.forgotten ∙ ap (λ (s : ServerValue). (server_of s).commits) c.server.ensures.value in
     subst (λ (w : WorldState). map committed_name c.committed.result.now ≡ w.commits) c.self.view_is
     (listed_are_told v reached.world c.committed.result.now reached.represents listed)
