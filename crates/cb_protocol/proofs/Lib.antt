@@ -41,7 +41,6 @@ pub mod Invariant
 pub mod InvariantKept
 pub mod Laws
 pub mod LedgerKept
-pub mod LifeBegins
 pub mod LifeEvents
 pub mod LifeImage
 pub mod LifeMachine
@@ -49,11 +48,8 @@ pub mod LifeOperations
 pub mod LifeRestarts
 pub mod LifeSends
 pub mod LivePermissions
-pub mod LivesGoOn
 pub mod LivesHistory
 pub mod LivesProof
-pub mod LivesStand
-pub mod LivesText
 pub mod LockedPages
 pub mod Machine
 pub mod MachineSteps
@@ -68,7 +64,6 @@ pub mod PageComes
 pub mod PagesStay
 pub mod Permissions
 pub mod PoolRoom
-pub mod PoolSteps
 pub mod ReadAsksWaiting
 pub mod ReadVersions
 pub mod ScheduleText
@@ -96,7 +91,6 @@ pub mod StepsAlone
 pub mod TransactionEnds
 pub mod TranscriptKept
 pub mod TranscriptStill
-pub mod WorkedLives
 pub mod WorkedSchedules
 pub mod WorkedServers
 pub mod WorkedSides

@@ -18,9 +18,7 @@ pub mod Headline
 pub mod HelloLaws
 pub mod Laws
 pub mod LeavingLaws
-pub mod LifeLaws
 pub mod Lives
-pub mod LivesEvents
 pub mod LivesWorld
 pub mod Marks
 pub mod Messages

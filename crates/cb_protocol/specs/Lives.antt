@@ -16,7 +16,7 @@ use Rattle.cb_protocol.specs.Transcript.{transcript_operations}
 use Rattle.cb_protocol.specs.World.{Moment, Opening, Plays, World, new_world, world_after}
 
 -- The client is of the present life: its incarnation is the floor or above, whether it was welcomed
--- or not. A client below the floor is never welcomed in this life.
+-- or not. An incarnation below the floor is never welcomed in this life.
 abbrev pub IsOfLife : Lives → (client : ℕ) → Type 0
 IsOfLife lives client = lives.floor ≤ lives.world.incarnation client
 
@@ -56,11 +56,11 @@ pub record DonesStand (lives : Lives) : Type 0 where
   pub committed : (client incarnation txn number : ℕ)
       → DoneSent lives.world client incarnation txn number
       → IsCommit (lives_commits lives) client incarnation txn number
-  -- that commit is on disk, as far as the server was told
+  -- that commit is among those that were reported to the server as on disk
   pub on_disk : (client incarnation txn number : ℕ)
       → DoneSent lives.world client incarnation txn number
       → number ≤ lives.world.server.flushed
-  -- no commit is on disk that the server didn't make
+  -- what was reported to it as on disk, it made
   pub disk : lives.world.server.flushed ≤ lives.world.server.store.last_commit
 
 -- the server's message that welcomes that incarnation of the client
@@ -80,7 +80,7 @@ HelloSent world client incarnation =
 -- What was sent, in whatever life, is of no incarnation that is still to come.
 pub record PacketsArePast (lives : Lives) : Type 0 where
   -- Each message, from a client or to it, is of the client's present incarnation or an earlier one.
-  -- So one of the floor or above is of the present life, and its client has come to that life.
+  -- So one of the floor or above was sent in the present life, by or to a client that has come to it.
   pub past : (message : Message) → IsIn message lives.world.packets
       → message.incarnation ≤ lives.world.incarnation message.client
   -- who was welcomed had greeted
@@ -96,13 +96,14 @@ pub record CommitWelcomed (lives : Lives) (commit : AppliedCommit) : Type 0 wher
   pub come : commit.incarnation ≤ lives.world.incarnation commit.client
   pub welcomed : WelcomeSent lives.world commit.client commit.incarnation
 
--- Nobody has a say in the present life who wasn't welcomed by it.
+-- Who isn't of the present life has nothing at its server, and who wasn't welcomed by it commits
+-- nothing in it.
 pub record WelcomedAlone (lives : Lives) : Type 0 where
-  -- The server takes messages of a client's current incarnation alone, and greater Hellos. Each
-  -- current incarnation is the floor or above, so it takes none of a former life.
+  -- Of each client the server takes messages of its current incarnation alone, and Hellos of
+  -- a greater one. That is the floor or above, so the server takes nothing of a former life.
   pub current : (client : ℕ) → client < lives.world.server.clients
       → lives.floor ≤ (lives.world.server.session client).current
-  -- of a client below the floor it has nothing: no row, permission, mark, ask or transaction
+  -- of a client below the floor it has no row, permission, mark, ask or transaction
   pub nothing : (client : ℕ) → client < lives.world.server.clients
       → lives.world.incarnation client < lives.floor
       → OnlyGreeted lives.world.server client lives.floor

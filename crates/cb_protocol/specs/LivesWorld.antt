@@ -14,7 +14,7 @@ use Rattle.cb_protocol.specs.World.{opening_store, step}
 pub data LivesEvent : Type 0 where
   WithinLife : Event → LivesEvent  -- any event but a restart of the server
   -- The server restarts. In its new life it ignores messages of incarnations below the floor. The
-  -- commits up to that number are on disk, whether the server was told so before it stopped or not.
+  -- disk has the commits up to that number. The former life may have stopped before it was told so.
   ServerRestarts : (floor number : ℕ) → LivesEvent
 
 -- The world over all lives of the server.
@@ -61,8 +61,8 @@ session_at incarnation =
     record { current = incarnation; row = λ page. None; txn = 0; ended = 0 }
 
 -- The server as a life begins: a new one over its store, except that the current incarnation of
--- each client is the floor. No client was ever of that incarnation, so whatever they sent is
--- ignored.
+-- each client is the floor. No client has had that incarnation yet, or a greater one: so whatever
+-- was sent before is ignored.
 abbrev pub server_of_life : Limits → Opening → (floor : ℕ) → Server
 server_of_life limits opening floor =
     record (new_server limits.clients limits.pages (opening_store limits opening)) {
@@ -86,15 +86,18 @@ lives_step limits cycle lives (WithinLife event) let_go =
 lives_step limits cycle lives (ServerRestarts floor number) let_go =
     restart_server limits lives floor number
 
--- A new floor: it is above the present one, and above the incarnation of every client. A client
--- that restarts has the next incarnation. One that takes a far greater incarnation, such as the
--- first of a life's range, counts here as a client that restarted so often.
+-- A new floor. In this world a client's restart takes the next incarnation: a client that goes to
+-- the first one of a life's range restarts so often, and sends nothing in between.
 pub record IsNewFloor (lives : Lives) (floor : ℕ) : Type 0 where
+  -- It is above the present floor, also where nobody has come to the present life: each start of
+  -- a server takes a number of its own.
   pub rises : lives.floor < floor
+  -- and above the incarnation of every client
   pub unused : (client : ℕ) → lives.world.incarnation client < floor
 
 -- The disk may have the commits up to that number: at least all that were reported to the server as
--- on disk, and none that it didn't make. What is between was written and not yet reported.
+-- on disk, and none that it didn't make. Of those between, the first ones may have been written
+-- without a report.
 pub record MayBeOnDisk (server : Server) (number : ℕ) : Type 0 where
   pub reported : server.flushed ≤ number
   pub made : number ≤ server.store.last_commit

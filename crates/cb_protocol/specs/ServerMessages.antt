@@ -165,8 +165,9 @@ admit_incarnation cycle server client incarnation =
     ) (λ admitted. settle_pages cycle admitted admitted.pages)
 
 -- What the server does when a message of that client and incarnation comes. Hello of a greater
--- incarnation is admitted, of the current one welcomed again; every other message counts only at
--- the current incarnation. Proofs open it by the case lemmas of proofs/Cases.
+-- incarnation is admitted, one of the current incarnation is answered by Welcome, and every other
+-- message counts only at the current incarnation. Proofs open it by the case lemmas of
+-- proofs/Cases.
 unfoldable pub server_take : DeadlockTest → Server → ℕ → ℕ → Body → List ServerStep
 server_take cycle server client incarnation Hello =
     if nat_lt (server.session client).current incarnation

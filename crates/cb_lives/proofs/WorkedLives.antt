@@ -1,7 +1,7 @@
 -- Worked schedules over several lives of the server. What is answered was worked out by hand from the rules as docs/PROTOCOL.md tells them.
 use Rattle.std.proofs.Common.{Bool, List, [], ap, arith, false, length, map, refl, true, ℕ, ◌++◌, ◌+◌, ◌∷◌, ◌≡◌}
 use Rattle.cb_protocol.proofs.LivesProof.{lives_headline}
-use Rattle.cb_protocol.proofs.LivesText.{FloorsNew, LivesGive, LivesLine, LivesOutput, Restarts, commit, event_of, lines_lead, lives_of, lives_output, within}
+use Rattle.cb_lives.proofs.LivesText.{FloorsNew, LivesGive, LivesLine, LivesOutput, Restarts, commit, event_of, lines_lead, lives_of, lives_output, within}
 use Rattle.cb_protocol.proofs.ScheduleText.{Line, at, begin, drop_txn, finish, flush_all, flush_to, hello, limits, page_of, peek, read, resend, restart, sent, server_resends, take, want, write, zeros}
 use Rattle.cb_protocol.specs.Answers.{AnsweredBytes, AnsweredOk, Asked, Flushed, NoPacket, NotWelcome, Nothing, Permitted, Refused, Taken, Waiting}
 use Rattle.cb_protocol.specs.Basics.{Bytes}

@@ -3,13 +3,13 @@ use Rattle.std.proofs.Common.{Bool, List, None, Option, Some, [], arith, false, 
 use Rattle.cb_protocol.proofs.LifeSends.{Sends, event_sends}
 use Rattle.cb_protocol.proofs.LivesProof.{Stands, life_of, promised, stands_after, stands_along, stands_first}
 use Rattle.cb_protocol.proofs.PoolRoom.{Roomy, may_choose, roomy_new}
-use Rattle.cb_protocol.proofs.PoolSteps.{roomy_along}
+use Rattle.cb_lives.proofs.PoolSteps.{roomy_along}
 use Rattle.cb_protocol.specs.Basics.{Bytes, Limits}
 use Rattle.cb_protocol.specs.Cache.{Fill, Install, Lock}
 use Rattle.cb_protocol.specs.Client.{ChangeCache, Client, NoAsk, SetAsk, asks_to_read}
 use Rattle.cb_protocol.specs.ClientEnd.{refuse_grant}
 use Rattle.cb_protocol.specs.ClientMessages.{ChoiceAllowed, brings_page, client_take, let_page_go, take_granted, take_granted_held, take_new_grant}
-use Rattle.cb_protocol.specs.LivesEvents.{CanGoOn, LivesGoOn}
+use Rattle.cb_lives.specs.LivesEvents.{CanGoOn, LivesGoOn}
 use Rattle.cb_protocol.specs.LivesWorld.{LeadsTo, Lives, LivesEvent, LivesEventAllowed, ServerRestarts, WithinLife, first_life, lives_step}
 use Rattle.cb_protocol.specs.Messages.{Body, Granted, Message}
 use Rattle.cb_protocol.specs.Server.{DeadlockTest}

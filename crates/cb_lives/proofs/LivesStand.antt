@@ -8,7 +8,7 @@ use Rattle.cb_protocol.specs.AnyMessages.{Numbered}
 use Rattle.cb_protocol.specs.Basics.{IsIn, Limits}
 use Rattle.cb_protocol.specs.Headline.{SoundOpening}
 use Rattle.cb_protocol.specs.Lives.{lives_commits}
-use Rattle.cb_protocol.specs.LivesEvents.{DiskStandsForEver, EventsSendInTheirLife, LosesAbove, RestartsLeaveTheDisk}
+use Rattle.cb_lives.specs.LivesEvents.{DiskStandsForEver, EventsSendInTheirLife, LosesAbove, RestartsLeaveTheDisk}
 use Rattle.cb_protocol.specs.LivesWorld.{LeadsTo, Lives, LivesEvent, LivesEventAllowed, Reaches, ServerRestarts, WithinLife, commits_on_disk, commits_up_to, first_life, lives_step}
 use Rattle.cb_protocol.specs.Messages.{Message}
 use Rattle.cb_protocol.specs.Server.{AppliedCommit, DeadlockTest}

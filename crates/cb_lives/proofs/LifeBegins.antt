@@ -6,7 +6,7 @@ use Rattle.cb_protocol.proofs.SettlingAgain.{passed_over}
 use Rattle.cb_protocol.specs.AnyMessages.{AfterInput, ComesFromClient, Input, MessageComes, Opened, ReachedBy}
 use Rattle.cb_protocol.specs.Basics.{Limits}
 use Rattle.cb_protocol.specs.Deadlock.{InputInRange}
-use Rattle.cb_protocol.specs.LifeLaws.{LivesAreReached, RangesGiveFloors}
+use Rattle.cb_lives.specs.LifeLaws.{LivesAreReached, RangesGiveFloors}
 use Rattle.cb_protocol.specs.LivesWorld.{session_at}
 use Rattle.cb_protocol.specs.Messages.{Hello, Welcome}
 use Rattle.cb_protocol.specs.Ranges.{InputTaken}

@@ -1,0 +1,2 @@
+pub mod LifeLaws
+pub mod LivesEvents
