@@ -1,17 +1,18 @@
 -- A server of a new life is one that a new server becomes, by a Hello of the floor from each client.
-use Rattle.std.proofs.Common.{Bool, List, None, Option, [], ap, arith, false, if◌then◌else◌, nat_lt, refl, subst, suc, sym, true, zero, ℕ, ◌&&◌, ◌+◌, ◌<◌, ◌==◌, ◌∙◌, ◌∷◌, ◌≡◌, ◌≤◌}
+use Rattle.std.proofs.Common.{Bool, List, None, Option, [], ap, arith, false, if◌then◌else◌, nat_lt, refl, subst, suc, sym, true, zero, ℕ, ◌+◌, ◌<◌, ◌==◌, ◌∙◌, ◌∷◌, ◌≡◌, ◌≤◌}
 use Rattle.cb_protocol.proofs.Cases.{serves_new_hello}
 use Rattle.cb_protocol.proofs.ServerOrder.{after_append}
 use Rattle.cb_protocol.proofs.SettlingAgain.{passed_over}
 use Rattle.cb_protocol.specs.AnyMessages.{AfterInput, ComesFromClient, Input, MessageComes, Opened, ReachedBy}
 use Rattle.cb_protocol.specs.Basics.{Limits}
 use Rattle.cb_protocol.specs.Deadlock.{InputInRange}
+use Rattle.cb_lives.proofs.HellosAnswered.{hello_taken}
 use Rattle.cb_lives.specs.LifeLaws.{LivesAreReached, RangesGiveFloors}
 use Rattle.cb_protocol.specs.LivesWorld.{session_at}
 use Rattle.cb_protocol.specs.Messages.{Hello, Welcome}
 use Rattle.cb_protocol.specs.Ranges.{InputTaken}
 use Rattle.cb_protocol.specs.Server.{ChangeSession, DeadlockTest, ForgetTransaction, Send, Server, ServerStep, new_server, server_after}
-use Rattle.cb_protocol.specs.ServerMessages.{is_exhausted, server_take}
+use Rattle.cb_protocol.specs.ServerMessages.{server_take}
 use Rattle.cb_protocol.specs.Session.{Admit}
 use Rattle.cb_protocol.specs.Settling.{settle_pages}
 use Rattle.cb_protocol.specs.World.{Opening, opening_store}
@@ -95,20 +96,12 @@ reached_greeted L cycle o floor Allowed l a zero h = subst (λ (s : Server). Rea
 reached_greeted L cycle o floor Allowed l a (suc n) h = subst (λ (s : Server). ReachedBy L cycle o Allowed s) (greets_alone L cycle o floor n l ∙ ap (greeted L o floor) (next n))
     (AfterInput (reached_greeted L cycle o floor Allowed l a n (omega (arith, h))) (MessageComes n floor Hello) (a n (omega (arith, h))))
 
--- a Hello is never refused as exhausted
-hello_taken : (s : Server) (c i : ℕ) → is_exhausted s c i Hello ≡ false
-hello_taken s c i = go (i == (s.session c).current)
-  where
-    go : (r : Bool) → (r && false) ≡ false
-    go true = refl
-    go false = refl
-
 pub lives_are_reached : LivesAreReached
 lives_are_reached L cycle o floor l = record {
-  any = reached_greeted L cycle o floor (ComesFromClient L) l.0 (λ c k. k) L.clients (omega arith);
-  in_range = reached_greeted L cycle o floor InputInRange l.0 (λ c k. (k, tt)) L.clients (omega arith);
-  taken = reached_greeted L cycle o floor (InputTaken L) l.0 (λ c k. ((k, l, tt), hello_taken (greeted L o floor c) c floor)) L.clients (omega arith);
+  any = reached_greeted L cycle o floor (ComesFromClient L) l (λ c k. k) L.clients (omega arith);
+  in_range = reached_greeted L cycle o floor InputInRange l (λ c k. (k, tt)) L.clients (omega arith);
+  taken = λ n. reached_greeted L cycle o floor (InputTaken L) l (λ c k. ((k, n, tt), hello_taken (greeted L o floor c) c floor)) L.clients (omega arith);
 }
 
 pub ranges_give_floors : RangesGiveFloors
-ranges_give_floors lives life e f = record { rises = omega (arith, e); unused = f }
+ranges_give_floors lives life later e l f = record { rises = omega (arith, e, l); unused = λ c. (let k = f c in omega (arith, l, k)) }

@@ -82,8 +82,10 @@ bounded_along L cycle o (e ∷ es) lives after p h b = let s : Lives = lives_ste
 -- what can happen next
 next_can : (L : Limits) (cycle : DeadlockTest) (o : Opening) (lives : Lives) → Stands L o lives → Bounded lives → ((c : ℕ) → Roomy L (lives.world.client c)) → CanGoOn L lives
 next_can L cycle o lives h b f = record {
+  allowed = λ e let_go a. a;
   events = λ e. event_chosen L lives.world e f;
-  restarts = (lives.floor + b.0 + 1, λ floor n l d. (record { rises = omega (arith, l); unused = λ c. (let k = b.1 c in omega (arith, l, k)) }, d));
+  restarts = λ floor n rises unused reported made. (record { rises = rises; unused = unused }, record { reported = reported; made = made });
+  floors = (lives.floor + b.0 + 1, λ floor l. (omega (arith, l), λ c. (let k = b.1 c in omega (arith, l, k))));
   reported = record { reported = omega arith; made = disk };
   all = record { reported = disk; made = omega arith };
 }

@@ -1,18 +1,27 @@
 -- What each event of the world over all lives keeps and sends, and that what is on disk stands for ever.
 use Rattle.std.proofs.Common.{Bool, List, [], ap, arith, false, if◌then◌else◌, inl, inr, nat_le, refl, subst, sym, true, ℕ, ◌++◌, ◌<◌, ◌∙◌, ◌∷◌, ◌≡◌, ◌≤◌}
-use Rattle.cb_protocol.proofs.LifeImage.{in_append, in_left, in_right}
+use Rattle.cb_protocol.proofs.Cases.{serves_no_old_hello}
+use Rattle.cb_protocol.proofs.LifeImage.{SentBy, SentInLife, in_append, in_left, in_right}
 use Rattle.cb_protocol.proofs.LifeSends.{Sends, event_sends}
 use Rattle.cb_protocol.proofs.LivesHistory.{survives}
 use Rattle.cb_protocol.proofs.LivesProof.{Stands, ended_numbers, life_of, nothing_of, promised, stands_after, stands_along, stands_first}
-use Rattle.cb_protocol.specs.AnyMessages.{Numbered}
+use Rattle.cb_protocol.specs.AnyMessages.{IsCommit, Numbered}
+use Rattle.cb_protocol.specs.Answers.{Taken}
 use Rattle.cb_protocol.specs.Basics.{IsIn, Limits}
-use Rattle.cb_protocol.specs.Headline.{SoundOpening}
-use Rattle.cb_protocol.specs.Lives.{lives_commits}
-use Rattle.cb_lives.specs.LivesEvents.{DiskStandsForEver, EventsSendInTheirLife, LosesAbove, RestartsLeaveTheDisk}
+use Rattle.cb_protocol.specs.Headline.{DoneSent, SoundOpening}
+use Rattle.cb_protocol.specs.Lives.{lives_commits, welcome_to}
+use Rattle.cb_lives.proofs.AccountsKept.{Tells, tells_along, tells_first}
+use Rattle.cb_lives.proofs.CommitsAdded.{Adds, event_adds}
+use Rattle.cb_lives.proofs.NeverCommitted.{Gone, gone_along, told_gone}
+use Rattle.cb_lives.proofs.HellosAnswered.{Sent, event_sent, hello_greeted, hello_served, same_behind}
+use Rattle.cb_lives.specs.LivesEvents.{DiskStandsForEver, EventsKeepTheirLife, EventsSendInTheirLife, LosesAbove, RestartsLeaveTheDisk, TakesHello}
+use Rattle.cb_lives.specs.Outcomes.{last_ended}
 use Rattle.cb_protocol.specs.LivesWorld.{LeadsTo, Lives, LivesEvent, LivesEventAllowed, Reaches, ServerRestarts, WithinLife, commits_on_disk, commits_up_to, first_life, lives_step}
-use Rattle.cb_protocol.specs.Messages.{Message}
-use Rattle.cb_protocol.specs.Server.{AppliedCommit, DeadlockTest}
-use Rattle.cb_protocol.specs.World.{Opening, World, step}
+use Rattle.cb_protocol.specs.Messages.{Commit, Hello, Message}
+use Rattle.cb_protocol.specs.Client.{Aborted, Committed, Dropped}
+use Rattle.cb_protocol.specs.Server.{AppliedCommit, DeadlockTest, server_after}
+use Rattle.cb_protocol.specs.ServerMessages.{server_take}
+use Rattle.cb_protocol.specs.World.{Event, Opening, TakePacket, World, messages_sent, server_does, step}
 
 -- a commit's number is at most the last
 numbered_up_to : (first last : ℕ) (xs : List AppliedCommit) → Numbered first xs last → (x : AppliedCommit) → IsIn x xs → x.number ≤ last
@@ -66,19 +75,82 @@ restarts_leave L cycle o es lives floor n let_go s p a = record {
   transcript = refl;
   heeds = refl;
   commits = loses L o lives n (reached L cycle o es lives s p) a.1.reported a.1.made;
+  own = refl;
   last = refl;
   flushed = refl;
   nothing = nothing_of L _ floor;
+  fits = record { clients = refl; pages = refl; keep_write = refl };
+  opening = refl;
 }
 
 pub events_send : (L : Limits) (cycle : DeadlockTest) → EventsSendInTheirLife L cycle
-events_send L cycle o es lives e let_go s p a = record { sent = r.sent; grows = r.grows; by_client = r.by_client; by_server = r.by_server; welcome = r.welcome }
+events_send L cycle o es lives e let_go s p a = record {
+  sent = r.sent;
+  grows = r.grows;
+  by_client = r.by_client;
+  by_server = r.by_server;
+  answered = λ c i t l. answered c i t l;
+  older = λ c i t l. older c i t l;
+  welcome = λ c i j. q.welcomes c i (subst (λ (fs : List Message). IsIn (welcome_to c i) fs) (same_behind lives.world.packets r.sent q.sent (sym r.grows ∙ q.grows)) j);
+}
   where
+    v : World
+    v = lives.world
+
+    u : World
+    u = (step L cycle lives.world e let_go).world
+
     h : Stands L o lives
     h = reached L cycle o es lives s p
 
     r : Sends L.clients lives.floor lives.world (step L cycle lives.world e let_go).world
     r = event_sends L cycle (life_of lives h.told) lives.world h.machine e let_go h.image h.spoken
+
+    q : Sent lives.world e (step L cycle lives.world e let_go).world
+    q = event_sent L cycle lives.world e let_go
+
+    -- the world after a Hello is taken
+    taken : (c i : ℕ) → (t : TakesHello lives e c i) → u ≡ (server_does v (TakePacket t.0) Taken (server_take cycle v.server c i Hello)).world
+    taken c i t = ap (λ (x : Event). (step L cycle v x let_go).world) t.1 ∙ hello_served L cycle v t.0 c i let_go t.2
+
+    answered : (c i : ℕ) → TakesHello lives e c i → (v.server.session c).current ≤ i → IsIn (welcome_to c i) r.sent × ((u.server.session c).current ≡ i)
+    answered c i t l = let g = hello_greeted cycle v.server c i l in (
+      subst (λ (fs : List Message). IsIn (welcome_to c i) fs) (same_behind v.packets (messages_sent (server_take cycle v.server c i Hello)) r.sent (sym (ap (λ (x : World). x.packets) (taken c i t)) ∙ r.grows)) g.welcome,
+      ap (λ (x : World). (x.server.session c).current) (taken c i t) ∙ g.current,
+    )
+
+    older : (c i : ℕ) → TakesHello lives e c i → i < (v.server.session c).current → (r.sent ≡ []) × (u.server ≡ v.server)
+    older c i t l = (
+      same_behind v.packets r.sent (messages_sent (server_take cycle v.server c i Hello)) (sym r.grows ∙ ap (λ (x : World). x.packets) (taken c i t)) ∙ ap messages_sent (serves_no_old_hello cycle v.server c i l),
+      ap (λ (x : World). x.server) (taken c i t) ∙ ap (server_after v.server) (serves_no_old_hello cycle v.server c i l),
+    )
+
+tells_reached : (L : Limits) (cycle : DeadlockTest) (o : Opening) (es : List LivesEvent) (lives : Lives) → SoundOpening o → Reaches L cycle o es lives → Tells lives
+tells_reached L cycle o es lives s p = tells_along L cycle o es (first_life L o) lives p (stands_first L o s) (tells_first L o)
+
+pub events_keep : (L : Limits) (cycle : DeadlockTest) → EventsKeepTheirLife L cycle
+events_keep L cycle o es lives e let_go s p a = record {
+  world = refl;
+  floor = refl;
+  opening = refl;
+  former = refl;
+  added = c.added;
+  commits = c.commits;
+  made = λ x i. (let y = c.asked x i in record { later = c.later x i; of_life = y.0; welcomed = t.accounts.asked x.client x.incarnation x.txn x.writes y.1; asked = y.1 });
+  incarnation = r.rises;
+}
+  where
+    h : Stands L o lives
+    h = reached L cycle o es lives s p
+
+    t : Tells lives
+    t = tells_reached L cycle o es lives s p
+
+    r : Sends L.clients lives.floor lives.world (step L cycle lives.world e let_go).world
+    r = event_sends L cycle (life_of lives h.told) lives.world h.machine e let_go h.image h.spoken
+
+    c : Adds (SentInLife lives.floor lives.world) lives.world.server.store.last_commit lives.world.server.commits (step L cycle lives.world e let_go).world.server.commits
+    c = event_adds L cycle (life_of lives h.told) lives.world h.machine e let_go h.image
 
 -- what a step keeps of packets and of the commits on disk
 record Keeps (lives after : Lives) : Type 0 where
@@ -128,7 +200,9 @@ keeps_along L cycle o (e ∷ es) lives after p h =
 
 pub disk_stands : (L : Limits) (cycle : DeadlockTest) → DiskStandsForEver L cycle
 disk_stands L cycle o es later lives after s p q = record {
-  dones = λ c i t n x. (promised L o after (stands_along L cycle o later lives after q h)).dones.committed c i t n (k.packets _ x);
+  dones = dones;
+  told = λ c n e. dones c (lives.world.incarnation c) (last_ended (lives.world.client c)) n ((t.accounts.each c).told n e);
+  gone = λ c n e d. never c (λ x f. elim e [ inl y ↦ (let z : Dropped ≡ Committed x = sym y ∙ f in cc) | inr y ↦ (let z : Aborted ≡ Committed x = sym y ∙ f in cc) ]) n d;
   flushed = k.commits;
 }
   where
@@ -137,3 +211,17 @@ disk_stands L cycle o es later lives after s p q = record {
 
     k : Keeps lives after
     k = keeps_along L cycle o later lives after q h
+
+    t : Tells lives
+    t = tells_reached L cycle o es lives s p
+
+    dones : (c i t n : ℕ) → DoneSent lives.world c i t n → IsCommit (lives_commits after) c i t n
+    dones c i t n x = (promised L o after (stands_along L cycle o later lives after q h)).dones.committed c i t n (k.packets _ x)
+
+    never : (c : ℕ) → ((x : ℕ) → (lives.world.client c).last_outcome ≡ Committed x → ⊥) → (n : ℕ) → IsCommit (lives_commits after) c (lives.world.incarnation c) (last_ended (lives.world.client c)) n → ⊥
+    never c f n d = gone.unsaid d.0.writes (subst (λ (x : ℕ). SentBy after.world x (lives.world.incarnation c) (Commit (last_ended (lives.world.client c)) d.0.writes)) d.2
+        (subst (λ (x : ℕ). SentBy after.world d.0.client x (Commit (last_ended (lives.world.client c)) d.0.writes)) d.3
+        (subst (λ (x : ℕ). SentBy after.world d.0.client d.0.incarnation (Commit x d.0.writes)) d.4 ((tells_along L cycle o later lives after q h t).commits d.0 d.1))))
+      where
+        gone : Gone c (lives.world.incarnation c) (last_ended (lives.world.client c)) after.world
+        gone = gone_along c (lives.world.incarnation c) (last_ended (lives.world.client c)) L cycle o later lives after q h t (told_gone lives.world c t.accounts f)

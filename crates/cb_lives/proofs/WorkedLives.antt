@@ -3,8 +3,9 @@ use Rattle.std.proofs.Common.{Bool, List, [], ap, arith, false, length, map, ref
 use Rattle.cb_protocol.proofs.LivesProof.{lives_headline}
 use Rattle.cb_lives.proofs.LivesText.{FloorsNew, LivesGive, LivesLine, LivesOutput, Restarts, commit, event_of, lines_lead, lives_of, lives_output, within}
 use Rattle.cb_protocol.proofs.ScheduleText.{Line, at, begin, drop_txn, finish, flush_all, flush_to, hello, limits, page_of, peek, read, resend, restart, sent, server_resends, take, want, write, zeros}
-use Rattle.cb_protocol.specs.Answers.{AnsweredBytes, AnsweredOk, Asked, Flushed, NoPacket, NotWelcome, Nothing, Permitted, Refused, Taken, Waiting}
+use Rattle.cb_protocol.specs.Answers.{AnsweredBytes, AnsweredOk, Asked, Flushed, NoPacket, NotWelcome, Nothing, Permitted, Refused, Taken, TransactionOpen, Waiting}
 use Rattle.cb_protocol.specs.Basics.{Bytes}
+use Rattle.cb_protocol.specs.Client.{Committed, LastOutcome}
 use Rattle.cb_protocol.specs.ClientCalls.{call_fault, client_call}
 use Rattle.cb_protocol.specs.ClientMessages.{client_take}
 use Rattle.cb_protocol.specs.Lives.{LivesPromise, lives_history}
@@ -12,6 +13,7 @@ use Rattle.cb_protocol.specs.LivesWorld.{LeadsTo, first_life}
 use Rattle.cb_protocol.specs.Serial.{Put, Saw}
 use Rattle.cb_protocol.specs.ServerMessages.{server_take}
 use Rattle.cb_protocol.specs.WaitsFor.{on_cycle}
+use Rattle.cb_lives.specs.Outcomes.{last_ended}
 use Rattle.cb_protocol.specs.World.{step}
 
 -- page 5 in the server's store after these lines
@@ -295,6 +297,53 @@ kept_permission_ends : LivesGive (limits 2 8 4 true) (within (finished ++ at (ta
     ∷ at flush_all (Flushed 2) (sent 14 69 1 ∷ []) ∷ [])) (commit 1 2 1 2 ∷ commit 0 1 1 1 ∷ [])
 unfolding client_call call_fault client_take server_take step
 kept_permission_ends = refl
+
+-- What a client was told last: how the transaction ended, and which one it was.
+abbrev told : List LivesLine → ℕ → LastOutcome × ℕ
+told ls c = let k = (lives_of (limits 2 8 4 false) ls).world.client c in (k.last_outcome, last_ended k)
+
+-- who took the Done of the former life late was told of its first transaction, also when the next has begun
+told_late : told late_done_lines 0 ≡ (Committed 1, 1)
+unfolding client_call call_fault client_take server_take step
+told_late = refl
+
+-- A transaction that wrote nothing has a number as every other, and its client is told that one.
+abbrev read_alone_lines : List LivesLine
+read_alone_lines = two_restarts_lines ++ within (at (take 14) Taken [] ∷ [])
+
+told_of_a_read : (told read_alone_lines 1 ≡ (Committed 2, 1)) × LivesGive (limits 2 8 4 false) read_alone_lines (commit 1 3 1 2 ∷ commit 0 1 1 1 ∷ [])
+unfolding client_call call_fault client_take server_take step
+told_of_a_read = (refl, refl)
+
+-- A Done of the first transaction comes again while the second is committing, and once more in the next life: it is nothing to the second, which only read, and which waits for a Done of its own.
+abbrev done_again_lines : List LivesLine
+done_again_lines = within (finished ++ at (take 6) Taken [] ∷ at flush_all (Flushed 1) (sent 7 69 0 ∷ []) ∷ at (take 7) Taken []
+    ∷ at (begin 0) AnsweredOk []
+    ∷ at (read 0 5) (AnsweredBytes (page_of 7)) []
+    ∷ at (finish 0) AnsweredOk (sent 8 6 0 ∷ [])
+    ∷ at (take 7) Taken []
+    ∷ at (begin 0) (Refused TransactionOpen) [] ∷ []) ++ Restarts 2 1 ∷ within (at (take 7) Taken []
+    ∷ at (begin 0) (Refused TransactionOpen) []
+    ∷ at (take 8) Taken []
+    ∷ at flush_all Nothing [] ∷ [])
+
+done_of_another : LivesGive (limits 2 8 4 false) done_again_lines (commit 0 1 1 1 ∷ []) × (told done_again_lines 0 ≡ (Committed 1, 1))
+unfolding client_call call_fault client_take server_take step
+done_of_another = (refl, refl)
+
+-- The first client that comes to the floor itself is welcomed, and again as often as its Hello comes; no other message brings a Welcome.
+hello_at_the_floor : LivesGive (limits 2 8 4 false) (Restarts 2 0 ∷ within (at (restart 1) AnsweredOk []
+    ∷ at (hello 1) AnsweredOk (sent 0 1 1 ∷ [])
+    ∷ at (take 0) Taken (sent 1 65 1 ∷ [])
+    ∷ at (take 0) Taken (sent 2 65 1 ∷ [])
+    ∷ at (take 2) Taken []
+    ∷ at (begin 1) AnsweredOk []
+    ∷ at (take 0) Taken (sent 3 65 1 ∷ [])
+    ∷ at (drop_txn 1) AnsweredOk (sent 4 7 1 ∷ [])
+    ∷ at (take 4) Taken []
+    ∷ at server_resends AnsweredOk [] ∷ [])) []
+unfolding client_call call_fault client_take server_take step
+hello_at_the_floor = refl
 
 -- these lines are a list of events of the headline, and what they lead to keeps the promise
 floors_are_new : FloorsNew (limits 2 8 4 false) (first_life (limits 2 8 4 false) zeros) two_restarts_lines

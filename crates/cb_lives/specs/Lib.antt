@@ -1,2 +1,3 @@
 pub mod LifeLaws
 pub mod LivesEvents
+pub mod Outcomes

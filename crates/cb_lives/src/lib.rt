@@ -7,29 +7,64 @@
 //! lists of several lives are computed by the definitions (`proofs/WorkedLives`).
 #![tactic(auto)]
 
+ghost use Rattle.cb_lives.specs.LifeLaws.{FloorsInRange, IncarnationsStayInRange};
 ghost use Rattle.cb_lives.specs.LifeLaws.{LivesAreReached, RangesGiveFloors};
-ghost use Rattle.cb_lives.specs.LivesEvents.{DiskStandsForEver, EventsSendInTheirLife};
-ghost use Rattle.cb_lives.specs.LivesEvents.{LivesGoOn, RestartsLeaveTheDisk};
+ghost use Rattle.cb_lives.specs.LivesEvents.{DiskStandsForEver, EventsKeepTheirLife};
+ghost use Rattle.cb_lives.specs.LivesEvents.{EventsSendInTheirLife, LivesGoOn};
+ghost use Rattle.cb_lives.specs.LivesEvents.{RestartsLeaveTheDisk, ServersHaveLimits};
+ghost use Rattle.cb_lives.specs.Outcomes.{ClientsAreToldTheTruth, OutcomesNameTransactions};
 ghost use Rattle.cb_protocol.specs.Basics.{Limits};
 ghost use Rattle.cb_protocol.specs.Server.{DeadlockTest};
 
-/// What a restart of the server leaves: all that was sent, the clients, the transcript, and of the
-/// commits exactly those that are on disk. Within a life the server speaks to incarnations of that
-/// life alone, and welcomes those alone that greeted. What is on disk stands for ever: whatever
-/// comes after, each Done that was sent names a commit that counts. And at each moment the server
-/// can restart, with any floor that is high enough, and any other event can happen.
+/// What each event leaves, and what stands for ever. A restart of the server leaves all that was
+/// sent, the clients, the transcript, and of the commits exactly those that are on disk; its server
+/// has nothing of any client but the floor. An event within a life is that of the world of one
+/// life: it leaves floor, opening store and former commits as they were, and puts new commits in
+/// front of those of the life, each of an incarnation that the life had welcomed before, and that
+/// had sent it. What is on disk stands, whatever comes after: each Done that was sent, and each
+/// outcome that a client was told, names a commit that counts. And at each moment the server can
+/// restart, with any floor above all that were, and any other event can happen.
 pub fn lives_keep_the_disk()
     ensures restarts { (L : Limits) (cycle : DeadlockTest) → RestartsLeaveTheDisk L cycle }
-    ensures sends { (L : Limits) (cycle : DeadlockTest) → EventsSendInTheirLife L cycle }
+    ensures keeps { (L : Limits) (cycle : DeadlockTest) → EventsKeepTheirLife L cycle }
     ensures for_ever { (L : Limits) (cycle : DeadlockTest) → DiskStandsForEver L cycle }
     ensures goes_on { (L : Limits) (cycle : DeadlockTest) → LivesGoOn L cycle }
 {}
 
+/// What each event within a life sends. A client speaks as the incarnation that it has. The server
+/// speaks to incarnations of its own life alone. It answers each Hello of the current incarnation
+/// or a greater one by a Welcome at once, so the first client that comes to the floor is welcomed;
+/// an older Hello by nothing; and no other message by a Welcome.
+pub fn lives_speak_to_their_own()
+    ensures sends { (L : Limits) (cycle : DeadlockTest) → EventsSendInTheirLife L cycle }
+{}
+
+/// A client's last outcome is how the transaction ended that it names: by a Done or an AbortNow
+/// with the very number of the transaction, or by its own drop. And it is true over all lives,
+/// whether pages were written or not: who was told that it committed has that transaction's commit,
+/// by that number, among those that count; who was told otherwise has none there. The transaction
+/// is the one whose operations the transcript has under that number.
+pub fn clients_are_told_the_truth()
+    ensures names { (L : Limits) → OutcomesNameTransactions L }
+    ensures told { (L : Limits) (cycle : DeadlockTest) → ClientsAreToldTheTruth L cycle }
+{}
+
 /// The server of a new life is one that a new server becomes by a Hello of the life's floor from
 /// each client. So what holds of every server that is reached, by honest messages or not, holds of
-/// it and of what it becomes. And where each life has a range of 2^32 incarnations, and no client
-/// is beyond the present life's, the next life's floor is a new one.
+/// it and of what it becomes.
 pub fn lives_begin_as_servers_do()
     ensures reached { LivesAreReached }
+{}
+
+/// All lives have the same limits: at each moment the server has as many clients and pages, and
+/// keeps write permission, as they say. Each client's incarnation is from 1 to 2^62 - 1. Where each
+/// life has a range of 2^32 incarnations, and no client is beyond the present life's, the floor of
+/// each later life is a new one; of those behind the first, the lives below number 2^30 have
+/// a floor that is an incarnation. To a floor above 2^62 - 1 nobody comes: then nothing commits any
+/// more, and what is on disk stands.
+pub fn lives_stay_in_range()
+    ensures limits { (L : Limits) (cycle : DeadlockTest) → ServersHaveLimits L cycle }
+    ensures incarnations { (L : Limits) (cycle : DeadlockTest) → IncarnationsStayInRange L cycle }
     ensures floors { RangesGiveFloors }
+    ensures range { FloorsInRange }
 {}
