@@ -1,0 +1,3 @@
+pub mod NewRows
+pub mod RowVersions
+pub mod WrittenPages
