@@ -1,10 +1,10 @@
 -- What a worker's read of a page rests on.
 use Rattle.std.proofs.Common.{◌≡◌, ◌&&◌, ℕ, Bor, Bool, true, false, List, [], ◌∷◌, Option, Some, None, Result, Ok, Err, refl, sym, ◌∙◌, ap, arith, drop, not, true≢false}
-use Rattle.std.specs.Option.{is_some, option_copied}
+use Rattle.std.specs.Option.{is_some}
 use Rattle.std.specs.Result.{is_ok}
 use Rattle.std.proofs.lemmas.Bool.Decides.{nat_tests}
 use Rattle.cb_client.specs.ByTable.{Calls, IsRefused, as_before, limits_at, messages_from}
-use Rattle.cb_client.specs.CallAnswers.{Answers, AnswersRead, after_read, page_asked, page_read}
+use Rattle.cb_client.specs.CallAnswers.{Answers, AnswersRead, after_read, after_read_here, page_asked, page_read, reads_here}
 use Rattle.cb_client.specs.declared.answers.ReadAnswer.{ReadAnswer}
 use Rattle.cb_client.specs.declared.answers.ReadAnswer.TheVariants as read
 use Rattle.cb_client.specs.declared.client_fault.ClientFault.{ClientFault}
@@ -18,22 +18,20 @@ use Rattle.cb_protocol.specs.Client.{bodies_said}
 use Rattle.cb_protocol.specs.Cache.{is_idle}
 use Rattle.cb_protocol.specs.ClientCalls.{CallPeek, CallRead, Cause, Reply, call_fault, cause_of, causes, client_call, first_refusal, peek_word, read_page}
 use Rattle.cb_protocol.specs.Serial.{Operation}
-use Rattle.cb_worker.specs.Waiting.{HasRead}
-use Rattle.cb_worker.specs.Workers.{HasTransaction, Hit, Hits, WorkerState, after_hit, is_same, may_hit, may_read, shows_copy, with_client}
+use Rattle.cb_worker.specs.Waiting.{HasRead, ReadsAtHand}
+use Rattle.cb_worker.specs.Workers.{HasTransaction, Hit, Hits, WorkerState, after_hit, is_same, may_hit, shows_copy, with_client}
+
+-- a read of the page is not refused
+abbrev pub may_read : ClientState → (page : ℕ) → Bool
+may_read client page = is_none (call_fault (limits_at client) (client_of client []) (CallRead page))
 
 and_false : (b : Bool) → (b && false) ≡ false
 and_false true = refl
 and_false false = refl
 
 module _ (w : WorkerState) (page : ℕ) where
-  pub unshown : shows_copy w page ≡ false → may_hit w page ≡ false
-  unshown e = rw e refl
-
   pub absent : is_some (content_at w.client.copies page) ≡ false → may_hit w page ≡ false
   absent e = rw e (and_false (shows_copy w page))
-
-  pub barred : shows_copy w page ≡ true → is_some (content_at w.client.copies page) ≡ true → may_read w.client page ≡ false → may_hit w page ≡ false
-  barred s h r = rw (s, h, r) refl
 
   pub may : shows_copy w page ≡ true → is_some (content_at w.client.copies page) ≡ true → may_read w.client page ≡ true → may_hit w page ≡ true
   may s h r = rw (s, h, r) refl
@@ -72,16 +70,16 @@ read_so v page (Err f) a = sym (is_refused v page f a)
 pub after_read_is : (v : ClientState) (page : ℕ) → may_read v page ≡ true → is_some (content_at v.copies page) ≡ true → after_read v page ≡ page_read v page
 after_read_is v page r h = rw (r, h) refl
 
--- a read of a page that the hand shows, with its bytes in the pool, leaves the worker so
-pub touches : (w : WorkerState) (page : ℕ) → shows_copy w page ≡ true → is_some (content_at w.client.copies page) ≡ true → with_client w (after_read w.client page) ≡ after_hit w page
-touches w page s h = go (may_read w.client page) refl
-  where
-    go : (b : Bool) → may_read w.client page ≡ b → with_client w (after_read w.client page) ≡ after_hit w page
-    go true r = ap (with_client w) (after_read_is w.client page r h) ∙ reads w page (may w page s h r)
-    go false r = ap (with_client w) (rw r refl) ∙ stays w page (barred w page s h r)
+-- a page that the hand shows is read where the client can read it without the server
+pub shown_hits : (w : WorkerState) (page : ℕ) → shows_copy w page ≡ true → reads_here w.client page ≡ may_hit w page
+shown_hits w page s = rw s refl
 
-pub touched : (w : WorkerState) (page : ℕ) (r : Result ReadAnswer ClientFault) → shows_copy w page ≡ true → is_some (content_at w.client.copies page) ≡ true → AnswersRead w.client page r → is_ok r ≡ may_hit w page
-touched w page r s h a = read_so w.client page r a ∙ rw (s, h) refl
+pub touches : (w : WorkerState) (page : ℕ) → shows_copy w page ≡ true → with_client w (after_read_here w.client page) ≡ after_hit w page
+touches w page s = go (reads_here w.client page) refl
+  where
+    go : (b : Bool) → reads_here w.client page ≡ b → with_client w (after_read_here w.client page) ≡ after_hit w page
+    go true r = ap (with_client w) (rw r refl) ∙ reads w page (sym (shown_hits w page s) ∙ r)
+    go false r = ap (with_client w) (rw r refl) ∙ stays w page (sym (shown_hits w page s) ∙ r)
 
 -- a copy that the hand shows
 pub shown_copy : (copy : Option (ℕ × ℕ)) (held : Option Held) → is_same copy held ≡ true → (x : Held) × (held ≡ Some x) × (copy ≡ Some (x.grant, x.version))
@@ -99,14 +97,6 @@ peeked v page o calls = same o (content_at v.copies page) (sym (calls.word []) �
     same None (Some y) e = absurd cc
     same (Some x) None e = absurd cc
     same (Some x) (Some y) e = cc
-
-copied_some : {T : Type 0} (o : Option (Bor T)) → is_some (option_copied o) ≡ is_some o
-copied_some None = refl
-copied_some (Some b) = refl
-
--- whether the pool has the page, by what is lent of it
-pub lent_so : (v : ClientState) (page : ℕ) (o : Option (Bor Bytes)) (b : Bool) → Calls v (CallPeek page) (peek_word (option_copied o)) [] as_before v → is_some o ≡ b → is_some (content_at v.copies page) ≡ b
-lent_so v page o b calls e = ap is_some (sym (peeked v page (option_copied o) calls)) ∙ copied_some o ∙ e
 
 -- whether a read is refused doesn't hang on what the transaction did
 same_fault : (v : ClientState) (page : ℕ) (ops : List Operation) → call_fault (limits_at v) (client_of v ops) (CallRead page) ≡ call_fault (limits_at v) (client_of v []) (CallRead page)
@@ -186,13 +176,14 @@ asks_out v page a = go (content_at v.copies page) refl
 pub refused_read : (v : ClientState) (page : ℕ) (f : ClientFault) → IsRefused v (CallRead page) f → after_read v page ≡ v
 refused_read v page f r = rw (is_refused v page f r) refl
 
--- where the bytes are here and the read isn't refused, only the hand can lack the copy
-pub hand_lacks : (w : WorkerState) (page : ℕ) (b : Bor Bytes) → AnswersRead w.client page (Ok (read.Bytes b)) → may_hit w page ≡ false → shows_copy w page ≡ false
-hand_lacks w page b a n = go (shows_copy w page) refl
-  where
-    go : (s : Bool) → shows_copy w page ≡ s → shows_copy w page ≡ false
-    go false e = e
-    go true e = absurd (let y : true ≡ false = sym (may w page e (bytes_here w.client page b a) (sym (read_so w.client page (Ok (read.Bytes b)) a))) ∙ n in cc)
+-- a read that is answered with bytes, of a page that the hand shows, is one at once
+pub at_hand : (w : WorkerState) (page : ℕ) (b : Bor Bytes) (client : ClientState) → shows_copy w page ≡ true → AnswersRead w.client page (Ok (read.Bytes b))
+    → client ≡ after_read w.client page → ReadsAtHand w page (with_client w client)
+at_hand w page b client s a e =
+    let here = bytes_here w.client page b a in
+    let free : may_read w.client page ≡ true = sym (read_so w.client page (Ok (read.Bytes b)) a) in
+    let m = may w page s here free in
+    (m, ap (with_client w) (e ∙ after_read_is w.client page free here) ∙ reads w page m)
 
 -- a call whose first two causes don't hold
 two_clear : (a b : Bool) (f h : table.ClientFault) (rest : List Cause) → first_refusal (cause_of (not a) f ∷ cause_of b h ∷ rest) ≡ None → (a ≡ true) × (b ≡ false)

@@ -13,11 +13,11 @@ use Rattle.cb_station.specs.declared.office_fault.OfficeFault.{OfficeFault}
 use Rattle.cb_station.specs.declared.office_fault.OfficeFault.TheVariants as office
 use Rattle.cb_page.specs.Numbers.{max_number}
 use Rattle.cb_protocol.specs.Basics.{Bytes}
-use Rattle.cb_worker.proofs.Reading.{after_read_is, bytes_here, hand_lacks, read_so}
+use Rattle.cb_worker.proofs.Reading.{after_read_is, bytes_here, read_so}
 use Rattle.cb_worker.specs.Calls.{Collected, Took}
 use Rattle.cb_worker.specs.Refusals.{IsTurnFault, LacksGrant, RefusesLeave}
 use Rattle.cb_worker.specs.Turns.{AfterCollecting, TakesCollected, Turns, TurnsBy, turned_by}
-use Rattle.cb_worker.specs.Workers.{WorkerState, may_hit}
+use Rattle.cb_worker.specs.Workers.{WorkerState, shows_copy}
 use Rattle.cb_worker.specs.declared.worker_fault.WorkerFault.{WorkerFault}
 use Rattle.cb_worker.specs.declared.worker_fault.WorkerFault.TheVariants as worker
 
@@ -59,12 +59,12 @@ pub no_halt : (old new : WorkerState) (before after : StationState) (x : WorkerF
 no_halt old new before after x t e = subst (λ (f : WorkerFault). IsTurnFault f) e (turn_fault old new before after x t)
 
 -- of a page whose bytes the client has, while the hand lacks its copy
-pub lacks_grant : (old new : WorkerState) (page : ℕ) (b : Bor Bytes) → AnswersRead old.client page (Ok (read.Bytes b)) → new.client ≡ after_read old.client page → new.hand ≡ old.hand → may_hit old page ≡ false
+pub lacks_grant : (old new : WorkerState) (page : ℕ) (b : Bor Bytes) → AnswersRead old.client page (Ok (read.Bytes b)) → new.client ≡ after_read old.client page → new.hand ≡ old.hand → shows_copy old page ≡ false
     → LacksGrant new page (worker.Office office.NotHeld)
-lacks_grant old new page b a e h n =
+lacks_grant old new page b a e h s =
     let here : is_some (content_at old.client.copies page) ≡ true = bytes_here old.client page b a in
     let next : new.client ≡ page_read old.client page = e ∙ after_read_is old.client page (sym (read_so old.client page (Ok (read.Bytes b)) a)) here in
-    (refl, rw (next, h) (hand_lacks old page b a n), rw next here)
+    (refl, rw (next, h) s, rw next here)
 
 -- why the station lets no client leave
 pub leaves_not : (old : WorkerState) (hand : HandState) (station : StationState) (f : OfficeFault) → old.hand ≡ hand → (f ≡ office.Foreign) ↔ (IsHeld station.hands hand → ⊥)

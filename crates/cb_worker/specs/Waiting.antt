@@ -33,6 +33,10 @@ abbrev pub HasRead : WorkerState → (page : ℕ) → Type 0
 HasRead worker page = (before : WorkerState) × (may_hit before page ≡ true)
     × (worker ≡ after_hit before page)
 
+-- the page was read at once, without the office
+abbrev pub ReadsAtHand : (old : WorkerState) → (page : ℕ) → (new : WorkerState) → Type 0
+ReadsAtHand old page new = (may_hit old page ≡ true) × (new ≡ after_hit old page)
+
 -- there was a transaction, and the page was read as `hit` reads it, with these bytes; or the
 -- transaction was aborted; it is still the same worker, and no transaction began
 abbrev pub Fetches : (old new : WorkerState) → (page : ℕ) → Fetched → Type 0

@@ -1,19 +1,16 @@
 -- A worker as its owner sees it, and what it reads without the office.
 use Rattle.std.specs.Prelude.{◌≡◌, ◌≢◌, ◌==◌, ◌&&◌, if◌then◌else◌, ℕ, Bool, true, false, List, []}
 use Rattle.std.specs.Prelude.{Option, Some, None, unwrap_or}
-use Rattle.std.specs.Option.{is_some}
-use Rattle.cb_client.specs.ByTable.{limits_at}
-use Rattle.cb_client.specs.CallAnswers.{Answers, held_copy, page_read}
+use Rattle.cb_client.specs.CallAnswers.{Answers, held_copy, page_read, reads_here}
 use Rattle.cb_client_core.specs.ClientState.{ClientState, client_of}
-use Rattle.cb_cache.specs.CacheState.{content_at}
 use Rattle.cb_frame_types.specs.declared.frame.Frame.{Frame}
 use Rattle.cb_hands.specs.Hands.{HandState, held_at}
 use Rattle.cb_hands.specs.declared.grant.Held.{Held}
 use Rattle.cb_protocol.specs.Answers.{AnsweredBytes}
-use Rattle.cb_protocol.specs.Basics.{Bytes, is_none}
+use Rattle.cb_protocol.specs.Basics.{Bytes}
 use Rattle.cb_protocol.specs.Cache.{Idle}
 use Rattle.cb_protocol.specs.Client.{LastOutcome}
-use Rattle.cb_protocol.specs.ClientCalls.{CallRead, call_fault}
+use Rattle.cb_protocol.specs.ClientCalls.{CallRead}
 use Rattle.cb_protocol.specs.Serial.{Operation}
 
 -- a client with its hand; the frame that was collected and not yet taken, and what the client said
@@ -59,15 +56,10 @@ is_same _ _ = false
 abbrev pub shows_copy : WorkerState → (page : ℕ) → Bool
 shows_copy worker page = is_same (held_copy worker.client page) (held_at worker.hand.held page)
 
--- a read of the page is not refused
-abbrev pub may_read : ClientState → (page : ℕ) → Bool
-may_read client page = is_none (call_fault (limits_at client) (client_of client []) (CallRead page))
-
--- the page can be read without the office: the hand shows the copy, its bytes are in the pool, and
--- the read is not refused
+-- the page can be read without the office: the hand shows the copy, and the client can read it
+-- without the server
 abbrev pub may_hit : WorkerState → (page : ℕ) → Bool
-may_hit worker page = shows_copy worker page
-    && (is_some (content_at worker.client.copies page) && may_read worker.client page)
+may_hit worker page = shows_copy worker page && reads_here worker.client page
 
 -- the worker once it was asked for the page: read where it may be, else as it was
 abbrev pub after_hit : WorkerState → (page : ℕ) → WorkerState

@@ -97,10 +97,7 @@ impl<Q: Chooser> Worker<Q> {
         if !self.shows_copy(page) {
             return false;
         }
-        if self.client.peek(page).is_none() {
-            return false;
-        }
-        self.client.read(page).is_ok()
+        self.client.read_here(page)
     }
 
     /// Reads the page in the open transaction, and lends its bytes: those of the copy whose grant

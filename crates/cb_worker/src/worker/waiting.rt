@@ -12,7 +12,7 @@ ghost use Rattle.cb_worker.specs.Refusals.{RefusesToDrop, RefusesWant, StopsFetc
 ghost use Rattle.cb_worker.specs.Serving.{HandsAllIn, Serves, ServesSome};
 ghost use Rattle.cb_worker.specs.Steps.{Comes, RefusesToBegin, StopsOr};
 ghost use Rattle.cb_worker.specs.Waiting.{Drops, Fetches, Finishes, HasRead, IsDropped};
-ghost use Rattle.cb_worker.specs.Waiting.{IsServed, Wants};
+ghost use Rattle.cb_worker.specs.Waiting.{IsServed, ReadsAtHand, Wants};
 ghost use Rattle.cb_worker.specs.Workers.{Ended, Ends, HasTransaction, IsStill};
 ghost use Rattle.cb_worker.specs.Workers.{after_hit, may_hit};
 
@@ -142,7 +142,8 @@ impl<Q: Chooser> Worker<Q> {
         }
     }
 
-    /// Serves, and asks for the page where it isn't here. `None` where it is to be waited for.
+    /// Serves, and reads the page, or asks for it where it isn't here. `None` where it is to be
+    /// waited for.
     fn begin_fetch<R: Wait>(
         &mut self,
         rt: &R,
@@ -160,28 +161,35 @@ impl<Q: Chooser> Worker<Q> {
         if aborted {
             return Ok(Some(Came::Ended(Finished::Aborted)));
         }
-        if self.touch(page) {
+        if self.read_or_ask(page)? {
             return Ok(Some(Came::There));
         }
-        self.ask_for(page)?;
         self.go_on(rt, alloc, office, &Awaited::Page(page), station)
     }
 
-    /// The client asks for the page, which isn't here.
-    fn ask_for(&mut self, page: PageNo) -> Result<(), WorkerFault>
+    /// Reads the page where its bytes and the hand's copy of it are here, and says whether it did;
+    /// else the client asks for it.
+    fn read_or_ask(&mut self, page: PageNo) -> Result<bool, WorkerFault>
         requires { self.old.said ≡ [] }
         ensures still { IsStill self.old self.new }
-        ensures asks { OnOk result (AsksFor self.old page self.new) }
-        ensures refused { may_hit self.old page ≡ false → IfErr result (RefusesAsk self.new page) }
+        ensures reads { IfOk result (λ read. MatchBool read (ReadsAtHand self.old page self.new)
+            (AsksFor self.old page self.new)) }
+        ensures refused { IfErr result (RefusesAsk self.new page) }
     {
+        let shown = self.shows_copy(page);
         match self.client.read(page)? {
-            ReadAnswer::Bytes(_) => return Err(WorkerFault::Office(OfficeFault::NotHeld)),
+            ReadAnswer::Bytes(_) => {
+                if shown {
+                    return Ok(true);
+                }
+                return Err(WorkerFault::Office(OfficeFault::NotHeld));
+            }
             ReadAnswer::Asked => {}
         }
         if let Some(ask) = self.client.ask() {
             self.said.keep(ask);
         }
-        Ok(())
+        Ok(false)
     }
 
     /// Wants to write a page that the open transaction has read, and waits until it may. Refused as

@@ -1,0 +1,34 @@
+-- Goals of `Worker::read_or_ask`.
+use Rattle.std.proofs.Common.{◌≡◌, ◌∙◌, true, false, rules, Ok, None, [], inr, ap}
+use Rattle.cb_client.specs.CallAnswers.{AnswersRead, after_read}
+use Rattle.cb_client.specs.declared.answers.ReadAnswer.TheVariants as read
+use Rattle.cb_worker.proofs.Asking.{asks_for, says_it}
+use Rattle.cb_worker.proofs.Reading.{at_hand}
+use Rattle.cb_worker.proofs.Refusing.{lacks_grant}
+use Rattle.cb_worker.specs.Workers.{WorkerState, shows_copy}
+use Rattle.cb_worker.proofs.worker.Worker.read_or_ask.Goals as goal
+
+pub returns-then-shown-clause-reads : goal.returns-then-shown-clause-reads
+returns-then-shown-clause-reads g c =
+    let a : AnswersRead c.self.inside.client c.args.page (Ok (read.Bytes c.in-Bytes.field-0)) = rw c.in-Bytes.is at c.in_ok-read.ensures.answer in
+    let shown : shows_copy c.args.self.now c.args.page ≡ true = search rules in
+    rw (← c.self.view_is) (at_hand (record { client = c.self.inside.client; hand = c.self.inside.hand; collected = c.self.inside.collected; said = c.self.inside.said }) c.args.page c.in-Bytes.field-0
+    c.read.follows.lender-at-none (rw (← c.self.view_is) at shown) a c.read.follows.holds-at-none)
+
+pub returns-in-Bytes-clause-refused : goal.returns-in-Bytes-clause-refused
+returns-in-Bytes-clause-refused g c =
+    let a : AnswersRead c.self.inside.client c.args.page (Ok (read.Bytes c.in-Bytes.field-0)) = rw c.in-Bytes.is at c.in_ok-read.ensures.answer in
+    let unshown : shows_copy c.args.self.now c.args.page ≡ false = search rules in
+    inr (lacks_grant c.args.self.now (record { client = c.read.follows.lender-at-none; hand = c.self.inside.hand; collected = None; said = [] }) c.args.page c.in-Bytes.field-0 (rw (← c.self.view_is) a)
+    (c.read.follows.holds-at-none ∙ ap (λ (w : WorkerState). after_read w.client c.args.page) c.self.view_is)
+    (ap (λ (w : WorkerState). w.hand) c.self.view_is) unshown)
+
+pub returns-in-Some-clause-reads : goal.returns-in-Some-clause-reads
+returns-in-Some-clause-reads g c =
+    let a : AnswersRead c.self.inside.client c.args.page (Ok read.Asked) = rw c.in-Asked.is at c.in_ok-read.ensures.answer in
+    asks_for c.args.self.now _ c.args.page c.in-Some.ask (rw (← c.self.view_is) a) (rw (← c.self.view_is) c.read.follows.holds-at-none) c.in-Some.ensures.by_table c.keep.ensures
+
+pub returns-in_default-clause-reads : goal.returns-in_default-clause-reads
+returns-in_default-clause-reads g c =
+    let a : AnswersRead c.self.inside.client c.args.page (Ok read.Asked) = rw c.in-Asked.is at c.in_ok-read.ensures.answer in
+    absurd (says_it c.self.inside.client c.read.follows.lender-at-none c.args.page a c.read.follows.holds-at-none c.in_default.ensures.by_table)
