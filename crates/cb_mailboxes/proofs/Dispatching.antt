@@ -2,9 +2,9 @@
 use Rattle.std.proofs.Common.{◌≡◌, ◌<◌, ℕ, not, ◌==◌, List, [], length, reverse, filter, slice_index_or, slice_set, refl, sym, ◌∙◌, ap, subst, Result, Ok, Err, OnErr, All}
 use Rattle.std.proofs.lemmas.List.Elements.{All-filter, All-from_recursion}
 use Rattle.std.specs.List.{AllByRecursion}
-use Rattle.cb_mailboxes.proofs.Posting.{posted, posted_anew, posted_nothing, posted_to_others}
+use Rattle.cb_mailboxes.proofs.Posting.{others, posted, posted_anew, posted_nothing, posted_to_others, said_now}
 use Rattle.cb_mailboxes.specs.Dispatching.{DispatcherState, Everybody, IsUnchanged, Others, Posts, emptied, mailbox_of, server_of}
-use Rattle.cb_mailboxes.specs.Mailboxes.{AsBefore, MailboxesState, current_in, mailbox_in}
+use Rattle.cb_mailboxes.specs.Mailboxes.{AsBefore, MailboxesState, addressed, current_in, mailbox_in}
 use Rattle.cb_frame_types.specs.Grammar.{Fits}
 use Rattle.cb_frame_types.specs.declared.frame.Frame.{Frame}
 use Rattle.cb_server_state.specs.States as states
@@ -44,6 +44,7 @@ module _ (d : DispatcherState) (input : Input) (ready : MailboxesState) (new : S
     said = said;
     does = does;
     mailbox = λ client hears. posted (current_in (server_of d)) (current_in (server.server_of new)) d.mailboxes ready boxes said as_before none e f client;
+    last = λ client hears. said_now (current_in (server.server_of new)) boxes said f client;
   }
 
   pub greets : (client : ℕ) (cleared boxes : MailboxesState) → client < length ready.boxes → cleared ≡ record ready { boxes = slice_set ready.boxes client [] } → boxes.boxes ≡ cleared.boxes → boxes.late ≡ reverse said
@@ -52,6 +53,7 @@ module _ (d : DispatcherState) (input : Input) (ready : MailboxesState) (new : S
     said = said;
     does = does;
     mailbox = λ k hears. posted_anew (current_in (server_of d)) (current_in (server.server_of new)) d.mailboxes ready boxes said client lt as_before none (e ∙ ap (λ (o : MailboxesState). o.boxes) c) f k;
+    last = λ k hears. said_now (current_in (server.server_of new)) boxes said f k;
   }
 
   pub dismisses : (client : ℕ) (kept : List Frame) (cleared boxes : MailboxesState) → client < length ready.boxes → kept ≡ filter (λ frame. not (frame.client == client)) said
@@ -61,6 +63,8 @@ module _ (d : DispatcherState) (input : Input) (ready : MailboxesState) (new : S
     said = said;
     does = does;
     mailbox = λ k other. posted_to_others (current_in (server_of d)) (current_in (server.server_of new)) d.mailboxes ready boxes said kept client lt as_before none filtered (e ∙ ap (λ (o : MailboxesState). o.boxes) c) f k other;
+    last = λ k other. said_now (current_in (server.server_of new)) boxes kept f k
+        ∙ ap (λ (l : List Frame). addressed (current_in (server.server_of new)) k l) filtered ∙ others (current_in (server.server_of new)) client k said other;
   }
 
   pub silences : (client : ℕ) (kept : List Frame) (cleared boxes : MailboxesState) → client < length ready.boxes → kept ≡ filter (λ frame. not (frame.client == client)) said

@@ -105,6 +105,10 @@ behind after boxes new said e f client =
     ap (λ (l : List (List Frame)). slice_index_or l client [] ++ addressed after client (reverse new.late)) e
     ∙ ap (λ (l : List Frame). slice_index_or boxes client [] ++ addressed after client l) (ap (λ (l : List Frame). reverse l) f ∙ reverse-reverse said)
 
+-- what was said last is what is said now
+pub said_now : (after : ℕ → ℕ) (new : MailboxesState) (said : List Frame) → new.late ≡ reverse said → (client : ℕ) → addressed after client (reverse new.late) ≡ addressed after client said
+said_now after new said e client = ap (λ (l : List Frame). addressed after client l) (ap (λ (l : List Frame). reverse l) e ∙ reverse-reverse said)
+
 -- what is said is put behind what was to be sent
 pub posted : (before after : ℕ → ℕ) (old ready new : MailboxesState) (said : List Frame) → AsBefore before old ready → ready.late ≡ [] → new.boxes ≡ ready.boxes → new.late ≡ reverse said
     → (client : ℕ) → mailbox_in after new client ≡ mailbox_in before old client ++ addressed after client said
@@ -129,7 +133,7 @@ posted_anew before after old ready new said client lt as_before none boxes late 
     by (inr apart) = set_elsewhere ready.boxes client d [] apart ∙ sym (only_boxes before ready none d) ∙ as_before.mailbox d ∙ sym (rw (unequal d client apart) refl)
 
 -- frames for others alone
-others : (current : ℕ → ℕ) (client d : ℕ) (said : List Frame) → d ≢ client → addressed current d (filter (λ frame. not (frame.client == client)) said) ≡ addressed current d said
+pub others : (current : ℕ → ℕ) (client d : ℕ) (said : List Frame) → d ≢ client → addressed current d (filter (λ frame. not (frame.client == client)) said) ≡ addressed current d said
 others current client d [] n = refl
 others current client d (frame ∷ said) n = by (others current client d said n) (frame.client == client) (frame.client == d) refl refl
   where

@@ -1,5 +1,5 @@
 -- A server with mailboxes as its callers see it, and what its steps put into them.
-use Rattle.std.specs.Prelude.{◌≡◌, ◌≢◌, ℕ, ◌==◌, if◌then◌else◌, List, [], ◌++◌, drop}
+use Rattle.std.specs.Prelude.{◌≡◌, ◌≢◌, ℕ, ◌==◌, if◌then◌else◌, List, [], ◌++◌, drop, reverse}
 use Rattle.cb_mailboxes.specs.Mailboxes.{MailboxesState, addressed, current_in, mailbox_in}
 use Rattle.cb_frame_types.specs.declared.frame.Frame.{Frame}
 use Rattle.cb_outbox.specs.Messages.{messages_of}
@@ -33,13 +33,16 @@ pub record IsUnchanged (old new : DispatcherState) : Type 0 where
 
 -- The server does what the protocol's does at the input. To each client that hears of it is to be
 -- sent what was to be sent before, and then what the server says to its current incarnation, in
--- order.
+-- order; and what was said last to that is what the server says to it now.
 pub record Posts (old : DispatcherState) (input : Input) (before : ℕ → List Frame)
     (Hears : ℕ → Type 0) (new : DispatcherState) : Type 0 where
   pub said : List Frame
   pub does : Does old.server input (messages_of said) new.server
   pub mailbox : (client : ℕ) → Hears client → mailbox_of new client
       ≡ before client ++ addressed (current_in (server_of new)) client said
+  pub last : (client : ℕ) → Hears client
+      → addressed (current_in (server_of new)) client (reverse new.mailboxes.late)
+      ≡ addressed (current_in (server_of new)) client said
 
 -- everybody hears; everybody else does
 abbrev pub Everybody : ℕ → Type 0

@@ -180,6 +180,15 @@ impl Dispatcher {
         self.mailboxes.has_frame_for(self.server.state(), client)
     }
 
+    /// What the server said in the last call in which it took something, the newest frame first:
+    /// each client that it said something to is told of it. Once a later call has put these frames
+    /// into the mailboxes there is nothing.
+    pub fn said_last(&self) -> &[Frame]
+        ensures { result.now ≡ self.now.mailboxes.late }
+    {
+        self.mailboxes.said_last()
+    }
+
     /// The oldest frame to the client; `None` exactly where its mailbox is empty.
     ///
     /// `AllocError` only where memory was refused; nothing is taken then.

@@ -104,6 +104,13 @@ impl Mailboxes {
         self.late.iter().any(|frame| frame.client == client && frame.incarnation.get() == current)
     }
 
+    /// What was said last, the newest first, as long as it isn't in the mailboxes.
+    pub(crate) fn said_last(&self) -> &[Frame]
+        ensures { result.now ≡ self.now.late }
+    {
+        self.late.as_slice()
+    }
+
     /// What is said is to be sent; nothing may be late.
     pub(crate) fn put(&mut self, said: Vec<Frame>)
         requires ready { self.old.late ≡ [] }

@@ -8,9 +8,11 @@
 //!
 //! [`work`] does the jobs of a client: each adds one to two counters, by a transaction of its own.
 //! A [`Gate`] says when a job may begin, and a [`Tally`] counts each job that was done once.
+//! [`Worker::enter`] waits until a try of a transaction is let in and answers its [`Ticket`], which
+//! goes back by [`Office::end_try`]; a program with jobs of its own may do so, and need not.
 //!
-//! What each call promises stands where it is made: `cb_hands`, `cb_station`, `cb_worker`,
-//! `cb_jobs` and `cb_run`. What an office and a worker are made of is handed on too.
+//! What each call promises stands where it is made: `cb_hands`, `cb_admission`, `cb_station`,
+//! `cb_worker`, `cb_jobs` and `cb_run`. What an office and a worker are made of is handed on too.
 //!
 //! An example, which is compiled and run as the test `example`. A client reads a page, writes it
 //! and commits; that the commit is on disk is reported at once, in place of a flusher:
@@ -29,6 +31,7 @@
 #[cfg(test)]
 mod example;
 
+pub use cb_admission::{Ticket, TryEnd};
 pub use cb_commit::Store;
 pub use cb_hands::{Entry, Grant, Hand};
 pub use cb_jobs::{Gate, Tally, Turn, counter_sum};

@@ -20,10 +20,11 @@ use std::io::BufWriter;
 use std::process::ExitCode;
 use std::sync::Wait;
 use std::thread::Threads;
+use std::time::Clock;
 
 /// Does what the command line asks for, on the standard streams; the answer is the program's
 /// status.
-fn run_on_streams<R: Threads + Wait + Sync>(rt: &HostRuntime, threads: &R) -> u8 {
+fn run_on_streams<R: Threads + Wait + Clock + Sync>(rt: &HostRuntime, threads: &R) -> u8 {
     let mut err = rt.stderr();
     match BufWriter::new(rt.alloc(), io::writer(rt)) {
         Ok(mut out) => run(rt, threads, command_line(rt), &mut out, &mut err),

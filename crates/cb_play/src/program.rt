@@ -15,6 +15,7 @@ use clap::error::ErrorKind;
 use std::io::Write;
 use std::sync::Wait;
 use std::thread::Threads;
+use std::time::Clock;
 use std::{env, io};
 
 /// The words of the process's command line; the first is the program's name. `InvalidData` where
@@ -28,7 +29,7 @@ pub(crate) fn command_line(rt: &HostRuntime) -> io::Result<Vec<String>> {
 ///
 /// Help and the version, where asked for, go to `out`; what is wrong with the words, or with a
 /// file, goes to `err`, as does the line of a writer that failed. Only workers use `threads`.
-pub(crate) fn run<R: Threads + Wait + Sync, O: Write, E: Write>(
+pub(crate) fn run<R: Threads + Wait + Clock + Sync, O: Write, E: Write>(
     rt: &HostRuntime,
     threads: &R,
     words: io::Result<Vec<String>>,
@@ -44,7 +45,7 @@ pub(crate) fn run<R: Threads + Wait + Sync, O: Write, E: Write>(
 }
 
 /// Answers the words and flushes.
-fn answer<R: Threads + Wait + Sync, O: Write, E: Write>(
+fn answer<R: Threads + Wait + Clock + Sync, O: Write, E: Write>(
     rt: &HostRuntime,
     threads: &R,
     words: io::Result<Vec<String>>,
@@ -66,7 +67,7 @@ fn answer<R: Threads + Wait + Sync, O: Write, E: Write>(
 }
 
 /// Does what words of text ask for.
-fn answer_words<R: Threads + Wait + Sync, O: Write, E: Write>(
+fn answer_words<R: Threads + Wait + Clock + Sync, O: Write, E: Write>(
     rt: &HostRuntime,
     threads: &R,
     words: &[String],
@@ -83,7 +84,7 @@ fn answer_words<R: Threads + Wait + Sync, O: Write, E: Write>(
 }
 
 /// Does one request that is no script.
-pub(crate) fn do_request<R: Threads + Wait + Sync, O: Write, E: Write>(
+pub(crate) fn do_request<R: Threads + Wait + Clock + Sync, O: Write, E: Write>(
     rt: &HostRuntime,
     threads: &R,
     request: Request<'_>,
@@ -178,7 +179,7 @@ fn draw_file<O: Write, E: Write>(
 
 /// Runs workers under the configuration of a file. Where it is asked for, the process's standard
 /// error shows how far they are; `err` has the same as without it.
-fn run_workers<R: Threads + Wait + Sync, O: Write, E: Write>(
+fn run_workers<R: Threads + Wait + Clock + Sync, O: Write, E: Write>(
     rt: &HostRuntime,
     threads: &R,
     request: &RunRequest<'_>,

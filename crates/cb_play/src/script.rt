@@ -12,9 +12,10 @@ use std::io;
 use std::io::Write;
 use std::sync::Wait;
 use std::thread::Threads;
+use std::time::Clock;
 
 /// Does the command lines of a file, one after another.
-pub(crate) fn do_script<R: Threads + Wait + Sync, O: Write, E: Write>(
+pub(crate) fn do_script<R: Threads + Wait + Clock + Sync, O: Write, E: Write>(
     rt: &HostRuntime,
     threads: &R,
     file: &str,
@@ -34,7 +35,7 @@ pub(crate) fn do_script<R: Threads + Wait + Sync, O: Write, E: Write>(
 
 /// Prints a line, what the command of its words prints on either stream, and the status that this
 /// would end with.
-fn do_line<R: Threads + Wait + Sync, O: Write>(
+fn do_line<R: Threads + Wait + Clock + Sync, O: Write>(
     rt: &HostRuntime,
     threads: &R,
     line: &str,

@@ -16,6 +16,7 @@ use std::io;
 use std::io::Write;
 use std::sync::Wait;
 use std::thread::Threads;
+use std::time::Clock;
 
 /// A gate that lets every job begin at once.
 #[derive(Drop)]
@@ -46,7 +47,7 @@ pub(crate) fn run_store<R, G, W, O, E>(
     err: &mut E,
 ) -> io::Result<u8>
 where
-    R: Threads + Wait + Sync,
+    R: Threads + Wait + Clock + Sync,
     G: Gate + Sync,
     W: Watch,
     O: Write,
@@ -72,7 +73,7 @@ fn run_file<R, G, W, O, E>(
     err: &mut E,
 ) -> io::Result<u8>
 where
-    R: Threads + Wait + Sync,
+    R: Threads + Wait + Clock + Sync,
     G: Gate + Sync,
     W: Watch,
     O: Write,
@@ -103,7 +104,7 @@ fn run_over<R, S, G, W, O, E>(
     err: &mut E,
 ) -> (io::Result<u8>, Connection<S>)
 where
-    R: Threads + Wait + Sync,
+    R: Threads + Wait + Clock + Sync,
     S: Alter,
     G: Gate + Sync,
     W: Watch,
@@ -135,7 +136,7 @@ fn run_in<R, S, G, W, O, E>(
     err: &mut E,
 ) -> io::Result<u8>
 where
-    R: Threads + Wait + Sync,
+    R: Threads + Wait + Clock + Sync,
     S: Alter,
     G: Gate + Sync,
     W: Watch,

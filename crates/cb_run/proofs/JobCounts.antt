@@ -1,5 +1,5 @@
 -- What a page's count leaves, and in which transaction.
-use Rattle.std.proofs.Common.{◌≡◌, ◌<◌, ◌≤◌, ◌+◌, ℕ, List, [], Option, Some, None, Ok, ap, arith, refl, sym, ◌∙◌}
+use Rattle.std.proofs.Common.{◌≡◌, ◌<◌, ◌≤◌, ◌+◌, ℕ, List, [], Option, Some, None, Result, Ok, Err, IfOk, ap, arith, refl, sym, ◌∙◌}
 use Rattle.cb_client.specs.ByTable.{Calls, limits_at}
 use Rattle.cb_client.specs.CallAnswers.{Begins, Writes}
 use Rattle.cb_client_core.specs.ClientState.{ClientState, client_of}
@@ -11,7 +11,8 @@ use Rattle.cb_protocol.specs.ClientCalls.{Call, CallBegin, CallWrite, Reply, acc
 use Rattle.cb_protocol.specs.Serial.{Operation}
 use Rattle.cb_worker.specs.Waiting.{MayWrite}
 use Rattle.cb_worker.specs.Workers.{WorkerState, last_txn, with_client}
-use Rattle.cb_run.specs.Jobs.{CommitsJob, CountsUp, HasBytes, IsAborted, IsOneMore}
+use Rattle.cb_worker.specs.declared.worker_fault.WorkerFault.{WorkerFault}
+use Rattle.cb_run.specs.Jobs.{CommitsJob, CountsUp, EndsJob, HasBytes, IsAborted, IsOneMore}
 
 -- the number of the last transaction after a call that is answered so
 number_after : (old new : ClientState) (call : Call) (history : List Operation → List Operation) → Calls old call table.AnsweredOk [] history new
@@ -62,3 +63,15 @@ aborts_since older old new before aborted =
     let begun : last_txn old.client < aborted.0 = aborted.1 in
     let last : last_txn new.client ≡ aborted.0 = aborted.2.last in
     omega arith
+
+-- so of one try of a job, however it ended
+pub ends_since : (client : ℕ) (ended : Option ℕ) (older old new : WorkerState) → last_txn older.client ≤ last_txn old.client → EndsJob client ended old new → EndsJob client ended older new
+ends_since client (Some number) older old new before ends = commits_since client number older old new before ends
+ends_since client None older old new before ends =
+    let begun : last_txn old.client < ends.0 = ends.1 in
+    (ends.0, omega arith, ends.2)
+
+pub if_ended_since : (client : ℕ) (tried : Result (Option ℕ) WorkerFault) (older old new : WorkerState) → last_txn old.client ≡ last_txn older.client → IfOk tried (λ ended. EndsJob client ended old new)
+    → IfOk tried (λ ended. EndsJob client ended older new)
+if_ended_since client (Ok ended) older old new same ends = ends_since client ended older old new (let e : last_txn old.client ≡ last_txn older.client = same in omega arith) ends
+if_ended_since client (Err fault) older old new same ends = tt

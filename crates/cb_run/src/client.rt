@@ -12,6 +12,7 @@ use cb_worker::{Worker, WorkerFault};
 use crossbeam_channel::Receiver;
 use std::alloc::{AllocError, Global};
 use std::sync::{Mutex, Wait};
+use std::time::Clock;
 
 /// A channel that holds the jobs, with no sender left.
 pub(crate) fn job_list<R: Wait>(
@@ -43,7 +44,7 @@ pub(crate) fn give_up<R: Wait>(
 
 /// A client joins and works; where it can't go on the office is halted. A client that was halted
 /// says nothing of why.
-pub(crate) fn run_client<Q: Chooser, R: Wait, G: Gate>(
+pub(crate) fn run_client<Q: Chooser, R: Wait + Clock, G: Gate>(
     run: Run<'_, R, G>,
     limits: &Limits,
     client: u16,
@@ -59,7 +60,7 @@ pub(crate) fn run_client<Q: Chooser, R: Wait, G: Gate>(
     }
 }
 
-fn join_and_work<Q: Chooser, R: Wait, G: Gate>(
+fn join_and_work<Q: Chooser, R: Wait + Clock, G: Gate>(
     run: Run<'_, R, G>,
     limits: &Limits,
     client: u16,

@@ -13,6 +13,7 @@ ghost use Rattle.cb_run.specs.Stopping.{IsWritten};
 ghost use Rattle.cb_shelf.specs.Flushing.{WritesOne, WritesOrStays};
 ghost use Rattle.cb_sql.specs.Writing.{Fits, Wrote};
 
+use crate::pace::{Pace, time_since};
 use cb_commit::Batch;
 use cb_jobs::Watch;
 use cb_page::CommitNo;
@@ -20,7 +21,8 @@ use cb_shelf::{Reports, Shelf, ShelfFault, write_and_report};
 use cb_station::{Office, Station};
 use sqlite::Alter;
 use std::alloc::{AllocError, Global};
-use std::sync::Wait;
+use std::sync::{MutexGuard, Wait};
+use std::time::{Clock, Instant};
 
 /// The next batch, or `None` once nothing is left and no call of `work` commits any more; nothing
 /// where that is to be waited for.
@@ -42,18 +44,36 @@ fn batch_at(alloc: Global, station: &Station) -> Option<Result<Option<Batch>, Sh
     None
 }
 
+/// Waits for others who commit, where there is something to write: as the pace says.
+fn await_others<'a, R: Wait + Clock>(
+    rt: &R,
+    office: &'a Office,
+    station: MutexGuard<'a, Station>,
+    pace: &Pace,
+) -> MutexGuard<'a, Station> {
+    let (Some(first), Some(awaited)) = (pace.first(), pace.awaited) else {
+        return station;
+    };
+    if !station.can_flush(first) {
+        return station;
+    }
+    office.wait_for_commit(rt, station, awaited, pace.limit)
+}
+
 /// The next batch; `None` once nothing is left and no call of `work` commits any more. The watch is
-/// told each time that it is waited for.
-pub(crate) fn next_batch<R: Wait, W: Watch>(
+/// told each time that it is waited for. Who is about to commit is waited for as the pace says.
+pub(crate) fn next_batch<R: Wait + Clock, W: Watch>(
     rt: &R,
     alloc: Global,
     office: &Office,
     watch: &mut W,
+    pace: &Pace,
 ) -> Result<Option<Batch>, ShelfFault>
     ensures { IfErr result (λ fault. fault ≡ ShelfFault.Memory) }
 {
     let mut station = office.lock(rt);
     for _ in rt.forever() {
+        station = await_others(rt, office, station, pace);
         if let Some(next) = batch_at(alloc, &station) {
             return next;
         }
@@ -69,6 +89,8 @@ pub(crate) fn next_batch<R: Wait, W: Watch>(
 struct Desk<'a, R> {
     rt: &'a R,
     office: &'a Office,
+    /// The number of the next commit, as of the last report.
+    next: Option<CommitNo>,
 }
 
 impl<R: Wait> Reports for Desk<'_, R> {
@@ -85,22 +107,23 @@ impl<R: Wait> Reports for Desk<'_, R> {
             station.forget(number);
         }
         self.office.tell_clients(&station);
-        drop(station);
-        match reported {
-            Ok(()) => Ok(()),
-            Err(_) => Err(AllocError),
+        if reported.is_err() {
+            return Err(AllocError);
         }
+        self.next = station.next_commit();
+        Ok(())
     }
 }
 
 /// Writes a batch, then reports it, and tells who looks on once it is reported. It holds no lock
 /// while it writes.
-pub(crate) fn flush_batch<R: Wait, S: Alter, W: Watch>(
+pub(crate) fn flush_batch<R: Wait + Clock, S: Alter, W: Watch>(
     rt: &R,
     alloc: Global,
     office: &Office,
     shelf: &mut Shelf<S>,
     watch: &mut W,
+    pace: &mut Pace,
     batch: &Batch,
 ) -> Result<(), ShelfFault>
     ensures limits { shelf.new.limits ≡ shelf.old.limits }
@@ -114,8 +137,14 @@ pub(crate) fn flush_batch<R: Wait, S: Alter, W: Watch>(
     ensures crash { Survives (state S.Store shelf.old.conn) (state S.Store shelf.new.conn)
         (Wrote S.Store batch.now shelf.old.conn) }
 {
-    let mut desk = Desk { rt, office };
+    let start = Instant::now(rt).ok();
+    let mut desk = Desk {
+        rt,
+        office,
+        next: None,
+    };
     write_and_report(alloc, &mut desk, shelf, batch)?;
+    pace.report(batch.number(), desk.next, time_since(rt, start));
     watch.flushed(batch.number());
     Ok(())
 }

@@ -8,6 +8,7 @@ ghost use Rattle.cb_run.specs.Stopping.{Stops};
 ghost use Rattle.cb_sql.specs.Writing.{Fits};
 
 use crate::desk::{flush_batch, next_batch};
+use crate::pace::Pace;
 use cb_commit::Batch;
 use cb_jobs::Watch;
 use cb_shelf::{Shelf, ShelfFault};
@@ -15,6 +16,7 @@ use cb_station::Office;
 use sqlite::Alter;
 use std::alloc::Global;
 use std::sync::Wait;
+use std::time::Clock;
 
 /// Why the flusher stopped, and the batch that is still to be written, if there is one.
 #[derive(Drop)]
@@ -41,7 +43,7 @@ impl CountedStop {
 }
 
 /// As [`crate::flush_loop_watched`]; a stop tells besides whether a batch was written before.
-pub(crate) fn flush_counted<R: Wait, S: Alter, W: Watch>(
+pub(crate) fn flush_counted<R: Wait + Clock, S: Alter, W: Watch>(
     rt: &R,
     alloc: Global,
     office: &Office,
@@ -58,8 +60,9 @@ pub(crate) fn flush_counted<R: Wait, S: Alter, W: Watch>(
         (MadeSome S.Store shelf.old.conn) }
 {
     let mut wrote = false;
+    let mut pace = Pace::new();
     for _ in rt.forever() {
-        let batch = match next_batch(rt, alloc, office, watch) {
+        let batch = match next_batch(rt, alloc, office, watch, &pace) {
             Ok(Some(batch)) => batch,
             Ok(None) => return Ok(()),
             Err(fault) => {
@@ -68,7 +71,7 @@ pub(crate) fn flush_counted<R: Wait, S: Alter, W: Watch>(
                 return Err(CountedStop { stop, wrote });
             }
         };
-        if let Err(fault) = flush_batch(rt, alloc, office, shelf, watch, &batch) {
+        if let Err(fault) = flush_batch(rt, alloc, office, shelf, watch, &mut pace, &batch) {
             let batch = Some(batch);
             let stop = FlushStop { fault, batch };
             return Err(CountedStop { stop, wrote });
@@ -79,7 +82,7 @@ pub(crate) fn flush_counted<R: Wait, S: Alter, W: Watch>(
 }
 
 /// As [`crate::flush_again_watched`]; a stop tells besides whether the loop wrote a batch before.
-pub(crate) fn flush_counted_again<R: Wait, S: Alter, W: Watch>(
+pub(crate) fn flush_counted_again<R: Wait + Clock, S: Alter, W: Watch>(
     rt: &R,
     alloc: Global,
     office: &Office,
@@ -100,7 +103,8 @@ pub(crate) fn flush_counted_again<R: Wait, S: Alter, W: Watch>(
     let Some(held) = stop.batch else {
         return flush_counted(rt, alloc, office, shelf, watch);
     };
-    if let Err(fault) = flush_batch(rt, alloc, office, shelf, watch, &held) {
+    let mut pace = Pace::new();
+    if let Err(fault) = flush_batch(rt, alloc, office, shelf, watch, &mut pace, &held) {
         let wrote = false;
         let stop = FlushStop {
             fault,

@@ -5,6 +5,7 @@ ghost use Rattle.cb_run.specs.Jobs.{CommitsJob, Copies, CountsBoth, CountsUp, En
 ghost use Rattle.cb_run.specs.Jobs.{IsOneMore, TellsJob};
 ghost use Rattle.cb_worker.specs.Workers.{last_txn};
 
+use cb_admission::TryEnd;
 use cb_jobs::{JobDone, count_up};
 use cb_page::{ClientNo, CommitNo, PageNo};
 use cb_station::Office;
@@ -61,11 +62,37 @@ fn run_job<R: Wait, Q: Chooser>(
         CommitsJob client number worker.old worker.new) }
 {
     for _ in rt.forever() {
-        if let Some(number) = try_job(rt, alloc, office, worker, client)? {
+        if let Some(number) = admitted(rt, alloc, office, worker, client)? {
             return Ok(number);
         }
     }
     unreachable!()
+}
+
+/// Tries a job once the office lets it in, and gives the ticket back, however the try ends; `None`
+/// where it was aborted.
+fn admitted<R: Wait, Q: Chooser>(
+    rt: &R,
+    alloc: Global,
+    office: &Office,
+    worker: &mut Worker<Q>,
+    client: ClientNo,
+) -> Result<Option<CommitNo>, WorkerFault>
+    ensures { IfOk result (λ ended. EndsJob client ended worker.old worker.new) }
+{
+    let ticket = worker.enter(rt, alloc, office)?;
+    let tried = try_job(rt, alloc, office, worker, client);
+    office.end_try(rt, ticket, end_of(&tried));
+    tried
+}
+
+/// How a try ended that was answered so.
+fn end_of(tried: &Result<Option<CommitNo>, WorkerFault>) -> TryEnd {
+    match tried {
+        Ok(Some(_)) => TryEnd::Committed,
+        Ok(None) => TryEnd::Aborted,
+        Err(_) => TryEnd::GivenUp,
+    }
 }
 
 /// Begins a transaction, counts both pages up, and commits; `None` where it was aborted.

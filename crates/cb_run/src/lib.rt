@@ -18,6 +18,7 @@ mod faults;
 mod flusher;
 mod job;
 mod loops;
+mod pace;
 mod results;
 mod run;
 mod running;

@@ -14,6 +14,7 @@ use cb_station::Office;
 use sqlite::Alter;
 use std::alloc::Global;
 use std::sync::Wait;
+use std::time::Clock;
 
 /// Writes what is committed, a batch at a time, until nothing is left and no call of `work` commits
 /// any more: the office is halted, or it is closed and none is going on. So what a call of `work`
@@ -22,7 +23,7 @@ use std::sync::Wait;
 ///
 /// It holds no lock while it writes. Which batches those are no contract says, since it takes the
 /// lock itself.
-pub fn flush_loop<R: Wait, S: Alter>(
+pub fn flush_loop<R: Wait + Clock, S: Alter>(
     rt: &R,
     alloc: Global,
     office: &Office,
@@ -42,7 +43,7 @@ pub fn flush_loop<R: Wait, S: Alter>(
 
 /// As [`flush_loop`]; `watch` is told of each batch once it is reported, and when the flusher
 /// waits.
-pub fn flush_loop_watched<R: Wait, S: Alter, W: Watch>(
+pub fn flush_loop_watched<R: Wait + Clock, S: Alter, W: Watch>(
     rt: &R,
     alloc: Global,
     office: &Office,
@@ -66,7 +67,7 @@ pub fn flush_loop_watched<R: Wait, S: Alter, W: Watch>(
 
 /// Writes the batch of a stop first, if there is one, and goes on as [`flush_loop`]. Where it ends
 /// well that batch fits, so it was not passed over.
-pub fn flush_again<R: Wait, S: Alter>(
+pub fn flush_again<R: Wait + Clock, S: Alter>(
     rt: &R,
     alloc: Global,
     office: &Office,
@@ -87,7 +88,7 @@ pub fn flush_again<R: Wait, S: Alter>(
 }
 
 /// As [`flush_again`]; `watch` is told as by [`flush_loop_watched`].
-pub fn flush_again_watched<R: Wait, S: Alter, W: Watch>(
+pub fn flush_again_watched<R: Wait + Clock, S: Alter, W: Watch>(
     rt: &R,
     alloc: Global,
     office: &Office,

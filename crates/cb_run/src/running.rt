@@ -19,6 +19,7 @@ use std::alloc::Global;
 use std::io::Write;
 use std::sync::{Mutex, Wait};
 use std::thread::Threads;
+use std::time::Clock;
 use std::{io, thread};
 
 /// Starts a worker for each client, with so many jobs each, runs the flusher, and says what came of
@@ -38,7 +39,7 @@ pub fn run_on<R, G, S, O, E>(
     err: &mut E,
 ) -> io::Result<u8>
 where
-    R: Threads + Wait + Sync,
+    R: Threads + Wait + Clock + Sync,
     G: Gate + Sync,
     S: Alter,
     O: Write,
@@ -68,7 +69,7 @@ pub fn run_on_watched<R, G, S, W, O, E>(
     err: &mut E,
 ) -> io::Result<u8>
 where
-    R: Threads + Wait + Sync,
+    R: Threads + Wait + Clock + Sync,
     G: Gate + Sync,
     S: Alter,
     W: Watch,
@@ -98,7 +99,7 @@ fn counted<R, G, S, W>(
     watch: &mut W,
 ) -> Result<Counted, Ending>
 where
-    R: Threads + Wait + Sync,
+    R: Threads + Wait + Clock + Sync,
     G: Gate + Sync,
     S: Alter,
     W: Watch,
@@ -126,7 +127,7 @@ fn run_all<R, G, S, W>(
     results: &Results,
 ) -> Result<(), Ending>
 where
-    R: Threads + Wait + Sync,
+    R: Threads + Wait + Clock + Sync,
     G: Gate + Sync,
     S: Alter,
     W: Watch,

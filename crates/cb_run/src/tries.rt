@@ -12,6 +12,8 @@ use cb_station::Office;
 use sqlite::Alter;
 use std::alloc::Global;
 use std::sync::Wait;
+use std::thread;
+use std::time::{Clock, Duration};
 
 /// How often a batch is tried in all.
 const TRIES: u64 = 3;
@@ -39,10 +41,20 @@ fn tries_left(counted: &CountedStop, last: u64, left: u64) -> u64
     }
 }
 
+/// How long the flusher waits before a batch's next try: a tenth of a second before the second one,
+/// a second before the last.
+fn pause(left: u64) -> Duration {
+    if left > 1 {
+        Duration::from_millis(100)
+    } else {
+        Duration::from_millis(1_000)
+    }
+}
+
 /// Runs the flusher. A batch that is refused is tried again, three times in all, and so is one for
 /// which there is no memory; then the office is halted, and the last fault answered. A batch that
 /// is written in between ends the count.
-pub fn flush_in_tries<R: Wait, S: Alter, W: Watch>(
+pub fn flush_in_tries<R: Wait + Clock, S: Alter, W: Watch>(
     rt: &R,
     alloc: Global,
     office: &Office,
@@ -70,6 +82,7 @@ pub fn flush_in_tries<R: Wait, S: Alter, W: Watch>(
             return Err(stop.fault);
         }
         last = batch_number(&stop);
+        thread::sleep(rt, pause(left));
         stopped = flush_counted_again(rt, alloc, office, shelf, watch, stop);
     }
     unreachable!()

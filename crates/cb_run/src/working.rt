@@ -12,6 +12,10 @@ use cb_worker::{Worker, WorkerFault};
 use crossbeam_channel::Receiver;
 use std::alloc::Global;
 use std::sync::Wait;
+use std::time::{Clock, Duration};
+
+/// A gate is asked again after so many milliseconds at the latest.
+const MOMENT: u64 = 1;
 
 /// Takes each job from the channel, and sends a result for each once it is on disk. Where no job is
 /// left the worker leaves; after a fault it is abandoned. Whatever happened, the office is told
@@ -19,7 +23,7 @@ use std::sync::Wait;
 ///
 /// In an office that is closed already it takes no job, and the worker leaves. One that is closed
 /// meanwhile waits for it: it does all its jobs, and the flusher writes them.
-pub fn work<R: Wait, Q: Chooser, G: Gate>(
+pub fn work<R: Wait + Clock, Q: Chooser, G: Gate>(
     rt: &R,
     alloc: Global,
     office: &Office,
@@ -45,7 +49,7 @@ pub fn work<R: Wait, Q: Chooser, G: Gate>(
 }
 
 /// The worker leaves; it is abandoned where it faulted before, or can't leave.
-fn end<R: Wait, Q: Chooser>(
+fn end<R: Wait + Clock, Q: Chooser>(
     rt: &R,
     alloc: Global,
     office: &Office,
@@ -68,7 +72,7 @@ fn end<R: Wait, Q: Chooser>(
 }
 
 /// Does each job once it may begin, and sends its result.
-fn run_jobs<R: Wait, Q: Chooser, G: Gate>(
+fn run_jobs<R: Wait + Clock, Q: Chooser, G: Gate>(
     run: Run<'_, R, G>,
     worker: &mut Worker<Q>,
     jobs: &Receiver<u64>,
@@ -84,8 +88,8 @@ fn run_jobs<R: Wait, Q: Chooser, G: Gate>(
     Ok(())
 }
 
-/// Serves until the job may begin.
-fn await_turn<R: Wait, Q: Chooser, G: Gate>(
+/// Serves until the job may begin, and waits a moment each time that it may not.
+fn await_turn<R: Wait + Clock, Q: Chooser, G: Gate>(
     run: Run<'_, R, G>,
     worker: &mut Worker<Q>,
     client: ClientNo,
@@ -95,7 +99,8 @@ fn await_turn<R: Wait, Q: Chooser, G: Gate>(
         if run.gate.before_job(client, job) == Turn::Go {
             return Ok(());
         }
-        worker.serve(run.rt, run.alloc, run.office)?;
+        let moment = Duration::from_millis(MOMENT);
+        worker.serve_and_wait(run.rt, run.alloc, run.office, moment)?;
     }
     unreachable!()
 }

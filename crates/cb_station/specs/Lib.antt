@@ -2,3 +2,4 @@ pub mod Flags
 pub mod Stations
 pub mod Moves
 pub mod Commits
+pub mod Admission

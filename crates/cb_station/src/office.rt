@@ -3,9 +3,11 @@ ghost use Rattle.std.specs.Sync.Mutex.{mutex_guard_value};
 ghost use Rattle.cb_station.specs.Stations.{IsStation};
 
 use crate::station::Station;
-use cb_page::ClientNo;
+use cb_admission::{Ticket, TryEnd};
+use cb_page::{ClientNo, CommitNo};
 use std::array;
 use std::sync::{Condvar, Mutex, MutexGuard, Wait};
+use std::time::{Clock, Duration};
 
 /// As many as there are clients at most.
 const CLIENTS: usize = 32;
@@ -68,13 +70,61 @@ impl Office {
         sound(self.frames[client.index()].wait(rt, station))
     }
 
-    /// Tells those clients to which there is a frame; the lock is held.
+    /// As [`Office::wait_for_frame`], and no longer than so long.
+    pub fn wait_for_frame_at_most<'a, R: Wait + Clock>(
+        &'a self,
+        rt: &R,
+        station: MutexGuard<'a, Station>,
+        client: ClientNo,
+        limit: Duration,
+    ) -> MutexGuard<'a, Station>
+        ensures sound { IsStation (mutex_guard_value result) }
+    {
+        sound(
+            self.frames[client.index()]
+                .wait_timeout(rt, station, limit)
+                .0,
+        )
+    }
+
+    /// As [`Office::wait`], until that commit is made or no call of `work` commits any more, and no
+    /// longer than so long.
+    pub fn wait_for_commit<'a, R: Wait + Clock>(
+        &'a self,
+        rt: &R,
+        station: MutexGuard<'a, Station>,
+        number: CommitNo,
+        limit: Duration,
+    ) -> MutexGuard<'a, Station>
+        ensures sound { IsStation (mutex_guard_value result) }
+    {
+        let waited = self
+            .changed
+            .wait_timeout_while(rt, station, limit, |station| {
+                !station.can_flush(number) && !station.is_over()
+            });
+        sound(waited.0)
+    }
+
+    /// A try ends: it gives its ticket back, and who is to be let in next is told.
+    pub fn end_try<R: Wait>(&self, rt: &R, ticket: Ticket, end: TryEnd) {
+        let mut station = self.lock(rt);
+        station.end_try(ticket, end);
+        self.tell_next(&station);
+    }
+
+    /// Tells the client that is to be let in next, if there is one; the lock is held.
+    pub fn tell_next(&self, station: &Station) {
+        if let Some(client) = station.window().next() {
+            self.frames[client.index()].notify_all();
+        }
+    }
+
+    /// Tells those clients that got a frame by the last call in which the station's server took
+    /// something; the lock is held since.
     pub fn tell_clients(&self, station: &Station) {
-        for client in 0..CLIENTS as u16 {
-            let client = ClientNo::new(client);
-            if station.has_frame_for(client) {
-                self.frames[client.index()].notify_all();
-            }
+        for frame in station.said_last() {
+            self.frames[frame.client.index()].notify_all();
         }
     }
 

@@ -1,7 +1,8 @@
 //! The type, its opening, and what it shows.
-ghost use Rattle.std.specs.Prelude.{◌≡◌, ◌≢◌, ◌↔◌, ◌<◌, ◌≤◌, ℕ, [], true, false, IfErr, IfOk};
-ghost use Rattle.std.specs.Prelude.{IfSome, IsTrue, None, OnOk, Ok, replicate};
+ghost use Rattle.std.specs.Prelude.{◌≡◌, ◌≢◌, ◌↔◌, ◌<◌, ◌≤◌, ◌+◌, ℕ, [], true, false, IfErr};
+ghost use Rattle.std.specs.Prelude.{IfOk, IfSome, IsSome, IsTrue, None, OnOk, Ok, replicate};
 ghost use Rattle.std.specs.Option.{option_map};
+ghost use Rattle.cb_admission.specs.Windows.{IsNew as IsNewWindow};
 ghost use Rattle.cb_hands.specs.Agreement.{Meet};
 ghost use Rattle.cb_commit.specs.History.{CatchesUp};
 ghost use Rattle.cb_commit.specs.Stores.{IsOf};
@@ -10,9 +11,11 @@ ghost use Rattle.cb_hands.specs.Joined.{IsHeld};
 ghost use Rattle.cb_station.specs.Moves.{IsOwn};
 ghost use Rattle.cb_station.specs.Stations.{IsStation, forgot, mailbox_of, remembered, server_of};
 ghost use Rattle.cb_station.specs.declared.office_fault.OfficeFault.TheVariants as office;
+ghost use Rattle.cb_page.specs.Numbers.{max_number};
 ghost use Rattle.cb_protocol.specs.Flush.{can_flush, next_batch};
 ghost use Rattle.cb_server.specs.ServerValue.{IsNew, commits_of};
 
+mod admitting;
 mod collecting;
 mod committing;
 mod entering;
@@ -32,8 +35,8 @@ use std::marker::Model;
 
 /// A server that several clients share, with what each joined client's hand shows, what is to be
 /// sent to each, the history of commits, and what the threads that share it tell each other:
-/// whether it is closed, whether it is halted, how many calls of `work` are still to end, and how
-/// many are going on.
+/// whether it is closed, whether it is halted, how many calls of `work` are still to end, how many
+/// are going on, and which tries of transactions are let in.
 ///
 /// Once it is closed no call of `work` begins. Those that are going on do their jobs to the end,
 /// and the flusher ends when none is left and all is written. A halted one is closed, and every
@@ -108,7 +111,9 @@ impl Station {
           halted = false;
           left = 1;
           working = 0;
+          window = station.flags.window;
         }) }
+        ensures window { IfOk result (λ station. IsNewWindow station.flags.window) }
     {
         Ok(Station {
             dispatcher: Dispatcher::new(alloc, limits, store)?,
@@ -155,6 +160,14 @@ impl Station {
             && self.dispatcher.has_frame_for(client)
     }
 
+    /// The frames that came by the last call in which the server took something, the newest first,
+    /// until a later call puts them into the mailboxes.
+    pub fn said_last(&self) -> &[Frame]
+        ensures { result.now ≡ self.now.dispatcher.mailboxes.late }
+    {
+        self.dispatcher.said_last()
+    }
+
     /// What is to be written to disk next; `None` where every commit is on disk.
     ///
     /// `Memory` only where a growth was refused.
@@ -188,6 +201,22 @@ impl Station {
         let commits = &self.dispatcher.server().state().commits;
         let count = self.history.remembered().len() - commits.committed().len();
         self.history.forget(count);
+    }
+
+    /// Whether that commit was made and isn't on disk yet.
+    pub fn can_flush(&self, number: CommitNo) -> bool
+        ensures { result ≡ can_flush (server_of self.now) number }
+    {
+        self.dispatcher.server().can_flush(number)
+    }
+
+    /// The number of the next commit; `None` where none is left.
+    pub fn next_commit(&self) -> Option<CommitNo>
+        ensures value { IfSome result (λ number.
+            number ≡ (server_of self.now).store.last_commit + 1) }
+        ensures left { IsSome result ↔ ((server_of self.now).store.last_commit < max_number) }
+    {
+        self.dispatcher.server().state().commits.next_number()
     }
 
     /// Whether the frame fits the limits and is of the hand's client and incarnation, and the hand

@@ -8,6 +8,7 @@ ghost use Rattle.cb_protocol.specs.ClientCalls.{CallPeek, peek_word};
 ghost use Rattle.cb_worker.specs.Lending.{worker_ends};
 ghost use Rattle.cb_worker.specs.Workers.{Hits, after_hit, may_hit, shows_copy, with_client};
 
+mod admitting;
 mod committing;
 mod entering;
 mod standing;

@@ -1,23 +1,33 @@
 //! What the threads that share a station tell each other.
 ghost use Rattle.std.specs.Prelude.{◌≡◌, ◌==◌, ◌+◌, ◌-◌, ◌||◌, true, false, nat_le, MatchBool};
+ghost use Rattle.cb_admission.specs.Windows.{IsNew};
 ghost use Rattle.cb_station.specs.Flags.{AreFlags, is_over, may_begin};
 
 use crate::station::Station;
+use cb_admission::AdmissionWindow;
 
 /// Whether the station is closed, whether it is halted, how many calls of `work` are still to end,
-/// and how many are going on.
+/// how many are going on, and how many tries are let in.
 #[derive(Clone, Copy)]
 pub(crate) struct Flags {
     closed: bool,
     halted: bool,
     left: usize,
     working: usize,
+    pub(super) window: AdmissionWindow,
 }
 
 impl Flags {
     /// Those of a station that nobody shares: it is open, and one call of `work` will use it.
     pub(super) fn new() -> Flags
-        ensures value { result ≡ record { closed = false; halted = false; left = 1; working = 0 } }
+        ensures value { result ≡ record {
+          closed = false;
+          halted = false;
+          left = 1;
+          working = 0;
+          window = result.window;
+        } }
+        ensures window { IsNew result.window }
         ensures are { AreFlags result }
     {
         Flags {
@@ -25,6 +35,7 @@ impl Flags {
             halted: false,
             left: 1,
             working: 0,
+            window: AdmissionWindow::new(),
         }
     }
 }

@@ -9,6 +9,7 @@ use sqlite::Alter;
 use std::alloc::Global;
 use std::sync::Wait;
 use std::thread::Threads;
+use std::time::Clock;
 
 /// The store before the batch: its number, and the version and byte of page 0. Page 1 is zeros.
 pub(crate) type Old = (u64, u64, u8);
@@ -64,7 +65,7 @@ fn may_be_left(reached: Outcome, found: Found) -> bool {
 
 /// Stops the log at each call in turn until a run ends without a stop. Whether every store that was
 /// there after a stop was whole, and the last one has the batch.
-fn survives_each_stop<R: Threads + Wait + Sync>(
+fn survives_each_stop<R: Threads + Wait + Clock + Sync>(
     rt: &R,
     alloc: Global,
     tables: &str,
@@ -79,6 +80,7 @@ fn survives_each_stop<R: Threads + Wait + Sync>(
             log: calls,
             db: u64::MAX,
             left: None,
+            frees: false,
         };
         match both(rt, alloc, (1, 16), faults, [work, opening(Deed::Find(old))]) {
             (Outcome::Well(true), left) => return left == Outcome::Found(Found::Written),

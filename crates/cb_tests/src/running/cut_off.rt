@@ -5,6 +5,7 @@ use crate::running::run::{Came, run_to_end};
 use std::alloc::Global;
 use std::sync::Wait;
 use std::thread::Threads;
+use std::time::Clock;
 
 #[test]
 fn worker_that_faults_while_another_runs(rt: HostRuntime) {
@@ -42,7 +43,7 @@ fn may_close(at: u64, answered: u64) -> bool {
 }
 
 /// What comes of two clients that are cut off there.
-fn cut_off<R: Threads + Wait + Sync>(rt: &R, alloc: Global, at: u64, halts: bool) -> Came {
+fn cut_off<R: Threads + Wait + Clock + Sync>(rt: &R, alloc: Global, at: u64, halts: bool) -> Came {
     let plan = Plan {
         clients: 2,
         jobs: JOBS,
@@ -53,7 +54,12 @@ fn cut_off<R: Threads + Wait + Sync>(rt: &R, alloc: Global, at: u64, halts: bool
 }
 
 /// Whether a run that is halted or closed there ends well.
-fn ends_at_once<R: Threads + Wait + Sync>(rt: &R, alloc: Global, at: u64, halts: bool) -> bool {
+fn ends_at_once<R: Threads + Wait + Clock + Sync>(
+    rt: &R,
+    alloc: Global,
+    at: u64,
+    halts: bool,
+) -> bool {
     match cut_off(rt, alloc, at, halts) {
         Came::Done(answered) if halts => may_halt(at, answered),
         Came::Done(answered) => may_close(at, answered),

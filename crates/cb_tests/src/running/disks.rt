@@ -5,6 +5,7 @@
 ghost use Rattle.std.specs.Prelude.{◌≡◌, false};
 
 use crate::running::balky::Balky;
+use crate::running::hurried::Hurried;
 use crate::running::work::{Deed, Outcome, Work, opening, work_on};
 use cb_page::Limits;
 use sqlite::{Connection, FileStore, Files, Options};
@@ -13,6 +14,7 @@ use std::alloc::Global;
 use std::sync::Wait;
 use std::sync::atomic::AtomicU64;
 use std::thread::Threads;
+use std::time::Clock;
 
 /// After how many calls the disks of the log and of the database stop, and how many writes the log
 /// refuses before.
@@ -21,6 +23,8 @@ pub(crate) struct Faults<'a> {
     pub(crate) log: u64,
     pub(crate) db: u64,
     pub(crate) left: Option<&'a AtomicU64>,
+    /// Whether none is refused any more once a second was slept.
+    pub(crate) frees: bool,
 }
 
 /// Disks that don't stop, and refuse nothing.
@@ -28,6 +32,7 @@ pub(crate) const NONE: Faults<'static> = Faults {
     log: u64::MAX,
     db: u64::MAX,
     left: None,
+    frees: false,
 };
 
 /// Opens the database, or gives the files back.
@@ -45,7 +50,7 @@ fn connect<D: Disk + Drop>(
 }
 
 /// Does this over a new connection to these files.
-fn over<R: Threads + Wait + Sync, D: Disk + Drop>(
+fn over<R: Threads + Wait + Clock + Sync, D: Disk + Drop>(
     rt: &R,
     alloc: Global,
     limits: &Limits,
@@ -64,7 +69,7 @@ fn over<R: Threads + Wait + Sync, D: Disk + Drop>(
 }
 
 /// Does both, with a crash between them.
-fn both_over<R: Threads + Wait + Sync, D: Crash + Drop>(
+fn both_over<R: Threads + Wait + Clock + Sync, D: Crash + Drop>(
     rt: &R,
     alloc: Global,
     limits: &Limits,
@@ -81,7 +86,7 @@ fn both_over<R: Threads + Wait + Sync, D: Crash + Drop>(
 }
 
 /// Does both over new disks, with two pages of this size, and a crash between them.
-pub(crate) fn both<R: Threads + Wait + Sync>(
+pub(crate) fn both<R: Threads + Wait + Clock + Sync>(
     rt: &R,
     alloc: Global,
     sizes: (u16, u64),
@@ -95,12 +100,13 @@ pub(crate) fn both<R: Threads + Wait + Sync>(
         log: Balky::new(Fuse::new(Memory::new(alloc), faults.log), faults.left),
         db: Balky::new(Fuse::new(Memory::new(alloc), faults.db), None),
     };
-    both_over(rt, alloc, &limits, files, works)
+    let room = if faults.frees { faults.left } else { None };
+    both_over(&Hurried::new(rt, room), alloc, &limits, files, works)
 }
 
 /// What comes of a shelf that is opened after these texts over new disks, of four clients and two
 /// pages of sixteen bytes.
-pub(crate) fn opened<'a, R: Threads + Wait + Sync>(
+pub(crate) fn opened<'a, R: Threads + Wait + Clock + Sync>(
     rt: &R,
     alloc: Global,
     texts: [&'a str; 2],

@@ -17,6 +17,8 @@ pub(crate) enum Act {
     Joined,
     /// As the first job begins, or each, so many writes are set to be refused.
     Refuse { writes: u64, at_each: bool },
+    /// As the first job begins the disk is full, and has room again after a second.
+    Full,
     /// The office is closed or halted at this call; the first is 0.
     CutOff { at: u64, halts: bool },
     /// The office is closed once every client has asked for its first job, which none begins
@@ -95,6 +97,11 @@ impl<R: Wait> Guarded<'_, R> {
             Act::Refuse { writes, at_each } => {
                 if begins && (at_each || call == 0) {
                     self.counts.left.store(writes, Ordering::SeqCst);
+                }
+            }
+            Act::Full => {
+                if call == 0 {
+                    self.counts.left.store(u64::MAX, Ordering::SeqCst);
                 }
             }
             _ => {}

@@ -10,9 +10,10 @@ use cb_twoq::Chooser;
 use cb_worker::Worker;
 use std::alloc::Global;
 use std::sync::Wait;
+use std::time::Clock;
 
 /// Whether a worker with one job leaves it in its channel, commits nothing, and leaves.
-fn leaves_its_job<Q: Chooser, R: Wait>(
+fn leaves_its_job<Q: Chooser, R: Wait + Clock>(
     rt: &R,
     alloc: Global,
     office: &Office,
@@ -39,7 +40,7 @@ fn leaves_its_job<Q: Chooser, R: Wait>(
 
 /// Whether a call of `work` that comes too late takes no job, and isn't counted: the office waits
 /// for the one that is going on, and for no other.
-pub(crate) fn comes_too_late<Q: Chooser, R: Wait>(
+pub(crate) fn comes_too_late<Q: Chooser, R: Wait + Clock>(
     rt: &R,
     alloc: Global,
     limits: &Limits,

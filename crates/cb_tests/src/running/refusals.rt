@@ -13,6 +13,7 @@ use cb_station::{Office, Station};
 use sqlite::Alter;
 use std::alloc::Global;
 use std::sync::Wait;
+use std::time::Clock;
 
 /// What comes between the first refusal of a batch and its write.
 #[derive(Clone, Copy)]
@@ -63,7 +64,7 @@ fn is_done(station: &mut Station, hand: &mut Hand) -> bool {
 }
 
 /// Whether three tries are refused, then the office is halted, and nothing was told or reported.
-fn is_given_up<R: Wait, S: Alter>(
+fn is_given_up<R: Wait + Clock, S: Alter>(
     rt: &R,
     alloc: Global,
     office: &Office,
@@ -77,7 +78,7 @@ fn is_given_up<R: Wait, S: Alter>(
 
 /// Whether the batch of a stop is written now, and the Done of its commit comes then and not
 /// before; after it that of a commit that came since.
-fn is_written_now<R: Wait, S: Alter>(
+fn is_written_now<R: Wait + Clock, S: Alter>(
     rt: &R,
     alloc: Global,
     office: &Office,
@@ -94,7 +95,7 @@ fn is_written_now<R: Wait, S: Alter>(
 }
 
 /// Whether the batch of a stop is refused again, and then written.
-fn is_written_after<R: Wait, S: Alter>(
+fn is_written_after<R: Wait + Clock, S: Alter>(
     rt: &R,
     alloc: Global,
     office: &Office,
@@ -113,7 +114,7 @@ fn is_written_after<R: Wait, S: Alter>(
 }
 
 /// Whether a first commit is refused, then again, and then written.
-fn is_written_at_last<R: Wait, S: Alter>(
+fn is_written_at_last<R: Wait + Clock, S: Alter>(
     rt: &R,
     alloc: Global,
     limits: &Limits,
@@ -148,7 +149,7 @@ fn commits<R: Wait>(rt: &R, alloc: Global, office: &Office, hand: &mut Hand, txn
 }
 
 /// A client commits, the office is closed, and the batch is refused at first.
-pub(crate) fn is_refused_at_first<R: Wait, S: Alter>(
+pub(crate) fn is_refused_at_first<R: Wait + Clock, S: Alter>(
     rt: &R,
     alloc: Global,
     limits: &Limits,

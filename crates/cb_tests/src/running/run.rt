@@ -4,6 +4,7 @@ use crate::running::flags::greet;
 use crate::running::gates::{Act, Counts, Guarded, Plan};
 use crate::running::trials::Trial;
 use crate::running::work::{Deed, Outcome, Work, opening};
+use cb_admission::AdmissionWindow;
 use cb_jobs::Watch;
 use cb_page::{ClientNo, CommitNo, Limits};
 use cb_run::run_on_watched;
@@ -14,6 +15,7 @@ use std::alloc::Global;
 use std::sync::Wait;
 use std::sync::atomic::Ordering;
 use std::thread::Threads;
+use std::time::Clock;
 
 /// Which batches were told of as on disk.
 #[derive(Clone, Copy, PartialEq, Eq)]
@@ -112,6 +114,13 @@ fn is_whole(station: &Station, last: u64) -> bool {
     station.is_halted() && told && !untold && station.history().is_empty()
 }
 
+/// Whether every ticket came back, and few tries were aborted: those of 32 clients that come at
+/// once, and three more for each time that the window was widened.
+fn are_fair(window: &AdmissionWindow, answered: u64) -> bool {
+    let widened = answered.saturating_add(32) / 64;
+    window.inside() == 0 && window.aborted() <= widened.saturating_mul(3).saturating_add(63)
+}
+
 /// What came of a run that said this: it is to say that so many jobs were done, and the sum that
 /// the tables have. Where these can't be looked at any more, the disk stopped.
 fn came_of<S: Alter>(alloc: Global, shelf: &mut Shelf<S>, answered: u64, out: &[u8]) -> Came {
@@ -126,7 +135,7 @@ fn came_of<S: Alter>(alloc: Global, shelf: &mut Shelf<S>, answered: u64, out: &[
 }
 
 /// What comes of a run in an office.
-pub(crate) fn came_in<R: Threads + Wait + Sync, S: Alter>(
+pub(crate) fn came_in<R: Threads + Wait + Clock + Sync, S: Alter>(
     rt: &R,
     alloc: Global,
     limits: &Limits,
@@ -152,6 +161,9 @@ pub(crate) fn came_in<R: Threads + Wait + Sync, S: Alter>(
     let answered = counts.answered.load(Ordering::SeqCst);
     let odd = counts.odd.load(Ordering::SeqCst);
     let whole = is_whole(&office.lock(rt), watch.told.last) && odd == 0 && counts.turns.is_well();
+    if !are_fair(office.lock(rt).window(), answered) {
+        return Came::Wrong;
+    }
     match ran.ok() {
         Some(0) if whole && err.is_empty() => came_of(alloc, shelf, answered, out.as_slice()),
         Some(3) if out.is_empty() => ended_by(err.as_slice()),
@@ -169,10 +181,18 @@ fn running<'a>(text: &'a str, counts: &'a Counts) -> Work<'a> {
     }
 }
 
+/// Whether the disk is full for a while.
+fn is_full(act: Act) -> bool {
+    match act {
+        Act::Full => true,
+        _ => false,
+    }
+}
+
 /// What comes of a run over new disks, after a text, where after a crash the database holds what
 /// the first commits left, at least as many as were answered as done. A disk that stops before
 /// there is a database counts as stopped; where no number was left nothing is looked at.
-pub(crate) fn came_over<R: Threads + Wait + Sync>(
+pub(crate) fn came_over<R: Threads + Wait + Clock + Sync>(
     rt: &R,
     alloc: Global,
     plan: Plan,
@@ -184,6 +204,7 @@ pub(crate) fn came_over<R: Threads + Wait + Sync>(
         log: calls.0,
         db: calls.1,
         left: Some(&counts.left),
+        frees: is_full(plan.act),
     };
     let works = [running(text, &counts), opening(Deed::Begin(&counts))];
     match both(rt, alloc, (plan.clients, 16), faults, works) {
@@ -196,7 +217,11 @@ pub(crate) fn came_over<R: Threads + Wait + Sync>(
 }
 
 /// What comes of a run over new disks that don't stop.
-pub(crate) fn run_to_end<R: Threads + Wait + Sync>(rt: &R, alloc: Global, plan: Plan) -> Came {
+pub(crate) fn run_to_end<R: Threads + Wait + Clock + Sync>(
+    rt: &R,
+    alloc: Global,
+    plan: Plan,
+) -> Came {
     came_over(rt, alloc, plan, (u64::MAX, u64::MAX), "")
 }
 

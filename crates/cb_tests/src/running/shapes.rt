@@ -6,6 +6,7 @@ use cb_shelf::ShelfFault;
 use std::alloc::Global;
 use std::sync::Wait;
 use std::thread::Threads;
+use std::time::Clock;
 
 /// The tables of a shelf, with a store.
 static NEW: &'static str =
@@ -54,7 +55,7 @@ static EMPTIED: &'static str = "INSERT INTO page2 SELECT no, version FROM page; 
      INSERT INTO mark2 SELECT id, commits, page_size, 2 FROM mark";
 
 /// The first text after which the tables aren't refused as another shape.
-fn first_taken<R: Threads + Wait + Sync>(
+fn first_taken<R: Threads + Wait + Clock + Sync>(
     rt: &R,
     alloc: Global,
     tables: &'static str,
@@ -71,7 +72,7 @@ fn first_taken<R: Threads + Wait + Sync>(
 }
 
 /// Whether old tables are copied, opened again, and left with no row.
-fn is_copied<R: Threads + Wait + Sync>(rt: &R, alloc: Global) -> bool {
+fn is_copied<R: Threads + Wait + Clock + Sync>(rt: &R, alloc: Global) -> bool {
     let deed = Deed::Hold(3, &[(3, 7), (0, 0)]);
     let first = Work {
         texts: [OLD, ""],
@@ -92,7 +93,7 @@ fn old_tables_copied(rt: HostRuntime) {
 
 /// Whether all these are refused: other shapes of the tables and of the old ones, both together,
 /// what is no shelf's, and an open transaction.
-fn are_refused<R: Threads + Wait + Sync>(rt: &R, alloc: Global) -> bool {
+fn are_refused<R: Threads + Wait + Clock + Sync>(rt: &R, alloc: Global) -> bool {
     let new = first_taken(rt, alloc, NEW, &SPOILED) == None;
     let old = first_taken(rt, alloc, OLD, &OLD_SPOILED) == None;
     let both = first_taken(rt, alloc, NEW, &[OLD]) == None;

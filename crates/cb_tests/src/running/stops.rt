@@ -11,6 +11,7 @@ use std::alloc::Global;
 use std::sync::Wait;
 use std::sync::atomic::Ordering;
 use std::thread::Threads;
+use std::time::Clock;
 
 /// Whether the store is what the first commits left, at least as many as were answered as done and
 /// at most as many as there are jobs.
@@ -44,7 +45,12 @@ pub(crate) fn is_beginning<S: Alter>(
 
 /// Whether more runs stop than so many, one for each call of the log or of the database in turn,
 /// until one doesn't, and none is wrong.
-fn stops_often<R: Threads + Wait + Sync>(rt: &R, alloc: Global, is_log: bool, least: u64) -> bool {
+fn stops_often<R: Threads + Wait + Clock + Sync>(
+    rt: &R,
+    alloc: Global,
+    is_log: bool,
+    least: u64,
+) -> bool {
     for stop in 0..1_000 {
         let calls = if is_log {
             (stop, u64::MAX)

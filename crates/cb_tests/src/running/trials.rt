@@ -10,6 +10,7 @@ use crate::running::late::comes_too_late;
 use crate::running::refusals::{Refusal, is_refused_at_first};
 use crate::running::run::came_in;
 use crate::running::sharing::are_shared;
+use crate::running::tickets::{Wake, ends_its_wait};
 use crate::running::unwatched::is_counted;
 use crate::running::work::{Deed, Outcome};
 use cb_page::{ClientNo, Limits};
@@ -21,6 +22,7 @@ use sqlite::Alter;
 use std::alloc::Global;
 use std::sync::Wait;
 use std::thread::Threads;
+use std::time::Clock;
 
 /// What is tried over an office and a shelf, both of zeros.
 #[derive(Clone, Copy)]
@@ -40,6 +42,8 @@ pub(crate) enum Trial<'a> {
     Late,
     /// A batch is refused at first.
     Refused(Refusal),
+    /// A try waits to be let in until this ends its wait.
+    Entered(Wake),
     /// Workers of four clients run, and nobody looks on.
     Unwatched,
     /// Workers run.
@@ -75,7 +79,7 @@ fn works<Q: Chooser, R: Wait>(
 }
 
 /// What comes of it in an office over a shelf.
-fn comes_with<R: Wait + Threads + Sync, S: Alter>(
+fn comes_with<R: Wait + Threads + Clock + Sync, S: Alter>(
     trial: Trial<'_>,
     rt: &R,
     alloc: Global,
@@ -91,6 +95,7 @@ fn comes_with<R: Wait + Threads + Sync, S: Alter>(
         Trial::GivingUp => works::<TwoQ, R>(rt, alloc, limits, office, false),
         Trial::Late => comes_too_late::<TwoQ, R>(rt, alloc, limits, office),
         Trial::Refused(refusal) => is_refused_at_first(rt, alloc, limits, office, shelf, refusal),
+        Trial::Entered(wake) => ends_its_wait(rt, alloc, limits, office, wake),
         Trial::Unwatched => is_counted(rt, alloc, limits, office, shelf),
         Trial::Run(counts) => {
             return Outcome::Ran(came_in(rt, alloc, limits, office, shelf, counts));
@@ -100,7 +105,7 @@ fn comes_with<R: Wait + Threads + Sync, S: Alter>(
 }
 
 /// What comes of it over a shelf: the office is over what that holds.
-pub(crate) fn comes_over<R: Wait + Threads + Sync, S: Alter>(
+pub(crate) fn comes_over<R: Wait + Threads + Clock + Sync, S: Alter>(
     trial: Trial<'_>,
     rt: &R,
     alloc: Global,
@@ -124,6 +129,10 @@ pub(crate) fn comes_over<R: Wait + Threads + Sync, S: Alter>(
 }
 
 /// Whether it goes well over a new database.
-pub(crate) fn goes_well<R: Wait + Threads + Sync>(trial: Trial<'_>, rt: &R, alloc: Global) -> bool {
+pub(crate) fn goes_well<R: Wait + Threads + Clock + Sync>(
+    trial: Trial<'_>,
+    rt: &R,
+    alloc: Global,
+) -> bool {
     opened(rt, alloc, ["", ""], Deed::Try(trial)) == Outcome::Well(true)
 }

@@ -11,9 +11,10 @@ use sqlite::Alter;
 use std::alloc::Global;
 use std::sync::Wait;
 use std::thread::Threads;
+use std::time::Clock;
 
 /// Whether the batch of a first commit is refused, and then written by the next call.
-pub(crate) fn is_written_next<R: Wait, S: Alter>(
+pub(crate) fn is_written_next<R: Wait + Clock, S: Alter>(
     rt: &R,
     alloc: Global,
     office: &Office,
@@ -29,7 +30,7 @@ pub(crate) fn is_written_next<R: Wait, S: Alter>(
 }
 
 /// Whether a run of four clients with two jobs each says that all are done.
-pub(crate) fn is_counted<R: Threads + Wait + Sync, S: Alter>(
+pub(crate) fn is_counted<R: Threads + Wait + Clock + Sync, S: Alter>(
     rt: &R,
     alloc: Global,
     limits: &Limits,

@@ -14,6 +14,7 @@ use sqlite::{Alter, Connection};
 use std::alloc::Global;
 use std::sync::Wait;
 use std::thread::Threads;
+use std::time::Clock;
 
 /// Texts that run over a connection, and what is done to the shelf that is opened then.
 #[derive(Clone, Copy)]
@@ -68,7 +69,7 @@ fn run_texts<S: Alter>(conn: &mut Connection<S>, texts: [&str; 2]) -> bool {
 }
 
 /// Does this over a connection, which comes back.
-pub(crate) fn work_on<R: Threads + Wait + Sync, S: Alter>(
+pub(crate) fn work_on<R: Threads + Wait + Clock + Sync, S: Alter>(
     rt: &R,
     alloc: Global,
     limits: &Limits,
@@ -90,7 +91,7 @@ pub(crate) fn work_on<R: Threads + Wait + Sync, S: Alter>(
 }
 
 /// What comes of it.
-fn done<R: Threads + Wait + Sync, S: Alter>(
+fn done<R: Threads + Wait + Clock + Sync, S: Alter>(
     rt: &R,
     alloc: Global,
     limits: &Limits,

@@ -9,6 +9,7 @@ use sqlite::Alter;
 use std::alloc::Global;
 use std::sync::Wait;
 use std::thread::Threads;
+use std::time::Clock;
 
 /// How the commit is written that fills both pages with nines.
 #[derive(Clone, Copy)]
@@ -83,7 +84,7 @@ pub(crate) fn writes_well<S: Alter>(
 }
 
 /// Whether it is written so with pages of this size, and is there after another open of the files.
-fn keeps<R: Threads + Wait + Sync>(
+fn keeps<R: Threads + Wait + Clock + Sync>(
     rt: &R,
     alloc: Global,
     page_size: u64,

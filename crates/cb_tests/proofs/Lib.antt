@@ -1,3 +1,0 @@
--- What is proved where.
--- Of: a state of some limits stays so.
-pub mod Of
