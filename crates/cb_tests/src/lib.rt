@@ -1,30 +1,13 @@
-//! Tests by public calls, a module for each layer, and a chooser of a caller's own with its proof.
-//! They stand in one crate, since each crate of tests reads and links all that it stands on.
+//! Tests by public calls of the station and of what runs. Those of the layers below are in
+//! `cb_layer_tests`.
 #![tactic(auto)]
 
-mod pool;
+#[cfg(test)]
+use cb_test_parts::{commits, draw, stores};
 
-pub use pool::Fifo;
-
-#[cfg(test)]
-mod client;
-#[cfg(test)]
-mod commits;
-#[cfg(test)]
-mod console;
-#[cfg(test)]
-mod draw;
-#[cfg(test)]
-mod event;
-#[cfg(test)]
-mod frame;
 #[cfg(test)]
 mod office;
 #[cfg(test)]
 mod running;
-#[cfg(test)]
-mod server;
-#[cfg(test)]
-mod stores;
 #[cfg(test)]
 mod texts;

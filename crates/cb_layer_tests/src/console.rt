@@ -1,0 +1,6 @@
+//! The console and the serial check.
+
+mod drawn;
+mod every_number;
+mod histories;
+mod plays;

@@ -1,0 +1,5 @@
+//! The text of schedules.
+
+mod faults;
+mod greatest;
+mod refused;

@@ -1,0 +1,5 @@
+//! Pages and frames.
+
+mod greatest;
+mod literal;
+mod refused;

@@ -1,0 +1,9 @@
+//! A server and its parts.
+
+mod callbacks;
+mod commits;
+mod directory;
+mod greatest;
+mod sessions;
+mod views;
+mod waits;

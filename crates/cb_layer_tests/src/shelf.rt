@@ -1,0 +1,6 @@
+//! A store in the tables of a database, over disks in memory, with no thread beside it.
+
+mod batches;
+mod disks;
+mod reopened;
+mod stops;

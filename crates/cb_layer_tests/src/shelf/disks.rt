@@ -1,0 +1,146 @@
+//! Sessions over a database whose files lie on disks in memory, of which one may stop.
+
+use crate::shelf::batches::{Writing, writes};
+use cb_commit::Store;
+use cb_page::{Limits, PageNo};
+use cb_shelf::{Shelf, ShelfFault};
+use sqlite::{Alter, Connection, FileStore, Files, Options};
+use sqlite_disk::{Crash, Fuse, Memory};
+use std::alloc::Global;
+
+/// A database is opened, a text runs over it, and a shelf of these limits is opened; this is done
+/// to it then.
+#[derive(Clone, Copy)]
+pub(crate) struct Session<'a> {
+    pub(crate) limits: &'a Limits,
+    pub(crate) text: &'a str,
+    pub(crate) deed: Deed,
+}
+
+/// What is done to a shelf.
+#[derive(Clone, Copy)]
+pub(crate) enum Deed {
+    /// It is read.
+    Load,
+    /// A commit is written.
+    Write(Writing),
+}
+
+/// How far a session came.
+#[derive(Clone, Copy, PartialEq, Eq)]
+pub(crate) enum Outcome {
+    /// No database was opened.
+    Nothing,
+    /// The database was opened, and the text didn't run.
+    Database,
+    /// The shelf was refused.
+    Refused(ShelfFault),
+    /// It was opened, and not read.
+    Unread(ShelfFault),
+    /// It holds this; nothing where that isn't one byte a page.
+    Holds(Option<Held>),
+    /// Whether what was to be written was.
+    Written(bool),
+}
+
+/// A store of two pages: its number, and the version of each page and the byte that fills it.
+pub(crate) type Held = (u64, [(u64, u8); 2]);
+
+/// New files, of which that of the database stops after so many calls.
+pub(crate) fn files_that_stop(alloc: Global, calls: u64) -> Files<Fuse<Memory>> {
+    Files {
+        log: Fuse::new(Memory::new(alloc), u64::MAX),
+        db: Fuse::new(Memory::new(alloc), calls),
+    }
+}
+
+/// The log is copied into the file before each transaction, and two pages that were read are kept,
+/// so that the file is called throughout.
+const OFTEN: Options = Options {
+    cache_pages: 2,
+    spill_pages: 2000,
+    checkpoint_frames: 1,
+    seed: 1,
+};
+
+/// Opens the database, or gives the files back.
+fn connect(
+    alloc: Global,
+    files: Files<Fuse<Memory>>,
+) -> Result<Connection<FileStore<Fuse<Memory>>>, Files<Fuse<Memory>>> {
+    if !files.may_be_used() {
+        return Err(files);
+    }
+    match Connection::open_files(alloc, files, OFTEN) {
+        Ok(conn) => Ok(conn),
+        Err((_, left)) => Err(left.into_files()),
+    }
+}
+
+/// What comes of a session, and the files after a crash.
+pub(crate) fn run_session(
+    alloc: Global,
+    files: Files<Fuse<Memory>>,
+    session: Session<'_>,
+) -> (Outcome, Files<Fuse<Memory>>) {
+    let (outcome, mut files) = match connect(alloc, files) {
+        Ok(conn) => {
+            let (outcome, conn) = over(alloc, conn, session);
+            (outcome, conn.into_store().close())
+        }
+        Err(files) => (Outcome::Nothing, files),
+    };
+    files.log.crash();
+    files.db.crash();
+    (outcome, files)
+}
+
+/// The same over a connection, which comes back.
+fn over<S: Alter>(
+    alloc: Global,
+    mut conn: Connection<S>,
+    session: Session<'_>,
+) -> (Outcome, Connection<S>) {
+    if conn.execute_batch(session.text).is_err() {
+        return (Outcome::Database, conn);
+    }
+    match Shelf::open(alloc, conn, session.limits) {
+        Ok(mut shelf) => {
+            let outcome = done(alloc, session.limits, &mut shelf, session.deed);
+            (outcome, shelf.close())
+        }
+        Err((fault, conn)) => (Outcome::Refused(fault), conn),
+    }
+}
+
+fn done<S: Alter>(alloc: Global, limits: &Limits, shelf: &mut Shelf<S>, deed: Deed) -> Outcome {
+    match deed {
+        Deed::Load => match shelf.load(alloc) {
+            Ok(store) => Outcome::Holds(held_by(limits, &store)),
+            Err(fault) => Outcome::Unread(fault),
+        },
+        Deed::Write(writing) => Outcome::Written(writes(alloc, limits, shelf, writing)),
+    }
+}
+
+/// What a store of two pages holds, each of which one byte fills.
+pub(crate) fn held_by(limits: &Limits, store: &Store) -> Option<Held> {
+    if limits.pages() != 2 {
+        return None;
+    }
+    Some((
+        store.number(),
+        [row_of(limits, store, 0)?, row_of(limits, store, 1)?],
+    ))
+}
+
+fn row_of(limits: &Limits, store: &Store, number: u64) -> Option<(u64, u8)> {
+    if !store.is_of(limits) {
+        return None;
+    }
+    let page = PageNo::in_store(limits, number)?;
+    let bytes = store.bytes(page);
+    let byte = *bytes.first()?;
+    let is_full = bytes.iter().all(|other| *other == byte);
+    is_full.then_some((store.version(page).get(), byte))
+}

@@ -1,5 +1,0 @@
-//! The console and the serial check.
-
-mod drawn;
-mod histories;
-mod plays;

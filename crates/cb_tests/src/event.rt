@@ -1,4 +1,0 @@
-//! The text of schedules.
-
-mod greatest;
-mod refused;

@@ -1,4 +1,0 @@
-//! Pages and frames.
-
-mod greatest;
-mod refused;
