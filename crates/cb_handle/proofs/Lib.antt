@@ -1,0 +1,4 @@
+pub mod Kept
+pub mod Left
+pub mod Reading
+pub mod Shown

@@ -1,0 +1,6 @@
+pub mod Clients
+pub mod Faults
+pub mod Fetching
+pub mod Objects
+pub mod Opened
+pub mod Servers

@@ -1,0 +1,158 @@
+//! The calls of a client.
+ghost use Rattle.std.specs.Prelude.{◌≡◌, IfOk, OnErr};
+ghost use Rattle.cb_handle.specs.Objects.{Begins, Clients, Drops, Finishes, Greets, IsLeft, Peeks};
+ghost use Rattle.cb_handle.specs.Objects.{Reads, ShowsOutcome, ShowsPermission, ShowsStatus};
+ghost use Rattle.cb_handle.specs.Objects.{Wants, Writes};
+
+use crate::object::{Object, page_of};
+use crate::polled_client::PolledClient;
+use crate::refusal::Refusal;
+use cb_page::Limits;
+use std::alloc::Global;
+
+impl Object {
+    /// A client at the start of an incarnation.
+    pub fn client(
+        alloc: Global,
+        no: u32,
+        incarnation: u64,
+        limits: &Limits,
+    ) -> Result<Object, Refusal>
+        ensures { IfOk result (Clients no incarnation limits.now) }
+    {
+        Ok(Object::Client(PolledClient::new(alloc, no, incarnation, limits)?))
+    }
+
+    /// Greets the server.
+    pub fn hello(&mut self) -> Result<(), Refusal>
+        ensures ok { IfOk result (λ _. Greets self.old self.new) }
+        ensures err { OnErr result (IsLeft self.old self.new) }
+    {
+        match self {
+            Object::Client(polled) => polled.hello(),
+            _ => Err(Refusal::OtherKind),
+        }
+    }
+
+    /// Begins a transaction; its number.
+    pub fn begin(&mut self, txn: &mut u64) -> Result<(), Refusal>
+        ensures ok { IfOk result (λ _. Begins self.old txn.new self.new) }
+        ensures err { OnErr result (IsLeft self.old self.new) }
+    {
+        match self {
+            Object::Client(polled) => {
+                *txn = polled.begin()?;
+                Ok(())
+            }
+            _ => Err(Refusal::OtherKind),
+        }
+    }
+
+    /// Reads a page: its bytes are in the room where `here` is true, else it is asked for.
+    pub fn read(&mut self, page: u32, room: &mut [u8], here: &mut bool) -> Result<(), Refusal>
+        ensures ok { IfOk result (λ _. Reads self.old page room.new here.new self.new) }
+        ensures err { OnErr result (IsLeft self.old self.new) }
+        ensures kept { OnErr result (room.new ≡ room.old) }
+    {
+        let page = page_of(page)?;
+        match self {
+            Object::Client(polled) => {
+                *here = polled.read(page, room)?;
+                Ok(())
+            }
+            _ => Err(Refusal::OtherKind),
+        }
+    }
+
+    /// Wants to write a page: it may at once where `may` is true, else that is asked for.
+    pub fn want(&mut self, page: u32, may: &mut bool) -> Result<(), Refusal>
+        ensures ok { IfOk result (λ _. Wants self.old page may.new self.new) }
+        ensures err { OnErr result (IsLeft self.old self.new) }
+    {
+        let page = page_of(page)?;
+        match self {
+            Object::Client(polled) => {
+                *may = polled.want(page)?;
+                Ok(())
+            }
+            _ => Err(Refusal::OtherKind),
+        }
+    }
+
+    /// Writes a page.
+    pub fn write(&mut self, page: u32, bytes: &[u8]) -> Result<(), Refusal>
+        ensures ok { IfOk result (λ _. Writes self.old page bytes.now self.new) }
+        ensures err { OnErr result (IsLeft self.old self.new) }
+    {
+        let page = page_of(page)?;
+        match self {
+            Object::Client(polled) => polled.write(page, bytes),
+            _ => Err(Refusal::OtherKind),
+        }
+    }
+
+    /// Commits the transaction.
+    pub fn finish(&mut self, alloc: Global) -> Result<(), Refusal>
+        ensures ok { IfOk result (λ _. Finishes self.old self.new) }
+        ensures err { OnErr result (IsLeft self.old self.new) }
+    {
+        match self {
+            Object::Client(polled) => polled.finish(alloc),
+            _ => Err(Refusal::OtherKind),
+        }
+    }
+
+    /// Ends the transaction without a commit.
+    pub fn drop_txn(&mut self, alloc: Global) -> Result<(), Refusal>
+        ensures ok { IfOk result (λ _. Drops self.old self.new) }
+        ensures err { OnErr result (IsLeft self.old self.new) }
+    {
+        match self {
+            Object::Client(polled) => polled.drop_txn(alloc),
+            _ => Err(Refusal::OtherKind),
+        }
+    }
+
+    /// 0 no client, 1 not welcome, 2 idle, 3 open, 4 waiting, 5 committing.
+    pub fn status(&self) -> u32
+        ensures { ShowsStatus self.now result }
+    {
+        match self {
+            Object::Client(polled) => polled.status(),
+            _ => 0,
+        }
+    }
+
+    /// How the last transaction ended, and the number of its commit or 0: 0 none did, 1 committed,
+    /// 2 dropped, 3 aborted.
+    pub fn last(&self) -> (u32, u64)
+        ensures { ShowsOutcome self.now result.0 result.1 }
+    {
+        match self {
+            Object::Client(polled) => polled.last(),
+            _ => (0, 0),
+        }
+    }
+
+    /// The bytes of the client's copy of a page, which is no reference to it.
+    pub fn peek(&self, page: u32, room: &mut [u8]) -> Result<(), Refusal>
+        ensures ok { IfOk result (λ _. Peeks self.now page room.new) }
+        ensures kept { OnErr result (room.new ≡ room.old) }
+    {
+        let page = page_of(page)?;
+        match self {
+            Object::Client(polled) => polled.peek(page, room),
+            _ => Err(Refusal::OtherKind),
+        }
+    }
+
+    /// Whether the client may write the page now.
+    pub fn may_write(&self, page: u32) -> bool
+        ensures { ShowsPermission self.now page result }
+    {
+        match self {
+            Object::Client(polled) => polled.may_write(page),
+            _ => false,
+        }
+    }
+}

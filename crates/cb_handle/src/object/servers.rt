@@ -1,0 +1,171 @@
+//! The calls of a server, and of the rows that it opens over.
+ghost use Rattle.std.specs.Prelude.{◌≡◌, ◌⊎◌, Err, IfOk, OnErr};
+ghost use Rattle.cb_handle.specs.Objects.{AddsRow, CanFlush, Flushes, Forgets, IsLeft};
+ghost use Rattle.cb_handle.specs.Objects.{IsNextIncarnation, Leaves, MakesBatch, Opens, Servers};
+ghost use Rattle.cb_handle.specs.Objects.{Serves, ShowsPage};
+ghost use Rattle.cb_handle.specs.declared.object.Object.TheVariants as object;
+ghost use Rattle.cb_handle.specs.declared.refusal.Refusal.TheVariants as refusal;
+
+use crate::object::Object;
+use crate::opening::Opening;
+use crate::polled_server::PolledServer;
+use crate::refusal::Refusal;
+use cb_page::Limits;
+use std::alloc::Global;
+use std::mem::replace;
+
+impl Object {
+    /// A server over a store of zeros.
+    pub fn server(alloc: Global, limits: &Limits) -> Result<Object, Refusal>
+        ensures { IfOk result (Servers limits.now) }
+    {
+        Ok(Object::Server(PolledServer::zeros(alloc, limits)?))
+    }
+
+    /// No rows yet, of a store whose last commit has this number.
+    pub fn opening(alloc: Global, limits: &Limits, number: u64) -> Result<Object, Refusal>
+        ensures { IfOk result (Opens limits.now number) }
+    {
+        Ok(Object::Opening(Opening::new(alloc, limits, number)?))
+    }
+
+    /// The row of the next page.
+    pub fn row(&mut self, alloc: Global, version: u64, bytes: &[u8]) -> Result<(), Refusal>
+        ensures ok { IfOk result (λ _. AddsRow self.old version bytes.now self.new) }
+        ensures err { OnErr result (IsLeft self.old self.new) }
+    {
+        match self {
+            Object::Opening(opening) => opening.row(alloc, version, bytes),
+            _ => Err(Refusal::OtherKind),
+        }
+    }
+
+    /// The rows become the server over them. `Room` where there isn't one of each page. Where
+    /// memory was refused the rows are gone, and there is nothing in their place.
+    pub fn serve(&mut self, alloc: Global) -> Result<(), Refusal>
+        ensures ok { IfOk result (λ _. Serves self.old self.new) }
+        ensures err { OnErr result ((result ≡ Err refusal.Memory) ⊎ (self.new ≡ self.old)) }
+        ensures gone { result ≡ Err refusal.Memory → self.new ≡ object.Nothing }
+    {
+        let opening = match replace(self, Object::Nothing) {
+            Object::Opening(opening) => opening,
+            other => {
+                *self = other;
+                return Err(Refusal::OtherKind);
+            }
+        };
+        let (limits, store) = match opening.into_store() {
+            Ok(opened) => opened,
+            Err(opening) => {
+                *self = Object::Opening(opening);
+                return Err(Refusal::Room);
+            }
+        };
+        let Ok(polled) = PolledServer::over(alloc, &limits, store) else {
+            return Err(Refusal::Memory);
+        };
+        *self = Object::Server(polled);
+        Ok(())
+    }
+
+    /// Makes the batch that is to be written next: its number and how many pages it has.
+    pub fn batch(
+        &mut self,
+        alloc: Global,
+        number: &mut u64,
+        pages: &mut usize,
+    ) -> Result<(), Refusal>
+        ensures ok { IfOk result (λ _. MakesBatch self.old number.new pages.new self.new) }
+        ensures err { OnErr result (IsLeft self.old self.new) }
+    {
+        match self {
+            Object::Server(polled) => {
+                let (commit, count) = polled.make_batch(alloc)?;
+                *number = commit.get();
+                *pages = count;
+                Ok(())
+            }
+            _ => Err(Refusal::OtherKind),
+        }
+    }
+
+    /// A page of the batch: its number, version and bytes.
+    pub fn batch_page(
+        &self,
+        at: usize,
+        room: &mut [u8],
+        page: &mut u32,
+        version: &mut u64,
+    ) -> Result<(), Refusal>
+        ensures ok { IfOk result (λ _.
+            ShowsPage self.now at room.new page.new version.new) }
+        ensures kept { OnErr result (room.new ≡ room.old) }
+    {
+        match self {
+            Object::Server(polled) => {
+                let (no, of) = polled.batch_page(at, room)?;
+                *page = no;
+                *version = of;
+                Ok(())
+            }
+            _ => Err(Refusal::OtherKind),
+        }
+    }
+
+    /// Whether that commit was made and isn't on disk yet.
+    pub fn can_flush(&self, number: u64) -> bool
+        ensures { CanFlush self.now number result }
+    {
+        match self {
+            Object::Server(polled) => polled.can_flush(number),
+            _ => false,
+        }
+    }
+
+    /// The commits up to this number are on disk now.
+    pub fn flushed(&mut self, alloc: Global, number: u64) -> Result<(), Refusal>
+        ensures ok { IfOk result (λ _. Flushes self.old number self.new) }
+        ensures err { OnErr result (IsLeft self.old self.new) }
+    {
+        match self {
+            Object::Server(polled) => polled.flushed(alloc, number),
+            _ => Err(Refusal::OtherKind),
+        }
+    }
+
+    /// The commits up to this number, which is on disk, leave memory.
+    pub fn forget(&mut self, number: u64) -> Result<(), Refusal>
+        ensures ok { IfOk result (λ _. Forgets self.old number self.new) }
+        ensures err { OnErr result (IsLeft self.old self.new) }
+    {
+        match self {
+            Object::Server(polled) => polled.forget(number),
+            _ => Err(Refusal::OtherKind),
+        }
+    }
+
+    /// A client went away: at the server its next incarnation begins, which nobody is.
+    pub fn leave(&mut self, alloc: Global, client: u32) -> Result<(), Refusal>
+        ensures ok { IfOk result (λ _. Leaves self.old client self.new) }
+        ensures err { OnErr result (IsLeft self.old self.new) }
+    {
+        match self {
+            Object::Server(polled) => polled.leave(alloc, client),
+            _ => Err(Refusal::OtherKind),
+        }
+    }
+
+    /// The incarnation that the client may greet with next.
+    pub fn next_incarnation(&self, client: u32) -> Result<u64, Refusal>
+        ensures { IfOk result (λ incarnation.
+            IsNextIncarnation self.now client incarnation) }
+    {
+        match self {
+            Object::Server(polled) => {
+                let (_client, next) = polled.next_incarnation(client)?;
+                Ok(next.get())
+            }
+            _ => Err(Refusal::OtherKind),
+        }
+    }
+}

@@ -1,0 +1,106 @@
+//! The rows of a store that a server is to open over.
+ghost use Rattle.std.specs.Prelude.{◌≡◌, IfErr, IfOk, OnErr};
+ghost use Rattle.cb_commit.specs.Stores.{IsOf};
+ghost use Rattle.cb_handle.specs.Opened.{no_rows, store_of, with_row};
+
+use crate::refusal::Refusal;
+use cb_commit::{Store, StoredPage};
+use cb_page::{Limits, MAX_NUMBER, Page, Version};
+use std::alloc::Global;
+use std::marker::Model;
+
+/// The first rows of a store of these limits, whose last commit has this number.
+pub struct Opening {
+    limits: Limits,
+    number: u64,
+    rows: Vec<StoredPage>,
+}
+
+// By hand, so that who owns rows proves this drop alone, and not those of all its parts.
+impl Drop for Opening {
+    fn drop(self) {
+        let Opening {
+            limits: _,
+            number: _,
+            rows: _,
+        } = self;
+    }
+}
+
+impl Model for Opening {
+    ghost use Rattle.cb_handle.specs.Opened.{IsOpening, OpeningState};
+
+    ghost Value = { OpeningState };
+
+    ghost view = { λ opening. record {
+      limits = opening.limits;
+      number = opening.number;
+      rows = opening.rows.items;
+    } };
+
+    ghost invariant = { λ opening. IsOpening (record {
+      limits = opening.limits;
+      number = opening.number;
+      rows = opening.rows.items;
+    }) };
+}
+
+impl Opening {
+    /// No rows yet. `Range` where no commit has this number, which is 0 before the first.
+    pub fn new(alloc: Global, limits: &Limits, number: u64) -> Result<Opening, Refusal>
+        ensures { IfOk result (λ opening. opening ≡ no_rows limits.now number) }
+    {
+        if number > MAX_NUMBER {
+            return Err(Refusal::Range);
+        }
+        Ok(Opening {
+            limits: *limits,
+            number,
+            rows: Vec::new(alloc),
+        })
+    }
+
+    /// The row of the next page: the number of the commit that wrote it last, 0 where none did, and
+    /// its bytes.
+    ///
+    /// `Room` where each page has its row already, or the bytes aren't as long as a page; `Range`
+    /// where the version is above the last commit's number; `Memory` where a growth was refused.
+    pub fn row(&mut self, alloc: Global, version: u64, bytes: &[u8]) -> Result<(), Refusal>
+        ensures ok { IfOk result (λ _. self.new ≡ with_row self.old version bytes.now) }
+        ensures unchanged { OnErr result (self.new ≡ self.old) }
+    {
+        if bytes.len() != self.limits.page_size()
+            || self.rows.len() >= self.limits.pages() as usize
+        {
+            return Err(Refusal::Room);
+        }
+        if version > self.number {
+            return Err(Refusal::Range);
+        }
+        let version = Version::new(version);
+        let bytes = Page::copy_of(alloc, bytes)?;
+        match self.rows.push(StoredPage { version, bytes }) {
+            Ok(()) => Ok(()),
+            Err(_) => Err(Refusal::Memory),
+        }
+    }
+
+    /// The limits, and the store of the rows, which are moved. The rows come back where there isn't
+    /// one of each page.
+    pub fn into_store(self) -> Result<(Limits, Store), Opening>
+        ensures limits { IfOk result (λ opened. opened.0 ≡ self.limits) }
+        ensures store { IfOk result (λ opened. opened.1 ≡ store_of self) }
+        ensures of { IfOk result (λ opened. IsOf opened.0 opened.1) }
+        ensures back { IfErr result (λ opening. opening ≡ self) }
+    {
+        if self.rows.len() != self.limits.pages() as usize {
+            return Err(self);
+        }
+        let Opening {
+            limits,
+            number,
+            rows,
+        } = self;
+        Ok((limits, Store::from_rows(&limits, rows, number)))
+    }
+}

@@ -1,0 +1,275 @@
+//! A server, and what it said.
+ghost use Rattle.std.specs.Prelude.{◌≡◌, ◌+◌, ◌<◌, ◌≤◌, [], IfOk, IfSome, OnErr, IsOk, None, Some};
+ghost use Rattle.std.specs.Prelude.{Err, true};
+ghost use Rattle.cb_commit.specs.Stores.{IsOf, zeros};
+ghost use Rattle.cb_outbox.specs.Messages.{messages_of};
+ghost use Rattle.cb_handle.specs.Fetching.{Fetches};
+ghost use Rattle.cb_handle.specs.Servers.{Does, HasNext, IsNew, IsUnchanged, Leaves, TakesBytes};
+ghost use Rattle.cb_handle.specs.Servers.{forgot, next_incarnation, or_zero, page_of_batch};
+ghost use Rattle.cb_handle.specs.Servers.{server_of};
+ghost use Rattle.cb_handle.specs.declared.refusal.Refusal.TheVariants as refusal;
+ghost use Rattle.cb_page.specs.Numbers.{IsNumber};
+ghost use Rattle.cb_protocol.specs.AnyMessages.{ReachesDisk, SendsAgain};
+ghost use Rattle.cb_protocol.specs.Flush.{can_flush, next_batch};
+
+use crate::refusal::Refusal;
+use crate::said::Said;
+use cb_commit::{Batch, Store};
+use cb_frame::{Body, BytesFault, Frame, ShortBody};
+use cb_page::{ClientNo, CommitNo, Incarnation, Limits};
+use cb_server::Server;
+use std::alloc::Global;
+
+/// A server, what it said and nobody fetched yet, and the batch that is being written.
+#[derive(Drop)]
+pub struct PolledServer {
+    pub server: Server,
+    pub said: Said,
+    pub batch: Option<Batch>,
+}
+
+impl PolledServer {
+    /// A server over this store.
+    pub fn over(alloc: Global, limits: &Limits, store: Store) -> Result<PolledServer, Refusal>
+        requires { IsOf limits.now store }
+        ensures new { IfOk result (λ polled. IsNew limits.now store polled.server) }
+        ensures said { IfOk result (λ polled. polled.said ≡ []) }
+        ensures batch { IfOk result (λ polled. polled.batch ≡ None) }
+    {
+        Ok(PolledServer {
+            server: Server::new(alloc, limits, store)?,
+            said: Said::nothing(alloc),
+            batch: None,
+        })
+    }
+
+    /// A server over a store of zeros.
+    pub fn zeros(alloc: Global, limits: &Limits) -> Result<PolledServer, Refusal>
+        ensures new { IfOk result (λ polled. IsNew limits.now (zeros limits.now) polled.server) }
+        ensures said { IfOk result (λ polled. polled.said ≡ []) }
+        ensures batch { IfOk result (λ polled. polled.batch ≡ None) }
+    {
+        let store = Store::zeros(alloc, limits)?;
+        PolledServer::over(alloc, limits, store)
+    }
+
+    /// That all that was said is fetched.
+    fn check_fetched(&self) -> Result<(), Refusal>
+        ensures { IsOk result → self.now.said ≡ [] }
+    {
+        if self.said.is_empty() {
+            Ok(())
+        } else {
+            Err(Refusal::Unfetched)
+        }
+    }
+
+    /// Takes the frame that the bytes begin with; how many bytes it has.
+    pub fn take(&mut self, alloc: Global, bytes: &[u8]) -> Result<usize, Refusal>
+        ensures ok { IfOk result (λ used. TakesBytes self.old.server bytes.now used
+            (messages_of self.new.said) self.new.server) }
+        ensures fetched { IsOk result → self.old.said ≡ [] }
+        ensures unchanged { OnErr result (IsUnchanged self.old.server self.new.server) }
+        ensures unsaid { OnErr result (self.new.said ≡ self.old.said) }
+        ensures batch { self.new.batch ≡ self.old.batch }
+    {
+        self.check_fetched()?;
+        match self.server.take_bytes(alloc, bytes) {
+            Ok((said, used)) => {
+                self.said = Said::of(said);
+                Ok(used)
+            }
+            Err(BytesFault::Frame(fault)) => Err(Refusal::Frame(fault)),
+            Err(BytesFault::Taker(fault)) => Err(Refusal::Server(fault)),
+        }
+    }
+
+    /// What may be lost is said again.
+    pub fn again(&mut self, alloc: Global) -> Result<(), Refusal>
+        ensures ok { IfOk result (λ _. Does self.old.server SendsAgain
+            (messages_of self.new.said) self.new.server) }
+        ensures fetched { IsOk result → self.old.said ≡ [] }
+        ensures unchanged { IsUnchanged self.old.server self.new.server }
+        ensures unsaid { OnErr result (self.new.said ≡ self.old.said) }
+        ensures batch { self.new.batch ≡ self.old.batch }
+    {
+        self.check_fetched()?;
+        let said = self.server.again(alloc)?;
+        self.said = Said::of(said);
+        Ok(())
+    }
+
+    /// The client of this number, and the incarnation that it may greet with next. `Range` where
+    /// there is no such client, or no incarnation is left for it.
+    pub fn next_incarnation(&self, client: u32) -> Result<(ClientNo, Incarnation), Refusal>
+        ensures client { IfOk result (λ found. found.0 ≡ client) }
+        ensures within { IfOk result (λ found. found.0 < self.now.server.limits.clients) }
+        ensures next { IfOk result (λ found.
+            found.1 ≡ next_incarnation self.now.server client) }
+    {
+        let Some(no) = ClientNo::in_store(self.server.limits(), u64::from(client)) else {
+            return Err(Refusal::Range);
+        };
+        match next_of(self.server.state().sessions.session(no).incarnation) {
+            Some(next) => Ok((no, next)),
+            None => Err(Refusal::Range),
+        }
+    }
+
+    /// A client went away: at the server its next incarnation begins, which nobody is, so that
+    /// nobody waits for it. The Welcome to it is among what is said.
+    #[tactic(auto, using(crate::proofs::Left::left_by))]
+    pub fn leave(&mut self, alloc: Global, client: u32) -> Result<(), Refusal>
+        ensures ok { IfOk result (λ _. Leaves self.old.server client
+            (messages_of self.new.said) self.new.server) }
+        ensures fetched { IsOk result → self.old.said ≡ [] }
+        ensures unchanged { OnErr result (IsUnchanged self.old.server self.new.server) }
+        ensures unsaid { OnErr result (self.new.said ≡ self.old.said) }
+        ensures batch { self.new.batch ≡ self.old.batch }
+    {
+        self.check_fetched()?;
+        let (no, incarnation) = self.next_incarnation(client)?;
+        // In range by its type: `get` says so.
+        let _known = incarnation.get();
+        let hello = Frame {
+            client: no,
+            incarnation,
+            body: Body::Short(ShortBody::Hello),
+        };
+        match self.server.take_owned(alloc, hello) {
+            Ok(said) => {
+                self.said = Said::of(said);
+                Ok(())
+            }
+            Err(refused) => Err(Refusal::Server(refused.0)),
+        }
+    }
+
+    /// Makes the batch that is to be written next; the number of its last commit, and how many
+    /// pages it has. `Nothing` where every commit is on disk.
+    pub fn make_batch(&mut self, alloc: Global) -> Result<(CommitNo, usize), Refusal>
+        ensures server { self.new.server ≡ self.old.server }
+        ensures said { self.new.said ≡ self.old.said }
+        ensures made { IfOk result (λ made.
+            HasNext self.old.server self.new.batch made.0 made.1) }
+        ensures nothing { result ≡ Err refusal.Nothing →
+            next_batch (server_of self.old.server) ≡ None }
+        ensures unchanged { OnErr result (self.new ≡ self.old) }
+    {
+        match self.server.batch(alloc)? {
+            None => Err(Refusal::Nothing),
+            Some(batch) => {
+                let answer = (batch.number(), batch.pages().len());
+                self.batch = Some(batch);
+                Ok(answer)
+            }
+        }
+    }
+
+    /// Writes the bytes of a page of the batch to the room; its number and version. `Nothing` where
+    /// there is no batch or no such place in it; `Room` where the room isn't as long as the page.
+    #[tactic(auto, using(crate::proofs::Shown::page_shown))]
+    pub fn batch_page(&self, at: usize, room: &mut [u8]) -> Result<(u32, u64), Refusal>
+        ensures ok { IfOk result (λ shown. page_of_batch self.now.batch at ≡ Some (record {
+          page = shown.0;
+          version = shown.1;
+          bytes = room.new;
+        })) }
+        ensures nothing { result ≡ Err refusal.Nothing →
+            page_of_batch self.now.batch at ≡ None }
+        ensures unchanged { OnErr result (room.new ≡ room.old) }
+    {
+        let Some(batch) = &self.batch else {
+            return Err(Refusal::Nothing);
+        };
+        let Some(page) = batch.pages().get(at) else {
+            return Err(Refusal::Nothing);
+        };
+        if room.len() != page.bytes.len() {
+            return Err(Refusal::Room);
+        }
+        room.copy_from_slice(page.bytes.as_slice());
+        Ok((page.page.get(), page.version.get()))
+    }
+
+    /// Whether that commit was made and isn't on disk yet.
+    pub fn can_flush(&self, number: u64) -> bool
+        ensures value { IsNumber number → result ≡ can_flush (server_of self.now.server) number }
+        ensures number { result ≡ true → IsNumber number }
+    {
+        match CommitNo::checked(number) {
+            None => false,
+            Some(number) => self.server.can_flush(number),
+        }
+    }
+
+    /// The commits up to this number are on disk now: Done is said for each that wasn't before.
+    pub fn flushed(&mut self, alloc: Global, number: u64) -> Result<(), Refusal>
+        ensures ok { IfOk result (λ _. Does self.old.server (ReachesDisk number)
+            (messages_of self.new.said) self.new.server) }
+        ensures fetched { IsOk result → self.old.said ≡ [] }
+        ensures could { IsOk result → can_flush (server_of self.old.server) number ≡ true }
+        ensures written { IsOk result → self.new.batch ≡ None }
+        ensures unchanged { OnErr result (IsUnchanged self.old.server self.new.server) }
+        ensures unsaid { OnErr result (self.new.said ≡ self.old.said) }
+        ensures batch { OnErr result (self.new.batch ≡ self.old.batch) }
+    {
+        self.check_fetched()?;
+        let Some(number) = CommitNo::checked(number) else {
+            return Err(Refusal::Range);
+        };
+        if !self.server.can_flush(number) {
+            return Err(Refusal::Range);
+        }
+        let said = self.server.flushed(alloc, number)?;
+        self.said = Said::of(said);
+        self.batch = None;
+        Ok(())
+    }
+
+    /// The commits up to this number leave memory. `Range` where no commit has it, or not all of
+    /// them are on disk.
+    pub fn forget(&mut self, number: u64) -> Result<(), Refusal>
+        ensures ok { IfOk result (λ _. self.new.server ≡ forgot self.old.server number) }
+        ensures on_disk { IsOk result → number ≤ (server_of self.old.server).flushed }
+        ensures unchanged { OnErr result (self.new ≡ self.old) }
+        ensures said { self.new.said ≡ self.old.said }
+        ensures batch { self.new.batch ≡ self.old.batch }
+    {
+        let Some(number) = CommitNo::checked(number) else {
+            return Err(Refusal::Range);
+        };
+        if number.get() > self.server.state().commits.last_flushed() {
+            return Err(Refusal::Range);
+        }
+        self.server.forget(number);
+        Ok(())
+    }
+
+    /// Fetches what was said: `Said::fetch`.
+    pub fn fetch(
+        &mut self,
+        alloc: Global,
+        room: &mut [u8],
+        size: &mut usize,
+    ) -> Result<ClientNo, Refusal>
+        ensures ok { IfOk result (λ client. Fetches self.old.said room.new size.new client
+            self.new.said) }
+        ensures unchanged { OnErr result (self.new ≡ self.old) }
+        ensures kept { OnErr result (room.new ≡ room.old) }
+        ensures server { self.new.server ≡ self.old.server }
+        ensures batch { self.new.batch ≡ self.old.batch }
+    {
+        self.said.fetch(alloc, self.server.limits(), room, size)
+    }
+}
+
+/// The incarnation after the current one, 1 after none; `None` where all numbers are used up.
+fn next_of(current: Option<Incarnation>) -> Option<Incarnation>
+    ensures { IfSome result (λ next. next ≡ or_zero current + 1) }
+{
+    match current {
+        None => Some(Incarnation::new(1)),
+        Some(current) => current.next(),
+    }
+}

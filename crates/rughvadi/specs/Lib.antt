@@ -1,0 +1,3 @@
+pub mod Heads
+pub mod Limits
+pub mod Slot

@@ -1,0 +1,114 @@
+//! Calls that need no handle.
+ghost use Rattle.std.specs.Prelude.{◌≡◌, ◌≢◌, ◌≤◌, IfOk, OnErr, length, take};
+ghost use Rattle.cb_handle.specs.Faults.{fault_text};
+ghost use Rattle.rughvadi.specs.Heads.{Heads, IsHeadOf};
+ghost use Rattle.rughvadi.specs.Limits.{bounds_of};
+
+use crate::limits::{StoreLimits, limits_of};
+use cb_frame::{Frame, decode};
+use cb_handle::{Refusal, fault_text};
+use std::alloc::Global;
+
+/// What the header of a frame says, as C gets it.
+#[repr(C)]
+#[derive(Clone, Copy)]
+pub struct FrameHead {
+    /// The frame's bytes, the header's among them.
+    pub length: u64,
+    /// The client that it is of or for.
+    pub client: u32,
+    /// The code of its kind.
+    pub kind: u32,
+    /// The incarnation of the client.
+    pub incarnation: u64,
+}
+
+/// The head of a frame of so many bytes.
+fn head_of(frame: &Frame, size: usize) -> FrameHead
+    ensures { Heads frame.now size result }
+{
+    FrameHead {
+        length: size as u64,
+        client: u32::from(frame.client.get()),
+        kind: u32::from(frame.kind().code()),
+        incarnation: frame.incarnation.get(),
+    }
+}
+
+/// Reads the frame that the bytes begin with: how long it is, of which client and incarnation, and
+/// of which kind.
+fn read(
+    alloc: Global,
+    limits: &StoreLimits,
+    bytes: &[u8],
+    head: &mut FrameHead,
+) -> Result<(), Refusal>
+    ensures head { IfOk result (λ _. IsHeadOf (bounds_of limits.now) bytes.now head.new) }
+    ensures kept { OnErr result (head.new ≡ head.old) }
+{
+    let limits = limits_of(limits)?;
+    match decode(alloc, &limits, bytes) {
+        Ok((frame, used)) => {
+            *head = head_of(&frame, used);
+            Ok(())
+        }
+        Err(fault) => Err(Refusal::Frame(fault)),
+    }
+}
+
+/// Reads the frame that the bytes begin with, and nothing else happens: so a host can cut a stream
+/// into frames, and knows whose they are.
+#[unsafe(no_mangle)]
+pub extern "C" fn rughvadi_frame_read(
+    alloc: Global,
+    limits: &StoreLimits,
+    bytes: &[u8],
+    head: &mut FrameHead,
+) -> u32
+    ensures done { result ≡ 0 → IsHeadOf (bounds_of limits.now) bytes.now head.new }
+    ensures kept { result ≢ 0 → head.new ≡ head.old }
+{
+    match read(alloc, limits, bytes, head) {
+        Ok(()) => 0,
+        Err(refusal) => refusal.number(),
+    }
+}
+
+/// The version of these calls. It changes where a call changes what it takes or does.
+const VERSION: u32 = 1;
+
+/// The version of these calls.
+#[unsafe(no_mangle)]
+pub extern "C" fn rughvadi_version() -> u32
+    ensures { result ≡ 1 }
+{
+    VERSION
+}
+
+/// Writes the text of a fault's number to the beginning of the room, and how many bytes it has.
+/// Where the room is too short, 772 is answered and nothing is written there.
+#[unsafe(no_mangle)]
+pub extern "C" fn rughvadi_fault_text(fault: u32, room: &mut [u8], size: &mut usize) -> u32
+    ensures size { size.new ≡ length (fault_text fault) }
+    ensures text { result ≡ 0 → take size.new room.new ≡ fault_text fault }
+    ensures within { result ≡ 0 → size.new ≤ length room.old }
+    ensures kept { result ≢ 0 → room.new ≡ room.old }
+    ensures room { result ≢ 0 → result ≡ 772 }
+{
+    let text = fault_text(fault).as_bytes();
+    *size = text.len();
+    if text.len() > room.len() {
+        return Refusal::Room.number();
+    }
+    put_front(text, room);
+    0
+}
+
+/// Copies the bytes to the beginning of the room.
+#[tactic(auto, using(std::proofs::lemmas::List::take_at))]
+fn put_front(bytes: &[u8], room: &mut [u8])
+    requires { length bytes.now ≤ length room.old }
+    ensures { take (length bytes.now) room.new ≡ bytes.now }
+{
+    room[..bytes.len()].copy_from_slice(bytes);
+}

@@ -1,0 +1,285 @@
+//! A client's calls.
+ghost use Rattle.std.specs.Prelude.{◌≡◌, ◌≢◌, IfOk, false, true};
+ghost use Rattle.cb_handle.specs.Objects.{Begins, Clients, Drops, Finishes, Greets, IsLeft, Peeks};
+ghost use Rattle.cb_handle.specs.Objects.{Reads, ShowsOutcome, ShowsPermission, ShowsStatus};
+ghost use Rattle.cb_handle.specs.Objects.{Wants, Writes};
+ghost use Rattle.rughvadi.specs.Limits.{bounds_of};
+
+use crate::held::Handle;
+use crate::limits::{StoreLimits, boxed, limits_of};
+use cb_handle::{Object, Refusal};
+use std::alloc::Global;
+
+fn made(
+    alloc: Global,
+    limits: &StoreLimits,
+    client: u32,
+    incarnation: u64,
+) -> Result<Box<Object>, Refusal>
+    ensures { IfOk result (λ made.
+        Clients client incarnation (bounds_of limits.now) made.value) }
+{
+    let limits = limits_of(limits)?;
+    boxed(alloc, Object::client(alloc, client, incarnation, &limits)?)
+}
+
+/// A client at the start of an incarnation, in an empty handle.
+#[unsafe(no_mangle)]
+pub extern "C" fn rughvadi_client_new(
+    alloc: Global,
+    limits: &StoreLimits,
+    client: u32,
+    incarnation: u64,
+    h: &mut Handle,
+) -> u32
+    ensures made { result ≡ 0 →
+        Clients client incarnation (bounds_of limits.now) h.new.held.value }
+    ensures live { result ≡ 0 → h.new.live ≡ true }
+    ensures was_empty { result ≡ 0 → h.old.live ≡ false }
+    ensures unchanged { result ≢ 0 → h.new.live ≡ h.old.live }
+    ensures same { h.old.live ≡ true → h.new.held.value ≡ h.old.held.value }
+{
+    if h.live {
+        return Refusal::Held.number();
+    }
+    match made(alloc, limits, client, incarnation) {
+        Ok(b) => {
+            *h = Handle::of(b);
+            0
+        }
+        Err(refusal) => refusal.number(),
+    }
+}
+
+/// 0 no client, 1 not welcome, 2 idle, 3 open, 4 waiting, 5 committing.
+#[unsafe(no_mangle)]
+pub extern "C" fn rughvadi_client_status(alloc: Global, h: &mut Handle) -> u32
+    ensures live { h.new.live ≡ h.old.live }
+    ensures same { h.old.live ≡ true → h.new.held.value ≡ h.old.held.value }
+    ensures shown { h.old.live ≡ true → ShowsStatus h.old.held.value result }
+    ensures empty { h.old.live ≡ false → result ≡ 0 }
+{
+    let Some(b) = h.take(alloc) else {
+        return 0;
+    };
+    let status = b.status();
+    *h = Handle::of(b);
+    status
+}
+
+/// How the last transaction ended, and the number of its commit or 0: 0 none did, 1 committed,
+/// 2 dropped, 3 aborted.
+#[unsafe(no_mangle)]
+pub extern "C" fn rughvadi_client_last(alloc: Global, h: &mut Handle, number: &mut u64) -> u32
+    ensures live { h.new.live ≡ h.old.live }
+    ensures same { h.old.live ≡ true → h.new.held.value ≡ h.old.held.value }
+    ensures shown { h.old.live ≡ true → ShowsOutcome h.old.held.value result number.new }
+    ensures empty { h.old.live ≡ false → result ≡ 0 }
+{
+    let Some(b) = h.take(alloc) else {
+        return 0;
+    };
+    let (how, of) = b.last();
+    *h = Handle::of(b);
+    *number = of;
+    how
+}
+
+/// Whether the client may write the page now.
+#[unsafe(no_mangle)]
+pub extern "C" fn rughvadi_client_may_write(alloc: Global, h: &mut Handle, page: u32) -> bool
+    ensures live { h.new.live ≡ h.old.live }
+    ensures same { h.old.live ≡ true → h.new.held.value ≡ h.old.held.value }
+    ensures shown { h.old.live ≡ true → ShowsPermission h.old.held.value page result }
+    ensures empty { h.old.live ≡ false → result ≡ false }
+{
+    let Some(b) = h.take(alloc) else {
+        return false;
+    };
+    let may = b.may_write(page);
+    *h = Handle::of(b);
+    may
+}
+
+/// Greets the server.
+#[unsafe(no_mangle)]
+pub extern "C" fn rughvadi_client_hello(alloc: Global, h: &mut Handle) -> u32
+    ensures live { h.new.live ≡ h.old.live }
+    ensures held { result ≡ 0 → h.old.live ≡ true }
+    ensures done { result ≡ 0 → Greets h.old.held.value h.new.held.value }
+    ensures left { result ≢ 0 → h.old.live ≡ true → IsLeft h.old.held.value h.new.held.value }
+    ensures empty { h.old.live ≡ false → result ≡ 769 }
+{
+    let Some(mut b) = h.take(alloc) else {
+        return Refusal::OtherKind.number();
+    };
+    let done = b.hello();
+    *h = Handle::of(b);
+    match done {
+        Ok(()) => 0,
+        Err(refusal) => refusal.number(),
+    }
+}
+
+/// Begins a transaction; its number.
+#[unsafe(no_mangle)]
+pub extern "C" fn rughvadi_client_begin(alloc: Global, h: &mut Handle, txn: &mut u64) -> u32
+    ensures live { h.new.live ≡ h.old.live }
+    ensures held { result ≡ 0 → h.old.live ≡ true }
+    ensures done { result ≡ 0 → Begins h.old.held.value txn.new h.new.held.value }
+    ensures left { result ≢ 0 → h.old.live ≡ true → IsLeft h.old.held.value h.new.held.value }
+    ensures empty { h.old.live ≡ false → result ≡ 769 }
+{
+    let Some(mut b) = h.take(alloc) else {
+        return Refusal::OtherKind.number();
+    };
+    let done = b.begin(txn);
+    *h = Handle::of(b);
+    match done {
+        Ok(()) => 0,
+        Err(refusal) => refusal.number(),
+    }
+}
+
+/// Reads a page: its bytes are in the room where `here` is true, else it is asked for.
+#[unsafe(no_mangle)]
+pub extern "C" fn rughvadi_client_read(
+    alloc: Global,
+    h: &mut Handle,
+    page: u32,
+    room: &mut [u8],
+    here: &mut bool,
+) -> u32
+    ensures live { h.new.live ≡ h.old.live }
+    ensures held { result ≡ 0 → h.old.live ≡ true }
+    ensures done { result ≡ 0 → Reads h.old.held.value page room.new here.new h.new.held.value }
+    ensures left { result ≢ 0 → h.old.live ≡ true → IsLeft h.old.held.value h.new.held.value }
+    ensures empty { h.old.live ≡ false → result ≡ 769 }
+    ensures kept { result ≢ 0 → room.new ≡ room.old }
+{
+    let Some(mut b) = h.take(alloc) else {
+        return Refusal::OtherKind.number();
+    };
+    let done = b.read(page, room, here);
+    *h = Handle::of(b);
+    match done {
+        Ok(()) => 0,
+        Err(refusal) => refusal.number(),
+    }
+}
+
+/// Wants to write a page: it may at once where `may` is true, else that is asked for.
+#[unsafe(no_mangle)]
+pub extern "C" fn rughvadi_client_want(
+    alloc: Global,
+    h: &mut Handle,
+    page: u32,
+    may: &mut bool,
+) -> u32
+    ensures live { h.new.live ≡ h.old.live }
+    ensures held { result ≡ 0 → h.old.live ≡ true }
+    ensures done { result ≡ 0 → Wants h.old.held.value page may.new h.new.held.value }
+    ensures left { result ≢ 0 → h.old.live ≡ true → IsLeft h.old.held.value h.new.held.value }
+    ensures empty { h.old.live ≡ false → result ≡ 769 }
+{
+    let Some(mut b) = h.take(alloc) else {
+        return Refusal::OtherKind.number();
+    };
+    let done = b.want(page, may);
+    *h = Handle::of(b);
+    match done {
+        Ok(()) => 0,
+        Err(refusal) => refusal.number(),
+    }
+}
+
+/// Writes a page.
+#[unsafe(no_mangle)]
+pub extern "C" fn rughvadi_client_write(
+    alloc: Global,
+    h: &mut Handle,
+    page: u32,
+    bytes: &[u8],
+) -> u32
+    ensures live { h.new.live ≡ h.old.live }
+    ensures held { result ≡ 0 → h.old.live ≡ true }
+    ensures done { result ≡ 0 → Writes h.old.held.value page bytes.now h.new.held.value }
+    ensures left { result ≢ 0 → h.old.live ≡ true → IsLeft h.old.held.value h.new.held.value }
+    ensures empty { h.old.live ≡ false → result ≡ 769 }
+{
+    let Some(mut b) = h.take(alloc) else {
+        return Refusal::OtherKind.number();
+    };
+    let done = b.write(page, bytes);
+    *h = Handle::of(b);
+    match done {
+        Ok(()) => 0,
+        Err(refusal) => refusal.number(),
+    }
+}
+
+/// Commits the transaction.
+#[unsafe(no_mangle)]
+pub extern "C" fn rughvadi_client_finish(alloc: Global, h: &mut Handle) -> u32
+    ensures live { h.new.live ≡ h.old.live }
+    ensures held { result ≡ 0 → h.old.live ≡ true }
+    ensures done { result ≡ 0 → Finishes h.old.held.value h.new.held.value }
+    ensures left { result ≢ 0 → h.old.live ≡ true → IsLeft h.old.held.value h.new.held.value }
+    ensures empty { h.old.live ≡ false → result ≡ 769 }
+{
+    let Some(mut b) = h.take(alloc) else {
+        return Refusal::OtherKind.number();
+    };
+    let done = b.finish(alloc);
+    *h = Handle::of(b);
+    match done {
+        Ok(()) => 0,
+        Err(refusal) => refusal.number(),
+    }
+}
+
+/// Ends the transaction without a commit.
+#[unsafe(no_mangle)]
+pub extern "C" fn rughvadi_client_drop(alloc: Global, h: &mut Handle) -> u32
+    ensures live { h.new.live ≡ h.old.live }
+    ensures held { result ≡ 0 → h.old.live ≡ true }
+    ensures done { result ≡ 0 → Drops h.old.held.value h.new.held.value }
+    ensures left { result ≢ 0 → h.old.live ≡ true → IsLeft h.old.held.value h.new.held.value }
+    ensures empty { h.old.live ≡ false → result ≡ 769 }
+{
+    let Some(mut b) = h.take(alloc) else {
+        return Refusal::OtherKind.number();
+    };
+    let done = b.drop_txn(alloc);
+    *h = Handle::of(b);
+    match done {
+        Ok(()) => 0,
+        Err(refusal) => refusal.number(),
+    }
+}
+
+/// The bytes of the client's copy of a page, which is no reference to it.
+#[unsafe(no_mangle)]
+pub extern "C" fn rughvadi_client_peek(
+    alloc: Global,
+    h: &mut Handle,
+    page: u32,
+    room: &mut [u8],
+) -> u32
+    ensures live { h.new.live ≡ h.old.live }
+    ensures held { result ≡ 0 → h.old.live ≡ true }
+    ensures done { result ≡ 0 → Peeks h.old.held.value page room.new }
+    ensures same { h.old.live ≡ true → h.new.held.value ≡ h.old.held.value }
+    ensures empty { h.old.live ≡ false → result ≡ 769 }
+    ensures kept { result ≢ 0 → room.new ≡ room.old }
+{
+    let Some(b) = h.take(alloc) else {
+        return Refusal::OtherKind.number();
+    };
+    let done = b.peek(page, room);
+    *h = Handle::of(b);
+    match done {
+        Ok(()) => 0,
+        Err(refusal) => refusal.number(),
+    }
+}

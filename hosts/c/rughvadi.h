@@ -1,0 +1,323 @@
+/* Rughvadi for C: a page server, and clients that keep their pages and never read a stale one.
+ *
+ * The library does no input or output, starts no thread, takes no lock, reads no clock and never
+ * aborts. The host hands frames in (rughvadi_take), fetches those that are to be sent
+ * (rughvadi_next), and writes the server's pages to disk (rughvadi_server_batch and what follows).
+ *
+ * A handle. `rughvadi_handle h = RUGHVADI_EMPTY;` is empty. rughvadi_server_new, rughvadi_open_begin
+ * and rughvadi_client_new put an object into an empty handle, rughvadi_free takes it out again. A
+ * handle is never copied, and its fields are the library's: the host neither reads nor writes them.
+ * One call at a time is made on a handle, and all calls on it by one thread.
+ *
+ * What is said. A call may say frames: the server's answers, a client's asks. They are kept in the
+ * handle until rughvadi_next has fetched each, the oldest first. Until then every call that may say
+ * more is refused with RUGHVADI_UNFETCHED. So after each such call: fetch all.
+ *
+ * Answers. Where nothing else is said, a call answers RUGHVADI_DONE (0), or the number of a fault.
+ * After a fault the object and the buffers are as they were before, with one exception
+ * (rughvadi_open_serve); numbers that are handed out through a pointer may have changed then. Where
+ * several faults stand, any one of them is answered, but for a client's own, of which the one with
+ * the lowest number is. RUGHVADI_MEMORY and RUGHVADI_FRAME_MEMORY come only where malloc or realloc
+ * refused: the same call may be made again.
+ *
+ * Pointers. Each is valid for its length and no two of a call overlap; none is null, but a buffer of
+ * length 0 may be any pointer that isn't null. The library keeps none of them after the call.
+ *
+ * Sizes. A frame has at most rughvadi_frame_most(&limits) bytes.
+ */
+#ifndef RUGHVADI_H
+#define RUGHVADI_H
+
+#include <stdbool.h>
+#include <stddef.h>
+#include <stdint.h>
+
+#ifdef __cplusplus
+extern "C" {
+#endif
+
+/* The version of this interface; rughvadi_version() answers the library's. */
+#define RUGHVADI_VERSION 1
+
+/* The limits of one store: the same for its server and each of its clients. */
+typedef struct {
+  uint64_t clients;    /* 1 to 32; they are numbered from 0 */
+  uint64_t pages;      /* 1 to 4,096; they are numbered from 0 */
+  uint64_t page_size;  /* bytes: 16 to 65,536 by steps of 16 */
+  uint64_t slots;      /* pages in a client's pool: 2 to 1,024 */
+  uint64_t kin;        /* 1 to slots - 1: how many of these are of pages that came lately */
+  uint64_t kout;       /* 1 to 4,096: how many pages that went are remembered */
+  uint64_t keep_write; /* other than 0: clients keep write permissions between transactions */
+} rughvadi_limits;
+
+/* Holds nothing, the rows of a store that is being opened, a server or a client. */
+typedef struct {
+  bool live;
+  void *at;
+} rughvadi_handle;
+
+#ifdef __cplusplus
+#define RUGHVADI_EMPTY rughvadi_handle{}
+#else
+#define RUGHVADI_EMPTY {0}
+#endif
+
+enum {
+  RUGHVADI_DONE = 0,
+  /* a client's */
+  RUGHVADI_NOT_WELCOME = 1,      /* the server's Welcome has not come */
+  RUGHVADI_NO_TRANSACTION = 2,   /* none is open: none was begun, or it was aborted */
+  RUGHVADI_TRANSACTION_OPEN = 3, /* one is, or it is committing */
+  RUGHVADI_COMMITTING = 4,
+  RUGHVADI_WAITING = 5,          /* an ask is out: hand frames in until it is answered */
+  RUGHVADI_PAGE_RANGE = 6,       /* there is no such page */
+  RUGHVADI_NOT_READ = 7,         /* the transaction has not read the page */
+  RUGHVADI_NOT_HERE = 8,         /* the page's bytes left the pool: read it again */
+  RUGHVADI_NOT_WRITABLE = 9,     /* want it first */
+  RUGHVADI_WRONG_LENGTH = 10,    /* a page has other than that many bytes */
+  RUGHVADI_POOL_FULL = 11,       /* every page in the pool is being written: more slots are needed */
+  /* a client's or a server's */
+  RUGHVADI_EXHAUSTED = 12,       /* no transaction, grant or commit number is left (2^62 - 1) */
+  RUGHVADI_MEMORY = 13,
+  /* of the bytes of a frame */
+  RUGHVADI_FRAME_SHORT = 0x101,  /* there are fewer bytes than the frame has: more may come */
+  RUGHVADI_FRAME_VERSION = 0x102,
+  RUGHVADI_FRAME_KIND = 0x103,
+  RUGHVADI_FRAME_LENGTH = 0x104,
+  RUGHVADI_FRAME_RANGE = 0x105,
+  RUGHVADI_FRAME_ORDER = 0x106,  /* a commit's pages don't rise */
+  RUGHVADI_FRAME_MEMORY = 0x107,
+  /* of the limits: which of them is out of range */
+  RUGHVADI_LIMIT_CLIENTS = 0x201,
+  RUGHVADI_LIMIT_PAGES = 0x202,
+  RUGHVADI_LIMIT_PAGE_SIZE = 0x203,
+  RUGHVADI_LIMIT_SLOTS = 0x204,
+  RUGHVADI_LIMIT_KIN = 0x205,
+  RUGHVADI_LIMIT_KOUT = 0x206,
+  /* of the handle and the other arguments */
+  RUGHVADI_OTHER_KIND = 0x301,   /* the handle is empty, or what it holds has no such call */
+  RUGHVADI_UNFETCHED = 0x302,    /* fetch by rughvadi_next what was said before */
+  RUGHVADI_NOTHING = 0x303,      /* nothing to fetch, to write or to show */
+  RUGHVADI_ROOM = 0x304,         /* the buffer hasn't the length that is needed */
+  RUGHVADI_RANGE = 0x305,        /* a number is out of range */
+  RUGHVADI_HELD = 0x306          /* the handle holds an object already */
+};
+
+/* What a client says of itself. */
+enum {
+  RUGHVADI_STATUS_NONE = 0, /* there is no client in the handle */
+  RUGHVADI_STATUS_NOT_WELCOME = 1,
+  RUGHVADI_STATUS_IDLE = 2,
+  RUGHVADI_STATUS_OPEN = 3,
+  RUGHVADI_STATUS_WAITING = 4,
+  RUGHVADI_STATUS_COMMITTING = 5
+};
+
+/* How a transaction ended. */
+enum {
+  RUGHVADI_ENDED_NONE = 0, /* none did yet */
+  RUGHVADI_ENDED_COMMITTED = 1,
+  RUGHVADI_ENDED_DROPPED = 2,
+  RUGHVADI_ENDED_ABORTED = 3 /* the victim of a deadlock: begin again */
+};
+
+/* The kinds of frames: the first eight go to the server, the others to a client. */
+enum {
+  RUGHVADI_KIND_HELLO = 1,
+  RUGHVADI_KIND_ASK_READ = 2,
+  RUGHVADI_KIND_ASK_WRITE = 3,
+  RUGHVADI_KIND_GIVE_BACK = 4,
+  RUGHVADI_KIND_IN_USE = 5,
+  RUGHVADI_KIND_COMMIT = 6,
+  RUGHVADI_KIND_DROP = 7,
+  RUGHVADI_KIND_DOWNGRADED = 8,
+  RUGHVADI_KIND_WELCOME = 65,
+  RUGHVADI_KIND_GRANTED = 66,
+  RUGHVADI_KIND_MAY_WRITE = 67,
+  RUGHVADI_KIND_CALLBACK = 68,
+  RUGHVADI_KIND_DONE = 69,
+  RUGHVADI_KIND_ABORT_NOW = 70,
+  RUGHVADI_KIND_DOWNGRADE = 71
+};
+
+/* What the header of a frame says. */
+typedef struct {
+  uint64_t length;      /* the frame's bytes, the header's 16 among them */
+  uint32_t client;      /* that it is of or for */
+  uint32_t kind;        /* RUGHVADI_KIND_.. */
+  uint64_t incarnation; /* the client's */
+} rughvadi_frame_head;
+
+/* The most bytes that a frame of this store has: a commit that writes each page. */
+static inline size_t rughvadi_frame_most(const rughvadi_limits *limits) {
+  return (size_t)(16 + 10 + limits->pages * (16 + limits->page_size));
+}
+
+/* ---- that need no handle ---- */
+
+/* The version of the library's interface: RUGHVADI_VERSION. */
+uint32_t rughvadi_version(void);
+
+/* Writes what a number means, in English and with no 0 behind it, to the room, and how many bytes it
+ * has to *size, also where the room is too short for them. No text has more than 64.
+ * ROOM: the room is too short; nothing is written to it. */
+uint32_t rughvadi_fault_text(uint32_t fault, uint8_t *room, size_t len, size_t *size);
+
+/* Reads the frame that the bytes begin with: so a host cuts a stream into frames, and knows whose
+ * they are before it hands them in. Nothing else happens.
+ * LIMIT_..: these are no limits. FRAME_SHORT: more bytes are needed. FRAME_..: no frame will come of
+ * these bytes, whatever follows. */
+uint32_t rughvadi_frame_read(const rughvadi_limits *limits, const uint8_t *bytes, size_t len,
+                             rughvadi_frame_head *head);
+
+/* ---- of a server or a client ---- */
+
+/* Takes the frame that the bytes begin with, whatever follows it; *used is how many bytes it has. A
+ * frame that is late, repeated or of another incarnation is taken, and nothing comes of it.
+ * OTHER_KIND, UNFETCHED, FRAME_.., EXHAUSTED (a server's), MEMORY. */
+uint32_t rughvadi_take(rughvadi_handle *h, const uint8_t *bytes, size_t len, size_t *used);
+
+/* Fetches the oldest frame that was said, to the beginning of the room: *size is how many bytes it
+ * has, *client whose it is: of a client's frame its own number, of a server's the one that it is to
+ * be sent to.
+ * OTHER_KIND. NOTHING: all is fetched. ROOM: the room is too short; *size is what is needed, and the
+ * frame stays. MEMORY. */
+uint32_t rughvadi_next(rughvadi_handle *h, uint8_t *room, size_t len, size_t *size,
+                       uint32_t *client);
+
+/* Says again what may have been lost: call it where an answer has not come for a while. It does no
+ * harm where nothing was lost.
+ * OTHER_KIND, UNFETCHED, MEMORY. */
+uint32_t rughvadi_again(rughvadi_handle *h);
+
+/* Lets go what the handle holds; it is empty then. It may be so before. */
+void rughvadi_free(rughvadi_handle *h);
+
+/* ---- a server ---- */
+
+/* A server over a store of zeros: the first time that a store is used.
+ * HELD, LIMIT_.., MEMORY. */
+uint32_t rughvadi_server_new(const rughvadi_limits *limits, rughvadi_handle *h);
+
+/* A server over a store that was written before, in three steps. First: how large the store is, and
+ * the number of the last commit that is on disk.
+ * HELD, LIMIT_.., MEMORY. RANGE: no commit has this number. */
+uint32_t rughvadi_open_begin(const rughvadi_limits *limits, uint64_t last_commit,
+                             rughvadi_handle *h);
+
+/* Second, once for each page, by rising number: the version that rughvadi_server_page told when the
+ * page was written (0 where it never was), and its bytes (zeros then). They are copied.
+ * OTHER_KIND, MEMORY. ROOM: the bytes aren't as long as a page, or each page has its row already.
+ * RANGE: the version is above the last commit. */
+uint32_t rughvadi_open_row(rughvadi_handle *h, uint64_t version, const uint8_t *bytes, size_t len);
+
+/* Third: the handle holds the server then. All that it has counts as on disk, and it knows no
+ * client.
+ * OTHER_KIND. ROOM: not each page has its row. MEMORY: alone of all calls, the rows are gone then,
+ * and the handle is empty: begin again. */
+uint32_t rughvadi_open_serve(rughvadi_handle *h);
+
+/* Makes the batch that is to be written next: every page that a commit changed which isn't on disk.
+ * *number is the last commit in it, *pages how many pages it has.
+ * The host writes these pages, and the number, in one transaction of its store, and syncs it. Only
+ * then does it call rughvadi_server_flushed with the number.
+ * OTHER_KIND, MEMORY. NOTHING: every commit is on disk. */
+uint32_t rughvadi_server_batch(rughvadi_handle *h, uint64_t *number, size_t *pages);
+
+/* A page of the batch, by its place from 0: its number, its version, and its bytes, to the room.
+ * OTHER_KIND. NOTHING: there is no batch, or no such place. ROOM: the room isn't as long as a
+ * page. */
+uint32_t rughvadi_server_page(rughvadi_handle *h, size_t at, uint8_t *room, size_t len,
+                              uint32_t *page, uint64_t *version);
+
+/* Whether that commit was made and isn't on disk yet: then rughvadi_server_flushed takes it. */
+bool rughvadi_server_can_flush(rughvadi_handle *h, uint64_t number);
+
+/* The commits up to this number are on disk now, synced: their clients are told.
+ * OTHER_KIND, UNFETCHED, MEMORY. RANGE: rughvadi_server_can_flush is false of it. */
+uint32_t rughvadi_server_flushed(rughvadi_handle *h, uint64_t number);
+
+/* The commits up to this number, which are on disk, leave the server's memory. The host calls it after
+ * rughvadi_server_flushed with the same number, or now and then; without it the memory grows with each
+ * commit. It costs no more than what it lets go.
+ * OTHER_KIND. RANGE: no commit has this number, or not all up to it are on disk. */
+uint32_t rughvadi_server_forget(rughvadi_handle *h, uint64_t number);
+
+/* A client went away and won't come back by its present incarnation: what it held is taken from it,
+ * and those who waited for it go on. Among what is said is a Welcome to it, which nobody awaits. A
+ * commit of its that was applied stands. Without this call the others may wait for it forever.
+ * OTHER_KIND, UNFETCHED, MEMORY. RANGE: there is no such client, or no incarnation is left. */
+uint32_t rughvadi_server_leave(rughvadi_handle *h, uint32_t client);
+
+/* The incarnation that the client may greet with next: one more than the last that the server heard
+ * of since it was made. After a restart of the server it is one that the host keeps (see
+ * docs/EMBEDDING.md).
+ * OTHER_KIND. RANGE: as above. */
+uint32_t rughvadi_server_incarnation(rughvadi_handle *h, uint32_t client, uint64_t *incarnation);
+
+/* ---- a client ---- */
+
+/* A client at the start of an incarnation, which no earlier one of its number had: else frames that
+ * were meant for that one are taken by this one.
+ * HELD, LIMIT_.., MEMORY. RANGE: there is no such client or incarnation (1 to 2^62 - 1). */
+uint32_t rughvadi_client_new(const rughvadi_limits *limits, uint32_t client, uint64_t incarnation,
+                             rughvadi_handle *h);
+
+/* Greets the server: the first thing to send. The client is welcome once the answer was taken.
+ * OTHER_KIND, UNFETCHED. */
+uint32_t rughvadi_client_hello(rughvadi_handle *h);
+
+/* Begins a transaction; *txn is its number. It says nothing.
+ * OTHER_KIND, NOT_WELCOME, TRANSACTION_OPEN, EXHAUSTED. */
+uint32_t rughvadi_client_begin(rughvadi_handle *h, uint64_t *txn);
+
+/* Reads a page in the open transaction. Where *here is true its bytes are in the room, no frame was
+ * said, and nobody writes the page before the transaction ends. Else an ask is out: fetch it, send
+ * it, hand in what comes until the status isn't WAITING any more, and read again.
+ * OTHER_KIND, UNFETCHED. NO_TRANSACTION: also where it was aborted meanwhile. NOT_WELCOME,
+ * COMMITTING, WAITING, PAGE_RANGE, POOL_FULL. ROOM: the room isn't as long as a page. RANGE: no
+ * store has such a page. */
+uint32_t rughvadi_client_read(rughvadi_handle *h, uint32_t page, uint8_t *room, size_t len,
+                              bool *here);
+
+/* Wants to write a page that the transaction has read. Where *may is true it may now. Else an ask is
+ * out, as with a read, and this call is made again after the answer.
+ * OTHER_KIND, UNFETCHED, NO_TRANSACTION, NOT_WELCOME, COMMITTING, WAITING, PAGE_RANGE, NOT_READ,
+ * NOT_HERE (read it again first), RANGE. */
+uint32_t rughvadi_client_want(rughvadi_handle *h, uint32_t page, bool *may);
+
+/* Writes a page that the transaction has read and may write: in this client's pool alone, until the
+ * commit. The bytes are copied. It says nothing.
+ * OTHER_KIND, NO_TRANSACTION, NOT_WELCOME, COMMITTING, WAITING, PAGE_RANGE, NOT_READ, NOT_HERE,
+ * NOT_WRITABLE, WRONG_LENGTH, RANGE. */
+uint32_t rughvadi_client_write(rughvadi_handle *h, uint32_t page, const uint8_t *bytes, size_t len);
+
+/* Commits the transaction: it is done, and on disk, once the status isn't COMMITTING any more and
+ * rughvadi_client_last says that it committed.
+ * OTHER_KIND, UNFETCHED, NO_TRANSACTION, NOT_WELCOME, COMMITTING, WAITING, MEMORY. */
+uint32_t rughvadi_client_finish(rughvadi_handle *h);
+
+/* Ends the transaction without a commit: what it wrote is undone.
+ * OTHER_KIND, UNFETCHED, NO_TRANSACTION, NOT_WELCOME, COMMITTING, MEMORY. */
+uint32_t rughvadi_client_drop(rughvadi_handle *h);
+
+/* What the client says of itself: RUGHVADI_STATUS_.. */
+uint32_t rughvadi_client_status(rughvadi_handle *h);
+
+/* How the last transaction ended: RUGHVADI_ENDED_..; *number is its commit's number, else 0. Where
+ * the handle is empty *number stays. */
+uint32_t rughvadi_client_last(rughvadi_handle *h, uint64_t *number);
+
+/* The bytes of the client's copy of a page, also outside of a transaction. It is no read: the bytes
+ * may be older than the store's, unless a transaction is open that has read the page.
+ * OTHER_KIND, RANGE. NOTHING: it has none. ROOM: the room isn't as long as a page. */
+uint32_t rughvadi_client_peek(rughvadi_handle *h, uint32_t page, uint8_t *room, size_t len);
+
+/* Whether the open transaction may write the page now, without an ask. */
+bool rughvadi_client_may_write(rughvadi_handle *h, uint32_t page);
+
+#ifdef __cplusplus
+}
+#endif
+
+#endif

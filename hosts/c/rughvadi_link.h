@@ -1,0 +1,78 @@
+/* A client over a connected stream socket, for hosts that may block. It is plain C over rughvadi.h,
+ * and no part of what is proved: read it, change it, or write one of your own.
+ *
+ * All calls on a link are made by one thread. Each answers RUGHVADI_DONE, a fault of rughvadi.h, or
+ * one of the faults below. After RUGHVADI_LINK_SYSTEM, _CLOSED and RUGHVADI_FRAME_.. the connection
+ * is of no use any more: close the link, and open another one in the client's next incarnation.
+ */
+#ifndef RUGHVADI_LINK_H
+#define RUGHVADI_LINK_H
+
+#include "rughvadi.h"
+
+#ifdef __cplusplus
+extern "C" {
+#endif
+
+enum {
+  RUGHVADI_LINK_SYSTEM = 0x401,  /* a system call failed: errno says how */
+  RUGHVADI_LINK_CLOSED = 0x402,  /* the server closed the connection */
+  RUGHVADI_LINK_ABORTED = 0x403, /* the transaction was the victim of a deadlock: begin again */
+  RUGHVADI_LINK_SILENT = 0x404   /* no answer came, however often it was asked */
+};
+
+typedef struct {
+  rughvadi_handle client;
+  int socket;
+  int wait_ms; /* for so long it waits for an answer before it says again what may be lost */
+  int tries;   /* and so often, before it answers RUGHVADI_LINK_SILENT */
+  size_t page_size;
+  uint8_t *out; /* the frame that is being sent */
+  size_t out_size;
+  uint8_t *in; /* what came and isn't taken yet */
+  size_t in_size, in_len;
+} rughvadi_link;
+
+/* Opens a link over a connected socket, greets the server and waits until the client is welcome. The
+ * socket stays the caller's, to be closed after the link. Where it fails nothing is held. */
+uint32_t rughvadi_link_open(rughvadi_link *link, const rughvadi_limits *limits, uint32_t client,
+                            uint64_t incarnation, int socket);
+
+/* Lets all go but the socket. */
+void rughvadi_link_close(rughvadi_link *link);
+
+/* Begins a transaction. */
+uint32_t rughvadi_link_begin(rughvadi_link *link);
+
+/* Reads a page, and waits for it where it isn't here. A page that is here costs no message. */
+uint32_t rughvadi_link_fetch(rughvadi_link *link, uint32_t page, uint8_t *room, size_t len);
+
+/* Waits until the transaction may write the page, which it has read. */
+uint32_t rughvadi_link_want(rughvadi_link *link, uint32_t page);
+
+/* Writes a page that the transaction has read, once it may. */
+uint32_t rughvadi_link_put(rughvadi_link *link, uint32_t page, const uint8_t *bytes, size_t len);
+
+/* Commits the transaction, and waits until it is on disk; *number is its number. */
+uint32_t rughvadi_link_commit(rughvadi_link *link, uint64_t *number);
+
+/* Ends the transaction without a commit. It may have been aborted before. */
+uint32_t rughvadi_link_drop(rughvadi_link *link);
+
+/* Takes what came, and waits for at most that many milliseconds where nothing did. Call it while the
+ * client has nothing to do: others wait for the pages that it holds until it answers. */
+uint32_t rughvadi_link_serve(rughvadi_link *link, int wait_ms);
+
+/* What a job does in a transaction that is open: RUGHVADI_DONE where it is to be committed. */
+typedef uint32_t (*rughvadi_link_job)(rughvadi_link *link, void *context);
+
+/* Begins a transaction, does the job in it and commits; all anew as often as it is aborted. Where
+ * the job answers another fault the transaction is dropped, and the fault is answered. */
+uint32_t rughvadi_link_run(rughvadi_link *link, rughvadi_link_job job, void *context,
+                           uint64_t *number);
+
+#ifdef __cplusplus
+}
+#endif
+
+#endif

@@ -1,0 +1,268 @@
+/* lossy SEED COMMITS: a server and two clients over frames of which a tenth each is lost, repeated or
+ * late, while clients go away and come back. Each transaction reads every page and moves an amount
+ * from one to another: so all it reads adds up to the same sum, whoever wrote what when, if what it
+ * reads is what the store had at one moment. A page that is read twice is the same twice. Where the
+ * seed is odd, write permissions are kept. */
+#include "parties.h"
+
+enum { CLIENTS = 2, PAGES = 8, SIZE = 64, SLOTS = 6, START = 1000, NET = 4096 };
+
+static rughvadi_limits limits = {CLIENTS, PAGES, SIZE, SLOTS, 2, 8, 0};
+
+typedef struct {
+  int to; /* a client, or CLIENTS: the server */
+  size_t len;
+  uint8_t *bytes;
+} packet;
+
+static packet net[NET];
+static size_t on_net;
+static long lost, repeated, late, reads, aborts, restarts, commits;
+
+/* ---- pages: an amount, and bytes that follow from it, so that a torn page shows ---- */
+
+static void spell(uint8_t *bytes, uint64_t amount) {
+  memcpy(bytes, &amount, 8);
+  for (int at = 8; at < SIZE; at++) {
+    bytes[at] = (uint8_t)(amount * 31 + (uint64_t)at);
+  }
+}
+
+static uint64_t amount_of(const uint8_t *bytes) {
+  uint64_t amount;
+  uint8_t whole[SIZE];
+  memcpy(&amount, bytes, 8);
+  spell(whole, amount);
+  HOLD(memcmp(bytes, whole, SIZE) == 0);
+  return amount;
+}
+
+/* ---- the net ---- */
+
+static void send_all(rughvadi_handle *from, bool is_server) {
+  uint8_t room[16 + 10 + PAGES * (16 + SIZE)];
+  size_t size;
+  uint32_t client;
+  while (rughvadi_next(from, room, sizeof room, &size, &client) == RUGHVADI_DONE) {
+    if (draw() % 10 == 0 || on_net == NET) {
+      lost++;
+      continue;
+    }
+    packet *sent = &net[on_net++];
+    *sent = (packet){is_server ? (int)client : CLIENTS, size, malloc(size)};
+    HOLD(sent->bytes != NULL);
+    memcpy(sent->bytes, room, size);
+  }
+}
+
+static rughvadi_handle server, clients[CLIENTS];
+
+static void deliver(void) {
+  if (on_net == 0) {
+    return;
+  }
+  /* The oldest, mostly: else a later one overtakes it. */
+  size_t at = 0;
+  if (draw() % 10 == 0) {
+    at = draw() % on_net;
+    late++;
+  }
+  packet it = net[at];
+  rughvadi_handle *to = it.to == CLIENTS ? &server : &clients[it.to];
+  size_t used = 0;
+  uint32_t fault = rughvadi_take(to, it.bytes, it.len, &used);
+  HOLD(fault == RUGHVADI_DONE && used == it.len);
+  send_all(to, it.to == CLIENTS);
+  if (draw() % 10 == 0) {
+    repeated++;
+    return;
+  }
+  free(it.bytes);
+  memmove(&net[at], &net[at + 1], (on_net - at - 1) * sizeof net[0]);
+  on_net--;
+}
+
+/* ---- clients ---- */
+
+typedef struct {
+  bool has[PAGES];
+  uint64_t amount[PAGES];
+  uint32_t from, to;
+  uint64_t moved;
+} transaction;
+
+static transaction current[CLIENTS];
+
+/* Reads a page; whether its bytes were here. */
+static bool read_page(int no, uint32_t page) {
+  uint8_t bytes[SIZE];
+  bool here = false;
+  uint32_t fault = rughvadi_client_read(&clients[no], page, bytes, SIZE, &here);
+  HOLD(fault == RUGHVADI_DONE);
+  send_all(&clients[no], false);
+  if (!here) {
+    return false;
+  }
+  transaction *txn = &current[no];
+  uint64_t amount = amount_of(bytes);
+  HOLD(!txn->has[page] || txn->amount[page] == amount);
+  txn->has[page] = true;
+  txn->amount[page] = amount;
+  reads++;
+  return true;
+}
+
+/* Whether the page may be written now. */
+static bool may_write(int no, uint32_t page) {
+  bool may = false;
+  uint32_t fault = rughvadi_client_want(&clients[no], page, &may);
+  if (fault == RUGHVADI_NOT_HERE) {
+    read_page(no, page);
+    return false;
+  }
+  HOLD(fault == RUGHVADI_DONE);
+  send_all(&clients[no], false);
+  return may;
+}
+
+static void put(int no, uint32_t page, uint64_t amount) {
+  uint8_t bytes[SIZE];
+  spell(bytes, amount);
+  WANT(rughvadi_client_write(&clients[no], page, bytes, SIZE));
+}
+
+static void go_on(int no) {
+  transaction *txn = &current[no];
+  uint64_t sum = 0;
+  for (uint32_t page = 0; page < PAGES; page++) {
+    if (!txn->has[page]) {
+      read_page(no, page);
+      return;
+    }
+    sum += txn->amount[page];
+  }
+  HOLD(sum == PAGES * START);
+  if (txn->from != txn->to && (!may_write(no, txn->from) || !may_write(no, txn->to))) {
+    return;
+  }
+  if (txn->from != txn->to) {
+    uint64_t moved = txn->amount[txn->from] < txn->moved ? txn->amount[txn->from] : txn->moved;
+    put(no, txn->from, txn->amount[txn->from] - moved);
+    put(no, txn->to, txn->amount[txn->to] + moved);
+  }
+  WANT(rughvadi_client_finish(&clients[no]));
+  send_all(&clients[no], false);
+}
+
+static void begin(int no) {
+  uint64_t number;
+  aborts += rughvadi_client_last(&clients[no], &number) == RUGHVADI_ENDED_ABORTED;
+  WANT(rughvadi_client_begin(&clients[no], &number));
+  current[no] = (transaction){.from = draw() % PAGES, .to = draw() % PAGES, .moved = draw() % 100};
+}
+
+static void turn(int no) {
+  switch (rughvadi_client_status(&clients[no])) {
+  case RUGHVADI_STATUS_NOT_WELCOME:
+    WANT(rughvadi_client_hello(&clients[no]));
+    break;
+  case RUGHVADI_STATUS_IDLE:
+    begin(no);
+    break;
+  case RUGHVADI_STATUS_OPEN:
+    go_on(no);
+    break;
+  default:
+    break;
+  }
+  send_all(&clients[no], false);
+}
+
+/* A client goes away in the middle of anything, and comes back in its next incarnation. */
+static void restart(int no) {
+  uint64_t incarnation;
+  rughvadi_free(&clients[no]);
+  WANT(rughvadi_server_leave(&server, (uint32_t)no));
+  send_all(&server, true);
+  WANT(rughvadi_server_incarnation(&server, (uint32_t)no, &incarnation));
+  WANT(rughvadi_client_new(&limits, (uint32_t)no, incarnation, &clients[no]));
+  restarts++;
+}
+
+/* ---- the disk ---- */
+
+static uint64_t disk[PAGES];
+
+static void flush(void) {
+  uint64_t number, version, sum = 0;
+  size_t pages;
+  uint32_t page;
+  uint8_t bytes[SIZE];
+  if (rughvadi_server_batch(&server, &number, &pages) != RUGHVADI_DONE) {
+    return;
+  }
+  for (size_t at = 0; at < pages; at++) {
+    WANT(rughvadi_server_page(&server, at, bytes, SIZE, &page, &version));
+    HOLD(page < PAGES && version <= number);
+    disk[page] = amount_of(bytes);
+  }
+  for (int at = 0; at < PAGES; at++) {
+    sum += disk[at];
+  }
+  HOLD(sum == PAGES * START);
+  WANT(rughvadi_server_flushed(&server, number));
+  if (draw() % 2) {
+    WANT(rughvadi_server_forget(&server, number));
+  }
+  commits = (long)number;
+  send_all(&server, true);
+}
+
+int main(int argc, char **argv) {
+  uint64_t seed = argc > 1 ? strtoull(argv[1], NULL, 10) : 0;
+  random_state += seed * 0x9E3779B97F4A7C15u;
+  limits.keep_write = seed % 2;
+  long wanted = argc > 2 ? atol(argv[2]) : 2000, steps = 0;
+  uint8_t bytes[SIZE];
+  WANT(rughvadi_open_begin(&limits, 1, &server));
+  spell(bytes, START);
+  for (int page = 0; page < PAGES; page++) {
+    WANT(rughvadi_open_row(&server, 1, bytes, SIZE));
+    disk[page] = START;
+  }
+  WANT(rughvadi_open_serve(&server));
+  for (int no = 0; no < CLIENTS; no++) {
+    WANT(rughvadi_client_new(&limits, (uint32_t)no, 1, &clients[no]));
+  }
+  for (; commits < wanted; steps++) {
+    uint64_t what = draw() % 100;
+    int no = (int)(draw() % CLIENTS);
+    if (what < 30) {
+      turn(no);
+    } else if (what < 90) {
+      deliver();
+    } else if (what < 94) {
+      flush();
+    } else if (what < 97) {
+      WANT(rughvadi_again(&clients[no]));
+      send_all(&clients[no], false);
+    } else if (what < 99) {
+      WANT(rughvadi_again(&server));
+      send_all(&server, true);
+    } else if (draw() % 20 == 0) {
+      restart(no);
+    }
+    HOLD(steps < 2000 * (wanted + 1000));
+  }
+  printf("commits %ld, pages read %ld, aborted %ld, restarts %ld; frames lost %ld, repeated %ld, "
+         "late %ld: none broken\n",
+         commits, reads, aborts, restarts, lost, repeated, late);
+  rughvadi_free(&server);
+  for (int no = 0; no < CLIENTS; no++) {
+    rughvadi_free(&clients[no]);
+  }
+  while (on_net > 0) {
+    free(net[--on_net].bytes);
+  }
+  return 0;
+}

@@ -1,0 +1,28 @@
+"""counter.py SOCKET CLIENT COUNT: adds one to the counter of page 5, so many times."""
+
+import socket
+import sys
+import time
+
+from rughvadi import Limits, Link
+
+LIMITS = Limits(clients=8, pages=16, page_size=64, slots=8, kin=2, kout=8)
+
+
+def count(transaction) -> int:
+    page = bytearray(transaction[5])
+    number = int.from_bytes(page[:8], "little") + 1
+    page[:8] = number.to_bytes(8, "little")
+    transaction[5] = page
+    return number
+
+
+path, client, times = sys.argv[1], int(sys.argv[2]), int(sys.argv[3])
+with socket.socket(socket.AF_UNIX) as connected:
+    connected.connect(path)
+    # An incarnation that no earlier one of this client had.
+    link = Link(LIMITS, client, time.time_ns(), connected)
+    for _ in range(times):
+        last = link.run(count)
+    link.close()
+print("counted", times)

@@ -1,0 +1,114 @@
+"""server.py SOCKET DATABASE: serves the pages of an SQLite database on a Unix socket."""
+
+import selectors
+import socket
+import sqlite3
+import sys
+
+from rughvadi import Fault, FrameShort, Limits, Server, read_frame
+
+LIMITS = Limits(clients=8, pages=16, page_size=64, slots=8, kin=2, kout=8)
+
+
+class Store:
+    """Pages with their versions, and the number of the last commit: written together or not."""
+
+    def __init__(self, path: str) -> None:
+        self.db = sqlite3.connect(path, isolation_level=None)
+        self.db.execute("PRAGMA synchronous = FULL")
+        self.db.execute("CREATE TABLE IF NOT EXISTS pages(page INTEGER PRIMARY KEY, version, data)")
+        self.db.execute("CREATE TABLE IF NOT EXISTS mark(id INTEGER PRIMARY KEY, number)")
+
+    def server(self) -> Server:
+        mark = self.db.execute("SELECT number FROM mark").fetchone()
+        rows = {page: row for page, *row in self.db.execute("SELECT * FROM pages")}
+        zeros = [0, bytes(LIMITS.page_size)]
+        return Server(
+            LIMITS, mark[0] if mark else 0, [rows.get(p, zeros) for p in range(LIMITS.pages)]
+        )
+
+    def write(self, batch) -> None:
+        self.db.execute("BEGIN")
+        for page in batch.pages:
+            row = (page.page, page.version, page.data)
+            self.db.execute("REPLACE INTO pages VALUES (?, ?, ?)", row)
+        self.db.execute("REPLACE INTO mark VALUES (0, ?)", (batch.number,))
+        self.db.execute("COMMIT")  # it is synced when this returns
+
+
+class Host:
+    """A server, and the connection of each client."""
+
+    def __init__(self, path: str, store: Store) -> None:
+        self.store, self.server = store, store.server()
+        self.connections: dict[int, socket.socket] = {}
+        self.came: dict[socket.socket, bytes] = {}
+        self.selector = selectors.DefaultSelector()
+        self.listener = socket.socket(socket.AF_UNIX)
+        self.listener.bind(path)
+        self.listener.listen()
+        self.selector.register(self.listener, selectors.EVENT_READ)
+
+    def run(self) -> None:
+        while True:
+            for key, _ in self.selector.select():
+                if key.fileobj is self.listener:
+                    connection, _address = self.listener.accept()
+                    self.came[connection] = b""
+                    self.selector.register(connection, selectors.EVENT_READ)
+                else:
+                    self.receive(key.fileobj)
+            # What was committed meanwhile shares one sync.
+            batch = self.server.batch()
+            if batch:
+                self.store.write(batch)
+                self.server.flushed(batch.number)
+                self.server.forget(batch.number)  # else memory grows with each commit
+                self.send_said()
+
+    def receive(self, connection: socket.socket) -> None:
+        try:
+            got = connection.recv(1 << 16)
+            self.came[connection] += got
+            self.take_frames(connection)
+        except (OSError, Fault):  # broken, or no frame of ours: nothing more is read from it
+            got = b""
+        if not got:
+            self.lose(connection)
+
+    def take_frames(self, connection: socket.socket) -> None:
+        while self.came[connection]:
+            try:
+                head = read_frame(LIMITS, self.came[connection])
+            except FrameShort:
+                return
+            owner = self.connections.setdefault(head.client, connection)
+            if owner is not connection:  # a connection speaks for one client, and alone
+                raise ConnectionError
+            self.server.take(self.came[connection][: head.length])
+            self.came[connection] = self.came[connection][head.length :]
+            self.send_said()
+
+    def send_said(self) -> None:
+        for frame in self.server.frames():
+            connection = self.connections.get(frame.client)
+            if connection:
+                try:
+                    connection.sendall(frame.data)
+                except OSError:
+                    pass  # it is read to its end, and lost then
+
+    def lose(self, connection: socket.socket) -> None:
+        self.selector.unregister(connection)
+        connection.close()
+        del self.came[connection]
+        for client in [c for c, its in self.connections.items() if its is connection]:
+            del self.connections[client]
+            self.server.leave(client)  # else the others wait for what it holds
+            self.send_said()
+
+
+if __name__ == "__main__":
+    host = Host(sys.argv[1], Store(sys.argv[2]))
+    print("ready", flush=True)
+    host.run()

@@ -1,0 +1,50 @@
+"""A page server, and clients that keep their pages across transactions and never read a stale one.
+
+`Server` and `Client` do no input or output: frames are handed in (`take`) and fetched (`frames`).
+`Link` is a client over a connected socket:
+
+    with link.transaction() as t:
+        page = bytearray(t.read(5))
+        page[0] += 1
+        t[5] = page
+
+The shared object librughvadi.so is found where the variable RUGHVADI_LIBRARY names it, else beside
+this package, else as the system finds libraries.
+"""
+
+from ._link import Link, Transaction
+from ._objects import Batch, BatchPage, Client, Ended, Frame, Server, Status, read_frame, version
+from ._library import (
+    Aborted,
+    Closed,
+    Fault,
+    FrameHead,
+    FrameShort,
+    Limits,
+    NotHere,
+    NoTransaction,
+    OutOfMemory,
+)
+
+__all__ = [
+    "Aborted",
+    "Batch",
+    "BatchPage",
+    "Client",
+    "Closed",
+    "Ended",
+    "Fault",
+    "Frame",
+    "FrameHead",
+    "FrameShort",
+    "Limits",
+    "Link",
+    "NoTransaction",
+    "NotHere",
+    "OutOfMemory",
+    "Server",
+    "Status",
+    "Transaction",
+    "read_frame",
+    "version",
+]

@@ -1,0 +1,160 @@
+"""A client over a connected socket."""
+
+from __future__ import annotations
+
+import socket
+from types import TracebackType
+from typing import Callable, Optional, TypeVar
+
+from ._library import Aborted, Closed, FrameShort, Limits, NoTransaction, NotHere
+from ._objects import Client, Ended, Status
+
+T = TypeVar("T")
+
+TRIES = 30
+"""How often it says again what may be lost, before it gives up."""
+
+
+class Link:
+    """A client over a connected stream socket. Where the socket has a time-out, what may be lost is
+    said again after each."""
+
+    def __init__(
+        self, limits: Limits, client: int, incarnation: int, connected: socket.socket
+    ) -> None:
+        """Greets the server, and waits until the client is welcome."""
+        self.client = Client(limits, client, incarnation)
+        self._socket = connected
+        self._came = b""
+        self.client.hello()
+        self._wait_while(Status.NOT_WELCOME)
+
+    def close(self) -> None:
+        """Lets the client go. The socket stays the caller's."""
+        self.client.close()
+
+    def transaction(self) -> Transaction:
+        """A transaction, which begins as it is entered by `with`: it commits at the end of that,
+        and is dropped where an exception leaves it. `Aborted` where it was a deadlock's victim."""
+        return Transaction(self)
+
+    def run(self, job: Callable[[Transaction], T]) -> T:
+        """Does the job in a transaction and commits it, all anew as often as it is aborted."""
+        while True:
+            try:
+                with self.transaction() as transaction:
+                    answer = job(transaction)
+                return answer
+            except Aborted:
+                continue
+
+    def serve(self) -> bool:
+        """Takes what the socket gives next: others wait for the pages that the client holds until
+        it has answered. False where the socket's time-out passed first."""
+        self._send_said()
+        return self._receive()
+
+    def _send_said(self) -> None:
+        for frame in self.client.frames():
+            self._socket.sendall(frame.data)
+
+    def _receive(self) -> bool:
+        try:
+            got = self._socket.recv(1 << 16)
+        except (socket.timeout, BlockingIOError):
+            return False
+        if not got:
+            raise Closed("the server closed the connection")
+        self._came += got
+        while self._came:
+            try:
+                used = self.client.take(self._came)
+            except FrameShort:
+                break
+            self._came = self._came[used:]
+            self._send_said()
+        return True
+
+    def _wait_while(self, status: Status) -> None:
+        silent = 0
+        while self.client.status is status:
+            self._send_said()
+            if self._receive():
+                continue
+            silent += 1
+            if silent > TRIES:
+                raise TimeoutError("no answer came from the server")
+            self.client.again()
+
+    def _asked(self, ask: Callable[[], Optional[T]]) -> T:
+        """What the call answers, once it needs to wait for nothing."""
+        while True:
+            self._wait_while(Status.WAITING)
+            try:
+                answer = ask()
+            except NoTransaction:
+                if self.client.last[0] is Ended.ABORTED:
+                    raise Aborted("the transaction was the victim of a deadlock") from None
+                raise
+            if answer is not None:
+                return answer
+
+    def _fetch(self, page: int) -> bytes:
+        return self._asked(lambda: self.client.read(page))
+
+    def _put(self, page: int, data: bytes) -> None:
+        try:
+            self._asked(lambda: self.client.want(page) or None)
+        except NotHere:
+            self._fetch(page)
+            self._asked(lambda: self.client.want(page) or None)
+        self.client.write(page, data)
+
+    def _commit(self) -> int:
+        self._asked(lambda: (self.client.finish(), True)[1])
+        self._wait_while(Status.COMMITTING)
+        how, number = self.client.last
+        if how is not Ended.COMMITTED:
+            raise Aborted("the transaction was the victim of a deadlock")
+        return number
+
+
+class Transaction:
+    """A transaction of a link, between the beginning and the end of a `with`."""
+
+    def __init__(self, link: Link) -> None:
+        self._link = link
+        self.number: Optional[int] = None
+        """The number of its commit, once it has committed."""
+
+    def __enter__(self) -> Transaction:
+        self._link.client.begin()
+        return self
+
+    def __exit__(
+        self,
+        kind: Optional[type[BaseException]],
+        error: Optional[BaseException],
+        trace: Optional[TracebackType],
+    ) -> None:
+        if kind is None:
+            self.number = self._link._commit()
+        elif self._link.client.status in (Status.OPEN, Status.WAITING):
+            self._link.client.drop()
+            self._link._send_said()
+
+    def read(self, page: int) -> bytes:
+        """The bytes of a page. Nobody writes the page before the transaction ends."""
+        return self._link._fetch(page)
+
+    def write(self, page: int, data: bytes) -> None:
+        """Writes a page that the transaction has read."""
+        self._link._put(page, data)
+
+    def __getitem__(self, page: int) -> bytes:
+        return self.read(page)
+
+    def __setitem__(self, page: int, data: bytes) -> None:
+        """Reads the page first, where the transaction has not: no page is written unread."""
+        self.read(page)
+        self.write(page, data)

@@ -1,0 +1,174 @@
+//! A client.
+use crate::error::{done, Error, Result, NOTHING};
+use crate::object::Object;
+use crate::{ffi, Limits};
+
+/// What a client says of itself.
+#[derive(Clone, Copy, Debug, PartialEq, Eq)]
+pub enum Status {
+    /// The server's Welcome has not come.
+    NotWelcome,
+    /// No transaction is open.
+    Idle,
+    /// A transaction is open, and waits for nothing.
+    Open,
+    /// A transaction is open, and an ask is out.
+    Waiting,
+    /// The transaction is committing.
+    Committing,
+}
+
+/// How a transaction ended.
+#[derive(Clone, Copy, Debug, PartialEq, Eq)]
+pub enum Ended {
+    /// By the commit of this number.
+    Committed(u64),
+    /// Without one, by [`Client::drop_transaction`].
+    Dropped,
+    /// It was the victim of a deadlock.
+    Aborted,
+}
+
+/// One incarnation of a client. It sends nothing itself: what it says is fetched by
+/// [`Client::next_frame`].
+pub struct Client {
+    object: Object,
+    page_size: usize,
+}
+
+impl Client {
+    /// A client at the start of an incarnation, which no earlier one of its number had.
+    pub fn new(limits: &Limits, client: u32, incarnation: u64) -> Result<Client> {
+        let object = Object::empty();
+        // SAFETY: the handle is empty.
+        done(unsafe {
+            ffi::rughvadi_client_new(&limits.as_c(), client, incarnation, object.at())
+        })?;
+        Ok(Client {
+            object,
+            page_size: limits.page_size,
+        })
+    }
+
+    /// How many bytes a page has.
+    pub fn page_size(&self) -> usize {
+        self.page_size
+    }
+
+    /// Takes the frame that the bytes begin with; how many bytes it has.
+    pub fn take(&mut self, bytes: &[u8]) -> Result<usize> {
+        self.object.take(bytes)
+    }
+
+    /// The oldest frame that was said, which is to be sent to the server.
+    pub fn next_frame(&mut self) -> Result<Option<Vec<u8>>> {
+        Ok(self.object.next_frame()?.map(|(_, frame)| frame))
+    }
+
+    /// What may be lost is said again.
+    pub fn again(&mut self) -> Result<()> {
+        self.object.again()
+    }
+
+    /// Greets the server.
+    pub fn hello(&mut self) -> Result<()> {
+        // SAFETY: the handle is the object's own.
+        done(unsafe { ffi::rughvadi_client_hello(self.object.at()) })
+    }
+
+    /// Begins a transaction; its number.
+    pub fn begin(&mut self) -> Result<u64> {
+        let mut txn = 0;
+        // SAFETY: the handle is the object's own.
+        done(unsafe { ffi::rughvadi_client_begin(self.object.at(), &mut txn) })?;
+        Ok(txn)
+    }
+
+    /// Reads a page: whether its bytes are in the room. Else an ask is out.
+    pub fn read(&mut self, page: u32, room: &mut [u8]) -> Result<bool> {
+        let mut here = false;
+        // SAFETY: the room is as long as it is said to be.
+        done(unsafe {
+            ffi::rughvadi_client_read(
+                self.object.at(),
+                page,
+                room.as_mut_ptr(),
+                room.len(),
+                &mut here,
+            )
+        })?;
+        Ok(here)
+    }
+
+    /// Wants to write a page that was read: whether it may now. Else an ask is out.
+    pub fn want(&mut self, page: u32) -> Result<bool> {
+        let mut may = false;
+        // SAFETY: the handle is the object's own.
+        done(unsafe { ffi::rughvadi_client_want(self.object.at(), page, &mut may) })?;
+        Ok(may)
+    }
+
+    /// Writes a page that was read and may be written.
+    pub fn write(&mut self, page: u32, bytes: &[u8]) -> Result<()> {
+        // SAFETY: the bytes are as many as they are said to be.
+        done(unsafe {
+            ffi::rughvadi_client_write(self.object.at(), page, bytes.as_ptr(), bytes.len())
+        })
+    }
+
+    /// Commits the transaction.
+    pub fn finish(&mut self) -> Result<()> {
+        // SAFETY: the handle is the object's own.
+        done(unsafe { ffi::rughvadi_client_finish(self.object.at()) })
+    }
+
+    /// Ends the transaction without a commit.
+    pub fn drop_transaction(&mut self) -> Result<()> {
+        // SAFETY: the handle is the object's own.
+        done(unsafe { ffi::rughvadi_client_drop(self.object.at()) })
+    }
+
+    /// What the client says of itself.
+    pub fn status(&self) -> Status {
+        // SAFETY: the handle is the object's own.
+        match unsafe { ffi::rughvadi_client_status(self.object.at()) } {
+            2 => Status::Idle,
+            3 => Status::Open,
+            4 => Status::Waiting,
+            5 => Status::Committing,
+            _ => Status::NotWelcome,
+        }
+    }
+
+    /// How the last transaction ended; `None` before the first one did.
+    pub fn last(&self) -> Option<Ended> {
+        let mut number = 0;
+        // SAFETY: the handle is the object's own.
+        match unsafe { ffi::rughvadi_client_last(self.object.at(), &mut number) } {
+            1 => Some(Ended::Committed(number)),
+            2 => Some(Ended::Dropped),
+            3 => Some(Ended::Aborted),
+            _ => None,
+        }
+    }
+
+    /// The bytes of the client's copy of a page, if it has one: no read, which locks nothing.
+    pub fn peek(&self, page: u32) -> Result<Option<Vec<u8>>> {
+        let mut room = vec![0u8; self.page_size];
+        // SAFETY: the room is as long as it is said to be.
+        let fault = unsafe {
+            ffi::rughvadi_client_peek(self.object.at(), page, room.as_mut_ptr(), room.len())
+        };
+        match fault {
+            0 => Ok(Some(room)),
+            NOTHING => Ok(None),
+            fault => Err(Error::of(fault)),
+        }
+    }
+
+    /// Whether the open transaction may write the page now.
+    pub fn may_write(&self, page: u32) -> bool {
+        // SAFETY: the handle is the object's own.
+        unsafe { ffi::rughvadi_client_may_write(self.object.at(), page) }
+    }
+}

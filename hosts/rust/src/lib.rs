@@ -1,0 +1,85 @@
+//! A page server, and clients that keep their pages across transactions and never read a stale one:
+//! the proved library of Rughvadi, for Rust.
+//!
+//! [`Server`] and [`Client`] do no input or output: frames are handed in ([`Client::take`]) and
+//! fetched ([`Client::next_frame`]). [`Link`] is a client over a stream, for programs that may block.
+//!
+//! None of them is `Send`: an object stays on the thread that made it.
+mod client;
+mod error;
+mod ffi;
+mod link;
+mod object;
+mod server;
+
+pub use client::{Client, Ended, Status};
+pub use error::{Error, Result};
+pub use link::{Link, Transaction};
+pub use server::{Batch, BatchPage, Server};
+
+/// The limits of one store: the same for its server and each of its clients.
+#[derive(Clone, Copy, Debug, PartialEq, Eq)]
+pub struct Limits {
+    /// 1 to 32; they are numbered from 0.
+    pub clients: u32,
+    /// 1 to 4,096; they are numbered from 0.
+    pub pages: u32,
+    /// Bytes: 16 to 65,536 by steps of 16.
+    pub page_size: usize,
+    /// Pages in a client's pool: 2 to 1,024.
+    pub slots: usize,
+    /// 1 to one less than the slots: how many of these are of pages that came lately.
+    pub kin: usize,
+    /// 1 to 4,096: how many pages that went are remembered.
+    pub kout: usize,
+    /// Whether clients keep write permissions between transactions.
+    pub keep_write: bool,
+}
+
+impl Limits {
+    fn as_c(&self) -> ffi::Limits {
+        ffi::Limits {
+            clients: u64::from(self.clients),
+            pages: u64::from(self.pages),
+            page_size: self.page_size as u64,
+            slots: self.slots as u64,
+            kin: self.kin as u64,
+            kout: self.kout as u64,
+            keep_write: u64::from(self.keep_write),
+        }
+    }
+}
+
+/// What the header of a frame says.
+#[derive(Clone, Copy, Debug, PartialEq, Eq)]
+pub struct FrameHead {
+    /// The frame's bytes, the header's among them.
+    pub length: usize,
+    /// The client that it is of or for.
+    pub client: u32,
+    /// The code of its kind: below 64 it goes to the server.
+    pub kind: u32,
+    /// The client's incarnation.
+    pub incarnation: u64,
+}
+
+/// Reads the frame that the bytes begin with. [`Error::FrameShort`] where more bytes are needed.
+pub fn read_frame(limits: &Limits, bytes: &[u8]) -> Result<FrameHead> {
+    let mut head = ffi::FrameHead::default();
+    // SAFETY: the bytes are as many as they are said to be.
+    error::done(unsafe {
+        ffi::rughvadi_frame_read(&limits.as_c(), bytes.as_ptr(), bytes.len(), &mut head)
+    })?;
+    Ok(FrameHead {
+        length: head.length as usize,
+        client: head.client,
+        kind: head.kind,
+        incarnation: head.incarnation,
+    })
+}
+
+/// The version of the library's interface, which is that of this crate's first number.
+pub fn version() -> u32 {
+    // SAFETY: it takes nothing.
+    unsafe { ffi::rughvadi_version() }
+}

@@ -1,0 +1,223 @@
+//! A client over a stream, for programs that may block.
+use crate::client::{Client, Ended, Status};
+use crate::error::{Error, Result};
+use crate::Limits;
+use std::io::{ErrorKind, Read, Write};
+
+/// How often it says again what may be lost, before it gives up.
+const TRIES: u32 = 30;
+
+/// A client over a connected stream. Where the stream has a time-out for reads, what may be lost is
+/// said again after each.
+pub struct Link<S> {
+    client: Client,
+    stream: S,
+    /// What came and isn't taken yet.
+    came: Vec<u8>,
+}
+
+impl<S: Read + Write> Link<S> {
+    /// Greets the server, and waits until the client is welcome.
+    pub fn open(limits: &Limits, client: u32, incarnation: u64, stream: S) -> Result<Link<S>> {
+        let mut link = Link {
+            client: Client::new(limits, client, incarnation)?,
+            stream,
+            came: Vec::new(),
+        };
+        link.client.hello()?;
+        link.wait_while(Status::NotWelcome)?;
+        Ok(link)
+    }
+
+    /// The client.
+    pub fn client(&self) -> &Client {
+        &self.client
+    }
+
+    /// The stream, as to set its time-outs.
+    pub fn stream(&self) -> &S {
+        &self.stream
+    }
+
+    /// Begins a transaction, which is dropped where it isn't committed.
+    pub fn transaction(&mut self) -> Result<Transaction<'_, S>> {
+        self.client.begin()?;
+        Ok(Transaction { link: self })
+    }
+
+    /// Does the job in a transaction and commits it, all anew as often as it is aborted; what the
+    /// job answered, and the commit's number.
+    pub fn run<T>(
+        &mut self,
+        mut job: impl FnMut(&mut Transaction<'_, S>) -> Result<T>,
+    ) -> Result<(T, u64)> {
+        loop {
+            let mut transaction = self.transaction()?;
+            let ended = match job(&mut transaction) {
+                Ok(answer) => transaction.commit().map(|number| (answer, number)),
+                Err(error) => Err(error),
+            };
+            match ended {
+                Err(Error::Aborted) => {}
+                other => return other,
+            }
+        }
+    }
+
+    /// Takes what the stream gives next: others wait for the pages that the client holds until it
+    /// has answered. `false` where the stream's time-out for reads passed first.
+    pub fn serve(&mut self) -> Result<bool> {
+        self.send_said()?;
+        self.receive()
+    }
+
+    fn send_said(&mut self) -> Result<()> {
+        while let Some(frame) = self.client.next_frame()? {
+            self.stream.write_all(&frame)?;
+        }
+        Ok(self.stream.flush()?)
+    }
+
+    /// Receives once, and takes each whole frame; `false` where nothing came in time.
+    fn receive(&mut self) -> Result<bool> {
+        let mut room = [0u8; 65536];
+        let got = match self.stream.read(&mut room) {
+            Ok(0) => return Err(Error::Closed),
+            Ok(got) => got,
+            Err(error) => match error.kind() {
+                ErrorKind::WouldBlock | ErrorKind::TimedOut => return Ok(false),
+                ErrorKind::Interrupted => return Ok(true),
+                _ => return Err(Error::Io(error)),
+            },
+        };
+        self.came.extend_from_slice(&room[..got]);
+        let mut at = 0;
+        while at < self.came.len() {
+            match self.client.take(&self.came[at..]) {
+                Ok(used) => at += used,
+                Err(Error::FrameShort) => break,
+                Err(error) => return Err(error),
+            }
+            self.send_said()?;
+        }
+        self.came.drain(..at);
+        Ok(true)
+    }
+
+    /// Waits while the client has that status, and says again what may be lost.
+    fn wait_while(&mut self, status: Status) -> Result<()> {
+        let mut silent = 0;
+        while self.client.status() == status {
+            self.send_said()?;
+            if self.receive()? {
+                continue;
+            }
+            silent += 1;
+            if silent > TRIES {
+                return Err(Error::Io(ErrorKind::TimedOut.into()));
+            }
+            self.client.again()?;
+        }
+        Ok(())
+    }
+
+    /// A transaction that is gone was aborted, if that is how the last one ended.
+    fn aborted_or(&self, error: Error) -> Error {
+        match (&error, self.client.last()) {
+            (Error::NoTransaction, Some(Ended::Aborted)) => Error::Aborted,
+            _ => error,
+        }
+    }
+
+    fn fetch(&mut self, page: u32, room: &mut [u8]) -> Result<()> {
+        loop {
+            self.wait_while(Status::Waiting)?;
+            match self.client.read(page, room) {
+                Ok(true) => return Ok(()),
+                Ok(false) => {}
+                Err(error) => return Err(self.aborted_or(error)),
+            }
+        }
+    }
+
+    fn want(&mut self, page: u32) -> Result<()> {
+        loop {
+            self.wait_while(Status::Waiting)?;
+            match self.client.want(page) {
+                Ok(true) => return Ok(()),
+                Ok(false) => {}
+                Err(Error::NotHere) => {
+                    let mut room = vec![0u8; self.client.page_size()];
+                    self.fetch(page, &mut room)?;
+                }
+                Err(error) => return Err(self.aborted_or(error)),
+            }
+        }
+    }
+
+    fn commit(&mut self) -> Result<u64> {
+        if let Err(error) = self.client.finish() {
+            return Err(self.aborted_or(error));
+        }
+        self.wait_while(Status::Committing)?;
+        match self.client.last() {
+            Some(Ended::Committed(number)) => Ok(number),
+            _ => Err(Error::Aborted),
+        }
+    }
+}
+
+/// A transaction that is open. It is dropped, and what it wrote undone, where it isn't committed.
+pub struct Transaction<'l, S: Read + Write> {
+    link: &'l mut Link<S>,
+}
+
+impl<'l, S: Read + Write> Transaction<'l, S> {
+    /// The bytes of a page, to the room, which is as long as a page. Nobody writes the page before
+    /// the transaction ends.
+    pub fn read_into(&mut self, page: u32, room: &mut [u8]) -> Result<()> {
+        self.link.fetch(page, room)
+    }
+
+    /// The bytes of a page.
+    pub fn read(&mut self, page: u32) -> Result<Vec<u8>> {
+        let mut room = vec![0u8; self.link.client.page_size()];
+        self.link.fetch(page, &mut room)?;
+        Ok(room)
+    }
+
+    /// Asks to write a page that the transaction has read, and doesn't wait for the answer; whether
+    /// it may already.
+    pub fn ask_to_write(&mut self, page: u32) -> Result<bool> {
+        match self.link.client.want(page) {
+            Ok(may) => self.link.send_said().map(|()| may),
+            Err(error) => Err(self.link.aborted_or(error)),
+        }
+    }
+
+    /// Writes a page that the transaction has read.
+    pub fn write(&mut self, page: u32, bytes: &[u8]) -> Result<()> {
+        self.link.want(page)?;
+        match self.link.client.write(page, bytes) {
+            Ok(()) => Ok(()),
+            Err(error) => Err(self.link.aborted_or(error)),
+        }
+    }
+
+    /// Commits, and waits until the commit is on disk; its number.
+    pub fn commit(self) -> Result<u64> {
+        // What is left to drop is nothing, unless the commit was refused.
+        self.link.commit()
+    }
+}
+
+impl<S: Read + Write> Drop for Transaction<'_, S> {
+    fn drop(&mut self) {
+        if matches!(self.link.client.status(), Status::Open | Status::Waiting)
+            && self.link.client.drop_transaction().is_ok()
+        {
+            // Where the stream fails, the next call says so.
+            let _ = self.link.send_said();
+        }
+    }
+}
