@@ -1,0 +1,189 @@
+"""What the two tools share: where the repository is, and how programs are built."""
+import os
+import shutil
+import subprocess
+import sys
+import tempfile
+from collections.abc import Iterable, Iterator
+from contextlib import contextmanager
+from pathlib import Path
+
+TOP = Path(__file__).resolve().parent.parent
+PROGRAMS = TOP / "scripts/programs"
+# The command that proves.
+RT = os.environ.get("RT", "rt").split()
+# What programs stand on.
+SHELF = ["cb_page", "cb_frame_types", "cb_frame", "cb_commit", "cb_shelf", "cb_test_parts"]
+KILLED = [
+    "cb_page", "cb_console", "cb_shelf", "cb_station", "cb_jobs", "cb_run", "sqlite", "anyhow",
+]
+DATABASE = ["sqlite", "sqlite_disk", "sqlite_store", "anyhow"]
+
+
+class NotBuilt(Exception):
+    """A program isn't built: the text says which, and the last lines of why."""
+
+
+@contextmanager
+def a_room(folder: str | None = None) -> Iterator[Path]:
+    """A folder of its own while the body runs: in that of ROOM, else in the system's."""
+    with tempfile.TemporaryDirectory(dir=folder or os.environ.get("ROOM")) as room:
+        yield Path(room)
+
+
+def named(variable: str) -> Path | None:
+    """The built program that a variable of the environment names."""
+    path = os.environ.get(variable)
+    return Path(path).resolve() if path else None
+
+
+def ran_by_rt(crate: Path, words: Iterable[str], command: str = "run") -> str:
+    """Proves, builds and runs a crate; what was said."""
+    done = subprocess.run(
+        [*RT, command, *(["--", *words] if command == "run" else [])],
+        cwd=crate,
+        stdin=subprocess.DEVNULL,
+        stdout=subprocess.PIPE,
+        stderr=subprocess.STDOUT,
+        text=True,
+        check=False,
+    )
+    return done.stdout
+
+
+def built(program: Path, said: str) -> Path:
+    """The program, once it is there."""
+    if not os.access(program, os.X_OK):
+        last = "\n".join(said.splitlines()[-20:])
+        raise NotBuilt(f"{last}\n{program.name} isn't built")
+    return program
+
+
+def play(variable: str = "PROGRAM") -> Path:
+    """The program `cb_play`: the one that the variable names, else built by `rt run`."""
+    crate = TOP / "crates/cb_play"
+    return named(variable) or built(crate / "out/cb_play", ran_by_rt(crate, ["--version"]))
+
+
+def listed() -> dict[str, str]:
+    """The lines of crates.txt by crate."""
+    lines = {}
+    for line in (TOP / "crates.txt").read_text().splitlines():
+        head, colon, _ = line.partition("#")[0].partition(":")
+        if colon:
+            lines[head.split()[0]] = line
+    return lines
+
+
+def stands_on(names: Iterable[str]) -> list[str]:
+    """Crates and the crates of the repository below them."""
+    lines, found, left = listed(), [], list(names)
+    while left:
+        it = left.pop()
+        if it in lines and it not in found:
+            found.append(it)
+            left += lines[it].partition(":")[2].split()
+    return found
+
+
+def copy_of(names: Iterable[str], room: Path, keeps: bool = True) -> Path:
+    """The crates and those below in a repository of its own, with what checks kept, or not."""
+    lines, below = listed(), stands_on(names)
+    subprocess.run(["git", "init", "-q", room], check=True)
+    shutil.copy(TOP / "HANDLES", room)
+    (room / "crates.txt").write_text("".join(f"{lines[it]}\n" for it in below))
+    for each in below:
+        kept = None if keeps else shutil.ignore_patterns("out")
+        shutil.copytree(TOP / "crates" / each, room / "crates" / each, symlinks=True, ignore=kept)
+    return room
+
+
+def new_crate(room: Path, name: str, libraries: Iterable[str]) -> Path:
+    """The folder of a program in such a copy, with the texts of scripts/programs/NAME."""
+    crate = room / "crates" / name
+    (crate / "src").mkdir(parents=True)
+    with (room / "crates.txt").open("a") as lines:
+        lines.write(f"{name}: {' '.join(libraries)}\n")
+    for text in (PROGRAMS / name).glob("*.txt"):
+        shutil.copy(text, crate / f"src/{text.stem}.rt")
+    return crate
+
+
+def program(name: str, libraries: list[str], words: Iterable[str], room: Path) -> Path:
+    """A program of scripts/programs, built in a copy of the crates below it, and run once."""
+    copy = copy_of(libraries, room / name)
+    crate = new_crate(copy, name, libraries)
+    return built(crate / f"out/{name}", ran_by_rt(crate, words))
+
+
+def replace_in(folder: Path, old: str, new: str) -> None:
+    """Changes a text wherever it stands in the files of a folder."""
+    for path in folder.rglob("*"):
+        if path.is_file():
+            path.write_text(path.read_text().replace(old, new))
+
+
+def killed_runs(room: Path) -> Path:
+    """The program that runs workers and writes a byte for each job that is answered as done."""
+    copy = copy_of(KILLED, room / "killed_runs")
+    crate, play_crate = new_crate(copy, "killed_runs", KILLED), TOP / "crates/cb_play"
+    for part in ("specs", "proofs"):
+        (crate / part).mkdir()
+    # It has cb_play's runs over a file, with what is said of them.
+    shutil.copy(play_crate / "src/store_run.rt", crate / "src")
+    shutil.copy(play_crate / "specs/StoreRuns.antt", crate / "specs")
+    shutil.copy(play_crate / "proofs/Told.antt", crate / "proofs")
+    shutil.copytree(play_crate / "proofs/store_run", crate / "proofs/store_run")
+    (crate / "specs/Lib.antt").write_text("pub mod StoreRuns\n")
+    (crate / "proofs/Lib.antt").write_text("mod Told\n")
+    replace_in(crate, "cb_play", "killed_runs")
+    return built(crate / "out/killed_runs", ran_by_rt(crate, ["none", "none"]))
+
+
+def shelf_files(room: Path) -> Path:
+    """The program that opens shelves over real files: the one that PROGRAM names, else built."""
+    if given := named("PROGRAM"):
+        return given
+    copy = copy_of([*SHELF, "cb_sql"], room / "shelf_files")
+    crate = new_crate(copy, "shelf_files", [*SHELF, *DATABASE])
+    # It commits, and looks at what a shelf holds, as the tests do.
+    bench = (TOP / "crates/cb_tests/src/running/commits.rt").read_text()
+    bench = bench.replace("crate::commits::", "cb_test_parts::commits::")
+    (crate / "src/bench.rt").write_text(bench)
+    return built(crate / "out/shelf_files", ran_by_rt(crate, ["none", "none"]))
+
+
+def in_c(name: str, room: Path, *flags: str) -> Path:
+    """A program of scripts/programs/c, compiled."""
+    made = room / name
+    compiled(name, made, *flags)
+    return made
+
+
+def library_in_c(name: str, room: Path, *flags: str) -> Path:
+    """A library of scripts/programs/c, which a program is begun with by LD_PRELOAD."""
+    made = room / f"{name}.so"
+    compiled(name, made, "-shared", "-fPIC", *flags)
+    return made
+
+
+def compiled(name: str, made: Path, *flags: str) -> None:
+    """Compiles a text in C."""
+    compiler = os.environ.get("CC", "cc")
+    words = [compiler, "-O2", "-o", made, PROGRAMS / f"c/{name}.c", *flags]
+    if subprocess.run(words, check=False).returncode:
+        raise NotBuilt(f"{name}.c isn't compiled")
+
+
+def main(words: list[str]) -> int:
+    """For checks in shell: `building.py (play|shelf_files) ROOM` prints where the program is."""
+    try:
+        print({"play": lambda _: play(), "shelf_files": shelf_files}[words[0]](Path(words[1])))
+    except NotBuilt as why:
+        print(why, file=sys.stderr)
+        return 2
+    return 0
+
+
+if __name__ == "__main__":
+    sys.exit(main(sys.argv[1:]))

@@ -1,0 +1,128 @@
+"""Compares documents with the files that they speak of.
+
+    scripts/check docs
+
+- The examples that crates show in the doc comment of src/lib.rt, between lines of three backticks:
+  each line is one of src/example.rt, the test that compiles and runs it, in the same order.
+- README's example in Rattle, by the test of `cb_office` in the same way.
+- Each program of docs/EMBEDDING.md is the file that is named above it, byte for byte.
+- README's map: the floors of crates.txt, each with its crates, in the same order; and each crate
+  stands only on crates above it.
+- docs/CONTRACTS.md is as scripts/contracts makes it.
+- Links: each link of README and of docs leads to a file of the repository.
+- README names no folder or file of the repository that isn't there.
+
+It needs nothing, and takes less than a second. The status is 1 where something doesn't hold.
+"""
+import pathlib
+import re
+import subprocess
+
+from building import TOP
+
+
+def shown(page: str, fence: str) -> list[str]:
+    """The lines of a page that stand in blocks which begin so."""
+    lines, is_inside = [], False
+    for line in page.splitlines():
+        text = line.strip()
+        if is_inside and text.startswith("```"):
+            is_inside = False
+        elif is_inside:
+            lines.append(text)
+        elif text.startswith(fence):
+            is_inside = True
+    return lines
+
+
+def first_page(crate: pathlib.Path) -> str:
+    """The first page of a crate."""
+    lines = (crate / "src/lib.rt").read_text().splitlines()
+    return "\n".join(line.removeprefix("//!") for line in lines if line.startswith("//!"))
+
+
+def untested(crate: pathlib.Path, lines: list[str]) -> list[str]:
+    """The lines shown that the crate's test doesn't have, or not in that order."""
+    # Looking for a line uses up those before it.
+    tested = iter([line.strip() for line in (crate / "src/example.rt").read_text().splitlines()])
+    if not lines:
+        return ["no example is shown"]
+    return [f"not in its test: {line}" for line in lines if line not in tested]
+
+
+def other_programs() -> list[str]:
+    """The programs of docs/EMBEDDING.md that aren't the file named above them."""
+    shows = re.compile(r"^<!-- (\S+) -->\n```\w*\n(.*?)^```$", re.MULTILINE | re.DOTALL)
+    programs = shows.findall((TOP / "docs/EMBEDDING.md").read_text())
+    wrong = [name for name, text in programs if (TOP / name).read_text() != text]
+    return [f"EMBEDDING.md: {it} is another" for it in wrong] or [
+        "EMBEDDING.md: no program is shown" for _ in range(not programs)
+    ]
+
+
+def floors() -> list[tuple[str, dict[str, list[str]]]]:
+    """Each floor of crates.txt, with its crates and the libraries that each stands on."""
+    found = []
+    for line in (TOP / "crates.txt").read_text().splitlines():
+        if floor := re.fullmatch(r"# (\w+): .*", line):
+            found.append((floor[1], {}))
+        elif crate := re.fullmatch(r"(\w+)\b[^:]*:(.*)", line.partition("#")[0]):
+            found[-1][1][crate[1]] = crate[2].split()
+    return found
+
+
+def mapped() -> list[tuple[str, list[str]]]:
+    """Each floor of README's map, with its crates."""
+    text = (TOP / "README.md").read_text().partition("\n## Map\n")[2].partition("\n## ")[0]
+    found = []
+    for line in text.splitlines():
+        if floor := re.match(r"\*\*(\w+)\*\*", line):
+            found.append((floor[1], []))
+        elif crate := re.match(r"(?:- |\| )`(\w+)`", line):
+            found[-1][1].append(crate[1])
+    return found
+
+
+def misplaced() -> list[str]:
+    """Crates that stand on one that isn't above them."""
+    above, wrong = set(), []
+    listed = {name for _, crates in floors() for name in crates}
+    for _, crates in floors():
+        for name, libraries in crates.items():
+            below = [it for it in libraries if it in listed - above]
+            wrong += [f"{name} stands on {it}, which isn't above it" for it in below]
+            above.add(name)
+    return wrong
+
+
+def lost_links() -> list[str]:
+    """Links that lead nowhere, and paths in README that aren't there."""
+    wrong = []
+    for page in [TOP / "README.md", *sorted(TOP.glob("docs/*.md"))]:
+        links = re.findall(r"\]\(([^)#\s]+)(?:#[^)]*)?\)", page.read_text())
+        lost = [it for it in links if "://" not in it and not (page.parent / it).exists()]
+        wrong += [f"{page.name}: no {it}" for it in lost]
+    named = re.findall(r"`((?:crates|docs|scripts)/[\w./]*)", (TOP / "README.md").read_text())
+    wrong += [f"README.md: no {it}" for it in named if "NAME" not in it and not (TOP / it).exists()]
+    return wrong
+
+
+def main(_words: list[str]) -> int:
+    crates = sorted(path.parent.parent for path in TOP.glob("crates/*/src/example.rt"))
+    wrong = []
+    for crate in crates:
+        lines = shown(first_page(crate), "```")
+        wrong += [f"{crate.name}: {what}" for what in untested(crate, lines)]
+    readme = shown((TOP / "README.md").read_text(), "```rust")
+    wrong += [f"README.md: {what}" for what in untested(TOP / "crates/cb_office", readme)]
+    made = [TOP / "scripts/contracts", "--check"]
+    if subprocess.run(made, stdout=subprocess.DEVNULL, check=False).returncode:
+        wrong.append("docs/CONTRACTS.md is to be made again: scripts/contracts")
+    wrong += other_programs() + misplaced() + lost_links()
+    if mapped() != [(floor, list(crates)) for floor, crates in floors()]:
+        wrong.append("README's map isn't that of crates.txt")
+    for what in wrong:
+        print(what)
+    print(f"{len(crates)} examples, the map and the links: {len(wrong)} wrong")
+    return 1 if wrong or not crates else 0
+

@@ -1,0 +1,194 @@
+"""Builds the library for other languages, and tries it.
+
+    scripts/check library [--built] [SEEDS]
+
+It installs the library in a folder of its own, by `scripts/library`, and runs, each to its end:
+
+- the sweep of refused growths, from the first to the last
+- a million random calls, with damaged frames, by a program that is built with ASan and UBSan
+- a server and two clients in one process, over frames of which a tenth is lost, repeated or late,
+  for so many seeds (10 if not said; an odd one keeps write permissions): each transaction checks
+  a sum over all pages
+- the tests of the Rust crate and of the Python package
+- the examples in C, Rust and Python, at the same time at one server over SQLite
+- that each program in docs/EMBEDDING.md is the file that was run
+
+A line for each, with the last line that it wrote; of one that failed, its last lines. It needs a C
+compiler with the sanitizers, `cargo` and Python; CC and CARGO name others. The library is proved
+first; with --built the archive that stands in crates/rughvadi/out is taken. Once that is there it
+takes some minutes. The status is 1 where one failed.
+"""
+import os
+import sqlite3
+import subprocess
+import sys
+import time
+from dataclasses import dataclass
+from pathlib import Path
+from subprocess import DEVNULL
+
+import building
+from checks import docs
+
+FLAGS = ["-std=c11", "-D_GNU_SOURCE", "-g", "-O1", "-Wall", "-Wextra", "-Wpedantic", "-Werror"]
+SANITIZERS = ["-fsanitize=address,undefined", "-fno-sanitize-recover=all"]
+HOSTS = building.TOP / "hosts"
+SOAKS = ["lossy", "random_calls", "refused_growths"]
+EACH = 100
+
+
+class Tries:
+    """What was tried so far: how many passed, how many failed."""
+
+    def __init__(self):
+        self.passed = self.failed = 0
+
+    def told(self, name, right, said):
+        """Counts one, and writes its line."""
+        self.passed, self.failed = self.passed + right, self.failed + (not right)
+        last = said.splitlines()
+        print(": ".join([name, "ok", *last[-1:]] if right else [name, "FAILED"]), flush=True)
+        if not right:
+            print("\n".join(last[-20:]), flush=True)
+
+    def command(self, name, *words, **variables):
+        """Runs a command to its end, with these variables besides."""
+        both = {"stdout": subprocess.PIPE, "stderr": subprocess.STDOUT, "text": True}
+        env = {**os.environ, **{key: str(value) for key, value in variables.items()}}
+        done = subprocess.run(list(map(str, words)), env=env, **both, check=False)
+        self.told(name, done.returncode == 0, done.stdout)
+
+
+@dataclass
+class Installed:
+    """Where things are: the folder of the check, and in it what was installed."""
+
+    room: Path
+
+    @property
+    def top(self):
+        return self.room / "installed"
+
+    @property
+    def archive(self):
+        return self.top / "lib/librughvadi.a"
+
+    @property
+    def rust(self):
+        return self.top / "share/rughvadi/rust"
+
+    @property
+    def python(self):
+        return self.top / "share/rughvadi/python"
+
+
+def compile_all(tries, it):
+    """Compiles the programs in C."""
+    compiler = os.environ.get("CC", "cc")
+    words = [compiler, *FLAGS, f"-I{it.top}/include", f"-I{HOSTS}/c/tests"]
+    for name in SOAKS:
+        source = HOSTS / f"c/tests/{name}.c"
+        made = [*SANITIZERS, source, it.archive, "-o", it.room / name]
+        tries.command(f"build {name}", *words, *made)
+    source = HOSTS / "c/examples/counter.c"
+    tries.command("build counter", *words, source, it.archive, "-o", it.room / "counter")
+
+
+def run_soaks(tries, it, seeds):
+    """The programs in C that call the library in one process."""
+    tries.command("refused growths", it.room / "refused_growths")
+    tries.command("random calls", it.room / "random_calls", 1, 1_000_000)
+    for seed in range(1, seeds + 1):
+        tries.command(f"lossy frames, seed {seed}", it.room / "lossy", seed, 2000)
+
+
+def run_wrappers(tries, it):
+    """The tests of the crate and of the package; the crate's example is built."""
+    cargo, lib = os.environ.get("CARGO", "cargo"), it.top / "lib"
+    words = ["--offline", "--quiet", "--manifest-path", it.rust / "Cargo.toml"]
+    words += ["--target-dir", it.room / "target"]
+    tries.command("crate's tests", cargo, "test", *words, RUGHVADI_LIB_DIR=lib)
+    tries.command("crate's example", cargo, "build", "--examples", *words, RUGHVADI_LIB_DIR=lib)
+    discover = [sys.executable, "-m", "unittest", "discover", "-s", it.python / "tests"]
+    tries.command("package's tests", *discover, PYTHONPATH=it.python)
+
+
+def is_ready(server, ready):
+    """Waits until the server says that it is; false where it ended before."""
+    while server.poll() is None:
+        if "ready" in ready.read_text():
+            return True
+        time.sleep(0.1)
+    return False
+
+
+def count_together(it):
+    """A client in each language at one server, at the same time; the text is of one that failed."""
+    socket, examples = it.room / "socket", it.python / "examples"
+    env = {**os.environ, "PYTHONPATH": str(it.python)}
+    clients = [
+        [it.room / "counter"],
+        [it.room / "target/debug/examples/counter"],
+        [sys.executable, examples / "counter.py"],
+    ]
+    ready = it.room / "ready"
+    with ready.open("w") as out:
+        words = [sys.executable, examples / "server.py", socket, it.room / "pages.db"]
+        server = subprocess.Popen(words, env=env, stdout=out)
+    try:
+        if not is_ready(server, ready):
+            return "the server ended"
+        begun = [
+            subprocess.Popen([*words, socket, str(client), str(EACH)], env=env, stdout=DEVNULL)
+            for client, words in enumerate(clients)
+        ]
+        ended = [each.wait() for each in begun]
+        return "" if not any(ended) else f"the clients ended with {ended}"
+    finally:
+        server.terminate()
+        server.wait()
+
+
+def run_examples(tries, it):
+    """The counters in three languages, and what the database has of them afterwards."""
+    name = "counters in three languages"
+    try:
+        if failed := count_together(it):
+            tries.told(name, False, failed)
+            return
+        database = sqlite3.connect(it.room / "pages.db")
+        (page,) = database.execute("SELECT data FROM pages WHERE page = 5").fetchone()
+        (number,) = database.execute("SELECT number FROM mark").fetchone()
+        database.close()
+    except (OSError, sqlite3.Error, TypeError) as why:
+        tries.told(name, False, str(why))
+        return
+    counter, wanted = int.from_bytes(page[:8], "little"), 3 * EACH
+    said = f"counter {counter} last commit {number}"
+    tries.told(name, (counter, number) == (wanted, wanted), said)
+
+
+def tried(room, built, seeds):
+    """Installs the library and tries it; how it ended."""
+    tries, it = Tries(), Installed(room)
+    tries.command("library", building.TOP / "scripts/library", *built, it.top)
+    if it.archive.exists():
+        compile_all(tries, it)
+        run_soaks(tries, it, seeds)
+        run_wrappers(tries, it)
+        run_examples(tries, it)
+        other = docs.other_programs()
+        tries.told("programs in docs/EMBEDDING.md", not other, "\n".join(other) or "none differs")
+    return tries
+
+
+def main(words):
+    built = [word for word in words if word == "--built"]
+    counts = [word for word in words if word != "--built"]
+    if len(counts) > 1 or not all(word.isdecimal() for word in counts):
+        print("scripts/check library [--built] [SEEDS]", file=sys.stderr)
+        return 2
+    with building.a_room() as room:
+        tries = tried(room, built, int((counts or ["10"])[0]))
+    print(f"library: {tries.passed} passed, {tries.failed} failed")
+    return 1 if tries.failed else 0

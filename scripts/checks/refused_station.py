@@ -1,0 +1,65 @@
+"""Plays all calls of a station, each growth refused in turn: `check refused station`."""
+import os
+import shutil
+import subprocess
+from pathlib import Path
+
+import building
+
+CRATES = ["cb_page", "cb_frame", "cb_commit", "cb_hands", "cb_station", "cb_test_parts"]
+TEST = "office::growths::refused_growths"
+ROOT = """//! Refused growths.
+#![tactic(auto)]
+
+#[cfg(test)]
+use cb_test_parts::stores;
+#[cfg(test)]
+mod office;
+"""
+
+
+def built_tests(room):
+    """The test, beside the frames of cb_tests, in copies of the crates below."""
+    crate = building.new_crate(building.copy_of(CRATES, room), "station_growths", CRATES)
+    source, tests = crate / "src", building.TOP / "crates/cb_tests/src"
+    (source / "office").mkdir()
+    shutil.move(source / "growths.rt", source / "office")
+    shutil.copy(tests / "office/frames.rt", source / "office")
+    (source / "office.rt").write_text("//! Frames and growths.\nmod frames;\nmod growths;\n")
+    (source / "lib.rt").write_text(ROOT)
+    said = building.ran_by_rt(crate, [], "test")
+    return building.built(crate / "out/station_growths_tests", said)
+
+
+def played(test, library, refused):
+    """The status where that growth is refused, and how many there were."""
+    done = subprocess.run(
+        [test, TEST],
+        env={**os.environ, "LD_PRELOAD": str(library), "REFUSED": str(refused)},
+        stdout=subprocess.PIPE,
+        stderr=subprocess.STDOUT,
+        text=True,
+        check=False,
+    )
+    return done.returncode, int(done.stdout.splitlines()[-1])
+
+
+def refused_in_turn(room):
+    """Builds the test, and runs it for each growth; the status."""
+    test, library = built_tests(room), building.library_in_c("refuse", room, "-ldl")
+    _, growths = played(test, library, 0)
+    failed = 0
+    for refused in range(growths + 1):
+        if played(test, library, refused)[0]:
+            print(f"growth {refused} refused: FAILED", flush=True)
+            failed += 1
+    print(f"growths {growths}, runs {growths + 1}, failed {failed}")
+    return int(growths == 0 or failed > 0)
+
+
+def main(words):
+    if words:
+        Path(words[0]).mkdir(parents=True, exist_ok=True)
+        return refused_in_turn(Path(words[0]).resolve())
+    with building.a_room() as room:
+        return refused_in_turn(room)
