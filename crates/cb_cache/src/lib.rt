@@ -5,7 +5,7 @@
 //! keeps what holds of all copies (`AreCopies`). What is said and left at the end of a transaction
 //! ([`commit_ends`], [`drop_ends`]) is what the protocol's end over all pages says and leaves
 //! (`Ends`). Examples that are run as tests are `client_over_any_chooser` and, of 300 pages given
-//! back, `greatest_client` in `cb_tests`.
+//! back, `greatest_client` in `cb_layer_tests`.
 #![tactic(auto)]
 
 mod cache;

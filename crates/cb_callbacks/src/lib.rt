@@ -10,7 +10,7 @@
 //! Its laws: an ask that enters sends one message at most ([`an_ask_sends_at_most_one`]), and in
 //! the middle of a step each ask to read that waits can still have a grant number
 //! ([`grants_are_left`]). An example that is run as a test is `write_after_callback` in
-//! `cb_tests`.
+//! `cb_layer_tests`.
 #![tactic(auto)]
 
 mod callbacks;

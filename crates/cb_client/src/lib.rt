@@ -6,7 +6,8 @@
 //! and each message is taken as its table of messages says.
 //!
 //! What holds whatever was called and came is said by the laws. An example that is run as a test is
-//! `references_of_a_client` in `cb_tests`, where a chooser of a caller's own stands with its proof.
+//! `references_of_a_client` in `cb_layer_tests`, where a chooser of a caller's own stands with its
+//! proof.
 #![tactic(auto)]
 
 mod answers;

@@ -6,7 +6,7 @@
 //! not by the type: a call of an application changes the fields one by one.
 //!
 //! The protocol's laws of a client alone hold of each (`IsClient`); `cb_client` has them by name.
-//! An example that is run as a test is `client_over_any_chooser` in `cb_tests`.
+//! An example that is run as a test is `client_over_any_chooser` in `cb_layer_tests`.
 #![tactic(auto)]
 
 mod client_core;

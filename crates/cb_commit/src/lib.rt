@@ -9,7 +9,7 @@
 //!
 //! That the store is the fold of the commits is the invariant of [`Commits`]; a batch brings any
 //! flushed state to the present one. An example that is run as a test is `batches_and_dones` in
-//! `cb_tests`.
+//! `cb_layer_tests`.
 #![tactic(auto)]
 
 mod batch;

@@ -8,7 +8,7 @@
 //! The directory rule is the type's invariant: a page with a write holder has rows of no other
 //! client, and a client has one row a page at most. The calls that read hand it out, but for
 //! [`Directory::tag`]. An example that is run as a test is `rows_and_permissions` in
-//! `cb_tests`.
+//! `cb_layer_tests`.
 #![tactic(auto)]
 
 mod directory;

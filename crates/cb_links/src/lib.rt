@@ -5,7 +5,7 @@
 //! come again or come from a client that has restarted since are told from those that count.
 //!
 //! Each call says exactly what it makes of one client's session; the other clients' stay as they
-//! were. An example that is run as a test is `transaction_of_a_session` in `cb_tests`.
+//! were. An example that is run as a test is `transaction_of_a_session` in `cb_layer_tests`.
 #![tactic(auto)]
 
 mod sessions;

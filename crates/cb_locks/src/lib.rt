@@ -8,7 +8,7 @@
 //! [`CallbackDue::dropped`] spends it without a frame.
 //!
 //! A page in use is handed out once, at the end of its transaction. An example that is run as a
-//! test is `pages_in_use_are_given_back_at_the_end` in `cb_tests`.
+//! test is `pages_in_use_are_given_back_at_the_end` in `cb_layer_tests`.
 #![tactic(auto)]
 
 mod callback_due;

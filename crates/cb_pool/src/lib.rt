@@ -2,7 +2,7 @@
 //!
 //! Over every chooser that keeps its law the pool answers what was last installed or written and
 //! not since let go or removed, or gone with a restart. An example that is run as a test is
-//! `calls_of_a_pool` in `cb_tests`.
+//! `calls_of_a_pool` in `cb_layer_tests`.
 #![tactic(auto)]
 
 mod copies;

@@ -5,7 +5,7 @@
 //! protocol's tables say, of whatever list of calls went before.
 //!
 //! What holds whatever frames came is in [`laws`]. An example that is run as a test is
-//! `all_pages_are_committed` in `cb_tests`.
+//! `all_pages_are_committed` in `cb_layer_tests`.
 #![tactic(auto)]
 
 mod engine;

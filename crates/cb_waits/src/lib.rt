@@ -7,7 +7,7 @@
 //!
 //! Its law is [`waits_by_place`]: a view with an edge for each place in a queue answers as the
 //! protocol's deadlock test. An example that is run as a test is `cycle_of_three` in
-//! `cb_tests`.
+//! `cb_layer_tests`.
 #![tactic(auto)]
 
 mod laws;
