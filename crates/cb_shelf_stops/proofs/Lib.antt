@@ -1,0 +1,3 @@
+-- What is proved where.
+-- Stopping: what a file holds after any steps.
+pub mod Stopping
