@@ -3,4 +3,5 @@ pub mod Hands
 pub mod Joined
 pub mod OwnHand
 pub mod OwnStays
+pub mod Packed
 pub mod Running

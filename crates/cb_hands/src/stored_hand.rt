@@ -3,9 +3,10 @@ ghost use Rattle.std.specs.Prelude.{◌≡◌, ◌↔◌, ◌<◌, ◌≤◌, Is
 ghost use Rattle.cb_hands.specs.Hands.{empty_hand, permitted, restamped, with_copy};
 ghost use Rattle.cb_hands.specs.Hands.{without_copy, without_permissions};
 
+use crate::copies::Copies;
 use crate::grant::Held;
 use crate::hand::Hand;
-use crate::stored_copies::{StoredCopies, same_pages};
+use crate::sets::same_pages;
 use cb_page::{ClientNo, Incarnation, PageNo, PageSet, TxnNo, Version};
 use std::alloc::{AllocError, Global};
 use std::marker::Model;
@@ -16,7 +17,7 @@ pub(crate) struct StoredHand {
     client: ClientNo,
     incarnation: Incarnation,
     txn: Option<TxnNo>,
-    held: StoredCopies,
+    held: Copies,
     writable: PageSet,
 }
 
@@ -67,7 +68,7 @@ impl StoredHand {
             client,
             incarnation,
             txn: None,
-            held: StoredCopies::new(alloc, pages)?,
+            held: Copies::new(alloc, pages)?,
             writable: PageSet::new(alloc, pages)?,
         })
     }
@@ -81,7 +82,7 @@ impl StoredHand {
             && self.incarnation == hand.incarnation()
             && self.txn == hand.txn()
             && same_pages(&self.writable, &hand.writable)
-            && self.held.are_of(&hand.grants)
+            && self.held.say_as(hand.grants.copies())
     }
 
     /// As [`Hand::receive`].

@@ -1,7 +1,7 @@
 -- What holds at each turn of the loops of `same_pages`.
 use Rattle.std.proofs.Common.{◌≡◌, ◌<◌, ◌-◌, ◌≤◌, ℕ, length}
 use Rattle.cb_page.specs.Flags.{has}
-use Rattle.cb_hands.proofs.stored_copies.same_pages.Given as goal
+use Rattle.cb_hands.proofs.sets.same_pages.Given as goal
 
 -- the sets are the same before this place
 abbrev pub invariant-loop-page : goal.invariant-loop-page

@@ -2,8 +2,8 @@
 use Rattle.std.proofs.Common.{◌≡◌, length, rules, arith}
 use Rattle.std.proofs.lemmas.Grind.{common_steps}
 use Rattle.std.specs.Option.{is_none}
-use Rattle.cb_hands.proofs.Flagged.{same_sets}
-use Rattle.cb_hands.proofs.stored_copies.same_pages.Goals as goal
+use Rattle.cb_hands.proofs.SamePages.{same_sets}
+use Rattle.cb_hands.proofs.sets.same_pages.Goals as goal
 
 pub returns : goal.returns
 returns c =
