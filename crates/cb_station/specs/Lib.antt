@@ -3,3 +3,4 @@ pub mod Stations
 pub mod Moves
 pub mod Commits
 pub mod Admission
+pub mod Telling

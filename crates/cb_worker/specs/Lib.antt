@@ -8,3 +8,5 @@ pub mod Refusals
 pub mod Asking
 pub mod Steps
 pub mod Serving
+pub mod Entering
+pub mod Dropping

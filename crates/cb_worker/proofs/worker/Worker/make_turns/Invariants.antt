@@ -1,9 +1,9 @@
--- What holds at each turn of the loops of `Worker::serve_at`.
+-- What holds at each turn of the loops of `Worker::make_turns`.
 use Rattle.std.proofs.Common.{◌≡◌, ◌⊎◌, false}
 use Rattle.cb_worker.proofs.Serving.{Turned}
 use Rattle.cb_worker.specs.Turns.{Turns}
 use Rattle.cb_worker.specs.Workers.{IsStill}
-use Rattle.cb_worker.proofs.worker.Worker.serve_at.Given as goal
+use Rattle.cb_worker.proofs.worker.Worker.make_turns.Given as goal
 
 -- it stays the same worker, and the station is as halted as it was; turns were made, and none where it is halted
 abbrev pub invariant-loop : goal.invariant-loop

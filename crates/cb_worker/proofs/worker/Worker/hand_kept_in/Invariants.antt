@@ -1,9 +1,9 @@
--- What holds at each turn of the loops of `Worker::hand_all_in`.
+-- What holds at each turn of the loops of `Worker::hand_kept_in`.
 use Rattle.std.proofs.Common.{◌≡◌, length}
 use Rattle.cb_worker.proofs.Serving.{Turned}
 use Rattle.cb_worker.specs.Serving.{HandsOne}
 use Rattle.cb_worker.specs.Workers.{IsStill}
-use Rattle.cb_worker.proofs.worker.Worker.hand_all_in.Given as goal
+use Rattle.cb_worker.proofs.worker.Worker.hand_kept_in.Given as goal
 
 -- the client is as it was, and it stays the same worker; frames were handed in
 abbrev pub invariant-loop-alloc : goal.invariant-loop-alloc

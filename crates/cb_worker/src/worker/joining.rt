@@ -1,0 +1,96 @@
+//! A client joins the office, begins another incarnation, and leaves, each under the lock. Who is to
+//! be told of it is told there.
+ghost use Rattle.cb_worker.specs.Entering.{JoinsAndTells, JoinsSome, LeavesAndTells, LeavesSome};
+ghost use Rattle.cb_worker.specs.Entering.{RestartsAndTells, RestartsSome, TriesToLeave};
+
+use cb_hands::Hand;
+use cb_page::{ClientNo, Incarnation};
+use cb_station::{Office, OfficeFault, Station};
+use std::alloc::Global;
+use std::sync::Wait;
+
+/// The client joins the office; its hand comes back.
+pub(super) fn join<R: Wait>(
+    rt: &R,
+    alloc: Global,
+    office: &Office,
+    client: ClientNo,
+) -> Result<Hand, OfficeFault>
+    ensures { JoinsSome client result }
+{
+    join_at(alloc, office, &mut office.lock(rt), client)
+}
+
+fn join_at(
+    alloc: Global,
+    office: &Office,
+    station: &mut Station,
+    client: ClientNo,
+) -> Result<Hand, OfficeFault>
+    ensures { JoinsAndTells station.old client result station.new }
+{
+    let joined = station.join(alloc, client);
+    office.tell(station);
+    joined
+}
+
+/// The client with that hand begins another incarnation; its next hand comes back.
+pub(super) fn restart<R: Wait>(
+    rt: &R,
+    alloc: Global,
+    office: &Office,
+    hand: Hand,
+    incarnation: Incarnation,
+) -> Result<Hand, (OfficeFault, Hand)>
+    ensures { RestartsSome hand incarnation result }
+{
+    restart_at(alloc, office, &mut office.lock(rt), hand, incarnation)
+}
+
+fn restart_at(
+    alloc: Global,
+    office: &Office,
+    station: &mut Station,
+    hand: Hand,
+    incarnation: Incarnation,
+) -> Result<Hand, (OfficeFault, Hand)>
+    ensures { RestartsAndTells station.old hand incarnation result station.new }
+{
+    let restarted = station.restart(alloc, hand, incarnation);
+    office.tell(station);
+    restarted
+}
+
+/// The client with that hand leaves.
+pub(super) fn leave<R: Wait>(
+    rt: &R,
+    alloc: Global,
+    office: &Office,
+    hand: Hand,
+) -> Result<(), (OfficeFault, Hand)>
+    ensures { LeavesSome hand result }
+{
+    leave_at(alloc, office, &mut office.lock(rt), hand)
+}
+
+fn leave_at(
+    alloc: Global,
+    office: &Office,
+    station: &mut Station,
+    hand: Hand,
+) -> Result<(), (OfficeFault, Hand)>
+    ensures { LeavesAndTells station.old hand result station.new }
+{
+    let left = station.leave(alloc, hand);
+    office.tell(station);
+    left
+}
+
+/// Takes back that the client joined; its hand is spent, also where it can't leave.
+pub(super) fn unjoin<R: Wait>(rt: &R, alloc: Global, office: &Office, hand: Hand)
+    ensures { TriesToLeave hand }
+{
+    if let Err((_, hand)) = leave(rt, alloc, office, hand) {
+        hand.abandon();
+    }
+}
