@@ -1,3 +1,4 @@
+pub mod Causes
 pub mod Clients
 pub mod Faults
 pub mod Fetching

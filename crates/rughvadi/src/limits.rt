@@ -1,5 +1,6 @@
 //! Limits, as C gives them, and objects in boxes.
-ghost use Rattle.std.specs.Prelude.{◌≡◌, IfOk, false};
+ghost use Rattle.std.specs.Prelude.{◌≡◌, IfOk, None, false};
+ghost use Rattle.cb_handle.specs.Causes.{Decides, in_limits, memory, never};
 ghost use Rattle.rughvadi.specs.Limits.{bounds_of};
 
 use cb_handle::{Object, Refusal};
@@ -22,7 +23,8 @@ pub struct StoreLimits {
 
 /// The limits, where each is in its range.
 pub(crate) fn limits_of(l: &StoreLimits) -> Result<Limits, Refusal>
-    ensures { IfOk result (λ limits. limits ≡ bounds_of l.now) }
+    ensures limits { IfOk result (λ limits. limits ≡ bounds_of l.now) }
+    ensures why { Decides (in_limits (bounds_of l.now)) never result }
 {
     match Limits::new(l.clients, l.pages, l.page_size, l.slots, l.kin, l.kout) {
         Ok(limits) => Ok(kept_if(limits, l.keep_write != 0)),
@@ -40,7 +42,8 @@ fn kept_if(limits: Limits, keep_write: bool) -> Limits
 
 /// The object in a box.
 pub(crate) fn boxed(alloc: Global, object: Object) -> Result<Box<Object>, Refusal>
-    ensures { IfOk result (λ made. made.value ≡ object) }
+    ensures made { IfOk result (λ made. made.value ≡ object) }
+    ensures why { Decides None memory result }
 {
     match Box::new(alloc, object) {
         Ok(boxed) => Ok(boxed),
