@@ -67,7 +67,8 @@ pub fn put_events<O: Write>(out: &mut O, events: &[Event]) -> io::Result<()>
     Ok(())
 }
 
-fn put_event<O: Write>(out: &mut O, event: &Event) -> io::Result<()>
+/// Prints an event as a line of a schedule.
+pub fn put_event<O: Write>(out: &mut O, event: &Event) -> io::Result<()>
     ensures { OnOk result
         (Appends (O.contents out.old) (O.contents out.new) (event_text event.now)) }
 {
@@ -95,7 +96,7 @@ fn put_call<O: Write>(out: &mut O, client: u16, call: &Call) -> io::Result<()>
 }
 
 /// The word of a call.
-fn name_of(call: &Call) -> &'static str
+pub fn name_of(call: &Call) -> &'static str
     ensures { result.now ≡ call_name call.now }
 {
     match call {
