@@ -1,0 +1,157 @@
+-- Pieces, one after another.
+use Rattle.std.proofs.Common.{◌≡◌, ◌∙◌, ℕ, zero, suc, ◌+◌, ◌<◌, ◌≤◌, List, [], ◌∷◌, ◌++◌, refl, sym, ap, subst, take, drop, length, length-drop, append_assoc, arith, true, false}
+use Rattle.std.proofs.Math.Seq.{take-add}
+use Rattle.std.proofs.lemmas.Grind.{flat_map-append}
+use Rattle.std.proofs.lemmas.List.{append-nil}
+use Rattle.std.specs.List.{AllByRecursion, flat_map}
+use Rattle.cb_frame_types.specs.Grammar.{IsFrameInSome}
+use Rattle.cb_frame_types.specs.Spelling.{spelling_in}
+use Rattle.cb_frame_types.specs.declared.frame.Frame.{Frame}
+use Rattle.cb_page.specs.Bounds.{Bounds}
+use Rattle.cb_protocol.specs.AnyMessages.{Input, SendsAgain}
+use Rattle.cb_server.specs.ServerValue.{ServerValue}
+use Rattle.cb_server.specs.Taking.{input_of}
+use Rattle.cb_serve.proofs.Inputs.{all_append, answers_nothing, answers_then}
+use Rattle.cb_serve.specs.Answering.{Answers, TakesPieces, inputs_in, inputs_of}
+use Rattle.cb_serve.specs.Fronts.{IsFront}
+use Rattle.cb_serve.specs.Steps.{TakesAll, TakesFront}
+use Rattle.cb_serve.specs.Streams.{IsNoFrame, IsPart, IsPiece, Piece, asks_again, bytes_of, comes, count_passed, passed_over}
+use Rattle.cb_serve.specs.declared.front.Front.TheVariants as front
+use Rattle.cb_serve.specs.declared.taking.Step.TheVariants as step
+
+pub takes_nothing : (old : ServerValue) (bytes : List ℕ) → TakesPieces old bytes [] 0 [] old
+takes_nothing old bytes = record { are = tt; within = omega arith; cut = refl; answers = answers_nothing old }
+
+pub takes_then : (old mid new : ServerValue) (bytes : List ℕ) (xs ys : List Piece) (used n : ℕ) (first more : List ℕ)
+    → used ≤ length bytes → TakesPieces old bytes xs used first mid → TakesPieces mid (drop used bytes) ys n more new
+    → TakesPieces old bytes (xs ++ ys) (used + n) (first ++ more) new
+takes_then old mid new bytes xs ys used n first more within a b = record {
+  are = all_append (IsPiece old.limits) xs ys a.are (subst (λ (l : Bounds). AllByRecursion (IsPiece l) ys) a.answers.limits b.are);
+  within = let left = b.within in omega (arith, length-drop used bytes);
+  cut = take-add used n bytes ∙ ap (λ (k : List ℕ). k ++ take n (drop used bytes)) a.cut ∙ ap (λ (k : List ℕ). flat_map bytes_of xs ++ k) b.cut
+      ∙ sym (flat_map-append bytes_of xs ys);
+  answers = subst (λ (i : List Input). Answers old i (first ++ more) new) (sym (flat_map-append inputs_of xs ys))
+      (answers_then old mid new (inputs_in xs) (inputs_in ys) first more a.answers b.answers);
+}
+
+pub passed_append : (xs ys : List Piece) → count_passed (xs ++ ys) ≡ count_passed xs + count_passed ys
+passed_append [] ys = omega arith
+passed_append (x ∷ xs) ys = let ih : count_passed (xs ++ ys) ≡ count_passed xs + count_passed ys = passed_append xs ys in omega arith
+
+-- one piece is passed over at most
+one_passed : (piece : Piece) → count_passed (piece ∷ []) ≤ 1
+one_passed (comes frame bytes) = omega arith
+one_passed asks_again = omega arith
+one_passed (passed_over bytes) = omega arith
+
+-- a frame has bytes
+frame_long : (l : Bounds) (f : Frame) (bytes : List ℕ) (used : ℕ) → IsFrameInSome l f (take used bytes) → 0 < used
+unfolding spelling_in
+frame_long l f bytes zero is = absurd (let e = is.1.spelled in cc)
+frame_long l f bytes (suc n) is = omega arith
+
+-- the first piece is taken, by what it is
+pub front_frame : (old new : ServerValue) (l : Bounds) (bytes : List ℕ) (f : Frame) (used : ℕ) (more : List ℕ) → l ≡ old.limits
+    → IsFront l bytes (front.Frame f used) → Answers old (input_of f ∷ []) more new → TakesFront old bytes (step.Taken used 0) more new
+front_frame old new l bytes f used more same is answers = (
+  frame_long l f bytes used is.0,
+  comes f (take used bytes),
+  record {
+    are = (subst (λ (k : Bounds). IsFrameInSome k f (take used bytes)) same is.0, tt);
+    within = is.1;
+    cut = sym (append-nil (take used bytes));
+    answers = answers;
+  },
+  refl,
+)
+
+pub front_again : (old new : ServerValue) (l : Bounds) (bytes more : List ℕ) → IsFront l bytes front.Again → Answers old (SendsAgain ∷ []) more new
+    → TakesFront old bytes (step.Taken 16 0) more new
+front_again old new l bytes more is answers =
+    (omega arith, asks_again, record { are = (tt, tt); within = is.1; cut = is.0; answers = answers }, refl)
+
+pub front_unread : (old : ServerValue) (l : Bounds) (bytes : List ℕ) (used : ℕ) → l ≡ old.limits → IsFront l bytes (front.Unread used)
+    → TakesFront old bytes (step.Taken used 1) [] old
+front_unread old l bytes used same is = (
+  is.2,
+  passed_over (take used bytes),
+  record {
+    are = (subst (λ (k : Bounds). IsPiece k (passed_over (take used bytes))) same is.0, tt);
+    within = is.1;
+    cut = sym (append-nil (take used bytes));
+    answers = answers_nothing old;
+  },
+  refl,
+)
+
+pub front_part : (old : ServerValue) (l : Bounds) (bytes : List ℕ) → l ≡ old.limits → IsFront l bytes front.Part → TakesFront old bytes step.Part [] old
+front_part old l bytes same is = (subst (λ (k : Bounds). IsPart k bytes) same is, refl, refl)
+
+pub front_no_frame : (old : ServerValue) (l : Bounds) (bytes : List ℕ) → l ≡ old.limits → IsFront l bytes front.NoFrame → TakesFront old bytes step.NoFrame [] old
+front_no_frame old l bytes same is = (subst (λ (k : Bounds). IsNoFrame k bytes) same is, refl, refl)
+
+-- How far a loop over the pieces of some bytes has come.
+pub record SoFar (old : ServerValue) (bytes before after : List ℕ) (used count : ℕ) (new : ServerValue) : Type 0 where
+  pub pieces : List Piece
+  pub more : List ℕ
+  pub said : after ≡ before ++ more
+  pub takes : TakesPieces old bytes pieces used more new
+  pub count_is : count ≡ count_passed pieces
+  pub few : count ≤ used
+  pub within : used ≤ length bytes
+
+pub so_far_nothing : (old : ServerValue) (bytes before : List ℕ) → SoFar old bytes before before 0 0 old
+so_far_nothing old bytes before = record {
+  pieces = [];
+  more = [];
+  said = sym (append-nil before);
+  takes = takes_nothing old bytes;
+  count_is = refl;
+  few = omega arith;
+  within = omega arith;
+}
+
+-- what a piece more has of bytes, and how often it is passed over
+pub step_within : (mid new : ServerValue) (bytes more : List ℕ) (used n count : ℕ) → used ≤ length bytes → TakesFront mid (drop used bytes) (step.Taken n count) more new
+    → (used + n ≤ length bytes) × (count ≤ n) × (0 < n)
+step_within mid new bytes more used n count within t =
+    let left = t.2.within in let one = one_passed t.1 in let is = t.3 in let some = t.0 in
+    (omega (arith, length-drop used bytes), omega arith, some)
+
+pub so_far_more : (old mid new : ServerValue) (bytes before after later more : List ℕ) (used count n passes : ℕ) → SoFar old bytes before after used count mid
+    → later ≡ after ++ more → TakesFront mid (drop used bytes) (step.Taken n passes) more new → SoFar old bytes before later (used + n) (count + passes) new
+so_far_more old mid new bytes before after later more used count n passes a said t = record {
+  pieces = a.pieces ++ t.1 ∷ [];
+  more = a.more ++ more;
+  said = said ∙ ap (λ (k : List ℕ). k ++ more) a.said ∙ append_assoc before a.more more;
+  takes = takes_then old mid new bytes a.pieces (t.1 ∷ []) used n a.more more a.within a.takes t.2;
+  count_is = let is = t.3 in let was = a.count_is in omega (arith, passed_append a.pieces (t.1 ∷ []));
+  few = let w = step_within mid new bytes more used n passes a.within t in let few = a.few in omega arith;
+  within = (step_within mid new bytes more used n passes a.within t).0;
+}
+
+pub so_far_part : (old mid new : ServerValue) (bytes before after later more : List ℕ) (used count : ℕ) → SoFar old bytes before after used count mid
+    → later ≡ after ++ more → TakesFront mid (drop used bytes) step.Part more new
+    → TakesAll old bytes before (record { used = used; passed_over = count; ends = false }) later new
+so_far_part old mid new bytes before after later more used count a said t = record {
+  pieces = a.pieces;
+  more = a.more;
+  said = said ∙ ap (λ (k : List ℕ). after ++ k) t.1 ∙ append-nil after ∙ a.said;
+  takes = subst (λ (v : ServerValue). TakesPieces old bytes a.pieces used a.more v) (sym t.2) a.takes;
+  count = a.count_is;
+  part = λ e. subst (λ (l : Bounds). IsPart l (drop used bytes)) a.takes.answers.limits t.0;
+  no_frame = λ e. absurd cc;
+}
+
+pub so_far_no_frame : (old mid new : ServerValue) (bytes before after later more : List ℕ) (used count : ℕ) → SoFar old bytes before after used count mid
+    → later ≡ after ++ more → TakesFront mid (drop used bytes) step.NoFrame more new
+    → TakesAll old bytes before (record { used = used; passed_over = count; ends = true }) later new
+so_far_no_frame old mid new bytes before after later more used count a said t = record {
+  pieces = a.pieces;
+  more = a.more;
+  said = said ∙ ap (λ (k : List ℕ). after ++ k) t.1 ∙ append-nil after ∙ a.said;
+  takes = subst (λ (v : ServerValue). TakesPieces old bytes a.pieces used a.more v) (sym t.2) a.takes;
+  count = a.count_is;
+  part = λ e. absurd cc;
+  no_frame = λ e. subst (λ (l : Bounds). IsNoFrame l (drop used bytes)) a.takes.answers.limits t.0;
+}

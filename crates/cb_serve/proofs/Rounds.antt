@@ -1,0 +1,267 @@
+-- Rounds, one after another.
+use Rattle.std.proofs.Common.{◌≡◌, ◌∙◌, ◌≢◌, ◌⊎◌, inl, inr, ℕ, List, [], ◌∷◌, ◌++◌, Option, None, Result, Ok, Err, IfErr, OnOk, option_map, refl, sym, ap, subst, take, drop, length}
+use Rattle.std.proofs.KnownBytes.{Appends-nil, Appends-trans, Consumes-nil, Consumes-trans}
+use Rattle.std.proofs.Math.Seq.{take-length}
+use Rattle.std.proofs.lemmas.Grind.{flat_map-append}
+use Rattle.std.proofs.lemmas.List.{append-nil, take-append-drop}
+use Rattle.std.specs.Io.KnownBytes.{Appends, Consumes, IsAtEnd}
+use Rattle.std.specs.List.{AllByRecursion, flat_map}
+use Rattle.sqlite.specs.Held.{Held, state}
+use Rattle.sqlite.specs.State.{HasCleanDisk}
+use Rattle.sqlite.specs.Store.{Ghosts}
+use Rattle.cb_commit.specs.Stores.{StoreState}
+use Rattle.cb_page.specs.Bounds.{Bounds}
+use Rattle.cb_protocol.specs.Flush.{next_batch}
+use Rattle.cb_protocol.specs.Server.{Server}
+use Rattle.cb_server.specs.ServerValue.{IsNew, ServerValue, server_of}
+use Rattle.cb_server_state.specs.Commits.{batch_of}
+use Rattle.cb_shelf.specs.Newer.{HoldsNewer}
+use Rattle.cb_sql.specs.Inside.{IsSame}
+use Rattle.cb_serve.proofs.Inputs.{spells_nothing}
+use Rattle.cb_serve.proofs.Writing.{survives_still}
+use Rattle.cb_serve.specs.Answering.{Spells, after_inputs, inputs_in, said_to}
+use Rattle.cb_serve.specs.Parts.{Answered, Commits, DoesRound, EndsRound, StopsAnswering, StopsCommit, StopsRound, standing}
+use Rattle.cb_serve.specs.Rounds.{IsRound, Round, SaysDones, Standing, Writes, WritesOrNot, counted_on, reached}
+use Rattle.cb_serve.specs.Serving.{AreRounds, Ends, IsStopped, Serves, ServesStore, opened, put_in, read_in}
+use Rattle.cb_serve.specs.Streams.{IsNoFrame, IsPart, IsPiece, bytes_of, count_passed}
+use Rattle.cb_serve.specs.declared.fault.RoundFault.{RoundFault}
+use Rattle.cb_serve.specs.declared.fault.ServeFault.{ServeFault}
+use Rattle.cb_serve.specs.declared.fault.ServeFault.TheVariants as fault
+use Rattle.cb_serve.specs.declared.round.Desk.{Desk}
+use Rattle.cb_serve.specs.declared.round.RoundEnd.{RoundEnd}
+use Rattle.cb_serve.specs.declared.round.RoundEnd.TheVariants as end
+use Rattle.cb_serve.specs.declared.taking.Taken.{Taken}
+
+-- nothing was taken or put out
+pub stops_at_once : (server : ServerValue) (out : Option (List ℕ)) → StopsAnswering server out out
+stops_at_once server out = record { pieces = []; answers = []; says = spells_nothing server.limits; count = 0; puts = Appends-nil out }
+
+module _ {S : Type 0} (g : Ghosts S) where
+  -- the parts of a round are a round
+  pub does_round : (limits : Bounds) (old mid new : ServerValue) (desk read_desk after : Desk) (tables later : Held S) (read : List ℕ) (taken : Taken)
+      (in1 in2 out1 out2 out3 : Option (List ℕ)) → old.limits ≡ limits
+      → read_desk.pending.items ≡ desk.pending.items ++ read → read_desk.passed_over ≡ desk.passed_over → Consumes in1 in2 read
+      → Answered old read_desk after taken mid out1 out2 → Commits g mid tables later new out2 out3
+      → DoesRound g limits (standing g old desk tables) (standing g new after later) in1 in2 out1 out3
+  does_round limits old mid new desk read_desk after tables later read taken in1 in2 out1 out2 out3 same reads counts consumes a c =
+      let inputs = inputs_in a.pieces in
+      let is : server_of mid ≡ after_inputs (server_of old) (inputs_in a.pieces) = a.takes.answers.becomes in
+      let kept : mid.limits ≡ limits = a.takes.answers.limits ∙ same in
+      record {
+        round = record { read = read; pieces = a.pieces; answers = a.answers; batch = c.batch; dones = c.dones };
+        is = record {
+          are = subst (λ (l : Bounds). AllByRecursion (IsPiece l) a.pieces) same a.takes.are;
+          cut = sym reads ∙ sym (take-append-drop taken.used read_desk.pending.items) ∙ ap (λ (k : List ℕ). k ++ drop taken.used read_desk.pending.items) a.takes.cut
+              ∙ ap (λ (k : List ℕ). flat_map bytes_of a.pieces ++ k) (sym a.rest);
+          passed = subst (λ (n : ℕ). after.passed_over ≡ counted_on n (count_passed a.pieces)) counts a.passed;
+          answers = subst (λ (l : Bounds). Spells l (said_to (server_of old) (inputs_in a.pieces)) a.answers) same a.takes.answers.says;
+          batch = subst (λ (s : Server). next_batch s ≡ option_map batch_of c.batch) is c.next;
+          written = subst (λ (l : Bounds). Writes g l c.batch tables later) kept c.written;
+          crash = c.crash;
+          dones = subst (λ (s : Server). SaysDones limits s c.batch c.dones) is (subst (λ (l : Bounds). SaysDones l (server_of mid) c.batch c.dones) kept c.says);
+          server = c.becomes ∙ ap (λ (s : Server). reached s c.batch) is;
+          all_on_disk = c.all_on_disk;
+        };
+        reads = consumes;
+        puts = Appends-trans out1 out2 out3 a.answers c.dones a.puts c.puts;
+      }
+
+  -- the input has ended
+  pub ended_round : (limits : Bounds) (server : ServerValue) (desk after : Desk) (tables : Held S) (read : List ℕ) (in1 in2 out : Option (List ℕ))
+      → after.pending.items ≡ desk.pending.items ++ read → after.passed_over ≡ desk.passed_over → read ≡ [] → Consumes in1 in2 read → IsAtEnd in2
+      → EndsRound g limits end.Ended (standing g server desk tables) (standing g server after tables) in1 in2 out out
+  ended_round limits server desk after tables read in1 in2 out reads counts none consumes at_end =
+      let waiting : after.pending.items ≡ desk.pending.items = reads ∙ ap (λ (k : List ℕ). desk.pending.items ++ k) none ∙ append-nil desk.pending.items in (
+        ap (λ (k : List ℕ). record { server = server_of server; waiting = k; passed = after.passed_over; tables = tables }) waiting
+            ∙ ap (λ (n : ℕ). record { server = server_of server; waiting = desk.pending.items; passed = n; tables = tables }) counts,
+        subst (λ (k : List ℕ). Consumes in1 in2 k) none consumes,
+        at_end,
+        refl,
+      )
+
+  -- nothing more was done
+  pub stopped_still : (limits : Bounds) (old : Standing S) → IsStopped g limits [] old old.tables
+  stopped_still limits old = record {
+    pieces = [];
+    batch = None;
+    answers = [];
+    dones = [];
+    written = refl;
+    crash = survives_still g old.tables _;
+    says = spells_nothing limits;
+    put_out = inl (0, refl);
+  }
+
+  -- a read failed
+  pub stops_reading : (limits : Bounds) (old : Standing S) (read : List ℕ) (in1 in2 out : Option (List ℕ)) → Consumes in1 in2 read
+      → StopsRound g limits old old.tables in1 in2 out out
+  stops_reading limits old read in1 in2 out consumes =
+      record { read = read; reads = consumes; put = []; puts = Appends-nil out; stopped = stopped_still limits old }
+
+  -- some answers were put out
+  pub stops_answering : (limits : Bounds) (old : ServerValue) (desk : Desk) (tables : Held S) (read : List ℕ) (in1 in2 out1 out2 : Option (List ℕ)) → old.limits ≡ limits
+      → Consumes in1 in2 read → StopsAnswering old out1 out2 → StopsRound g limits (standing g old desk tables) tables in1 in2 out1 out2
+  stops_answering limits old desk tables read in1 in2 out1 out2 same consumes a = record {
+    read = read;
+    reads = consumes;
+    put = take a.count a.answers;
+    puts = a.puts;
+    stopped = record {
+      pieces = a.pieces;
+      batch = None;
+      answers = a.answers;
+      dones = [];
+      written = refl;
+      crash = survives_still g tables _;
+      says = subst (λ (l : Bounds). Spells l (said_to (server_of old) (inputs_in a.pieces)) a.answers) same a.says;
+      put_out = inl (a.count, refl);
+    };
+  }
+
+  -- the answers were put out, and some of the Dones, or none
+  pub stops_committing : (limits : Bounds) (old mid : ServerValue) (desk read_desk after : Desk) (tables later : Held S) (read : List ℕ) (taken : Taken)
+      (in1 in2 out1 out2 out3 : Option (List ℕ)) → old.limits ≡ limits → Consumes in1 in2 read
+      → Answered old read_desk after taken mid out1 out2 → StopsCommit g mid tables later out2 out3
+      → StopsRound g limits (standing g old desk tables) later in1 in2 out1 out3
+  stops_committing limits old mid desk read_desk after tables later read taken in1 in2 out1 out2 out3 same consumes a c =
+      let is : server_of mid ≡ after_inputs (server_of old) (inputs_in a.pieces) = a.takes.answers.becomes in
+      let kept : mid.limits ≡ limits = a.takes.answers.limits ∙ same in
+      record {
+        read = read;
+        reads = consumes;
+        put = a.answers ++ c.put;
+        puts = Appends-trans out1 out2 out3 a.answers c.put a.puts c.puts;
+        stopped = record {
+          pieces = a.pieces;
+          batch = c.batch;
+          answers = a.answers;
+          dones = c.dones;
+          written = subst (λ (l : Bounds). WritesOrNot g l c.batch tables later) kept c.written;
+          crash = c.crash;
+          says = subst (λ (l : Bounds). Spells l (said_to (server_of old) (inputs_in a.pieces)) a.answers) same a.takes.answers.says;
+          put_out = how is kept c.put_out;
+        };
+      }
+    where
+      how : server_of mid ≡ after_inputs (server_of old) (inputs_in a.pieces) → mid.limits ≡ limits
+          → ((c.put ≡ []) ⊎ ((n : ℕ) × (c.put ≡ take n c.dones) × SaysDones mid.limits (server_of mid) c.batch c.dones × Writes g mid.limits c.batch tables later))
+          → (((n : ℕ) × (a.answers ++ c.put ≡ take n a.answers)) ⊎ ((n : ℕ) × (a.answers ++ c.put ≡ a.answers ++ take n c.dones)
+          × SaysDones limits (after_inputs (server_of old) (inputs_in a.pieces)) c.batch c.dones × Writes g limits c.batch tables later))
+      how is kept (inl e) = inl (length a.answers, ap (λ (k : List ℕ). a.answers ++ k) e ∙ append-nil a.answers ∙ sym (take-length a.answers))
+      how is kept (inr w) = inr (
+        w.0,
+        ap (λ (k : List ℕ). a.answers ++ k) w.1,
+        subst (λ (s : Server). SaysDones limits s c.batch c.dones) is (subst (λ (l : Bounds). SaysDones l (server_of mid) c.batch c.dones) kept w.2),
+        subst (λ (l : Bounds). Writes g l c.batch tables later) kept w.3,
+      )
+
+  -- one round more
+  rounds_more : (limits : Bounds) (rounds : List Round) (round : Round) (a b c : Standing S) → AreRounds g limits rounds a b → IsRound g limits round b c
+      → AreRounds g limits (rounds ++ round ∷ []) a c
+  rounds_more limits [] round a b c are is = (c, subst (λ (s : Standing S). IsRound g limits round s c) are is, refl)
+  rounds_more limits (first ∷ rounds) round a b c are is = (are.0, are.1, rounds_more limits rounds round are.0 b c are.2 is)
+
+  -- How far a loop over rounds has come.
+  pub record Far (limits : Bounds) (start now : Standing S) (in0 in1 out0 out1 : Option (List ℕ)) : Type 0 where
+    pub rounds : List Round
+    pub are : AreRounds g limits rounds start now
+    pub reads : Consumes in0 in1 (read_in rounds)
+    pub puts : Appends out0 out1 (put_in rounds)
+
+  pub far_nothing : (limits : Bounds) (start : Standing S) (in0 out0 : Option (List ℕ)) → Far limits start start in0 in0 out0 out0
+  far_nothing limits start in0 out0 = record { rounds = []; are = refl; reads = Consumes-nil in0; puts = Appends-nil out0 }
+
+  pub far_more : (limits : Bounds) (start now next : Standing S) (in0 in1 in2 out0 out1 out2 : Option (List ℕ)) → Far limits start now in0 in1 out0 out1
+      → DoesRound g limits now next in1 in2 out1 out2 → Far limits start next in0 in2 out0 out2
+  far_more limits start now next in0 in1 in2 out0 out1 out2 far d = record {
+    rounds = far.rounds ++ d.round ∷ [];
+    are = rounds_more limits far.rounds d.round start now next far.are d.is;
+    reads = subst (λ (k : List ℕ). Consumes in0 in2 k) (sym (flat_map-append (λ (r : Round). r.read) far.rounds (d.round ∷ []) ∙ ap (λ (k : List ℕ). read_in far.rounds ++ k) (append-nil d.round.read)))
+        (Consumes-trans in0 in1 in2 (read_in far.rounds) d.round.read far.reads d.reads);
+    puts = subst (λ (k : List ℕ). Appends out0 out2 k)
+        (sym (flat_map-append (λ (r : Round). r.answers ++ r.dones) far.rounds (d.round ∷ []) ∙ ap (λ (k : List ℕ). put_in far.rounds ++ k) (append-nil (d.round.answers ++ d.round.dones))))
+        (Appends-trans out0 out1 out2 (put_in far.rounds) (d.round.answers ++ d.round.dones) far.puts d.puts);
+  }
+
+  -- it ends there
+  pub serves_at : {E : Type 0} (limits : Bounds) (ending : Result E ServeFault) (start now : Standing S) (tables : Held S) (unread put : List ℕ)
+      (in0 in1 in2 out0 out1 out2 : Option (List ℕ)) → Far limits start now in0 in1 out0 out1 → Consumes in1 in2 unread → Appends out1 out2 put
+      → Ends g limits ending put now tables → Serves g limits ending start tables in0 in2 out0 out2
+  serves_at limits ending start now tables unread put in0 in1 in2 out0 out1 out2 far consumes appends ends = record {
+    rounds = far.rounds;
+    last = now;
+    are = far.are;
+    unread = unread;
+    reads = Consumes-trans in0 in1 in2 (read_in far.rounds) unread far.reads consumes;
+    put = put;
+    puts = Appends-trans out0 out1 out2 (put_in far.rounds) put far.puts appends;
+    ends = ends;
+  }
+
+  -- a round stops
+  pub serves_stopped : {E : Type 0} (limits l : Bounds) (start now : Standing S) (f : RoundFault) (tables : Held S) (in0 in1 in2 out0 out1 out2 : Option (List ℕ)) → l ≡ limits
+      → Far limits start now in0 in1 out0 out1 → StopsRound g l now tables in1 in2 out1 out2 → Serves g limits {E = E} (Err (fault.Round f)) start tables in0 in2 out0 out2
+  serves_stopped limits l start now f tables in0 in1 in2 out0 out1 out2 same far stops =
+      serves_at limits (Err (fault.Round f)) start now tables stops.read stops.put in0 in1 in2 out0 out1 out2 far stops.reads stops.puts
+      (subst (λ (k : Bounds). IsStopped g k stops.put now tables) same stops.stopped)
+
+  -- there are no more rounds
+  pub serves_tired : {E : Type 0} (limits : Bounds) (start now : Standing S) (f : RoundFault) (in0 in1 out0 out1 : Option (List ℕ))
+      → Far limits start now in0 in1 out0 out1 → Serves g limits {E = E} (Err (fault.Round f)) start now.tables in0 in1 out0 out1
+  serves_tired limits start now f in0 in1 out0 out1 far =
+      serves_at limits (Err (fault.Round f)) start now now.tables [] [] in0 in1 in1 out0 out1 out1 far (Consumes-nil in1) (Appends-nil out1) (stopped_still limits now)
+
+  round_at : (limits l : Bounds) (now next : Standing S) (in1 in2 out1 out2 : Option (List ℕ)) → l ≡ limits → DoesRound g l now next in1 in2 out1 out2 → DoesRound g limits now next in1 in2 out1 out2
+  round_at limits l now next in1 in2 out1 out2 same d = subst (λ (k : Bounds). DoesRound g k now next in1 in2 out1 out2) same d
+
+  -- a round was done, and the input goes on
+  pub goes_on : (limits l : Bounds) (start now next : Standing S) (e : RoundEnd) (in0 in1 in2 out0 out1 out2 : Option (List ℕ)) → l ≡ limits → e ≡ end.GoesOn
+      → Far limits start now in0 in1 out0 out1 → EndsRound g l e now next in1 in2 out1 out2 → IsPart limits next.waiting × Far limits start next in0 in2 out0 out2
+  goes_on limits l start now next e in0 in1 in2 out0 out1 out2 same is far ends =
+      let d = subst (λ (k : RoundEnd). EndsRound g l k now next in1 in2 out1 out2) is ends in
+      (subst (λ (k : Bounds). IsPart k next.waiting) same d.1, far_more limits start now next in0 in1 in2 out0 out1 out2 far (round_at limits l now next in1 in2 out1 out2 same d.0))
+
+  -- a round was done, and the input goes on wrongly
+  pub serves_no_frame : {E : Type 0} (limits l : Bounds) (start now next : Standing S) (e : RoundEnd) (in0 in1 in2 out0 out1 out2 : Option (List ℕ)) → l ≡ limits → e ≡ end.NoFrame
+      → Far limits start now in0 in1 out0 out1 → EndsRound g l e now next in1 in2 out1 out2 → Serves g limits {E = E} (Err fault.NoFrame) start next.tables in0 in2 out0 out2
+  serves_no_frame limits l start now next e in0 in1 in2 out0 out1 out2 same is far ends =
+      let d = subst (λ (k : RoundEnd). EndsRound g l k now next in1 in2 out1 out2) is ends in
+      serves_at limits (Err fault.NoFrame) start next next.tables [] [] in0 in2 in2 out0 out2 out2
+      (far_more limits start now next in0 in1 in2 out0 out1 out2 far (round_at limits l now next in1 in2 out1 out2 same d.0)) (Consumes-nil in2) (Appends-nil out2)
+      (subst (λ (k : Bounds). IsNoFrame k next.waiting) same d.1, refl, refl)
+
+  -- how it ends with the input
+  ends_with_input : {E : Type 0} (limits : Bounds) (r : Result E ServeFault) (now next : Standing S) → next ≡ now → IsPart limits now.waiting → OnOk r (next.waiting ≡ [])
+      → IfErr r (λ f. (f ≡ fault.Cut) × (next.waiting ≢ [])) → Ends g limits r [] now next.tables
+  ends_with_input limits (Ok x) now next same part ok err =
+      (ap (λ (k : Standing S). k.waiting) (sym same) ∙ ok, refl, ap (λ (k : Standing S). k.tables) same)
+  ends_with_input {E} limits (Err f) now next same part ok err =
+      subst (λ (k : ServeFault). Ends g limits {E = E} (Err k) [] now next.tables) (sym err.0)
+      (part, (λ e. err.1 (ap (λ (k : Standing S). k.waiting) same ∙ e)), refl, ap (λ (k : Standing S). k.tables) same)
+
+  pub serves_ended : {E : Type 0} (limits l : Bounds) (r : Result E ServeFault) (start now next : Standing S) (e : RoundEnd) (waiting : List ℕ) (in0 in1 in2 out0 out1 out2 : Option (List ℕ))
+      → l ≡ limits → e ≡ end.Ended → waiting ≡ next.waiting → IsPart limits now.waiting → Far limits start now in0 in1 out0 out1
+      → EndsRound g l e now next in1 in2 out1 out2 → OnOk r (waiting ≡ []) → IfErr r (λ f. (f ≡ fault.Cut) × (waiting ≢ []))
+      → Serves g limits r start next.tables in0 in2 out0 out2
+  serves_ended limits l r start now next e waiting in0 in1 in2 out0 out1 out2 same is names part far ends ok err =
+      let d = subst (λ (k : RoundEnd). EndsRound g l k now next in1 in2 out1 out2) is ends in
+      serves_at limits r start now next.tables [] [] in0 in1 in2 out0 out1 out2 far d.1
+      (subst (λ (o : Option (List ℕ)). Appends out1 o []) (sym d.3) (Appends-nil out1))
+      (ends_with_input limits r now next d.0 part (subst (λ (k : List ℕ). OnOk r (k ≡ [])) names ok)
+      (subst (λ (k : List ℕ). IfErr r (λ f. (f ≡ fault.Cut) × (k ≢ []))) names err))
+
+  -- the whole of it, over a store
+  pub serves_store : {E : Type 0} (limits : Bounds) (store : StoreState) (r : Result E ServeFault) (server : ServerValue) (pending : List ℕ) (old tables new : Held S)
+      (in0 in1 out0 out1 : Option (List ℕ)) → IsNew limits store server → pending ≡ []
+      → (HasCleanDisk (state g tables) → HoldsNewer (state g old).now store) → (HasCleanDisk (state g tables) → IsSame (state g old) (state g tables))
+      → Serves g server.limits r (record { server = server_of server; waiting = pending; passed = 0; tables = tables }) new in0 in1 out0 out1
+      → ServesStore g limits r old new in0 in1 out0 out1
+  serves_store limits store r server pending old tables new in0 in1 out0 out1 is empty holds same serves = record {
+    store = store;
+    tables = tables;
+    holds = holds;
+    same = same;
+    serves = subst (λ (l : Bounds). Serves g l r (record { server = opened limits store; waiting = []; passed = 0; tables = tables }) new in0 in1 out0 out1) is.limits
+        (subst (λ (k : List ℕ). Serves g server.limits r (record { server = opened limits store; waiting = k; passed = 0; tables = tables }) new in0 in1 out0 out1) empty
+        (subst (λ (s : Server). Serves g server.limits r (record { server = s; waiting = pending; passed = 0; tables = tables }) new in0 in1 out0 out1) is.server serves));
+  }

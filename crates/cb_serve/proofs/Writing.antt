@@ -1,0 +1,154 @@
+-- What is committed is written, and its commits are on disk.
+use Rattle.std.proofs.Common.{◌≡◌, ◌∙◌, ◌≤◌, inl, inr, ℕ, Result, Ok, Err, OnErr, Bool, true, false, List, [], Option, Some, None, refl, ap, subst, take, arith, if◌then◌else◌, nat_lt}
+use Rattle.std.proofs.KnownBytes.{Appends-nil}
+use Rattle.std.proofs.lemmas.Bool.Decides.{nat_tests}
+use Rattle.std.specs.Io.KnownBytes.{Appends}
+use Rattle.std.specs.List.{AllByRecursion, flat_map}
+use Rattle.sqlite.specs.Held.{Held, state}
+use Rattle.sqlite.specs.State.{HasCleanDisk, Survives}
+use Rattle.sqlite.specs.Store.{Ghosts}
+use Rattle.sqlite.specs.Tree.{Trees}
+use Rattle.cb_commit.specs.Batches.{BatchState}
+use Rattle.cb_frame_types.specs.Grammar.{Fits as FrameFits}
+use Rattle.cb_frame_types.specs.Spelling.{spelling}
+use Rattle.cb_frame_types.specs.declared.frame.Frame.{Frame}
+use Rattle.cb_outbox.specs.Messages.{messages_of}
+use Rattle.cb_page.specs.Bounds.{Bounds}
+use Rattle.cb_protocol.proofs.NoCycles.{sends_dones}
+use Rattle.cb_protocol.proofs.SettlingClears.{after_noted}
+use Rattle.cb_protocol.specs.AnyMessages.{ReachesDisk}
+use Rattle.cb_protocol.specs.Messages.{Message}
+use Rattle.cb_protocol.specs.Flush.{Batch, dones_between, next_batch, server_flush}
+use Rattle.cb_protocol.specs.Server.{Server, SetFlushed, after_server_step, server_after}
+use Rattle.cb_server.specs.ServerValue.{ServerValue, forgot, server_of}
+use Rattle.cb_server.specs.Taking.{Does}
+use Rattle.cb_server_state.specs.Commits.{batch_of}
+use Rattle.cb_shelf.specs.Flushing.{WritesOne, WritesOrStays}
+use Rattle.cb_sql.specs.Inside.{IsSettled}
+use Rattle.cb_sql.specs.Statements.{MakesAll, batch_statements}
+use Rattle.cb_sql.specs.Writing.{Fits, Wrote}
+use Rattle.cb_serve.proofs.Inputs.{answers_one}
+use Rattle.cb_serve.specs.Parts.{Commits, StopsCommit}
+
+-- after a flush the number of the last commit on disk is another, and nothing else
+after_flush : (s : Server) (n : ℕ) → server_after s (server_flush s n) ≡ after_server_step s (SetFlushed n)
+after_flush s n = after_noted s (dones_between s.commits s.flushed n) (SetFlushed n) (sends_dones s.commits s.flushed n)
+
+number_is : (t : Bool) (x b : Batch) → (if t then Some x else None) ≡ Some b → b.number ≡ x.number
+number_is true x b e = cc
+number_is false x b e = absurd cc
+
+none_if : (t : Bool) (x : Batch) → t ≡ false → (if t then Some x else None) ≡ None
+none_if true x e = absurd cc
+none_if false x e = refl
+
+not_below : (m n : ℕ) → m ≡ n → nat_lt m n ≡ false
+not_below m n e = grind (arith, nat_tests)
+
+-- once the next batch is on disk, there is none
+none_left : (s : Server) (b : Batch) → next_batch s ≡ Some b → next_batch (server_after s (server_flush s b.number)) ≡ None
+none_left s b e = ap next_batch (after_flush s b.number) ∙ none_if (nat_lt b.number s.store.last_commit) _ (not_below b.number s.store.last_commit (number_is (nat_lt s.flushed s.store.last_commit) _ b e))
+
+-- so the commits up to it may be forgotten
+pub flushed_to : (old mid : ServerValue) (n : ℕ) (said : List Message) → Does old (ReachesDisk n) said mid → n ≤ (server_of mid).flushed
+flushed_to old mid n said does =
+    let e : (server_of mid).flushed ≡ n = ap (λ (s : Server). s.flushed) (does.becomes ∙ after_flush (server_of old) n) in omega arith
+
+-- what holds of any result, holds where it is refused
+pub on_err : {X E : Type 0} (P : Type 0) (r : Result X E) → P → OnErr r P
+on_err P (Ok x) p = tt
+on_err P (Err e) p = p
+
+module _ {S : Type 0} (g : Ghosts S) where
+  -- nothing happens to the tables
+  pub survives_still : (a : Held S) (P : Trees → Type 0) → Survives (state g a) (state g a) P
+  survives_still a P = record {
+    clean = omega arith;
+    shield = λ s. s;
+    counts = omega arith;
+    limit = refl;
+    closes = λ clean still. inl still;
+    crash = λ clean db left. inl left;
+  }
+
+  -- one batch was written
+  pub wrote_one : (l k : Bounds) (batch : BatchState) (a b : Held S) → k ≡ l → Fits k batch
+      → (HasCleanDisk (state g b) → MakesAll g (batch_statements batch) (state g a).now (state g b).committed) → (HasCleanDisk (state g b) → IsSettled (state g b))
+      → WritesOne g l batch a b
+  wrote_one l k batch a b same fits made settled = record { fits = subst (λ (x : Bounds). Fits x batch) same fits; made = made; settled = settled }
+
+  -- nothing is to be written
+  pub commits_nothing : (old : ServerValue) (tables : Held S) (out : Option (List ℕ)) → next_batch (server_of old) ≡ None → Commits g old tables tables old out out
+  commits_nothing old tables out none = record {
+    batch = None;
+    dones = [];
+    next = none;
+    written = refl;
+    says = refl;
+    becomes = refl;
+    all_on_disk = none;
+    limits = refl;
+    crash = survives_still tables _;
+    puts = Appends-nil out;
+  }
+
+  -- a batch is written
+  pub commits_batch : (old mid new : ServerValue) (tables after : Held S) (batch : BatchState) (frames : List Frame) (out out2 : Option (List ℕ))
+      → next_batch (server_of old) ≡ Some (batch_of batch) → WritesOne g old.limits batch tables after
+      → Survives (state g tables) (state g after) (Wrote g batch tables)
+      → Does old (ReachesDisk batch.number) (messages_of frames) mid → AllByRecursion (FrameFits old.limits) frames → new ≡ forgot mid batch.number
+      → Appends out out2 (flat_map spelling frames) → Commits g old tables after new out out2
+  commits_batch old mid new tables after batch frames out out2 next wrote crash does fit forgets puts =
+      let becomes : server_of new ≡ server_after (server_of old) (server_flush (server_of old) batch.number) = ap server_of forgets ∙ does.becomes in
+      record {
+        batch = Some batch;
+        dones = flat_map spelling frames;
+        next = next;
+        written = wrote;
+        says = (answers_one old (ReachesDisk batch.number) frames mid does fit).says;
+        becomes = becomes;
+        all_on_disk = ap next_batch becomes ∙ none_left (server_of old) (batch_of batch) next;
+        limits = ap (λ (v : ServerValue). v.limits) forgets ∙ does.limits;
+        crash = crash;
+        puts = puts;
+      }
+
+  -- nothing was written or put out
+  pub stops_before : (old : ServerValue) (tables : Held S) (out : Option (List ℕ)) → StopsCommit g old tables tables out out
+  stops_before old tables out = record {
+    batch = None;
+    dones = [];
+    put = [];
+    written = refl;
+    crash = survives_still tables _;
+    puts = Appends-nil out;
+    put_out = inl refl;
+  }
+
+  -- a batch was refused, or was written, and nothing was put out
+  pub stops_at_batch : (old : ServerValue) (tables after : Held S) (batch : BatchState) (out : Option (List ℕ)) → WritesOrStays g old.limits batch tables after
+      → Survives (state g tables) (state g after) (Wrote g batch tables) → StopsCommit g old tables after out out
+  stops_at_batch old tables after batch out wrote crash = record {
+    batch = Some batch;
+    dones = [];
+    put = [];
+    written = wrote;
+    crash = crash;
+    puts = Appends-nil out;
+    put_out = inl refl;
+  }
+
+  -- a batch was written, and a front of the Dones was put out
+  pub stops_at_dones : (old mid : ServerValue) (tables after : Held S) (batch : BatchState) (frames : List Frame) (out out2 : Option (List ℕ)) (n : ℕ)
+      → WritesOne g old.limits batch tables after → Survives (state g tables) (state g after) (Wrote g batch tables)
+      → Does old (ReachesDisk batch.number) (messages_of frames) mid → AllByRecursion (FrameFits old.limits) frames
+      → Appends out out2 (take n (flat_map spelling frames)) → StopsCommit g old tables after out out2
+  stops_at_dones old mid tables after batch frames out out2 n wrote crash does fit puts = record {
+    batch = Some batch;
+    dones = flat_map spelling frames;
+    put = take n (flat_map spelling frames);
+    written = inl wrote;
+    crash = crash;
+    puts = puts;
+    put_out = inr (n, refl, (answers_one old (ReachesDisk batch.number) frames mid does fit).says, wrote);
+  }

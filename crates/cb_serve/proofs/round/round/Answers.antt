@@ -1,0 +1,39 @@
+-- Goals of `round`.
+use Rattle.std.proofs.Common.{refl}
+use Rattle.cb_serve.proofs.Rounds.{does_round, stops_committing, stops_reading}
+use Rattle.cb_serve.proofs.Writing.{on_err}
+use Rattle.cb_serve.specs.Parts.{standing}
+use Rattle.cb_serve.proofs.round.round.Goals as goal
+
+pub returns-in_err-read_more-clause-err : goal.returns-in_err-read_more-clause-err
+returns-in_err-read_more-clause-err g c =
+    on_err _ c.from_residual.result (stops_reading g.S.Store c.args.server.now.limits (standing g.S.Store c.args.server.now c.args.desk.now c.args.shelf.now.conn) c.in_err-read_more.ensures.err.0
+    (g.R.Read.remaining c.args.input.now) (g.R.Read.remaining c.read_more.new.input) (g.W.Write.contents c.args.output.now) c.in_err-read_more.ensures.err.1)
+
+pub returns-in_err-commit-clause-err : goal.returns-in_err-commit-clause-err
+returns-in_err-commit-clause-err g c =
+    on_err _ c.from_residual-in_err-commit.result (stops_committing g.S.Store c.args.server.now.limits c.args.server.now c.answer.new.server c.args.desk.now
+    (record { pending = c.read_more.new.pending; said = c.args.desk.now.said; passed_over = c.args.desk.now.passed_over }) c.answer.new.desk c.args.shelf.now.conn c.commit.new.shelf.conn
+    c.in_ok-read_more.ensures.ok.0 c.in_ok-taken.taken (g.R.Read.remaining c.args.input.now) (g.R.Read.remaining c.read_more.new.input)
+    (g.W.Write.contents c.args.output.now) (g.W.Write.contents c.answer.new.output) (g.W.Write.contents c.commit.new.output)
+    refl c.in_ok-read_more.ensures.ok.2 c.in_ok-taken.ensures.ok c.in_err-commit.ensures.err)
+
+pub returns-then-taken-clause-ok : goal.returns-then-taken-clause-ok
+returns-then-taken-clause-ok g c = (
+  does_round g.S.Store c.args.server.now.limits c.args.server.now c.answer.new.server c.commit.new.server c.args.desk.now
+      (record { pending = c.read_more.new.pending; said = c.args.desk.now.said; passed_over = c.args.desk.now.passed_over }) c.answer.new.desk c.args.shelf.now.conn c.commit.new.shelf.conn
+      c.in_ok-read_more.ensures.ok.0 c.in_ok-taken.taken (g.R.Read.remaining c.args.input.now) (g.R.Read.remaining c.read_more.new.input)
+      (g.W.Write.contents c.args.output.now) (g.W.Write.contents c.answer.new.output) (g.W.Write.contents c.commit.new.output)
+      refl c.in_ok-read_more.ensures.ok.1 refl c.in_ok-read_more.ensures.ok.2 c.in_ok-taken.ensures.ok c.in_ok-commit.ensures.ok,
+  c.in_ok-taken.ensures.ok.no_frame c.if-taken.true,
+)
+
+pub returns-clause-ok : goal.returns-clause-ok
+returns-clause-ok g c = (
+  does_round g.S.Store c.args.server.now.limits c.args.server.now c.answer.new.server c.commit.new.server c.args.desk.now
+      (record { pending = c.read_more.new.pending; said = c.args.desk.now.said; passed_over = c.args.desk.now.passed_over }) c.answer.new.desk c.args.shelf.now.conn c.commit.new.shelf.conn
+      c.in_ok-read_more.ensures.ok.0 c.in_ok-taken.taken (g.R.Read.remaining c.args.input.now) (g.R.Read.remaining c.read_more.new.input)
+      (g.W.Write.contents c.args.output.now) (g.W.Write.contents c.answer.new.output) (g.W.Write.contents c.commit.new.output)
+      refl c.in_ok-read_more.ensures.ok.1 refl c.in_ok-read_more.ensures.ok.2 c.in_ok-taken.ensures.ok c.in_ok-commit.ensures.ok,
+  c.in_ok-taken.ensures.ok.part c.if-taken.false,
+)

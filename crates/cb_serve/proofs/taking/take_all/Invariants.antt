@@ -1,0 +1,11 @@
+-- What holds at each turn of the loop of `take_all`.
+use Rattle.std.proofs.Common.{◌-◌, length}
+use Rattle.cb_serve.proofs.Pieces.{SoFar}
+use Rattle.cb_serve.proofs.taking.take_all.Given as goal
+
+-- the pieces so far were taken
+abbrev pub invariant-loop-step : goal.invariant-loop-step
+invariant-loop-step l = SoFar l.initial.server l.bytes l.initial.said.items l.said.items l.used l.passed_over l.server
+
+abbrev pub decreases-loop-step : goal.decreases-loop-step
+decreases-loop-step l = length l.bytes - l.used

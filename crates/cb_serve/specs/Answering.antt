@@ -1,0 +1,62 @@
+-- What the protocol's server says to pieces of a stream, and the bytes of that.
+use Rattle.std.specs.Prelude.{◌≡◌, ◌≤◌, ℕ, List, [], ◌∷◌, ◌++◌, length, take}
+use Rattle.std.specs.List.{AllByRecursion, flat_map}
+use Rattle.cb_frame_types.specs.Grammar.{Fits}
+use Rattle.cb_frame_types.specs.Spelling.{spelling}
+use Rattle.cb_frame_types.specs.declared.frame.Frame.{Frame}
+use Rattle.cb_outbox.specs.Messages.{messages_of}
+use Rattle.cb_page.specs.Bounds.{Bounds}
+use Rattle.cb_protocol.specs.AnyMessages.{Input, SendsAgain, input_steps}
+use Rattle.cb_protocol.specs.Messages.{Message}
+use Rattle.cb_protocol.specs.Server.{Server, server_after}
+use Rattle.cb_protocol.specs.WaitsFor.{on_cycle}
+use Rattle.cb_protocol.specs.World.{messages_sent}
+use Rattle.cb_server.specs.ServerValue.{ServerValue, commits_of, server_of}
+use Rattle.cb_server.specs.Taking.{input_of}
+use Rattle.cb_serve.specs.Streams.{IsPiece, Piece, bytes_of, asks_again, comes}
+use Rattle.cb_serve.specs.Streams.{passed_over}
+
+-- the server once it was called with these, the first one first
+abbrev pub after_inputs : Server → List Input → Server
+after_inputs server [] = server
+after_inputs server (input ∷ inputs) =
+    after_inputs (server_after server (input_steps on_cycle server input)) inputs
+
+-- all that it says to them, in order
+abbrev pub said_to : Server → List Input → List Message
+said_to server [] = []
+said_to server (input ∷ inputs) = messages_sent (input_steps on_cycle server input)
+    ++ said_to (server_after server (input_steps on_cycle server input)) inputs
+
+-- what a piece calls the server with, and what pieces do, in order
+abbrev pub inputs_of : Piece → List Input
+inputs_of (comes frame bytes) = input_of frame ∷ []
+inputs_of asks_again = SendsAgain ∷ []
+inputs_of (passed_over bytes) = []
+
+abbrev pub inputs_in : List Piece → List Input
+inputs_in pieces = flat_map inputs_of pieces
+
+-- The bytes are the spellings of frames that carry these messages, in order.
+pub record Spells (limits : Bounds) (messages : List Message) (bytes : List ℕ) : Type 0 where
+  pub frames : List Frame
+  pub fit : AllByRecursion (Fits limits) frames
+  pub carry : messages_of frames ≡ messages
+  pub spelled : bytes ≡ flat_map spelling frames
+
+-- The server was called with these, and the bytes are all that it says to them. Its limits and its
+-- opening store are as before.
+pub record Answers (old : ServerValue) (inputs : List Input) (bytes : List ℕ) (new : ServerValue)
+    : Type 0 where
+  pub says : Spells old.limits (said_to (server_of old) inputs) bytes
+  pub becomes : server_of new ≡ after_inputs (server_of old) inputs
+  pub limits : new.limits ≡ old.limits
+  pub opening : (commits_of new).opening ≡ (commits_of old).opening
+
+-- So many of the first bytes are these pieces, and the server was called with what they are.
+pub record TakesPieces (old : ServerValue) (bytes : List ℕ) (pieces : List Piece) (used : ℕ)
+    (said : List ℕ) (new : ServerValue) : Type 0 where
+  pub are : AllByRecursion (IsPiece old.limits) pieces
+  pub within : used ≤ length bytes
+  pub cut : take used bytes ≡ flat_map bytes_of pieces
+  pub answers : Answers old (inputs_in pieces) said new

@@ -1,0 +1,105 @@
+-- The parts of a round.
+use Rattle.std.specs.Prelude.{◌≡◌, ◌⊎◌, ℕ, List, [], ◌++◌, take, drop, Option, None}
+use Rattle.std.specs.Prelude.{option_map, true, false}
+use Rattle.std.specs.Io.KnownBytes.{Appends, Consumes, IsAtEnd}
+use Rattle.sqlite.specs.Held.{Held}
+use Rattle.sqlite.specs.Store.{Ghosts}
+use Rattle.cb_commit.specs.Batches.{BatchState}
+use Rattle.cb_page.specs.Bounds.{Bounds}
+use Rattle.cb_protocol.specs.Flush.{next_batch}
+use Rattle.cb_server.specs.ServerValue.{ServerValue, server_of}
+use Rattle.cb_server_state.specs.Commits.{batch_of}
+use Rattle.cb_serve.specs.Answering.{Spells, TakesPieces, inputs_in, said_to}
+use Rattle.cb_serve.specs.Rounds.{IsRound, LeavesBatch, Round, SaysDones, Standing, Writes}
+use Rattle.cb_serve.specs.Rounds.{WritesOrNot, counted_on, reached}
+use Rattle.cb_serve.specs.Serving.{IsStopped}
+use Rattle.cb_serve.specs.Streams.{IsNoFrame, IsPart, Piece, count_passed}
+use Rattle.cb_serve.specs.declared.round.Desk.{Desk}
+use Rattle.cb_serve.specs.declared.round.RoundEnd.{RoundEnd}
+use Rattle.cb_serve.specs.declared.round.RoundEnd.TheVariants as end
+use Rattle.cb_serve.specs.declared.taking.Taken.{Taken}
+
+-- All whole pieces of what came are taken, and what is said to them is put out.
+pub record Answered (old : ServerValue) (desk after : Desk) (taken : Taken) (new : ServerValue)
+    (old_out new_out : Option (List ℕ)) : Type 0 where
+  pub pieces : List Piece
+  pub answers : List ℕ
+  pub takes : TakesPieces old desk.pending.items pieces taken.used answers new
+  pub rest : after.pending.items ≡ drop taken.used desk.pending.items
+  pub part : taken.ends ≡ false → IsPart old.limits after.pending.items
+  pub no_frame : taken.ends ≡ true → IsNoFrame old.limits after.pending.items
+  pub passed : after.passed_over ≡ counted_on desk.passed_over (count_passed pieces)
+  pub puts : Appends old_out new_out answers
+
+-- A front of what is said to some pieces was put out, and no more.
+pub record StopsAnswering (old : ServerValue) (old_out new_out : Option (List ℕ)) : Type 0 where
+  pub pieces : List Piece
+  pub answers : List ℕ
+  pub says : Spells old.limits (said_to (server_of old) (inputs_in pieces)) answers
+  pub count : ℕ
+  pub puts : Appends old_out new_out (take count answers)
+
+module _ {S : Type 0} (g : Ghosts S) where
+  -- What is committed is written, in one batch; then it is on disk, and the Dones are put out.
+  pub record Commits (old : ServerValue) (old_tables new_tables : Held S) (new : ServerValue)
+      (old_out new_out : Option (List ℕ)) : Type 0 where
+    pub batch : Option BatchState
+    pub dones : List ℕ
+    pub next : next_batch (server_of old) ≡ option_map batch_of batch
+    pub written : Writes g old.limits batch old_tables new_tables
+    pub says : SaysDones old.limits (server_of old) batch dones
+    pub becomes : server_of new ≡ reached (server_of old) batch
+    pub all_on_disk : next_batch (server_of new) ≡ None
+    pub limits : new.limits ≡ old.limits
+    pub crash : LeavesBatch g old.limits batch old_tables new_tables
+    pub puts : Appends old_out new_out dones
+
+  -- Nothing was put out; or the batch is written, and a front of its Dones was put out.
+  pub record StopsCommit (old : ServerValue) (old_tables new_tables : Held S)
+      (old_out new_out : Option (List ℕ)) : Type 0 where
+    pub batch : Option BatchState
+    pub dones : List ℕ
+    pub put : List ℕ
+    pub written : WritesOrNot g old.limits batch old_tables new_tables
+    pub crash : LeavesBatch g old.limits batch old_tables new_tables
+    pub puts : Appends old_out new_out put
+    pub put_out : (put ≡ []) ⊎ ((n : ℕ) × (put ≡ take n dones)
+        × SaysDones old.limits (server_of old) batch dones
+        × Writes g old.limits batch old_tables new_tables)
+
+  -- where a service with this server, this desk and these tables stands
+  abbrev pub standing : ServerValue → Desk → Held S → Standing S
+  standing server desk tables = record {
+    server = server_of server;
+    waiting = desk.pending.items;
+    passed = desk.passed_over;
+    tables = tables;
+  }
+
+  -- A whole round was done, and puts these bytes out.
+  pub record DoesRound (limits : Bounds) (old new : Standing S)
+      (old_in new_in old_out new_out : Option (List ℕ)) : Type 0 where
+    pub round : Round
+    pub is : IsRound g limits round old new
+    pub reads : Consumes old_in new_in round.read
+    pub puts : Appends old_out new_out (round.answers ++ round.dones)
+
+  -- how a round ends: the input has ended, and nothing was done; or it was done, and the input goes
+  -- on, rightly or not
+  abbrev pub EndsRound : Bounds → RoundEnd → (old new : Standing S)
+      → (old_in new_in old_out new_out : Option (List ℕ)) → Type 0
+  EndsRound limits end.Ended old new old_in new_in old_out new_out = (new ≡ old)
+      × Consumes old_in new_in [] × IsAtEnd new_in × (new_out ≡ old_out)
+  EndsRound limits end.GoesOn old new old_in new_in old_out new_out =
+      DoesRound limits old new old_in new_in old_out new_out × IsPart limits new.waiting
+  EndsRound limits end.NoFrame old new old_in new_in old_out new_out =
+      DoesRound limits old new old_in new_in old_out new_out × IsNoFrame limits new.waiting
+
+  -- A round was begun and not finished.
+  pub record StopsRound (limits : Bounds) (old : Standing S) (tables : Held S)
+      (old_in new_in old_out new_out : Option (List ℕ)) : Type 0 where
+    pub read : List ℕ
+    pub reads : Consumes old_in new_in read
+    pub put : List ℕ
+    pub puts : Appends old_out new_out put
+    pub stopped : IsStopped g limits put old tables

@@ -1,0 +1,159 @@
+//! One round: what is there is read and taken, what was committed is written, and what is said goes
+//! out.
+ghost use Rattle.std.specs.Prelude.{◌≡◌, ◌++◌, ◌<◌, ◌≤◌, ℕ, List, [], drop, length, false};
+ghost use Rattle.std.specs.Prelude.{IfOk, OnErr, OnOk};
+ghost use Rattle.std.specs.Io.KnownBytes.{Consumes, IsAtEnd};
+ghost use Rattle.cb_serve.specs.Parts.{Answered, Commits, EndsRound, StopsAnswering, StopsCommit};
+ghost use Rattle.cb_serve.specs.Parts.{StopsRound, standing};
+
+use crate::fault::RoundFault;
+use crate::output::{append_frames, put_out};
+use crate::taking::{Taken, take_all};
+use cb_server::Server;
+use cb_shelf::Shelf;
+use sqlite::Alter;
+use std::alloc::Global;
+use std::io::{ErrorKind, Read, Write};
+
+/// The bytes of a service, whose memory each round uses again.
+#[derive(Drop)]
+pub(crate) struct Desk {
+    /// What came and isn't taken: less than a whole piece, between two rounds.
+    pub(crate) pending: Vec<u8>,
+    /// What is to go out.
+    pub(crate) said: Vec<u8>,
+    /// How many pieces were passed over.
+    pub(crate) passed_over: u64,
+}
+
+/// How a round ended.
+#[derive(Clone, Copy, PartialEq, Eq)]
+pub(crate) enum RoundEnd {
+    /// The input goes on.
+    GoesOn,
+    /// The input has ended, and nothing was done.
+    Ended,
+    /// The input goes on with a header that no frame has.
+    NoFrame,
+}
+
+/// Reads what is there, behind what came before; whether the input goes on.
+fn read_more<R: Read>(
+    input: &mut R,
+    room: &mut [u8],
+    pending: &mut Vec<u8>,
+) -> Result<bool, RoundFault>
+    requires { 0 < length room.old }
+    ensures ok { IfOk result (λ goes_on. (read : List ℕ)
+        × (pending.new.items ≡ pending.old.items ++ read)
+        × Consumes (R.remaining input.old) (R.remaining input.new) read
+        × (goes_on ≡ false → (read ≡ []) × IsAtEnd (R.remaining input.new))) }
+    ensures err { OnErr result ((read : List ℕ)
+        × Consumes (R.remaining input.old) (R.remaining input.new) read) }
+{
+    let count = match input.read(room) {
+        Ok(0) => return Ok(false),
+        Ok(count) => count,
+        Err(error) if error.kind() == ErrorKind::Interrupted => return Ok(true),
+        Err(error) if error.kind() == ErrorKind::OutOfMemory => return Err(RoundFault::Memory),
+        Err(_) => return Err(RoundFault::Input),
+    };
+    pending.extend_from_slice(&room[..count])?;
+    Ok(true)
+}
+
+/// Lets the first bytes go.
+fn drop_front(bytes: &mut Vec<u8>, count: usize)
+    requires { count ≤ length bytes.old.items }
+    ensures { bytes.new.items ≡ drop count bytes.old.items }
+{
+    let left = bytes.len() - count;
+    bytes.as_mut_slice().copy_within(count.., 0);
+    bytes.truncate(left);
+}
+
+/// Takes all whole pieces, and puts out what is said to them.
+fn answer<W: Write>(
+    alloc: Global,
+    server: &mut Server,
+    desk: &mut Desk,
+    output: &mut W,
+) -> Result<Taken, RoundFault>
+    ensures ok { IfOk result (λ taken. Answered server.old desk.old desk.new taken server.new
+        (W.contents output.old) (W.contents output.new)) }
+    ensures err { OnErr result (StopsAnswering server.old (W.contents output.old)
+        (W.contents output.new)) }
+{
+    desk.said.clear();
+    let taken = take_all(alloc, server, desk.pending.as_slice(), &mut desk.said)?;
+    drop_front(&mut desk.pending, taken.used);
+    desk.passed_over = desk.passed_over.saturating_add(taken.passed_over as u64);
+    match put_out(output, desk.said.as_slice()) {
+        Ok(()) => Ok(taken),
+        Err(error) => Err(RoundFault::Output(error)),
+    }
+}
+
+/// Writes what was committed, in one transaction, and then puts out its Dones.
+fn commit<S: Alter, W: Write>(
+    alloc: Global,
+    server: &mut Server,
+    shelf: &mut Shelf<S>,
+    said: &mut Vec<u8>,
+    output: &mut W,
+) -> Result<(), RoundFault>
+    requires { shelf.old.limits ≡ server.old.limits }
+    ensures ok { OnOk result (Commits S.Store server.old shelf.old.conn shelf.new.conn server.new
+        (W.contents output.old) (W.contents output.new)) }
+    ensures err { OnErr result (StopsCommit S.Store server.old shelf.old.conn shelf.new.conn
+        (W.contents output.old) (W.contents output.new)) }
+    ensures limits { shelf.new.limits ≡ shelf.old.limits }
+{
+    let Some(batch) = server.batch(alloc)? else {
+        return Ok(());
+    };
+    shelf.write(&batch)?;
+    let dones = server.flushed(alloc, batch.number())?;
+    server.forget(batch.number());
+    said.clear();
+    append_frames(alloc, server.limits(), dones.as_slice(), said)?;
+    match put_out(output, said.as_slice()) {
+        Ok(()) => Ok(()),
+        Err(error) => Err(RoundFault::Output(error)),
+    }
+}
+
+/// One round.
+pub(crate) fn round<S: Alter, R: Read, W: Write>(
+    alloc: Global,
+    server: &mut Server,
+    desk: &mut Desk,
+    room: &mut [u8],
+    shelf: &mut Shelf<S>,
+    input: &mut R,
+    output: &mut W,
+) -> Result<RoundEnd, RoundFault>
+    requires room { 0 < length room.old }
+    requires limits { shelf.old.limits ≡ server.old.limits }
+    ensures ok { IfOk result (λ end. EndsRound S.Store server.old.limits end
+        (standing S.Store server.old desk.old shelf.old.conn)
+        (standing S.Store server.new desk.new shelf.new.conn)
+        (R.remaining input.old) (R.remaining input.new)
+        (W.contents output.old) (W.contents output.new)) }
+    ensures err { OnErr result (StopsRound S.Store server.old.limits
+        (standing S.Store server.old desk.old shelf.old.conn) shelf.new.conn
+        (R.remaining input.old) (R.remaining input.new)
+        (W.contents output.old) (W.contents output.new)) }
+    ensures shelf { shelf.new.limits ≡ shelf.old.limits }
+    ensures server { OnOk result (server.new.limits ≡ server.old.limits) }
+{
+    if !read_more(input, room, &mut desk.pending)? {
+        return Ok(RoundEnd::Ended);
+    }
+    let taken = answer(alloc, server, desk, output)?;
+    commit(alloc, server, shelf, &mut desk.said, output)?;
+    if taken.ends {
+        return Ok(RoundEnd::NoFrame);
+    }
+    Ok(RoundEnd::GoesOn)
+}

@@ -1,0 +1,141 @@
+//! Rounds until the input ends.
+ghost use Rattle.std.specs.Prelude.{◌≡◌, ◌≢◌, ◌<◌, [], length, Err, IfErr, IfOk, OnOk};
+ghost use Rattle.cb_commit.specs.Stores.{IsOf};
+ghost use Rattle.cb_server.specs.ServerValue.{IsNew};
+ghost use Rattle.cb_serve.specs.Parts.{standing};
+ghost use Rattle.cb_serve.specs.Serving.{IsServed, Serves};
+
+use crate::fault::{RoundFault, ServeFault};
+use crate::round::{Desk, RoundEnd, round};
+use cb_commit::Store;
+use cb_page::Limits;
+use cb_server::Server;
+use cb_shelf::Shelf;
+use sqlite::Alter;
+use std::alloc::{AllocError, Global};
+use std::io::{Read, Write};
+
+/// How many bytes are read at once.
+const ROOM: usize = 65_536;
+
+/// What came of serving.
+#[derive(Debug, Drop)]
+pub struct Served {
+    /// How many frames couldn't be read and were passed over.
+    pub passed_over: u64,
+    /// Whether it ended with the input, or why before.
+    pub ending: Result<(), ServeFault>,
+}
+
+impl Served {
+    /// It was refused before any round.
+    pub fn refused(fault: RoundFault) -> Served
+        ensures { result ≡ record { passed_over = 0; ending = Err (ServeFault.Round fault) } }
+    {
+        Served {
+            passed_over: 0,
+            ending: Err(ServeFault::Round(fault)),
+        }
+    }
+}
+
+/// Serves rounds until the input ends.
+fn serve_rounds<S: Alter, R: Read, W: Write>(
+    alloc: Global,
+    server: &mut Server,
+    desk: &mut Desk,
+    room: &mut [u8],
+    shelf: &mut Shelf<S>,
+    input: &mut R,
+    output: &mut W,
+) -> Result<(), ServeFault>
+    requires room { 0 < length room.old }
+    requires limits { shelf.old.limits ≡ server.old.limits }
+    requires empty { desk.old.pending.items ≡ [] }
+    ensures serves { Serves S.Store server.old.limits result
+        (standing S.Store server.old desk.old shelf.old.conn) shelf.new.conn
+        (R.remaining input.old) (R.remaining input.new)
+        (W.contents output.old) (W.contents output.new) }
+    ensures limits { shelf.new.limits ≡ shelf.old.limits }
+{
+    for _ in 0..u64::MAX {
+        let end = match round(alloc, server, desk, room, shelf, input, output) {
+            Ok(end) => end,
+            Err(fault) => return Err(ServeFault::Round(fault)),
+        };
+        match end {
+            RoundEnd::NoFrame => return Err(ServeFault::NoFrame),
+            RoundEnd::Ended => return ended(desk.pending.as_slice()),
+            RoundEnd::GoesOn => {}
+        }
+    }
+    Err(ServeFault::Round(RoundFault::Input))
+}
+
+/// How it ends with the input: within a frame, where something waits.
+fn ended(pending: &[u8]) -> Result<(), ServeFault>
+    ensures ok { OnOk result (pending.now ≡ []) }
+    ensures cut { IfErr result (λ fault. (fault ≡ ServeFault.Cut) × (pending.now ≢ [])) }
+{
+    if pending.is_empty() {
+        Ok(())
+    } else {
+        Err(ServeFault::Cut)
+    }
+}
+
+/// Serves the frames of the input over the store in a shelf, until the input ends: each frame is
+/// taken by the protocol's server in order, and what is said to it goes to the output. What was
+/// committed by the frames that were read at once is written in one transaction, and answered then.
+/// What can't be read is passed over.
+pub fn serve<S: Alter, R: Read, W: Write>(
+    alloc: Global,
+    limits: &Limits,
+    shelf: &mut Shelf<S>,
+    input: &mut R,
+    output: &mut W,
+) -> Served
+    requires { shelf.old.limits ≡ limits.now }
+    ensures { IsServed S.Store limits.now result.ending shelf.old.conn shelf.new.conn
+        (R.remaining input.old) (R.remaining input.new)
+        (W.contents output.old) (W.contents output.new) }
+{
+    let store = match shelf.load(alloc) {
+        Ok(store) => store,
+        Err(fault) => return Served::refused(RoundFault::from(fault)),
+    };
+    match begin(alloc, limits, store) {
+        Err(AllocError) => Served::refused(RoundFault::Memory),
+        Ok((mut server, mut room)) => {
+            let mut desk = Desk {
+                pending: Vec::new(alloc),
+                said: Vec::new(alloc),
+                passed_over: 0,
+            };
+            let ending = serve_rounds(
+                alloc,
+                &mut server,
+                &mut desk,
+                room.as_mut_slice(),
+                shelf,
+                input,
+                output,
+            );
+            Served {
+                passed_over: desk.passed_over,
+                ending,
+            }
+        }
+    }
+}
+
+/// A server over a store, and room for what is read.
+fn begin(alloc: Global, limits: &Limits, store: Store) -> Result<(Server, Vec<u8>), AllocError>
+    requires { IsOf limits.now store }
+    ensures server { IfOk result (λ made. IsNew limits.now store made.0) }
+    ensures room { IfOk result (λ made. 0 < length made.1.items) }
+{
+    let server = Server::new(alloc, limits, store)?;
+    let room = vec![in alloc; 0u8; ROOM]?;
+    Ok((server, room))
+}

@@ -1,0 +1,131 @@
+//! The pieces of a stream are taken.
+ghost use Rattle.std.specs.Prelude.{◌≡◌, ◌++◌, [], ◌∷◌, List, ℕ, IfErr, IfOk, OnOk};
+ghost use Rattle.cb_frame_types.specs.Grammar.{Fits};
+ghost use Rattle.cb_protocol.specs.AnyMessages.{SendsAgain};
+ghost use Rattle.cb_server.specs.Taking.{input_of};
+ghost use Rattle.cb_serve.specs.Answering.{Answers};
+ghost use Rattle.cb_serve.specs.Steps.{TakesAll, TakesFront};
+
+use crate::fault::RoundFault;
+use crate::front::{Front, read_front};
+use crate::output::append_frames;
+use cb_frame::Frame;
+use cb_server::Server;
+use std::alloc::Global;
+
+/// What became of the first piece of a stream's bytes.
+#[derive(Clone, Copy)]
+pub(crate) enum Step {
+    /// It was taken: how many bytes it has, and how many pieces were passed over, one or none.
+    Taken(usize, usize),
+    /// It is less than a whole piece.
+    Part,
+    /// It is a header that no frame has.
+    NoFrame,
+}
+
+/// How far a stream's bytes were taken.
+#[derive(Clone, Copy)]
+pub(crate) struct Taken {
+    /// How many bytes the pieces had.
+    pub(crate) used: usize,
+    /// How many of the pieces were passed over.
+    pub(crate) passed_over: usize,
+    /// Whether a header comes next that no frame has.
+    pub(crate) ends: bool,
+}
+
+/// Takes a frame, and appends what is said to it.
+fn take_frame(
+    alloc: Global,
+    server: &mut Server,
+    frame: Frame,
+    said: &mut Vec<u8>,
+) -> Result<(), RoundFault>
+    requires { Fits server.old.limits frame }
+    ensures { OnOk result ((more : List ℕ) × (said.new.items ≡ said.old.items ++ more)
+        × Answers server.old (input_of frame ∷ []) more server.new) }
+{
+    match server.take_owned(alloc, frame) {
+        Ok(answers) => {
+            append_frames(alloc, server.limits(), answers.as_slice(), said)?;
+            Ok(())
+        }
+        Err((fault, _)) => Err(RoundFault::from(fault)),
+    }
+}
+
+/// Says again what may be lost, and appends that.
+fn say_again(alloc: Global, server: &mut Server, said: &mut Vec<u8>) -> Result<(), RoundFault>
+    ensures { OnOk result ((more : List ℕ) × (said.new.items ≡ said.old.items ++ more)
+        × Answers server.old (SendsAgain ∷ []) more server.new) }
+{
+    let answers = server.again(alloc)?;
+    append_frames(alloc, server.limits(), answers.as_slice(), said)?;
+    Ok(())
+}
+
+/// Takes the piece that the bytes begin with, and appends what is said to it.
+fn take_front(
+    alloc: Global,
+    server: &mut Server,
+    bytes: &[u8],
+    said: &mut Vec<u8>,
+) -> Result<Step, RoundFault>
+    ensures { IfOk result (λ step. (more : List ℕ) × (said.new.items ≡ said.old.items ++ more)
+        × TakesFront server.old bytes.now step more server.new) }
+{
+    let front = read_front(alloc, server.limits(), bytes)?;
+    match front {
+        Front::Frame(frame, used) => {
+            take_frame(alloc, server, frame, said)?;
+            Ok(Step::Taken(used, 0))
+        }
+        Front::Again => {
+            say_again(alloc, server, said)?;
+            Ok(Step::Taken(16, 0))
+        }
+        Front::Unread(used) => Ok(Step::Taken(used, 1)),
+        Front::Part => Ok(Step::Part),
+        Front::NoFrame => Ok(Step::NoFrame),
+    }
+}
+
+/// Takes all whole pieces of the bytes, and appends what is said to them.
+pub(crate) fn take_all(
+    alloc: Global,
+    server: &mut Server,
+    bytes: &[u8],
+    said: &mut Vec<u8>,
+) -> Result<Taken, RoundFault>
+    ensures { IfOk result (λ taken. TakesAll server.old bytes.now said.old.items taken
+        said.new.items server.new) }
+{
+    let mut used = 0;
+    let mut passed_over = 0;
+    loop {
+        let step = take_front(alloc, server, &bytes[used..], said)?;
+        match step {
+            Step::Taken(count, passed) => {
+                used += count;
+                passed_over += passed;
+            }
+            Step::Part => {
+                let ends = false;
+                return Ok(Taken {
+                    used,
+                    passed_over,
+                    ends,
+                });
+            }
+            Step::NoFrame => {
+                let ends = true;
+                return Ok(Taken {
+                    used,
+                    passed_over,
+                    ends,
+                });
+            }
+        }
+    }
+}
