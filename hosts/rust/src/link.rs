@@ -8,10 +8,12 @@ use std::io::{ErrorKind, Read, Write};
 const TRIES: u32 = 30;
 
 /// A client over a connected stream. Where the stream has a time-out for reads, what may be lost is
-/// said again after each.
+/// said again after each. Once the stream failed or ended the client is gone: each later call answers
+/// [`Error::Closed`], also of a page that it holds.
 pub struct Link<S> {
     client: Client,
     stream: S,
+    gone: bool,
     /// What came and isn't taken yet.
     came: Vec<u8>,
 }
@@ -22,6 +24,7 @@ impl<S: Read + Write> Link<S> {
         let mut link = Link {
             client: Client::new(limits, client, incarnation)?,
             stream,
+            gone: false,
             came: Vec::new(),
         };
         link.client.hello()?;
@@ -41,6 +44,7 @@ impl<S: Read + Write> Link<S> {
 
     /// Begins a transaction, which is dropped where it isn't committed.
     pub fn transaction(&mut self) -> Result<Transaction<'_, S>> {
+        self.check()?;
         self.client.begin()?;
         Ok(Transaction { link: self })
     }
@@ -67,29 +71,46 @@ impl<S: Read + Write> Link<S> {
     /// Takes what the stream gives next: others wait for the pages that the client holds until it
     /// has answered. `false` where the stream's time-out for reads passed first.
     pub fn serve(&mut self) -> Result<bool> {
+        self.check()?;
         self.send_said()?;
         self.receive()
     }
 
+    fn check(&self) -> Result<()> {
+        if self.gone {
+            return Err(Error::Closed);
+        }
+        Ok(())
+    }
+
+    /// What the stream answered: after a fault of its own it is of no use.
+    fn streamed<T>(&mut self, answer: std::io::Result<T>) -> Result<T> {
+        self.gone |= answer.is_err();
+        Ok(answer?)
+    }
+
     fn send_said(&mut self) -> Result<()> {
         while let Some(frame) = self.client.next_frame()? {
-            self.stream.write_all(&frame)?;
+            let sent = self.stream.write_all(&frame);
+            self.streamed(sent)?;
         }
-        Ok(self.stream.flush()?)
+        let flushed = self.stream.flush();
+        self.streamed(flushed)
     }
 
     /// Receives once, and takes each whole frame; `false` where nothing came in time.
     fn receive(&mut self) -> Result<bool> {
         let mut room = [0u8; 65536];
         let got = match self.stream.read(&mut room) {
-            Ok(0) => return Err(Error::Closed),
             Ok(got) => got,
             Err(error) => match error.kind() {
                 ErrorKind::WouldBlock | ErrorKind::TimedOut => return Ok(false),
                 ErrorKind::Interrupted => return Ok(true),
-                _ => return Err(Error::Io(error)),
+                _ => return self.streamed(Err(error)),
             },
         };
+        self.gone = got == 0;
+        self.check()?;
         self.came.extend_from_slice(&room[..got]);
         let mut at = 0;
         while at < self.came.len() {
@@ -132,6 +153,7 @@ impl<S: Read + Write> Link<S> {
     fn fetch(&mut self, page: u32, room: &mut [u8]) -> Result<()> {
         loop {
             self.wait_while(Status::Waiting)?;
+            self.check()?;
             match self.client.read(page, room) {
                 Ok(true) => return Ok(()),
                 Ok(false) => {}
@@ -143,6 +165,7 @@ impl<S: Read + Write> Link<S> {
     fn want(&mut self, page: u32) -> Result<()> {
         loop {
             self.wait_while(Status::Waiting)?;
+            self.check()?;
             match self.client.want(page) {
                 Ok(true) => return Ok(()),
                 Ok(false) => {}
@@ -156,6 +179,7 @@ impl<S: Read + Write> Link<S> {
     }
 
     fn commit(&mut self) -> Result<u64> {
+        self.check()?;
         if let Err(error) = self.client.finish() {
             return Err(self.aborted_or(error));
         }
@@ -213,7 +237,8 @@ impl<'l, S: Read + Write> Transaction<'l, S> {
 
 impl<S: Read + Write> Drop for Transaction<'_, S> {
     fn drop(&mut self) {
-        if matches!(self.link.client.status(), Status::Open | Status::Waiting)
+        if !self.link.gone
+            && matches!(self.link.client.status(), Status::Open | Status::Waiting)
             && self.link.client.drop_transaction().is_ok()
         {
             // Where the stream fails, the next call says so.

@@ -1,0 +1,27 @@
+/* Bytes that grow at the end and are taken from the front. */
+#ifndef GATEWAY_BYTES_H
+#define GATEWAY_BYTES_H
+
+#include <stdbool.h>
+#include <stddef.h>
+#include <stdint.h>
+
+struct bytes {
+  uint8_t *at;
+  size_t size, room;
+};
+
+/* Puts some behind the others; false, and nothing changes, where memory was refused. */
+bool bytes_put(struct bytes *bytes, const void *more, size_t count);
+
+/* Takes so many from the front. */
+void bytes_cut(struct bytes *bytes, size_t count);
+
+/* Lets all of them go. */
+void bytes_free(struct bytes *bytes);
+
+/* Numbers have their highest byte first. */
+uint64_t number_at(const uint8_t *at, size_t count);
+void number_to(uint8_t *at, size_t count, uint64_t number);
+
+#endif

@@ -1,0 +1,149 @@
+/* A gateway: clients connect to it, and it hands their frames to the server of the store that each
+ * names, and the server's frames back. It reads headers alone. docs/SERVING.md says how it is used,
+ * docs/FORMATS.md how it is greeted. */
+#ifndef GATEWAY_H
+#define GATEWAY_H
+
+#include "gather.h"
+#include "outgoing.h"
+#include "settings.h"
+
+#include <sys/queue.h>
+#include <uv.h>
+
+enum {
+  TICK = 500,          /* milliseconds: a server says again what may be lost, waits are looked at */
+  STOP = 30000,        /* in so many the servers are to end, once they are told */
+  UNGREETED_MOST = 64, /* so many connections may be about to greet */
+  TO_SERVER_MOST = 1 << 22 /* clients aren't read while a server hasn't taken so many bytes */
+};
+
+struct gateway;
+struct store;
+
+/* A client that is connected, or about to greet. */
+struct connection {
+  struct gateway *gateway;
+  union {
+    uv_handle_t handle;
+    uv_stream_t stream;
+    uv_pipe_t pipe;
+    uv_tcp_t tcp;
+  } peer;
+  struct outgoing out;
+  struct bytes in;     /* what came and isn't handed on */
+  struct store *store; /* none until it has greeted, and once it was left */
+  uint16_t client;
+  uint64_t incarnation;
+  uint64_t began;  /* since when a greeting, or the rest of a frame, is awaited; 0: it isn't */
+  uint64_t asked;  /* since when an answer to the server is awaited; 0: none is */
+  uint64_t ending; /* since when it is to be closed, once what waits is out; 0: it isn't */
+  LIST_ENTRY(connection) others;
+};
+
+LIST_HEAD(connections, connection);
+
+/* A store, and its server: a process, started again where it ends. */
+struct store {
+  struct gateway *gateway;
+  const struct place *place;
+  struct connection *clients[MOST_CLIENTS];
+  uint64_t incarnations[MOST_CLIENTS]; /* the last that was given to each */
+  uint64_t
+      leaving[MOST_CLIENTS]; /* the server is to hear of this one, so that it leaves the former */
+  uv_process_t process;
+  uv_pipe_t input, output; /* the server's */
+  uv_timer_t timer;        /* until it is started, or until it must have ended */
+  struct gather commits;
+  struct outgoing to_server;
+  struct bytes from_server;
+  int lock;          /* a file that is locked as long as the server runs; -1: not yet */
+  int handles;       /* how many of process, input and output are open */
+  bool is_up;        /* the server takes frames */
+  bool is_ending;    /* it is told no more, and is to end */
+  bool is_told;      /* that another server holds the store was said */
+  bool has_paused;   /* its clients aren't read */
+  unsigned failures; /* how often the server ended before it said anything */
+};
+
+struct gateway {
+  uv_loop_t *loop;
+  uv_pipe_t local;
+  uv_tcp_t remote;
+  uv_signal_t terminate, interrupt;
+  uv_prepare_t prepare;
+  uv_timer_t tick;
+  struct tokens tokens;
+  struct places places;
+  struct store stores[MOST_STORES];
+  struct connections connections;
+  unsigned ungreeted;
+  char **serve;       /* the words that start a server, NULL behind them */
+  const char *socket; /* the path of the Unix socket, or NULL */
+  uint64_t patience;  /* milliseconds for the rest of a greeting or frame */
+  uint64_t silence;   /* milliseconds for an answer to the server; 0: for ever */
+  size_t buffer;      /* bytes that may wait for one client */
+  bool is_stopping;
+  int status;
+};
+
+/* ---- connection.c ---- */
+
+/* Takes a connection that came. */
+void connection_accept(uv_stream_t *listener, int status);
+
+/* Ends it now: its client is left. With a reason, that is said on the standard error. */
+void connection_cut(struct connection *connection, const char *reason);
+
+/* Ends it once all that waits for it is out. */
+void connection_finish(struct connection *connection);
+
+/* Hands a frame of the server to it. */
+void connection_put(struct connection *connection, const uint8_t *frame, size_t size);
+
+/* Reads it, or not for now. */
+void connection_read(struct connection *connection);
+void connection_pause(struct connection *connection);
+
+/* Ends those that were waited for too long. */
+void connection_tick(struct connection *connection);
+
+/* ---- store.c ---- */
+
+/* Makes a store ready, and starts its server. */
+void store_begin(struct store *store, struct gateway *gateway, const struct place *place);
+
+/* An incarnation that its client had none like: the clock's microseconds, or one more than the
+ * last. */
+uint64_t store_incarnation(struct store *store, uint16_t client);
+
+/* Gives a place to a connection; one that had it before is cut. */
+void store_enter(struct store *store, struct connection *connection);
+
+/* The connection goes: the server is told that its client has. */
+void store_leave(struct store *store, struct connection *connection);
+
+/* Hands a client's frame to the server; false where memory was refused. */
+bool store_put(struct store *store, const uint8_t *frame, size_t size);
+
+/* Sends what waits. */
+void store_send(struct store *store);
+
+/* Has the server say again what may be lost. */
+void store_tick(struct store *store);
+
+/* No more frames: the server is to write all and end. */
+void store_stop(struct store *store);
+
+/* Whether nothing of the server is left. */
+bool store_is_down(const struct store *store);
+
+/* ---- main.c ---- */
+
+/* Ends the loop, if the gateway is stopping and nothing is left to wait for. */
+void gateway_look(struct gateway *gateway);
+
+/* Stops in order. */
+void gateway_stop(struct gateway *gateway, int status);
+
+#endif

@@ -1,0 +1,275 @@
+#include "settings.h"
+
+#include <errno.h>
+#include <fcntl.h>
+#include <stdarg.h>
+#include <stdio.h>
+#include <stdlib.h>
+#include <string.h>
+#include <sys/random.h>
+#include <sys/stat.h>
+#include <unistd.h>
+
+enum { MOST_LINE = 4096 };
+
+void complain(const char *format, ...) {
+  va_list words;
+  va_start(words, format);
+  fputs("gateway: ", stderr);
+  vfprintf(stderr, format, words);
+  fputc('\n', stderr);
+  va_end(words);
+}
+
+/* Takes a line of a file; false where it is wrong. */
+typedef bool (*line_taker)(void *into, char *line);
+
+/* Hands in each line of a file that isn't empty or a remark, without its end. */
+static bool each_line(const char *path, line_taker take, void *into) {
+  FILE *file = fopen(path, "re");
+  if (file == NULL) {
+    complain("cannot read %s: %s", path, strerror(errno));
+    return false;
+  }
+  char line[MOST_LINE];
+  bool right = true;
+  for (int number = 1; right && fgets(line, sizeof line, file) != NULL; number++) {
+    size_t size = strcspn(line, "\r\n");
+    bool whole = line[size] != 0 || feof(file);
+    line[size] = 0;
+    char *text = line + strspn(line, " \t");
+    right = whole && (*text == 0 || *text == '#' || take(into, text));
+    if (!right) {
+      complain("%s: line %d is wrong", path, number);
+    }
+  }
+  if (right && ferror(file)) {
+    complain("cannot read %s: %s", path, strerror(errno));
+    right = false;
+  }
+  fclose(file);
+  return right;
+}
+
+/* ---- tokens ---- */
+
+static int digit(char c) {
+  if (c >= '0' && c <= '9') {
+    return c - '0';
+  }
+  c |= 0x20;
+  return c >= 'a' && c <= 'f' ? c - 'a' + 10 : -1;
+}
+
+static bool token_of(uint8_t *token, const char *text) {
+  for (size_t place = 0; place < TOKEN; place++) {
+    int high = digit(text[2 * place]);
+    int low = high < 0 ? -1 : digit(text[2 * place + 1]);
+    if (low < 0) {
+      return false;
+    }
+    token[place] = (uint8_t)(high << 4 | low);
+  }
+  return text[2 * TOKEN] == 0;
+}
+
+static bool take_token(void *into, char *line) {
+  struct tokens *tokens = into;
+  char *end;
+  unsigned long client = strtoul(line, &end, 10);
+  if (*line < '0' || *line > '9' || client >= MOST_CLIENTS || tokens->is_there[client]) {
+    return false;
+  }
+  size_t gap = strspn(end, " \t");
+  tokens->is_there[client] = gap > 0 && token_of(tokens->of[client], end + gap);
+  return tokens->is_there[client];
+}
+
+bool tokens_read(struct tokens *tokens, const char *path) {
+  struct stat state;
+  *tokens = (struct tokens){0};
+  if (stat(path, &state) == 0 && (state.st_mode & 077) != 0) {
+    complain("%s: others than its owner may use it: chmod 600", path);
+    return false;
+  }
+  return each_line(path, take_token, tokens);
+}
+
+int tokens_find(const struct tokens *tokens, const uint8_t *token) {
+  int found = -1;
+  for (int client = 0; client < MOST_CLIENTS; client++) {
+    volatile uint8_t differs = !tokens->is_there[client];
+    for (size_t place = 0; place < TOKEN; place++) {
+      differs |= tokens->of[client][place] ^ token[place];
+    }
+    found = differs == 0 ? client : found;
+  }
+  return found;
+}
+
+/* Writes the lines of new tokens. */
+static bool put_tokens(FILE *file, unsigned count) {
+  for (unsigned client = 0; client < count; client++) {
+    uint8_t token[TOKEN];
+    if (getrandom(token, sizeof token, 0) != TOKEN) {
+      return false;
+    }
+    fprintf(file, "%u ", client);
+    for (size_t place = 0; place < TOKEN; place++) {
+      fprintf(file, "%02x", token[place]);
+    }
+    fputc('\n', file);
+  }
+  return true;
+}
+
+bool tokens_make(const char *path, unsigned count) {
+  int fd = open(path, O_WRONLY | O_CREAT | O_EXCL | O_CLOEXEC, 0600);
+  FILE *file = fd < 0 ? NULL : fdopen(fd, "w");
+  bool made = file != NULL && put_tokens(file, count);
+  if (file != NULL) {
+    made = fclose(file) == 0 && made;
+  } else if (fd >= 0) {
+    close(fd);
+  }
+  if (!made) {
+    complain("cannot make %s: %s", path, strerror(errno));
+  }
+  return made;
+}
+
+/* ---- configurations ---- */
+
+struct key {
+  const char *name;
+  uint32_t least, most;
+  bool is_required, is_there;
+  uint32_t number;
+};
+
+enum { CLIENTS, PAGES, PAGE_SIZE, SLOTS, KIN, KOUT, KEEP_WRITE, KEYS };
+
+struct config {
+  struct key keys[KEYS];
+};
+
+/* A line `KEY = NUMBER`, with a remark behind it or not. */
+static bool take_setting(void *into, char *line) {
+  struct config *config = into;
+  size_t size = strcspn(line, " \t=");
+  char *text = line + size + strspn(line + size, " \t");
+  for (struct key *key = config->keys; key < config->keys + KEYS; key++) {
+    if (strlen(key->name) != size || memcmp(line, key->name, size) != 0) {
+      continue;
+    }
+    if (*text != '=' || key->is_there) {
+      return false;
+    }
+    text += 1 + strspn(text + 1, " \t");
+    char *end;
+    unsigned long number = strtoul(text, &end, 10);
+    end += strspn(end, " \t");
+    bool right = *text >= '0' && *text <= '9' && (*end == 0 || *end == '#');
+    key->is_there = right && number >= key->least && number <= key->most;
+    key->number = (uint32_t)number;
+    return key->is_there;
+  }
+  return false;
+}
+
+/* What an optional key is where it isn't there. */
+static void fill_in(struct key *key, uint32_t number) {
+  if (!key->is_there) {
+    key->number = number > 0 ? number : 1;
+  }
+}
+
+static bool limits_read(struct limits *limits, const char *path) {
+  struct config config = {{
+      [CLIENTS] = {"clients", 1, MOST_CLIENTS, true, false, 0},
+      [PAGES] = {"pages", 1, 4096, true, false, 0},
+      [PAGE_SIZE] = {"page_size", 16, 65536, true, false, 0},
+      [SLOTS] = {"slots", 2, 1024, true, false, 0},
+      [KIN] = {"kin", 1, 1023, false, false, 0},
+      [KOUT] = {"kout", 1, 4096, false, false, 0},
+      [KEEP_WRITE] = {"keep_write", 0, 1, false, false, 0},
+  }};
+  if (!each_line(path, take_setting, &config)) {
+    return false;
+  }
+  for (struct key *key = config.keys; key < config.keys + KEYS; key++) {
+    if (key->is_required && !key->is_there) {
+      complain("%s: missing %s", path, key->name);
+      return false;
+    }
+  }
+  struct key *keys = config.keys;
+  fill_in(&keys[KIN], keys[SLOTS].number / 4);
+  fill_in(&keys[KOUT], keys[SLOTS].number / 2);
+  if (keys[PAGE_SIZE].number % 16 != 0 || keys[KIN].number >= keys[SLOTS].number) {
+    complain("%s: page_size or kin is out of range", path);
+    return false;
+  }
+  *limits = (struct limits){keys[CLIENTS].number,   keys[PAGES].number, keys[PAGE_SIZE].number,
+                            keys[SLOTS].number,     keys[KIN].number,   keys[KOUT].number,
+                            keys[KEEP_WRITE].number};
+  return true;
+}
+
+/* ---- stores ---- */
+
+static bool add_place(struct places *places, const char *name, const char *config,
+                      const char *database) {
+  if (places->count == MOST_STORES || strlen(name) > MOST_NAME) {
+    return false;
+  }
+  struct place *place = &places->at[places->count++];
+  place->name = strdup(name);
+  place->config = strdup(config);
+  place->database = strdup(database);
+  return place->name != NULL && place->config != NULL && place->database != NULL
+         && limits_read(&place->limits, config);
+}
+
+static bool is_named(const struct places *places, const char *name) {
+  for (size_t at = 0; at < places->count; at++) {
+    if (strcmp(places->at[at].name, name) == 0) {
+      return true;
+    }
+  }
+  return false;
+}
+
+static bool take_place(void *into, char *line) {
+  char *rest;
+  const char *name = strtok_r(line, " \t", &rest);
+  const char *config = strtok_r(NULL, " \t", &rest);
+  const char *database = strtok_r(NULL, " \t", &rest);
+  bool three = database != NULL && strtok_r(NULL, " \t", &rest) == NULL;
+  return three && !is_named(into, name) && add_place(into, name, config, database);
+}
+
+bool places_read(struct places *places, const char *path) {
+  *places = (struct places){0};
+  if (!each_line(path, take_place, places)) {
+    return false;
+  }
+  if (places->count == 0) {
+    complain("%s: it has no store", path);
+  }
+  return places->count > 0;
+}
+
+bool places_of_one(struct places *places, const char *config, const char *database) {
+  *places = (struct places){0};
+  return add_place(places, "main", config, database);
+}
+
+void places_free(struct places *places) {
+  for (size_t at = 0; at < places->count; at++) {
+    free(places->at[at].name);
+    free(places->at[at].config);
+    free(places->at[at].database);
+  }
+  places->count = 0;
+}

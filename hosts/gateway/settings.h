@@ -1,0 +1,49 @@
+/* The files that the gateway reads before it serves. Each reader says on the standard error what is
+ * wrong with a file. */
+#ifndef GATEWAY_SETTINGS_H
+#define GATEWAY_SETTINGS_H
+
+#include "frame.h"
+
+enum { TOKEN = 32, MOST_STORES = 64, MOST_NAME = 63 };
+
+/* Says a line on the standard error. */
+__attribute__((format(printf, 1, 2))) void complain(const char *format, ...);
+
+/* The token of each client. */
+struct tokens {
+  bool is_there[MOST_CLIENTS];
+  uint8_t of[MOST_CLIENTS][TOKEN];
+};
+
+/* Reads a file of tokens, which none but its owner may read: a line for each client, with its
+ * number and 64 hexadecimal digits. */
+bool tokens_read(struct tokens *tokens, const char *path);
+
+/* Whose token it is, or -1. It takes as long whatever the token. */
+int tokens_find(const struct tokens *tokens, const uint8_t *token);
+
+/* Writes a new file of so many tokens, drawn by the system. */
+bool tokens_make(const char *path, unsigned count);
+
+/* A store: how it is called, and what its server is given. */
+struct place {
+  char *name, *config, *database;
+  struct limits limits;
+};
+
+struct places {
+  struct place at[MOST_STORES];
+  size_t count;
+};
+
+/* Reads a file of stores: a line for each, with its name, configuration and database; and their
+ * configurations. */
+bool places_read(struct places *places, const char *path);
+
+/* One store, by the name `main`. */
+bool places_of_one(struct places *places, const char *config, const char *database);
+
+void places_free(struct places *places);
+
+#endif

@@ -1,0 +1,58 @@
+//! What is left of a client whose stream ended: each call says so, also of a page that it holds.
+use rughvadi::{Error, Limits, Link, Server};
+use std::io::{Read, Write};
+use std::net::Shutdown;
+use std::os::unix::net::UnixStream;
+use std::thread;
+
+const LIMITS: Limits = Limits {
+    clients: 2,
+    pages: 4,
+    page_size: 64,
+    slots: 4,
+    kin: 1,
+    kout: 4,
+    keep_write: false,
+};
+
+/// A server for one connection, until that ends.
+fn serve(mut stream: UnixStream) {
+    let mut server = Server::new(&LIMITS).expect("a server");
+    let (mut came, mut room) = (Vec::new(), [0u8; 4096]);
+    loop {
+        match stream.read(&mut room) {
+            Ok(0) | Err(_) => return,
+            Ok(got) => came.extend_from_slice(&room[..got]),
+        }
+        while let Ok(used) = server.take(&came) {
+            came.drain(..used);
+            while let Some((_, frame)) = server.next_frame().expect("a frame") {
+                stream.write_all(&frame).expect("sent");
+            }
+        }
+    }
+}
+
+fn is_closed<T>(answer: Result<T, Error>) -> bool {
+    matches!(answer, Err(Error::Closed))
+}
+
+#[test]
+fn a_held_page_is_gone_with_the_stream() {
+    let (ours, theirs) = UnixStream::pair().expect("a pair");
+    let end = theirs.try_clone().expect("a clone");
+    let server = thread::spawn(move || serve(theirs));
+    let mut link = Link::open(&LIMITS, 0, 1, ours).expect("a link");
+    let answer = link.run(|transaction| {
+        let mut page = transaction.read(2)?;
+        page[0] += 1;
+        transaction.write(2, &page)?;
+        end.shutdown(Shutdown::Both).map_err(Error::Io)?;
+        Ok(())
+    });
+    // The Commit is written to a stream that is shut, or its answer doesn't come.
+    assert!(matches!(answer, Err(Error::Closed | Error::Io(_))));
+    assert!(is_closed(link.serve()));
+    assert!(is_closed(link.run(|transaction| transaction.read(2))));
+    server.join().expect("the server's thread");
+}

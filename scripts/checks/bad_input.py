@@ -1,0 +1,396 @@
+"""Bad input at the gateway, for `scripts/check serve`: raw connections beside a client that works."""
+from __future__ import annotations
+
+import os
+import random
+import signal
+import socket
+import stat
+import struct
+import subprocess
+import time
+from pathlib import Path
+from typing import Callable
+
+from serving import Gateway, wait_for
+
+HEADER = struct.Struct(">BBHQI")
+HELLO, ASK_READ, ASK_WRITE, COMMIT, WELCOME, CALLBACK = 1, 2, 3, 6, 65, 68
+PATIENCE, SILENCE = 1, 3
+
+
+def frame(kind: int, client: int, incarnation: int, body: bytes = b"", version: int = 2) -> bytes:
+    return HEADER.pack(version, kind, client, incarnation, len(body)) + body
+
+
+class Peer:
+    """A raw connection."""
+
+    def __init__(self, gateway: Gateway, client: int | None = None) -> None:
+        self.socket = socket.socket(socket.AF_UNIX)
+        self.socket.connect(str(gateway.socket))
+        self.socket.settimeout(20)
+        self.client = self.incarnation = 0
+        if client is not None:
+            answer = self.greeted(token_of(gateway, client))
+            self.client, self.incarnation = struct.unpack(">HQ", answer[2:12])
+
+    def greeted(self, token: bytes, store: bytes = b"main") -> bytes:
+        self.socket.sendall(b"rughvadi" + bytes([1, len(store)]) + token + store)
+        return self.exactly(40)
+
+    def exactly(self, count: int) -> bytes:
+        found = b""
+        while len(found) < count:
+            got = self.socket.recv(count - len(found))
+            if not got:
+                raise EOFError(found)
+            found += got
+        return found
+
+    def say(self, kind: int, body: bytes = b"", **other) -> None:
+        numbers = {"client": self.client, "incarnation": self.incarnation, **other}
+        self.socket.sendall(frame(kind, body=body, **numbers))
+
+    def hear(self) -> tuple[int, bytes]:
+        """The kind and the body of the next frame."""
+        head = HEADER.unpack(self.exactly(HEADER.size))
+        return head[1], self.exactly(head[4])
+
+    def welcome(self) -> Peer:
+        self.say(HELLO)
+        while self.hear()[0] != WELCOME:
+            pass
+        return self
+
+    def is_closed(self, seconds: float = 20) -> bool:
+        """Whether the gateway closes it, whatever comes before."""
+        self.socket.settimeout(seconds)
+        try:
+            while self.socket.recv(1 << 16):
+                pass
+        except socket.timeout:
+            return False
+        except OSError:
+            pass
+        return True
+
+    def __enter__(self) -> Peer:
+        return self
+
+    def __exit__(self, *_) -> None:
+        self.socket.close()
+
+
+def token_of(gateway: Gateway, client: int) -> bytes:
+    lines = [line.split() for line in gateway.tokens.read_text().splitlines()]
+    return next(bytes.fromhex(token) for number, token in lines if int(number) == client)
+
+
+def number_of(transaction: int, page: int) -> bytes:
+    return struct.pack(">QI", transaction, page)
+
+
+def wrote(gateway: Gateway, client: int, page: int) -> bool:
+    """Whether a client gets to write a page that others may hold: it asks until it may."""
+    with Peer(gateway, client) as peer:
+        peer.welcome()
+        peer.say(ASK_READ, number_of(1, page))
+        kind, body = peer.hear()
+        grant = body[4:12]
+        peer.say(ASK_WRITE, number_of(1, page) + grant)
+        return kind == 66 and peer.hear()[0] == 67
+
+
+# ---- before it is greeted ----
+
+
+def no_greeting(gateway: Gateway) -> bool:
+    with Peer(gateway) as silent, Peer(gateway) as half, Peer(gateway) as other:
+        half.socket.sendall(b"rughvadi\x01\x04")
+        other.socket.sendall(b"GET / HTTP/1.1\r\n\r\n")
+        return other.is_closed(2) and silent.is_closed() and half.is_closed()
+
+
+def wrong_tokens(gateway: Gateway) -> bool:
+    answers = []
+    right = token_of(gateway, 1)
+    near = right[:-1] + bytes([right[-1] ^ 1])
+    for token, store in ((bytes(32), b"main"), (near, b"main"), (right, b"other")):
+        with Peer(gateway) as peer:
+            answers.append((peer.greeted(token, store)[:2], peer.is_closed(2)))
+    with Peer(gateway) as peer:
+        answers.append((peer.greeted(token_of(gateway, 20))[:2], peer.is_closed(2)))
+    return answers == [(bytes([1, number]), True) for number in (2, 2, 3, 4)]
+
+
+def many_greet(gateway: Gateway) -> bool:
+    peers = [Peer(gateway) for _ in range(300)]
+    closed = [peer.is_closed() for peer in peers]
+    return all(closed) and wrote(gateway, 2, 3)
+
+
+# ---- frames ----
+
+
+def long_header(peer: Peer) -> bytes:
+    return HEADER.pack(2, COMMIT, peer.client, peer.incarnation, (1 << 32) - 1)
+
+
+def wrong_frames(gateway: Gateway) -> bool:
+    page = bytes(4096)
+    commit = struct.pack(">QH", 1, 65) + 65 * (struct.pack(">IQI", 0, 1, 4096) + page)
+    wrong: list[Callable[[Peer], None]] = [
+        lambda peer: peer.say(HELLO, client=peer.client + 1),
+        lambda peer: peer.say(HELLO, incarnation=peer.incarnation + 1),
+        lambda peer: peer.say(HELLO, b"x"),
+        lambda peer: peer.say(WELCOME),
+        lambda peer: peer.say(0),
+        lambda peer: peer.say(200),
+        lambda peer: peer.say(HELLO, version=3),
+        lambda peer: peer.say(8, bytes(20), version=1),
+        lambda peer: peer.say(COMMIT, commit),
+        lambda peer: peer.socket.sendall(long_header(peer)),
+        lambda peer: peer.socket.sendall(os.urandom(1 << 16)),
+    ]
+    closed = []
+    for each in wrong:
+        with Peer(gateway, 1) as peer:
+            peer.welcome()
+            try:
+                each(peer)
+            except OSError:
+                pass
+            closed.append(peer.is_closed(5))
+    return all(closed)
+
+
+def cut_frames(gateway: Gateway) -> bool:
+    """A frame byte by byte is a frame; half of one, and then silence, is the end."""
+    with Peer(gateway, 1) as peer:
+        for byte in frame(HELLO, peer.client, peer.incarnation):
+            peer.socket.sendall(bytes([byte]))
+        if peer.hear()[0] != WELCOME:
+            return False
+        peer.say(ASK_READ, number_of(1, 5))
+        peer.hear()
+        peer.socket.sendall(frame(ASK_READ, peer.client, peer.incarnation, number_of(1, 6))[:20])
+        # What it held goes to another once it was left.
+        return wrote(gateway, 2, 5) and peer.is_closed()
+
+
+def flood(gateway: Gateway) -> bool:
+    """Frames as fast as they go, and what is answered is read by nobody."""
+    with Peer(gateway, 1) as peer:
+        peer.welcome()
+        frames = 1000 * frame(HELLO, peer.client, peer.incarnation)
+        try:
+            peer.socket.settimeout(10)
+            for _ in range(200):
+                peer.socket.sendall(frames)
+        except OSError:
+            pass
+        return wrote(gateway, 2, 7) and gateway.size() < 500_000
+
+
+def never_reads(gateway: Gateway) -> bool:
+    with Peer(gateway, 1) as peer:
+        peer.welcome()
+        peer.socket.setsockopt(socket.SOL_SOCKET, socket.SO_RCVBUF, 4096)
+        ask = frame(ASK_READ, peer.client, peer.incarnation, number_of(1, 9))
+        try:
+            for _ in range(2000):
+                peer.socket.sendall(ask)
+        except OSError:
+            pass
+        return wrote(gateway, 2, 9) and "reads too slowly" in gateway.log()
+
+
+def never_answers(gateway: Gateway) -> bool:
+    """One that reads a page, and says nothing as it is called back."""
+    with Peer(gateway, 1) as peer:
+        peer.welcome()
+        peer.say(ASK_READ, number_of(1, 11))
+        peer.hear()
+        begun = time.monotonic()
+        right = wrote(gateway, 2, 11)
+        return right and peer.is_closed() and time.monotonic() - begun >= SILENCE - 1
+
+
+def comes_anew(gateway: Gateway) -> bool:
+    """Who connects with a token that is connected takes its place."""
+    with Peer(gateway, 1) as first:
+        first.welcome()
+        with Peer(gateway, 1) as second:
+            second.welcome()
+            return first.is_closed(2) and second.incarnation > first.incarnation
+
+
+def idle_stays(gateway: Gateway) -> bool:
+    """One that has nothing to answer may be silent."""
+    with Peer(gateway, 1) as peer:
+        peer.welcome()
+        return not peer.is_closed(2 * SILENCE) and peer.welcome() is peer
+
+
+# ---- its server, and its end ----
+
+
+def drawn_peer(gateway: Gateway, drawn: random.Random) -> None:
+    """A connection that says drawn frames, some of them wrong, and goes without a word."""
+    with Peer(gateway, drawn.randrange(8)) as peer:
+        for _ in range(drawn.randrange(60)):
+            kind = drawn.choice([HELLO, ASK_READ, drawn.randrange(9), drawn.randrange(256)])
+            body = {ASK_READ: number_of(1, drawn.randrange(64))}.get(kind, b"")
+            said = frame(kind, peer.client, peer.incarnation, body)
+            if drawn.random() < 0.02:
+                said = drawn.randbytes(len(said))
+            peer.socket.sendall(said * drawn.choice([1, 1, 30]))
+
+
+def drawn_input(gateway: Gateway) -> bool:
+    drawn = random.Random(1)
+    for _ in range(400):
+        try:
+            with Peer(gateway) as peer:
+                # What is answered to this finds nobody.
+                peer.socket.sendall(drawn.randbytes(drawn.randrange(1, 50)))
+            drawn_peer(gateway, drawn)
+        except (OSError, EOFError):
+            pass
+    return wrote(gateway, 2, 13)
+
+
+def server_halts(gateway: Gateway) -> bool:
+    """While the server takes nothing clients aren't read, and none is taken for silent."""
+    with Peer(gateway, 1) as peer:
+        peer.welcome()
+        server, sent = gateway.servers()[0], 0
+        frames = 1000 * frame(HELLO, peer.client, peer.incarnation)
+        os.kill(server, signal.SIGSTOP)
+        try:
+            peer.socket.settimeout(2 * SILENCE)
+            for _ in range(10_000):
+                sent += peer.socket.send(frames)
+        except OSError:
+            pass
+        right = sent < 1 << 25 and gateway.size() < 500_000
+        os.kill(server, signal.SIGCONT)
+        return right and wrote(gateway, 2, 2)
+
+
+def by_tcp(gateway: Gateway) -> bool:
+    """A port of this machine serves as a socket does."""
+    with socket.socket() as free:
+        free.bind(("127.0.0.1", 0))
+        port = free.getsockname()[1]
+    room = gateway.room / "tcp"
+    room.mkdir()
+    words = [gateway.program, "--tokens", gateway.tokens, "--tcp", port]
+    words += [gateway.room / "config", room / "main.db", "--", gateway.play, "serve"]
+    other = subprocess.Popen([str(it) for it in words], stdout=subprocess.PIPE)
+    try:
+        other.stdout.readline()
+        with Peer(gateway) as peer:
+            peer.socket.close()
+            peer.socket = socket.create_connection(("127.0.0.1", port), timeout=20)
+            answer = peer.greeted(token_of(gateway, 3))
+            peer.client, peer.incarnation = struct.unpack(">HQ", answer[2:12])
+            return peer.welcome().client == 3
+    finally:
+        other.terminate()
+        other.wait(20)
+        other.stdout.close()
+
+
+def server_dies(gateway: Gateway) -> bool:
+    with Peer(gateway, 1) as peer:
+        peer.welcome()
+        for number in gateway.servers():
+            os.kill(number, signal.SIGKILL)
+        if not peer.is_closed(5):
+            return False
+        last = peer.incarnation
+    return wait_for(lambda: comes(gateway, last)) and wrote(gateway, 2, 1)
+
+
+def gateway_dies(gateway: Gateway) -> bool:
+    """Its server ends by itself; a new gateway serves the store once it has."""
+    with Peer(gateway, 1) as peer:
+        last = peer.welcome().incarnation
+        gateway.stop(signal.SIGKILL)
+        gateway.start()
+        if not peer.is_closed(5):
+            return False
+    return wait_for(lambda: comes(gateway, last))
+
+
+def comes(gateway: Gateway, last: int) -> bool:
+    try:
+        with Peer(gateway, 1) as peer:
+            return peer.welcome().incarnation > last
+    except (EOFError, OSError):
+        return False
+
+
+def ends_in_order(gateway: Gateway) -> bool:
+    with Peer(gateway, 1) as peer, Peer(gateway) as other:
+        peer.welcome()
+        is_private = stat.S_IMODE(gateway.socket.stat().st_mode) == 0o600
+        status = gateway.stop()
+        ended = status == 0 and not gateway.socket.exists()
+        return is_private and ended and peer.is_closed(2) and other.is_closed(2)
+
+
+def refused(gateway: Gateway, *words: object) -> tuple[int, str]:
+    """How a gateway ends that is started with other words."""
+    store = [gateway.room / "config", gateway.database()]
+    done = subprocess.run(
+        [str(it) for it in (gateway.program, *words, *store, "--", gateway.play, "serve")],
+        capture_output=True, text=True, timeout=20, check=False,
+    )
+    return done.returncode, done.stderr
+
+
+def wrong_files(gateway: Gateway) -> bool:
+    """Files and words that it doesn't begin with, and a socket that another listens on."""
+    right, socket_words = gateway.tokens.read_text(), ["--unix", gateway.room / "other"]
+    files = {
+        "wide": (right, 0o644), "short": ("0 abcd\n", 0o600), "twice": (right + right, 0o600),
+        "high": (right.replace("0 ", "32 ", 1), 0o600), "none": (None, 0),
+    }
+    ended = []
+    for name, (text, mode) in files.items():
+        path = Path(gateway.room / f"tokens_{name}")
+        if text is not None:
+            path.write_text(text)
+            path.chmod(mode)
+        ended.append(refused(gateway, "--tokens", path, *socket_words))
+    ended.append(refused(gateway, "--tokens", gateway.tokens))
+    ended.append(refused(gateway, "--tokens", gateway.tokens, "--tcp", "70000"))
+    right_ones = all(status == 2 and said for status, said in ended)
+    status, said = refused(gateway, "--tokens", gateway.tokens, "--unix", gateway.socket)
+    return right_ones and status == 1 and "cannot listen" in said
+
+
+SCENES = [
+    wrong_files, no_greeting, wrong_tokens, many_greet, wrong_frames, cut_frames, flood,
+    never_reads, never_answers, comes_anew, idle_stays, drawn_input, server_halts, by_tcp,
+    server_dies, gateway_dies, ends_in_order,
+]
+
+
+def tried(tries, it) -> None:
+    """Plays each scene at one gateway, and looks whether a sanitizer found something."""
+    words = ["--patience", str(PATIENCE), "--silence", str(SILENCE), "--buffer", "262144"]
+    gateway = it.served("bad_input", *words, limits=(8, 64, 4096, 32, 1))
+    for scene in SCENES:
+        try:
+            right, why = scene(gateway), gateway.log()[-1000:]
+        except (OSError, EOFError, struct.error, subprocess.SubprocessError) as fault:
+            right, why = False, f"{gateway.log()[-1000:]}{fault!r}"
+        tries.told(f"gateway: {scene.__name__.replace('_', ' ')}", right, "" if right else why)
+    gateway.stop()
+    log = gateway.log()
+    found = "AddressSanitizer" in log or "runtime error" in log or "LeakSanitizer" in log
+    tries.told("gateway: the sanitizers", not found, log[-3000:] if found else "nothing found")

@@ -1,0 +1,336 @@
+"""Tries the server that other processes connect to: its gateway, the examples, kills, lost frames.
+
+    scripts/check serve [--built] [KILLS [SEED]]      200 kills without a number
+
+- Bad input at the gateway, which is built with ASan and UBSan: no token, a wrong one, frames of
+  others, frames that are none, half a frame and then silence, floods, clients that don't read or
+  don't answer, a server that dies, files that others may read. Each ends in a closed connection, a
+  line or a status, while another client goes on.
+- The examples: a counter in C by four processes, transfers in Python, keys in Rust in one store and
+  in four.
+- The same over datagrams of which a tenth is lost, repeated or late.
+- Kills of the server, the gateway and clients at drawn moments: no commit that was answered is
+  lost, no reader sees another sum, and the work goes on after each.
+- Copies by sqlite3's online backup, by `VACUUM INTO` and by a client that reads all pages, while
+  others commit: each is right, or refused.
+
+It needs the library (that of LIBRARY, else installed by scripts/library, with what stands in
+crates/rughvadi/out after --built), `cb_play` (that of PLAY, else built), a C compiler, libuv's
+header, rustc and sqlite3. Once all is built it takes some ten minutes. The status is 1 where
+something failed.
+"""
+import os
+import random
+import signal
+import sqlite3
+import subprocess
+import sys
+from dataclasses import dataclass
+from pathlib import Path
+
+import building
+import serving
+from checks import bad_input
+from checks.library import Tries
+from serving import Gateway, wait_for
+
+TEXTS = building.PROGRAMS / "python"
+WORKERS = 4
+
+
+@dataclass
+class Built:
+    """The programs, and the folder of the check."""
+
+    room: Path
+    library: Path
+    play: Path
+    gateway: Path
+    examples: Path
+
+    @property
+    def env(self) -> dict[str, str]:
+        return {**os.environ, "PYTHONPATH": f"{self.library}/share/rughvadi/python"}
+
+    def served(self, name: str, *words: str, **more) -> Gateway:
+        """A gateway in a folder of its own."""
+        room = self.room / name
+        room.mkdir()
+        gateway = Gateway(room, self.gateway, self.play, words=words, **more)
+        gateway.start()
+        return gateway
+
+
+def build(room: Path, words: list[str]) -> Built:
+    lib = serving.library(room, words)
+    # Debian's compiler, the oldest that the crate is written for, where it is there.
+    debian = "/usr/bin/rustc"
+    rustc = os.environ.get("RUSTC") or (debian if os.path.exists(debian) else "rustc")
+    return Built(
+        room,
+        lib,
+        building.play("PLAY"),
+        serving.made(Path("hosts/gateway"), room, f"CFLAGS={serving.SANITIZERS}") / "gateway",
+        serving.made(Path("examples"), room, f"LIBRARY={lib}", f"RUSTC={rustc}"),
+    )
+
+
+# ---- the examples ----
+
+
+def together(it: Built, commands: list[list], seconds: float = 300.0) -> tuple[bool, str]:
+    """Runs commands at the same time; whether all ended with 0, and what they said."""
+    both = {"stdout": subprocess.PIPE, "stderr": subprocess.STDOUT, "text": True}
+    begun = [subprocess.Popen(list(map(str, each)), env=it.env, **both) for each in commands]
+    right, said = True, ""
+    for each in begun:
+        try:
+            text, _ = each.communicate(timeout=seconds)
+        except subprocess.TimeoutExpired:
+            each.kill()
+            text = each.communicate()[0] + "it didn't end\n"
+        right = right and each.returncode == 0
+        said += text
+    return right, said
+
+
+def counter_of(gateway: Gateway, page: int = 0) -> int:
+    """The number that a page of the main store begins with."""
+    with sqlite3.connect(gateway.database()) as tables:
+        rows = tables.execute("SELECT body FROM part WHERE no = ? AND place = 0", (page,))
+        (body,) = rows.fetchone()
+    tables.close()
+    return int.from_bytes(body[:8], "little", signed=True)
+
+
+def examples(
+    tries: Tries, it: Built, name: str, address: Path, gateway: Gateway, few: bool
+) -> None:
+    """All examples at one gateway, one after another."""
+    tokens, times = gateway.tokens, 10 if few else 200
+    counters = [
+        [it.examples / "counter", address, tokens, client, times] for client in range(4)
+    ]
+    right, said = together(it, counters)
+    tries.told(f"{name}: counter in C, by four", right, said)
+    right, said = together(it, [[it.examples / "kv", address, tokens, 5, "main", "fill", times]])
+    tries.told(f"{name}: keys in Rust, in one store", right, said)
+    stores = [
+        [it.examples / "kv", address, tokens, client, "a,b,c,d", "fill", 2 * times]
+        for client in (5, 6)
+    ]
+    right, said = together(it, stores)
+    tries.told(f"{name}: keys in Rust, in four stores, by two", right, said)
+
+
+def run_examples(tries: Tries, it: Built) -> None:
+    gateway = it.served("examples", stores=("main", "money", "a", "b", "c", "d"))
+    try:
+        examples(tries, it, "examples", gateway.socket, gateway, False)
+    finally:
+        status = gateway.stop()
+    counter = counter_of(gateway)
+    tries.told("examples: the counter in the table", counter == 800, f"{counter}")
+    tries.told("examples: the gateway ended in order", status == 0, f"status {status}")
+    gateway = it.served("transfers")
+    try:
+        transfers(tries, it, "examples", gateway.socket, gateway, 100)
+    finally:
+        gateway.stop()
+
+
+def transfers(
+    tries: Tries, it: Built, name: str, address: Path, gateway: Gateway, times: int
+) -> None:
+    words = [sys.executable, building.TOP / "examples/transfers.py", address, gateway.tokens, times]
+    right, said = together(it, [words])
+    tries.told(f"{name}: transfers in Python", right, said)
+
+
+# ---- frames over datagrams ----
+
+
+def run_lossy(tries: Tries, it: Built, seed: int) -> None:
+    for part in ("counts", "transfers"):
+        gateway = it.served(f"lossy_{part}", stores=("main", "a", "b", "c", "d"))
+        socket = gateway.room / "relay"
+        words = [sys.executable, TEXTS / "relay.py", socket, gateway.socket, str(seed)]
+        relay = subprocess.Popen(list(map(str, words)), stdout=subprocess.PIPE)
+        try:
+            relay.stdout.readline()
+            if part == "counts":
+                examples(tries, it, "over datagrams", socket, gateway, True)
+            else:
+                transfers(tries, it, "over datagrams", socket, gateway, 10)
+        finally:
+            relay.kill()
+            relay.wait()
+            relay.stdout.close()
+            gateway.stop()
+        if part == "counts":
+            counter = counter_of(gateway)
+            tries.told("over datagrams: the counter", counter == 40, f"{counter}")
+
+
+# ---- kills ----
+
+
+class Work:
+    """Workers at a gateway, which are started again where they were killed."""
+
+    def __init__(self, it: Built, gateway: Gateway) -> None:
+        self.it, self.gateway = it, gateway
+        self.workers: dict[int, subprocess.Popen] = {}
+        for client in range(WORKERS):
+            self.start(client)
+
+    def log(self, client: int) -> Path:
+        return self.gateway.room / f"log_{client}"
+
+    def start(self, client: int) -> None:
+        words = [sys.executable, TEXTS / "worker.py", self.gateway.socket, self.gateway.tokens]
+        words += [client, self.log(client)]
+        self.workers[client] = subprocess.Popen(list(map(str, words)), env=self.it.env)
+
+    def answered(self, client: int) -> int:
+        """The last counter that it was answered."""
+        path = self.log(client)
+        numbers = path.read_bytes() if path.exists() else b""
+        whole = len(numbers) // 8 * 8
+        return int.from_bytes(numbers[whole - 8 : whole], "big") if whole else 0
+
+    def total(self) -> int:
+        return sum(self.answered(client) for client in self.workers)
+
+    def ended(self) -> list[int]:
+        """The statuses of workers that ended by themselves."""
+        return [each.poll() for each in self.workers.values() if each.poll() is not None]
+
+    def kill(self, client: int) -> None:
+        self.workers[client].kill()
+        self.workers[client].wait()
+
+    def stop(self) -> None:
+        for client in self.workers:
+            self.kill(client)
+
+
+def kill_one(work: Work, drawn: random.Random) -> str:
+    """Kills something; what it was."""
+    what = drawn.choice(["server", "gateway", "client", "all"])
+    gateway = work.gateway
+    if what == "client":
+        client = drawn.randrange(WORKERS)
+        work.kill(client)
+        work.start(client)
+        return what
+    if what in ("server", "all"):
+        for number in gateway.servers():
+            os.kill(number, signal.SIGKILL)
+    if what in ("gateway", "all"):
+        gateway.stop(signal.SIGKILL)
+        gateway.start()
+    return what
+
+
+def run_kills(tries: Tries, it: Built, kills: int, seed: int) -> None:
+    drawn = random.Random(seed)
+    gateway = it.served("kills", "--silence", "5")
+    work, counts, wrong = Work(it, gateway), {}, []
+    for kill in range(kills):
+        before = work.total()
+        if not wait_for(lambda: work.total() > before or work.ended(), 60.0) or work.ended():
+            wrong.append(f"kill {kill}: nothing went on, or workers ended with {work.ended()}")
+            break
+        wait_for(lambda: False, drawn.uniform(0.0, 0.4))
+        what = kill_one(work, drawn)
+        counts[what] = counts.get(what, 0) + 1
+    work.stop()
+    status = gateway.stop()
+    wrong += table_faults(work)
+    said = ", ".join(f"{count} of {what}" for what, count in sorted(counts.items()))
+    said = f"{sum(counts.values())} kills ({said}), {work.total()} commits answered"
+    tries.told("kills", not wrong and status == 0, "\n".join([*wrong, said]))
+
+
+def table_faults(work: Work) -> list[str]:
+    """What is wrong in the store once all have ended."""
+    wrong = []
+    for client in work.workers:
+        counter = counter_of(work.gateway, 8 + client)
+        if counter < work.answered(client):
+            wrong.append(f"client {client}: {work.answered(client)} answered, {counter} stored")
+    if total := sum(counter_of(work.gateway, account) for account in range(8)):
+        wrong.append(f"the sum is {total}")
+    with sqlite3.connect(work.gateway.database()) as tables:
+        whole = tables.execute("PRAGMA integrity_check").fetchone()[0]
+    tables.close()
+    return wrong + ([f"the file: {whole}"] if whole != "ok" else [])
+
+
+# ---- copies while it is served ----
+
+
+def copy_faults(copy: Path) -> list[str]:
+    """What is wrong with a copy."""
+    with sqlite3.connect(copy) as tables:
+        whole = tables.execute("PRAGMA integrity_check").fetchone()[0]
+        bodies = tables.execute("SELECT body FROM part WHERE no < 8 AND place = 0").fetchall()
+    tables.close()
+    total = sum(int.from_bytes(body[:8], "little", signed=True) for (body,) in bodies)
+    return [] if whole == "ok" and total == 0 and len(bodies) == 8 else [f"{whole}, sum {total}"]
+
+
+def copied_by(it: Built, words: list, copy: Path) -> tuple[bool, list[str]]:
+    """Whether a copy came of it, and what is wrong with that; one that is refused is none."""
+    right, said = together(it, [words], 120.0)
+    refused = "locked" in said
+    if right and not refused:
+        return True, copy_faults(copy)
+    return False, [] if refused else [said]
+
+
+def run_copies(tries: Tries, it: Built) -> None:
+    gateway = it.served("copies")
+    work = Work(it, gateway)
+    wait_for(lambda: work.total() > 20)
+    sqlite = ["sqlite3", "-cmd", ".timeout 2000", gateway.database()]
+    copier = [sys.executable, building.TOP / "examples/copy_store.py", gateway.socket]
+    for name in ("sqlite3's online backup", "VACUUM INTO", "a client"):
+        before, wrong, count = work.total(), [], 0
+        for place in range(5):
+            copy = gateway.room / f"{name.split()[-1]}_{place}.db"
+            ways = {
+                "sqlite3's online backup": [*sqlite, f".backup '{copy}'"],
+                "VACUUM INTO": [*sqlite, f"VACUUM INTO '{copy}'"],
+                "a client": [*copier, gateway.tokens, 10 + place, "main", copy],
+            }
+            came, found = copied_by(it, ways[name], copy)
+            count, wrong = count + came, wrong + found
+        goes_on = wait_for(lambda: work.total() > before + 20)
+        said = f"{count} copies and {5 - count} refused; {work.total() - before} commits meanwhile"
+        right = not wrong and goes_on and (count == 5 or name != "a client")
+        tries.told(f"copies by {name}", right, "\n".join([*wrong, said]))
+    work.stop()
+    status = gateway.stop()
+    wrong = table_faults(work)
+    tries.told("copies: the store itself", not wrong and status == 0, "\n".join(wrong) or "right")
+
+
+def main(words: list[str]) -> int:
+    built = [word for word in words if word == "--built"]
+    counts = [word for word in words if word != "--built"]
+    if len(counts) > 2 or not all(word.isdecimal() for word in counts):
+        print("scripts/check serve [--built] [KILLS [SEED]]", file=sys.stderr)
+        return 2
+    kills, seed = map(int, counts + ["200", "1"][len(counts) :])
+    tries = Tries()
+    with building.a_room() as room:
+        it = build(room, built)
+        bad_input.tried(tries, it)
+        run_examples(tries, it)
+        run_lossy(tries, it, seed)
+        run_copies(tries, it)
+        run_kills(tries, it, kills, seed)
+    print(f"serve: {tries.passed} passed, {tries.failed} failed")
+    return 1 if tries.failed else 0

@@ -1,0 +1,128 @@
+"""What check and bench of a served store share: the programs, and a gateway with its files."""
+import os
+import signal
+import subprocess
+import time
+from dataclasses import dataclass, field
+from pathlib import Path
+from typing import Optional
+
+import building
+
+SANITIZERS = "-g -O1 -fsanitize=address,undefined -fno-sanitize-recover=all"
+CONFIG = "clients = {}\npages = {}\npage_size = {}\nslots = {}\nkeep_write = {}\n"
+
+
+def made(folder: Path, room: Path, *settings: str) -> Path:
+    """Runs `make` in a folder of the repository; where it put what it made."""
+    out = room / folder.name
+    words = ["make", "-s", "-C", building.TOP / folder, f"OUT={out}", *settings]
+    if subprocess.run(words, check=False).returncode:
+        raise building.NotBuilt(f"{folder} isn't built")
+    return out
+
+
+def library(room: Path, words: list[str]) -> Path:
+    """The library: that of LIBRARY, else installed by `scripts/library`."""
+    if given := building.named("LIBRARY"):
+        return given
+    to = room / "library"
+    if subprocess.run([building.TOP / "scripts/library", *words, to], check=False).returncode:
+        raise building.NotBuilt("the library isn't built")
+    return to
+
+
+def in_c(source: Path, room: Path, lib: Path, *flags: str) -> Path:
+    """A program in C over the library."""
+    out = room / source.stem
+    compiler = os.environ.get("CC", "cc")
+    words = [compiler, "-std=c11", "-D_GNU_SOURCE", "-O2", "-Wall", "-Wextra", "-Werror"]
+    words += [f"-I{lib}/include", source, f"{lib}/lib/librughvadi.a", *flags, "-o", out]
+    if subprocess.run(words, check=False).returncode:
+        raise building.NotBuilt(f"{source.name} isn't compiled")
+    return out
+
+
+@dataclass
+class Gateway:
+    """A gateway that serves some stores, in a folder of its own."""
+
+    room: Path
+    program: Path
+    play: Path
+    stores: tuple[str, ...] = ("main",)
+    words: tuple[str, ...] = ()
+    limits: tuple[int, ...] = (32, 64, 4096, 32, 1)
+    env: dict[str, str] = field(default_factory=dict)
+    process: Optional[subprocess.Popen] = None
+
+    @property
+    def socket(self) -> Path:
+        return self.room / "socket"
+
+    @property
+    def tokens(self) -> Path:
+        return self.room / "tokens"
+
+    def database(self, store: str = "main") -> Path:
+        return self.room / f"{store}.db"
+
+    def start(self) -> None:
+        """Starts it, and waits until it listens."""
+        if not self.tokens.exists():
+            make = [self.program, "--make-tokens", "32", "--tokens", self.tokens]
+            subprocess.run(make, check=True)
+            (self.room / "config").write_text(CONFIG.format(*self.limits))
+            lines = [f"{it} {self.room}/config {self.database(it)}\n" for it in self.stores]
+            (self.room / "stores").write_text("".join(lines))
+        words = [self.program, "--unix", self.socket, "--tokens", self.tokens]
+        words += ["--stores", self.room / "stores", *self.words, "--", self.play, "serve"]
+        with (self.room / "log").open("ab") as log:
+            env = {**os.environ, **self.env}
+            both = {"stdout": subprocess.PIPE, "stderr": log}
+            self.process = subprocess.Popen(list(map(str, words)), env=env, **both)
+        if self.process.stdout is None or self.process.stdout.readline() != b"ready\n":
+            raise building.NotBuilt("the gateway didn't start: " + self.log()[-1000:])
+
+    def log(self) -> str:
+        return (self.room / "log").read_text()
+
+    def servers(self) -> list[int]:
+        """The processes of the servers."""
+        if self.process is None:
+            return []
+        number = self.process.pid
+        try:
+            text = Path(f"/proc/{number}/task/{number}/children").read_text()
+        except OSError:
+            return []
+        return [int(it) for it in text.split()]
+
+    def stop(self, how: signal.Signals = signal.SIGTERM) -> int:
+        """Ends it; its status."""
+        if self.process is None:
+            return 0
+        self.process.send_signal(how)
+        status = self.process.wait(60)
+        if self.process.stdout:
+            self.process.stdout.close()
+        self.process = None
+        return status
+
+    def size(self) -> int:
+        """How much memory it has, in KB."""
+        if self.process is None:
+            return 0
+        status = Path(f"/proc/{self.process.pid}/status").read_text()
+        line = next(it for it in status.splitlines() if it.startswith("VmRSS"))
+        return int(line.split()[1])
+
+
+def wait_for(what, seconds: float = 20.0) -> bool:
+    """Waits until it is so; whether it came to be."""
+    end = time.monotonic() + seconds
+    while time.monotonic() < end:
+        if what():
+            return True
+        time.sleep(0.02)
+    return bool(what())
