@@ -27,12 +27,13 @@ pub(crate) struct RunRequest<'a> {
 pub(crate) enum Request<'a> {
     /// Play a schedule: the paths of the configuration and of the schedule.
     Play { config: &'a str, schedule: &'a str },
+    /// Draw the picture of a schedule that is played: the paths of the configuration and of the
+    /// schedule.
+    Chart { config: &'a str, schedule: &'a str },
     /// Draw a schedule.
     Draw(DrawRequest<'a>),
     /// Run workers.
     Run(RunRequest<'a>),
-    /// Serve frames: the paths of the configuration and of the store.
-    Serve { config: &'a str, store: &'a str },
     /// Play the lists of frames and calls in the file of this path, each at one side alone.
     Sides(&'a str),
     /// Do the command lines in the file of this path.
@@ -48,14 +49,13 @@ const ABOUT: &str =
 const PLAY_ABOUT: &str =
     "Plays a schedule on a store of zeros and prints what became of each event";
 
+const CHART_ABOUT: &str = "Plays a schedule on a store of zeros and prints a picture of it, as SVG";
+
 const DRAW_ABOUT: &str =
     "Draws a schedule by the words of a generator, and prints it, one event a line";
 
 const RUN_ABOUT: &str =
     "Runs each client on a thread of its own, over the store in a file, until its jobs are done";
-
-const SERVE_ABOUT: &str =
-    "Serves the frames of the standard input over the store in a file, and answers on the output";
 
 const SIDES_ABOUT: &str =
     "Plays lists of frames and calls at a client or a server alone, and prints what it answers";
@@ -125,6 +125,20 @@ Statuses:
   4  no memory
   5  cannot write";
 
+const CHART_HELP: &str = "\
+The picture stands alone, in light and dark by the viewer's setting. It has a lane for the server
+and one for each client; time goes downwards, one row an event. An arrow goes from the event that
+sent a packet to each that took it. A bar stands while a client can read its copy of the page, a
+darker one while it may write it.
+
+CONFIG and SCHEDULE are as for play, with at most 2,000 events.
+
+Statuses:
+  0  done
+  2  wrong words, configuration or schedule
+  4  no memory
+  5  cannot write";
+
 const DRAW_HELP: &str = "\
 The events are drawn while they are played, on a store of zeros: a packet to take was sent before.
 The same CONFIG, seed and number of events give the same schedule.
@@ -151,24 +165,6 @@ Statuses:
   0  done
   2  wrong words or configuration
   3  the store or a worker refused
-  4  no memory
-  5  cannot write";
-
-const SERVE_HELP: &str = "\
-The standard input has frames of all clients, one after another; what is said to clients goes out
-the same way, until the input ends. STORE is a database file, made where it isn't there. A commit is
-answered once it is on disk; those that came together are written together.
-
-A frame that can't be read is passed over by the length in its header; how many were is said at the
-end, on the standard error. A header of version 2 and kind 0, whose other bytes are 0, stands alone:
-what may be lost is said again.
-
-CONFIG is as for play; jobs counts for nothing.
-
-Statuses:
-  0  the input ended, and all is written
-  2  wrong words or configuration
-  3  the store refused, or the input is no frames
   4  no memory
   5  cannot write";
 
@@ -200,12 +196,26 @@ fn path<'a>(alloc: Global, name: &'a str, help: &'a str) -> Arg<'a> {
         .help(help)
 }
 
-fn play_command<'a>(alloc: Global) -> Result<Command<'a>, AllocError> {
-    Command::new(alloc, "play")
-        .about(PLAY_ABOUT)
-        .after_help(PLAY_HELP)
+/// A command that plays the schedule of a file under the configuration of a file.
+fn schedule_command<'a>(
+    alloc: Global,
+    name: &'a str,
+    about: &'a str,
+    after_help: &'a str,
+) -> Result<Command<'a>, AllocError> {
+    Command::new(alloc, name)
+        .about(about)
+        .after_help(after_help)
         .arg(path(alloc, "CONFIG", "File with the settings, as TOML"))?
         .arg(path(alloc, "SCHEDULE", "File with the events, one a line"))
+}
+
+fn play_command<'a>(alloc: Global) -> Result<Command<'a>, AllocError> {
+    schedule_command(alloc, "play", PLAY_ABOUT, PLAY_HELP)
+}
+
+fn chart_command<'a>(alloc: Global) -> Result<Command<'a>, AllocError> {
+    schedule_command(alloc, "chart", CHART_ABOUT, CHART_HELP)
 }
 
 /// An option whose value is a whole number from 0 to the most.
@@ -250,14 +260,6 @@ fn run_command<'a>(alloc: Global) -> Result<Command<'a>, AllocError> {
                 .action(ArgAction::SetTrue)
                 .help("Show how far it is, on the standard error"),
         )
-}
-
-fn serve_command<'a>(alloc: Global) -> Result<Command<'a>, AllocError> {
-    Command::new(alloc, "serve")
-        .about(SERVE_ABOUT)
-        .after_help(SERVE_HELP)
-        .arg(path(alloc, "CONFIG", "File with the settings, as TOML"))?
-        .arg(path(alloc, "STORE", "File with the store's tables"))
 }
 
 /// A command that reads one file.
@@ -310,9 +312,9 @@ fn command<'a>(alloc: Global) -> Result<Command<'a>, AllocError> {
         .subcommand_required(true)
         .arg_required_else_help(true);
     let command = with(command, play_command(alloc))?;
+    let command = with(command, chart_command(alloc))?;
     let command = with(command, draw_command(alloc))?;
     let command = with(command, run_command(alloc))?;
-    let command = with(command, serve_command(alloc))?;
     let command = with(command, sides_command(alloc))?;
     with(command, script_command(alloc))
 }
@@ -321,6 +323,10 @@ fn command<'a>(alloc: Global) -> Result<Command<'a>, AllocError> {
 fn asked<'a>(matches: &ArgMatches<'a>) -> Option<Request<'a>> {
     match matches.subcommand() {
         Some(("play", matches)) => Some(Request::Play {
+            config: matches.get_str("CONFIG")?,
+            schedule: matches.get_str("SCHEDULE")?,
+        }),
+        Some(("chart", matches)) => Some(Request::Chart {
             config: matches.get_str("CONFIG")?,
             schedule: matches.get_str("SCHEDULE")?,
         }),
@@ -334,10 +340,6 @@ fn asked<'a>(matches: &ArgMatches<'a>) -> Option<Request<'a>> {
             store: matches.get_str("STORE")?,
             progress: matches.get_flag("progress"),
         })),
-        Some(("serve", matches)) => Some(Request::Serve {
-            config: matches.get_str("CONFIG")?,
-            store: matches.get_str("STORE")?,
-        }),
         Some(("sides", matches)) => Some(Request::Sides(matches.get_str("FILE")?)),
         Some(("script", matches)) => Some(Request::Script(matches.get_str("FILE")?)),
         _ => None,

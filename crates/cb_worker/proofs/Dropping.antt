@@ -1,9 +1,8 @@
 -- How a worker's transaction is dropped, and that it is said.
-use Rattle.std.proofs.Common.{◌≡◌, inl, inr, true, List, [], ◌∷◌, Result, Ok, Err, OnOk, IfErr, ap, subst, sym, ◌∙◌}
+use Rattle.std.proofs.Common.{◌≡◌, inl, inr, List, ◌∷◌, Result, Ok, Err, OnOk, IfErr, ap, refl, sym, ◌∙◌}
 use Rattle.std.specs.Prelude.{⊤, ◌⊎◌}
 use Rattle.cb_client.specs.ByTable.{Calls, limits_at, messages_from, over}
 use Rattle.cb_client_core.specs.ClientState.{ClientState, client_of}
-use Rattle.cb_frame_types.specs.declared.frame.Frame.{Frame}
 use Rattle.cb_outbox.specs.Messages.{messages_of}
 use Rattle.cb_protocol.proofs.Cases.{call_accepted}
 use Rattle.cb_protocol.specs.Answers.{AnsweredOk}
@@ -26,11 +25,11 @@ drop_first : (v : ClientState) (said : List Message) (new : ClientState) → Cal
 drop_first v said new calls =
     sym (calls.makes.said []) ∙ ap (λ (r : Reply). messages_from v (bodies_said r.steps)) (call_accepted (limits_at v) (client_of v []) CallDrop (accepted v [] (calls.word [])))
 
-pub says : (old new : WorkerState) (said : List Frame) → new.said ≡ said → Calls old.client CallDrop AnsweredOk (messages_of said) over new.client → IsStill old new → SaysDrop old new
-says old new said e calls still = let kept = subst (λ (l : List Frame). Calls old.client CallDrop AnsweredOk (messages_of l) over new.client) (sym e) calls in record {
-  calls = kept;
+pub says : (old new : WorkerState) → Calls old.client CallDrop AnsweredOk (messages_of new.said) over new.client → IsStill old new → SaysDrop old new
+says old new calls still = record {
+  calls = calls;
   given_back = messages_from old.client (bodies_said (end_pages (client_of old.client []) true (limits_at old.client).pages));
-  first = drop_first old.client (messages_of new.said) new.client kept;
+  first = drop_first old.client (messages_of new.said) new.client calls;
   still = still;
 }
 

@@ -124,16 +124,16 @@ RefusesRestart old new incarnation fault =
     (RefusesStart old incarnation fault × (new ≡ old)) ⊎ StopsServing new fault
 
 -- why a client doesn't enter: these limits haven't got it; or the station refused it
-abbrev pub RefusesEntry : Bounds → (number : ℕ) → WorkerFault → Type 0
-RefusesEntry limits number (worker.Office fault) =
-    ((fault ≡ office.Foreign) × (limits.clients ≤ number)) ⊎ JoinsSome number (Err fault)
-RefusesEntry limits number _ = ⊥
+abbrev pub RefusesEntry : Bounds → (client : ℕ) → WorkerFault → Type 0
+RefusesEntry limits client (worker.Office fault) =
+    ((fault ≡ office.Foreign) × (limits.clients ≤ client)) ⊎ JoinsSome client (Err fault)
+RefusesEntry limits client _ = ⊥
 
 -- A client that had joined left again, where that wasn't refused: there was no memory for it; or
 -- serving was refused before its Welcome came.
-pub record GivesUpJoining (number : ℕ) (fault : WorkerFault) : Type 0 where
+pub record GivesUpJoining (client : ℕ) (fault : WorkerFault) : Type 0 where
   pub joined : HandState
-  pub joins : JoinsSome number (Ok joined)
+  pub joins : JoinsSome client (Ok joined)
   pub hand : HandState
   pub same : (hand.client ≡ joined.client) × (hand.incarnation ≡ joined.incarnation)
   pub leaves : TriesToLeave hand
@@ -141,5 +141,5 @@ pub record GivesUpJoining (number : ℕ) (fault : WorkerFault) : Type 0 where
       ⊎ ((worker : WorkerState) × (worker.hand ≡ hand) × StopsServing worker fault)
 
 -- why a client doesn't join
-abbrev pub RefusesJoin : Bounds → (number : ℕ) → WorkerFault → Type 0
-RefusesJoin limits number fault = RefusesEntry limits number fault ⊎ GivesUpJoining number fault
+abbrev pub RefusesJoin : Bounds → (client : ℕ) → WorkerFault → Type 0
+RefusesJoin limits client fault = RefusesEntry limits client fault ⊎ GivesUpJoining client fault

@@ -23,4 +23,4 @@ returns-in_err-_number-clause-told g c =
 pub returns-in_err-_number-clause-refused : goal.returns-in_err-_number-clause-refused
 returns-in_err-_number-clause-refused g c =
     let is : c.from_residual-in_err-_number.result ≡ Err c.in_err-_number.field-0.0 = search rules in
-    rw is (inr (record { old = c.serve_at.new.self; before = c.serve_at.new.station; sound = c.history-known.ensures.sound; after = c.commit_at.new.station; commits = c.in_err-_number.ensures }))
+    rw is (inr (record { old = c.serve_at.new.self; before = c.serve_at.new.station; sound = c.history.ensures.sound; after = c.commit_at.new.station; commits = c.in_err-_number.ensures }))

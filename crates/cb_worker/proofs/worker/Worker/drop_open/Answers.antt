@@ -12,4 +12,4 @@ pub returns-clause-still : goal.returns-clause-still
 returns-clause-still g c = rw (← c.self.view_is) (dropped_still _ _ _ c.in_ok-said.ensures.ok refl)
 
 pub returns-clause-says : goal.returns-clause-says
-returns-clause-says g c = rw (← c.self.view_is) (says _ _ c.in_ok-said.said.items c.of.ensures c.in_ok-said.ensures.ok (dropped_still _ _ _ c.in_ok-said.ensures.ok refl))
+returns-clause-says g c = rw (← c.self.view_is) (says _ _ c.in_ok-said.ensures.ok (dropped_still _ _ _ c.in_ok-said.ensures.ok refl))

@@ -27,4 +27,4 @@ pub returns-in_err-_handed-clause-refused : goal.returns-in_err-_handed-clause-r
 returns-in_err-_handed-clause-refused g c =
     let kept : c.loop-alloc.self.said ≢ [] = grind (arith, common_steps) in
     let is : c.from_residual.result ≡ Err c.in_err-_handed.field-0.0 = search rules in
-    rw is (kept_back c.args.self.now c.loop-alloc.self c.hand_in.new.self c.args.station.now c.loop-alloc.station c.hand_in.new.station c.in_err-_handed.field-0.0 c.history-known.ensures.sound c.loop-alloc.invariant.2 (kept, c.in_err-_handed.ensures.turns))
+    rw is (kept_back c.args.self.now c.loop-alloc.self c.hand_in.new.self c.args.station.now c.loop-alloc.station c.hand_in.new.station c.in_err-_handed.field-0.0 c.history.ensures.sound c.loop-alloc.invariant.2 (kept, c.in_err-_handed.ensures.turns))

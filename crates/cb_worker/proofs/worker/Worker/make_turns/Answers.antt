@@ -56,4 +56,4 @@ returns-then-not-turned-clause-serves g c =
 pub returns-in_err-turned-clause-refused : goal.returns-in_err-turned-clause-refused
 returns-in_err-turned-clause-refused g c =
     let is : c.from_residual.result ≡ Err c.in_err-turned.field-0.0 = search rules in
-    rw is (stopped c.args.self.now c.loop.self c.turn_at.new.self c.args.station.now c.loop.station c.turn_at.new.station c.in_err-turned.field-0.0 c.history-known.ensures.sound c.loop.invariant.4 c.in_err-turned.ensures)
+    rw is (stopped c.args.self.now c.loop.self c.turn_at.new.self c.args.station.now c.loop.station c.turn_at.new.station c.in_err-turned.field-0.0 c.history.ensures.sound c.loop.invariant.4 c.in_err-turned.ensures)
