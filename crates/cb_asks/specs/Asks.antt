@@ -1,6 +1,5 @@
 -- The queues of all pages as their callers see them, and what each call makes of them.
 use Rattle.std.specs.Prelude.{◌≡◌, ◌≢◌, ◌<◌, ◌≤◌, ℕ, List, [], ◌∷◌, ◌++◌, length, Option}
-use Rattle.std.specs.Prelude.{None, Some}
 use Rattle.std.specs.Prelude.{slice_index_or}
 use Rattle.std.specs.Option.{is_some}
 use Rattle.cb_page.specs.Clients.{has}
@@ -12,7 +11,6 @@ use Rattle.cb_protocol.specs.ServerMessages.{new_ask, read_asks_in}
 use Rattle.cb_asks.specs.Places.{PlacesState, place_of}
 use Rattle.cb_asks.specs.Queues.{QueueState, no_queue}
 use Rattle.cb_asks.specs.Sums.{one_if, sum_below}
-use Rattle.cb_asks.specs.declared.ask.Fate.{Fate}
 
 -- the queue of each page, and where each client's ask waits
 pub record AsksState : Type 0 where
@@ -89,12 +87,6 @@ pub record Leaves (before : AsksState) (page : ℕ) (after : AsksState) : Type 0
 pub record Removes (before : AsksState) (client : ℕ) (after : AsksState) : Type 0 where
   pub has : Has before after (λ page. without_client client (queue_at before page))
   pub room : (other : ℕ) → room_at before other ≤ room_at after other
-
--- The client's ask, wherever it waited, was spent by that word; where it had none, none was spent.
-pub record IsSpent (before : AsksState) (client : ℕ) (word : Fate) (said : Option Fate)
-    : Type 0 where
-  pub some : (page : ℕ) → ask_count client (queue_at before page) ≢ 0 → said ≡ Some word
-  pub none : ((page : ℕ) → ask_count client (queue_at before page) ≡ 0) → said ≡ None
 
 -- the first ask for a page is noted as called back
 pub record CallsBack (before : AsksState) (page : ℕ) (after : AsksState) : Type 0 where

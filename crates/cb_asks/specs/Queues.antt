@@ -2,8 +2,6 @@
 use Rattle.std.specs.Prelude.{ℕ, List, [], ◌∷◌, Option, Some, None, slice_get, ◌==◌, if◌then◌else◌}
 use Rattle.std.specs.Option.{option_map}
 use Rattle.cb_protocol.specs.Server.{WaitingAsk}
-use Rattle.cb_asks.specs.declared.ask.Fate.{Fate}
-use Rattle.cb_asks.specs.declared.ask.Fate.TheVariants as fate
 use Rattle.cb_asks.specs.declared.queue.Waiting.{Waiting}
 
 -- the asks for a page, in order of arrival, and room for so many more without memory
@@ -23,10 +21,6 @@ pub record Asked : Type 0 where
 -- what is asked by an ask that waited
 abbrev pub asked : WaitingAsk → Asked
 asked ask = record { client = ask.client; write_grant = ask.write_grant }
-
--- a waiting ask that was granted
-abbrev pub granted : WaitingAsk → Fate
-granted ask = fate.Granted ask.client ask.write_grant
 
 -- the protocol's ask of the code's
 abbrev pub waiting_ask : Waiting → WaitingAsk

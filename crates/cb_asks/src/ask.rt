@@ -1,35 +1,16 @@
 //! An ask that has left its queue.
 ghost use Rattle.std.specs.Prelude.{◌≡◌};
-ghost use Rattle.cb_asks.specs.declared.ask.Fate.TheVariants as fate;
 
 use cb_page::{ClientNo, GrantNo};
 use std::marker::Model;
 
 /// An ask that has left its queue, and isn't answered yet.
 ///
-/// It can't be copied, and can't be let go unspent: what became of it is said by one of three
-/// words, which answer its [`Fate`].
+/// It can't be copied, and can't be let go unspent: it was granted, its client's transaction was
+/// doomed for it, or is gone.
 pub struct Ask {
     client: ClientNo,
     write_grant: Option<GrantNo>,
-}
-
-/// What became of an ask: the word by which it was spent.
-#[derive(Clone, Copy)]
-pub enum Fate {
-    /// Its client got the copy, or may write its copy of that grant.
-    Granted {
-        client: ClientNo,
-        write_grant: Option<GrantNo>,
-    },
-    /// Its client's transaction was doomed.
-    Doomed {
-        client: ClientNo,
-    },
-    /// Its client's transaction ended.
-    Gone {
-        client: ClientNo,
-    },
 }
 
 impl Model for Ask {
@@ -51,39 +32,37 @@ impl Ask {
         }
     }
 
-    /// It was granted.
-    pub fn granted(self) -> Fate
-        ensures { result ≡ fate.Granted self.client self.write_grant }
+    /// It was granted: its client got the copy, or the write permission by that grant.
+    pub fn granted(self) -> (ClientNo, Option<GrantNo>)
+        ensures client { result.0 ≡ self.client }
+        ensures grant { result.1 ≡ self.write_grant }
     {
         let Ask {
             client,
             write_grant,
         } = self;
-        Fate::Granted {
-            client,
-            write_grant,
-        }
+        (client, write_grant)
     }
 
     /// Its client's transaction was doomed.
-    pub fn doomed(self) -> Fate
-        ensures { result ≡ fate.Doomed self.client }
+    pub fn doomed(self) -> ClientNo
+        ensures { result ≡ self.client }
     {
         let Ask {
-            client,
+            client: doomed,
             write_grant: _,
         } = self;
-        Fate::Doomed { client }
+        doomed
     }
 
     /// Its client's transaction ended.
-    pub fn gone(self) -> Fate
-        ensures { result ≡ fate.Gone self.client }
+    pub fn gone(self) -> ClientNo
+        ensures { result ≡ self.client }
     {
         let Ask {
-            client,
+            client: gone,
             write_grant: _,
         } = self;
-        Fate::Gone { client }
+        gone
     }
 }

@@ -11,7 +11,7 @@ use Rattle.cb_callbacks.proofs.Page.{none_left}
 use Rattle.cb_callbacks.proofs.Queues.{Placed, each_place, none_counted, placed, some_counted, without_gone, without_has, without_other}
 use Rattle.cb_protocol.proofs.NoCycles.{none_waits}
 use Rattle.cb_protocol.proofs.SettlingClears.{SoundAsks, count_without, put_other, sound_fewer}
-use Rattle.cb_protocol.specs.Basics.{is_none, update}
+use Rattle.cb_protocol.specs.Basics.{is_none}
 use Rattle.cb_protocol.specs.Messages.{PageWrite}
 use Rattle.cb_protocol.specs.Server.{ChangeSession, ForgetTransaction, Server, ServerStep, has_ask, server_after, without_client}
 use Rattle.cb_protocol.specs.ServerMessages.{has_waiting_ask}
@@ -63,8 +63,6 @@ waits_ended client s change w o = record {
       subst (λ (x : Session). 1 ≤ x.current) (sym (put_other s.session client other (session_after (s.session client) change) ne)) (w.greeted other page (without_has client other (s.queue page) e));
   rows = λ other page. each_place (λ n (x : Session). is_none (x.row page) ≡ false → (n < s.clients) × (1 ≤ x.current)) s.session client (session_after (s.session client) change)
       (λ e. let old = o.rows page e in let was = w.rows client page old.0 in (was.0, subst (λ (n : ℕ). 1 ≤ n) (sym old.1) was.1)) (λ n ne e. w.rows n page e) other;
-  doomed = λ other. each_place (λ n (is : Bool). is ≡ true → 1 ≤ (update s.session client (session_after (s.session client) change) n).current) s.doomed client false
-      (λ e. absurd cc) (λ n ne e. subst (λ (x : Session). 1 ≤ x.current) (sym (put_other s.session client n (session_after (s.session client) change) ne)) (w.doomed n e)) other;
   tagged = λ page e. subst (λ (n : ℕ). 1 ≤ n) (sym (o.tags page)) (w.tagged page (o.holders page e));
 }
   where

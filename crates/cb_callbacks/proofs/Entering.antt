@@ -89,7 +89,6 @@ enters_at s page ask w lt known greeted live none = record {
           | inr own ↦ subst (IsGreeted s) own greeted
         ]) (λ at ne. w.greeted other at);
     rows = w.rows;
-    doomed = w.doomed;
     tagged = w.tagged;
   };
   kept = λ other e. pushed_none other (s.queue page) ask (sym (ap (has_ask other) (put_there s.queue page (s.queue page ++ ask ∷ []))) ∙ e);

@@ -12,7 +12,7 @@ abbrev pub with_flushed : ServerState → (number : ℕ) → ServerState
 with_flushed v number = record v { commits = record v.commits { flushed = number } }
 
 waits_flushed : (s : Server) (number : ℕ) → Waits s → Waits (after_server_step s (SetFlushed number))
-waits_flushed s number w = record { one_ask = w.one_ask; in_range = w.in_range; live = w.live; greeted = w.greeted; rows = w.rows; doomed = w.doomed; tagged = w.tagged }
+waits_flushed s number w = record { one_ask = w.one_ask; in_range = w.in_range; live = w.live; greeted = w.greeted; rows = w.rows; tagged = w.tagged }
 
 pub kept_flushed : (before : ServerState) (view : Edges) (number : ℕ) → AreCallbacks (record { state = before; view = view })
     → AreCallbacks (record { state = with_flushed before number; view = view })

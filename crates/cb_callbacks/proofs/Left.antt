@@ -24,7 +24,6 @@ pub record Left (client page : ℕ) (s t : Server) : Type 0 where
   pub fewer : (other at : ℕ) → has_ask other (t.queue at) ≡ true → has_ask other (s.queue at) ≡ true
   pub kept : (other : ℕ) → other ≢ client → has_ask other (t.queue page) ≡ false → has_ask other (s.queue page) ≡ false
   pub current : (other : ℕ) → (t.session other).current ≡ (s.session other).current
-  pub doomed : (other : ℕ) → t.doomed other ≡ true → (s.doomed other ≡ true) ⊎ (other ≡ client)
   pub rows : (other at : ℕ) → is_none ((t.session other).row at) ≡ false → (is_none ((s.session other).row at) ≡ false) ⊎ (other ≡ client)
   pub tagged : (at : ℕ) → is_none (t.store.holder at) ≡ false → (is_none (s.store.holder at) ≡ false × (t.store.tag at ≡ s.store.tag at)) ⊎ (1 ≤ t.store.tag at)
 
@@ -41,10 +40,6 @@ waits_left client page s t w known greeted l = record {
   rows = λ other at some. elim (l.rows other at some) [
     | inl was ↦ let old = w.rows other at was in (clients other old.0, greets other old.1)
     | inr same ↦ (clients other (subst (λ (n : ℕ). n < s.clients) (sym same) known), greets other (subst (λ (n : ℕ). IsGreeted s n) (sym same) greeted))
-  ];
-  doomed = λ other is. elim (l.doomed other is) [
-    | inl was ↦ greets other (w.doomed other was)
-    | inr same ↦ greets other (subst (λ (n : ℕ). IsGreeted s n) (sym same) greeted)
   ];
   tagged = λ at some. elim (l.tagged at some) [
     | inl was ↦ subst (λ (n : ℕ). 1 ≤ n) (sym was.1) (w.tagged at was.0)
@@ -202,7 +197,6 @@ permits_left client page grant s w first begun = let q = left_first client page 
       fewer = q.fewer;
       kept = q.kept;
       current = λ other. ap (λ (x : Session). x.current) (whole other);
-      doomed = λ other is. inl is;
       rows = λ other at some. inl (sym (ap (λ (x : Session). is_none (x.row at)) (whole other)) ∙ some);
       tagged = λ at some. elim (cases_eq at page) [
         | inl here ↦ inr (subst (λ (n : ℕ). 1 ≤ update s.store.tag page (s.session client).txn n) (sym here)
@@ -232,7 +226,6 @@ grants_left client page s w first = let q = left_first client page s w first in
       fewer = q.fewer;
       kept = q.kept;
       current = λ other. field_same (λ (x : Session). x.current) s.session client granted refl other;
-      doomed = λ other is. inl is;
       rows = λ other at some. elim (cases_eq other client) [
         | inl same ↦ inr same
         | inr ne ↦ inl (sym (ap (λ (x : Session). is_none (x.row at)) (put_other s.session client other granted ne)) ∙ some)
@@ -260,10 +253,6 @@ dooms_left client page s w here = record {
   fewer = λ other at e. without_has client other (s.queue at) e;
   kept = λ other ne e. sym (without_other client other (s.queue page) ne) ∙ e;
   current = λ other. refl;
-  doomed = λ other is. elim (cases_eq other client) [
-    | inl same ↦ inr same
-    | inr ne ↦ inl (sym (put_other s.doomed client other true ne) ∙ is)
-  ];
   rows = λ other at some. inl some;
   tagged = λ at some. inl (some, refl);
 }

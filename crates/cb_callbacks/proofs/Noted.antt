@@ -92,7 +92,6 @@ waits_noted noted only s page w = record {
   live = λ client at e. w.live client at (sym (has_same noted only s page client at) ∙ e);
   greeted = λ client at e. w.greeted client at (sym (has_same noted only s page client at) ∙ e);
   rows = w.rows;
-  doomed = w.doomed;
   tagged = w.tagged;
 }
   where

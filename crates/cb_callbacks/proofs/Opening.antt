@@ -16,7 +16,6 @@ waits_new L opening = record {
   live = λ client page e. absurd cc;
   greeted = λ client page e. absurd cc;
   rows = λ client page e. absurd cc;
-  doomed = λ client e. absurd cc;
   tagged = λ page e. absurd cc;
 }
 

@@ -69,7 +69,7 @@ marks_at client page s w = record {
     clients = refl;
     pages = refl;
   };
-  waits = record { one_ask = w.one_ask; in_range = w.in_range; live = w.live; greeted = w.greeted; rows = w.rows; doomed = w.doomed; tagged = w.tagged };
+  waits = record { one_ask = w.one_ask; in_range = w.in_range; live = w.live; greeted = w.greeted; rows = w.rows; tagged = w.tagged };
   kept = λ other e. e;
 }
 
@@ -109,7 +109,6 @@ ends_at client page grant tag s w = let whole = field_same (λ (x : Session). x)
     live = λ other at is. rw (whole other) (w.live other at is);
     greeted = λ other at is. rw (whole other) (w.greeted other at is);
     rows = λ other at some. rw (whole other) (w.rows other at (rw (← whole other) some));
-    doomed = λ other is. rw (whole other) (w.doomed other is);
     tagged = λ at some. w.tagged at (none_left_at s.store.holder client page at some);
   };
   kept = λ other e. e;
@@ -135,7 +134,6 @@ removes_at client page grant s w = let removed : Session = record (s.session cli
     live = λ other at is. field_same has_live_txn s.session client removed refl other ∙ w.live other at is;
     greeted = λ other at is. greets other (w.greeted other at is);
     rows = λ other at some. let was = w.rows other at (row_left other at some) in (was.0, greets other was.1);
-    doomed = λ other is. greets other (w.doomed other is);
     tagged = λ at some. w.tagged at (kept_some s.store.keep_write at some);
   };
   kept = λ other e. e;
@@ -188,7 +186,6 @@ permits_at client page grant s w begun = let whole = field_same (λ (x : Session
     live = λ other at is. rw (whole other) (w.live other at is);
     greeted = λ other at is. rw (whole other) (w.greeted other at is);
     rows = λ other at some. rw (whole other) (w.rows other at (rw (← whole other) some));
-    doomed = λ other is. rw (whole other) (w.doomed other is);
     tagged = λ at some. elim (cases_eq at page) [
       | inl here ↦ subst (λ (n : ℕ). 1 ≤ update s.store.tag page (s.session client).txn n) (sym here)
           (subst (λ (n : ℕ). 1 ≤ n) (sym (put_there s.store.tag page (s.session client).txn)) begun)

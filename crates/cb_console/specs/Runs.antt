@@ -8,7 +8,6 @@ use Rattle.cb_page.specs.Bounds.{Bounds}
 use Rattle.cb_world.specs.Draws.{IsOpening}
 use Rattle.cb_world.specs.Plays.{Played}
 use Rattle.cb_world.specs.WorldState.{WorldState}
-use Rattle.cb_event.specs.FaultTexts.{fault_text}
 use Rattle.cb_event.specs.ScheduleText as text
 use Rattle.cb_transcript.specs.Transcripts.{IsSerialOnOpening, TranscriptState}
 use Rattle.cb_event.specs.declared.event.Event.{Event}
@@ -81,10 +80,10 @@ IsOutcome config_bytes schedule_bytes (Ok played) = IsPlay config_bytes schedule
 IsOutcome config_bytes schedule_bytes (Err e) =
     e ≢ fault.Memory → IsRefusal config_bytes schedule_bytes e
 
--- The line of a fault. How one of the limits is shown is said by no clause.
+-- The line of a fault. How a schedule's fault, or one of the limits, is shown is said by no clause.
 abbrev pub read_fault_line : ReadFault → Option (List ℕ)
 read_fault_line (fault.Config e) = option_map (λ line. codes "config: " ++ line) (config_line e)
-read_fault_line (fault.Schedule e) = Some (fault_text e)
+read_fault_line (fault.Schedule e) = None
 read_fault_line fault.Memory = Some (codes "memory")
 
 -- all lines of a transcript are printed, with the two last

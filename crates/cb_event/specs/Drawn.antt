@@ -1,5 +1,5 @@
 -- Which event is drawn next. This project's rule.
-use Rattle.std.specs.Prelude.{ℕ, ◌-◌, ◌%◌, ◌≤◌, ⊤, ◌==◌, nat_lt, nat_le, min, replicate}
+use Rattle.std.specs.Prelude.{ℕ, ◌+◌, ◌-◌, ◌%◌, ◌≤◌, ⊤, ◌==◌, nat_lt, nat_le, min, replicate}
 use Rattle.std.specs.Prelude.{if◌then◌else◌}
 use Rattle.cb_event.specs.RandomWords.{after_words, word_at}
 use Rattle.cb_event.specs.declared.kind.Kind.{Kind}

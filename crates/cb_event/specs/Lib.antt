@@ -1,7 +1,6 @@
 pub mod Commands
 pub mod Events
 pub mod Pieces
-pub mod FaultTexts
 pub mod ScheduleText
 pub mod Drawn
 pub mod RandomWords

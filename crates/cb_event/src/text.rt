@@ -4,7 +4,6 @@ ghost use Rattle.std.specs.Prelude.{OnOk, IsSome, MatchResult};
 ghost use Rattle.std.specs.Option.{option_to_list};
 ghost use Rattle.cb_page.specs.Faults.{first_fault};
 ghost use Rattle.cb_event.specs.Commands.{arguments_of, spelled_by};
-ghost use Rattle.cb_event.specs.FaultTexts.{fault_text};
 ghost use Rattle.cb_event.specs.Pieces.{number_of, words_of};
 ghost use Rattle.cb_event.specs.ScheduleText.{Gives, is_comment, argument_causes, line_causes};
 ghost use Rattle.cb_event.specs.ScheduleText.{causes_behind, event_of_line, spelled_of_line};
@@ -20,46 +19,33 @@ use crate::event::{Call, Event};
 use crate::pieces::{is_text, split_line, split_word};
 use cb_page::Limits;
 use std::alloc::{AllocError, AllocFailed, Global};
-use std::error::Error;
-use std::fmt;
+use thiserror::Error;
 
-/// Why a text is no schedule, lowest number first. Lines count from 1, skipped ones too. The text is
-/// the program's line of it.
-#[derive(Clone, Copy, Debug, PartialEq, Eq)]
+/// Why a text is no schedule, lowest number first. Lines count from 1, skipped ones too.
+#[derive(Clone, Copy, Debug, PartialEq, Eq, Error)]
 pub enum ScheduleFault {
     /// A byte that is neither a tab nor printable ASCII, in a skipped line too.
+    #[error("schedule line {line}: NotText")]
     NotText { line: u64 },
     /// The first word is none of the known ones.
+    #[error("schedule line {line}: Word")]
     Word { line: u64 },
     /// More or fewer words than the first word wants.
+    #[error("schedule line {line}: Count")]
     Count { line: u64 },
     /// A word that is no number: not all decimal digits, or 2^62 and more.
+    #[error("schedule line {line}: Number")]
     Number { line: u64 },
     /// There is no such client or page, or a byte above 255.
+    #[error("schedule line {line}: Range")]
     Range { line: u64 },
     /// The event after the 1,000,000th.
+    #[error("schedule line {line}: Long")]
     Long { line: u64 },
     /// There is no memory for the events.
+    #[error("memory")]
     Memory,
 }
-
-impl fmt::Display for ScheduleFault {
-    ghost output = { λ fault. Some (fault_text fault) };
-
-    fn fmt<W: fmt::Write>(&self, f: &mut fmt::Formatter<W>) -> fmt::Result {
-        match self {
-            ScheduleFault::NotText { line } => write!(f, "schedule line {line}: NotText"),
-            ScheduleFault::Word { line } => write!(f, "schedule line {line}: Word"),
-            ScheduleFault::Count { line } => write!(f, "schedule line {line}: Count"),
-            ScheduleFault::Number { line } => write!(f, "schedule line {line}: Number"),
-            ScheduleFault::Range { line } => write!(f, "schedule line {line}: Range"),
-            ScheduleFault::Long { line } => write!(f, "schedule line {line}: Long"),
-            ScheduleFault::Memory => write!(f, "memory"),
-        }
-    }
-}
-
-impl Error for ScheduleFault {}
 
 impl From<AllocError> for ScheduleFault {
     ghost from_gives = { λ _ e. e ≡ Memory };

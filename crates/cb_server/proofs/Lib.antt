@@ -11,6 +11,7 @@
 -- Flushing: what can be flushed, in the words of the commits and of the protocol.
 -- Serving: the server between two calls, and after each.
 -- LawsKept: what the protocol says of servers that arose, of each server.
+-- Resending: whoever is doomed has greeted the server, so it can be told again.
 pub mod Counting
 pub mod Making
 pub mod Beginning
@@ -23,3 +24,4 @@ pub mod Committing
 pub mod Flushing
 pub mod Serving
 pub mod LawsKept
+pub mod Resending

@@ -1,7 +1,8 @@
 //! What a server does for a message, step by step.
-ghost use Rattle.std.specs.Prelude.{◌≡◌, ◌==◌, ◌<◌, ◌≤◌, ◌∷◌, [], false, true, IfErr, IfOk};
+ghost use Rattle.std.specs.Prelude.{◌≡◌, ◌==◌, ◌<◌, ◌≤◌, ◌∷◌, [], ℕ, false, true, IfErr, IfOk};
 ghost use Rattle.std.specs.Prelude.{OnErr};
 ghost use Rattle.std.specs.Prelude.{◌+◌, OnOk, max};
+ghost use Rattle.cb_server_state.specs.Waits.{IsGreeted};
 ghost use Rattle.cb_outbox.specs.Messages.{body_of, short_of};
 ghost use Rattle.cb_protocol.specs.Messages.{Hello, Welcome, to_server};
 ghost use Rattle.cb_protocol.specs.Ranges.{BodyFits};
@@ -378,6 +379,8 @@ impl Engine {
     /// What may be lost is said again.
     pub(crate) fn again(&mut self, alloc: Global, limits: &Limits) -> Result<(), AllocError>
         requires of { HasLimits self.old limits.now }
+        requires greeted { (client : ℕ) → (server_in self.old).doomed client ≡ true
+            → IsGreeted (server_in self.old) client }
         ensures ok { OnOk result (Serves self.old server_again self.new) }
         ensures callbacks { self.new.callbacks ≡ self.old.callbacks }
         ensures left { OnErr result (IsLeft self.old self.new) }

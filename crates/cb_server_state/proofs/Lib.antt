@@ -7,7 +7,6 @@
 -- Changes: what is said with a change.
 -- Rooms, Walks: room for some of the steps; a walk that leaves out those to whom nothing is sent.
 -- Calling, Again: callbacks to those with a copy; what is sent again.
--- Spending: by which word an ask that left was spent.
 pub mod Alike
 pub mod Rows
 pub mod Steps
@@ -19,4 +18,3 @@ pub mod Rooms
 pub mod Walks
 pub mod Calling
 pub mod Again
-pub mod Spending

@@ -26,8 +26,6 @@ pub record Waits (server : Server) : Type 0 where
   -- so have those with a copy
   pub rows : (client page : ℕ) → is_none ((server.session client).row page) ≡ false
       → (client < server.clients) × IsGreeted server client
-  -- and the client of each doomed transaction
-  pub doomed : (client : ℕ) → server.doomed client ≡ true → IsGreeted server client
   -- a page with a write holder was permitted to a transaction
   pub tagged : (page : ℕ) → is_none (server.store.holder page) ≡ false
       → 1 ≤ server.store.tag page

@@ -1,8 +1,7 @@
 //! The type, and its opening.
 ghost use Rattle.std.specs.Prelude.{◌≡◌, ◌<◌, IfOk, length};
-ghost use Rattle.cb_asks.specs.Asks.{IsSpent, Removes};
+ghost use Rattle.cb_asks.specs.Asks.{Removes};
 ghost use Rattle.cb_asks.specs.Marks.{HasMarks, is_in_use};
-ghost use Rattle.cb_asks.specs.declared.ask.Fate.TheVariants as fate;
 ghost use Rattle.cb_commit.specs.History.{begun};
 ghost use Rattle.cb_commit.specs.Stores.{IsOf};
 ghost use Rattle.cb_protocol.specs.Server.{new_server, without_marks};
@@ -18,7 +17,7 @@ mod questions;
 mod saying;
 mod steps;
 
-use cb_asks::{Asks, Fate, Marks};
+use cb_asks::{Asks, Marks};
 use cb_commit::{Commits, Store};
 use cb_directory::Directory;
 use cb_links::Sessions;
@@ -81,14 +80,14 @@ impl ServerState {
     }
 }
 
-/// The client's marks go, and its ask, which is gone.
-fn forget(asks: &mut Asks, marks: &mut Marks, client: ClientNo) -> Option<Fate>
+/// The client's ask and marks go.
+fn forget(asks: &mut Asks, marks: &mut Marks, client: ClientNo)
     requires { client < length marks.old.by_client }
     ensures asks { Removes asks.old client asks.new }
     ensures marks { HasMarks marks.old marks.new (without_marks (is_in_use marks.old) client) }
-    ensures fate { IsSpent asks.old client (fate.Gone client) result }
 {
+    if let Some(ask) = asks.remove(client) {
+        ask.gone();
+    }
     marks.clear(client);
-    let ask = asks.remove(client)?;
-    Some(ask.gone())
 }

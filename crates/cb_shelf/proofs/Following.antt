@@ -3,7 +3,7 @@ use Rattle.std.proofs.Common.{◌≡◌, ℕ, ◌+◌, ◌-◌, ◌≤◌, nat_l
 use Rattle.std.proofs.lemmas.Bool.{ltb-true}
 use Rattle.std.proofs.lemmas.List.{take-append-le, take_all}
 use Rattle.cb_commit.specs.declared.commit.Commit.{Commit}
-use Rattle.cb_commit.specs.Stores.{StoreState}
+use Rattle.cb_commit.specs.Stores.{StoreState, IsSound}
 use Rattle.cb_commit.specs.Batches.{BatchState, after_batch, changed_below}
 use Rattle.cb_commit.specs.History.{AreCommits, CanFlush, CommitsState, applied, next_batch, store_after, store_at}
 use Rattle.cb_commit.proofs.Folding.{applied_are, catches_up}
@@ -108,8 +108,7 @@ reports commits held (Some batch) tables number h = record {
   written = tt;
 }
 
--- each event keeps the tables at some commit
-pub keeps : (f : Flushing) (event : Event) (number : ℕ) → MayCome f event → IsAt f number → (at : ℕ) × IsAt (after_event f event) at
+keeps : (f : Flushing) (event : Event) (number : ℕ) → MayCome f event → IsAt f number → (at : ℕ) × IsAt (after_event f event) at
 keeps f (committed c) number may h = (
   number,
   record {
@@ -137,9 +136,8 @@ keeps_all : (events : List Event) (f : Flushing) (number : ℕ) → MayAllCome f
 keeps_all [] f number may h = (number, h)
 keeps_all (event ∷ events) f number may h = let next = keeps f event number may.0 h in keeps_all events (after_event f event) next.0 may.1 next.1
 
--- they begin at the last commit of the store that is opened
-pub begins : (store : StoreState) → IsAt (opened store) store.number
-begins store = record {
+begins : (store : StoreState) → IsSound store → IsAt (opened store) store.number
+begins store sound = record {
   are = record {
     folded = refl;
     numbered = tt;
@@ -159,4 +157,4 @@ begins store = record {
 }
 
 pub tables_follow : TablesFollow
-tables_follow store sound events may = let last = keeps_all events (opened store) store.number may (begins store) in (last.0, last.1.least, last.1.most, last.1.tables)
+tables_follow store sound events may = let last = keeps_all events (opened store) store.number may (begins store sound) in (last.0, last.1.least, last.1.most, last.1.tables)

@@ -97,13 +97,6 @@ impl<Q: Chooser> Net<Q> {
         &self.server
     }
 
-    /// The clients, each at its present incarnation.
-    pub(crate) fn world_clients(&self) -> &WorldClients<Q>
-        ensures { result.now ≡ self.now.world_clients }
-    {
-        &self.world_clients
-    }
-
     /// Every packet that was ever sent.
     pub(crate) fn packets(&self) -> &Packets
         ensures { result.now ≡ self.now.packets }

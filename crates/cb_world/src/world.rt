@@ -14,16 +14,14 @@ ghost use Rattle.cb_transcript.specs.Transcripts.{IsSerialOnOpening, committed_n
 ghost use Rattle.cb_cache.specs.CacheState.{limits_of};
 ghost use Rattle.cb_server_state.specs.States.{newest_first, opening_of};
 ghost use Rattle.cb_world_clients.specs.Packets.{IsSpelled};
-ghost use Rattle.cb_world_clients.specs.WorldClientsState.{client_at};
 ghost use Rattle.cb_world.specs.WorldState.{IsTold, Represents, Tells, opened, told};
 ghost use Rattle.cb_transcript.specs.declared.answer.Answer.{Answer as AnswerState};
 ghost use Rattle.cb_transcript.specs.declared.answer.TranscriptEntry.{TranscriptEntry as EntryData};
 
 use crate::net::Net;
-use cb_client::Client;
 use cb_commit::{Commit, Store};
 use cb_event::Event;
-use cb_page::{ClientNo, Limits};
+use cb_page::Limits;
 use cb_protocol::callback_read;
 use cb_transcript::{Answer, Transcript, TranscriptEntry};
 use cb_twoq::Chooser;
@@ -228,16 +226,6 @@ impl<Q: Chooser> World<Q> {
             return None;
         }
         Some(self.net.server().committed())
-    }
-
-    /// The client of that number, at its present incarnation. `None` where there is none.
-    pub fn client(&self, client: ClientNo) -> Option<&Client<Q>>
-        ensures value { IfSome result
-            (λ found. found.now ≡ client_at self.now.net.world_clients client) }
-        ensures there { self.now.stopped ≡ false
-            → (is_some result ≡ true ↔ client < self.now.limits.clients) }
-    {
-        self.net.world_clients().client(client)
     }
 
     /// How many packets were ever sent.

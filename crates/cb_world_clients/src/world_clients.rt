@@ -1,8 +1,6 @@
 //! The clients by their numbers.
-ghost use Rattle.std.specs.Prelude.{◌≡◌, ◌<◌, ◌↔◌, [], false, true, IfOk, IfSome, IsOk, None};
-ghost use Rattle.std.specs.Prelude.{OnErr};
+ghost use Rattle.std.specs.Prelude.{◌≡◌, ◌<◌, [], false, IfOk, IsOk, None, OnErr};
 ghost use Rattle.std.specs.List.{AllByRecursion};
-ghost use Rattle.std.specs.Option.{is_some};
 ghost use Rattle.cb_cache.specs.CacheState.{limits_of};
 ghost use Rattle.cb_frame_types.specs.Grammar.{Fits};
 ghost use Rattle.cb_outbox.specs.Messages.{message_of, messages_of};
@@ -83,17 +81,6 @@ impl<Q: Chooser> WorldClients<Q> {
         ensures arose { AreWorldClients self.now }
     {
         &self.limits
-    }
-
-    /// The client of that number, at its present incarnation. `None` where there is none.
-    pub fn client(&self, client: ClientNo) -> Option<&Client<Q>>
-        ensures value { IfSome result (λ found. found.now ≡ client_at self.now client) }
-        ensures there { is_some result ≡ true ↔ client < self.now.limits.clients }
-    {
-        if !self.limits.has_client(client.get()) {
-            return None;
-        }
-        Some(&self.clients[client.index()])
     }
 
     /// Calls the client of that number, if there is one. `AllocError` only where memory was

@@ -1,10 +1,11 @@
 //! What may be lost is sent again.
-ghost use Rattle.std.specs.Prelude.{◌≤◌, ◌+◌, ◌*◌, length};
+ghost use Rattle.std.specs.Prelude.{◌≡◌, ◌≤◌, ◌+◌, ◌*◌, ℕ, true, length};
 ghost use Rattle.cb_asks.specs.Asks.{asks_below};
 ghost use Rattle.cb_outbox.specs.Saying.{HasRoomFor, OutboxState, Says};
 ghost use Rattle.cb_protocol.specs.Numbers.{messages_for_pages};
 ghost use Rattle.cb_protocol.specs.Resend.{server_again};
 ghost use Rattle.cb_server_state.specs.States.{AreOf, server_of};
+ghost use Rattle.cb_server_state.specs.Waits.{IsGreeted};
 
 use crate::Callbacks;
 use cb_outbox::Outbox;
@@ -15,6 +16,8 @@ impl Callbacks {
     /// those that have not said InUse; and AbortNow to each client whose transaction is doomed.
     pub fn again(&self, limits: &Limits, outbox: &mut Outbox)
         requires of { AreOf limits.now self.now.state }
+        requires greeted { (client : ℕ) → (server_of self.now.state).doomed client ≡ true
+            → IsGreeted (server_of self.now.state) client }
         requires room { HasRoomFor (server_again (server_of self.now.state)) outbox.old }
         ensures { Says (server_of self.now.state) server_again (server_of self.now.state)
             outbox.old outbox.new }

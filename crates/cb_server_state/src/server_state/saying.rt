@@ -1,9 +1,6 @@
 //! The changes that their client hears of.
-ghost use Rattle.std.specs.Option.{option_map};
-ghost use Rattle.std.specs.Prelude.{◌≡◌, ◌≢◌, ◌≤◌, [], Some, slice_get, true};
-ghost use Rattle.cb_asks.specs.Asks.{IsSpent, queue_at};
-ghost use Rattle.cb_asks.specs.Queues.{granted};
-ghost use Rattle.cb_asks.specs.declared.ask.Fate.TheVariants as fate;
+ghost use Rattle.std.specs.Prelude.{◌≡◌, ◌≢◌, ◌≤◌, [], true};
+ghost use Rattle.cb_asks.specs.Asks.{queue_at};
 ghost use Rattle.cb_outbox.specs.Saying.{HasRoomFor, Says};
 ghost use Rattle.cb_protocol.specs.Basics.{is_none, max_number};
 ghost use Rattle.cb_protocol.specs.Session.{has_live_txn};
@@ -14,7 +11,6 @@ ghost use Rattle.cb_server_state.specs.States.{server_of};
 ghost use Rattle.cb_server_state.specs.Waits.{HasBegun, IsGreeted};
 
 use crate::ServerState;
-use cb_asks::Fate;
 use cb_frame::ShortBody;
 use cb_outbox::Outbox;
 use cb_page::{ClientNo, GrantNo, PageNo};
@@ -55,14 +51,14 @@ impl ServerState {
         );
     }
 
-    /// The first ask of the page is permitted, and leaves as granted.
+    /// The first ask of the page is permitted, and leaves.
     pub fn permit_first(
         &mut self,
         client: ClientNo,
         page: PageNo,
         grant: GrantNo,
         outbox: &mut Outbox,
-    ) -> Fate
+    )
         requires agree { PartsAgree self.old }
         requires client { HasClient self.old client }
         requires page { HasPage self.old page }
@@ -78,16 +74,13 @@ impl ServerState {
         ensures says { Says (server_of self.old) (λ server. permit_write server page client grant)
             (server_of self.new) outbox.old outbox.new }
         ensures stays { Stays self.old self.new }
-        ensures fate { option_map granted (slice_get (queue_at self.old.asks page) 0)
-            ≡ Some result }
     {
         self.give_permission(client, page, grant, outbox);
-        let ask = self.asks.leave(page);
-        ask.granted()
+        self.asks.leave(page).granted();
     }
 
     /// The first ask of the page is granted: its client gets a copy by the next grant.
-    pub fn grant_first(&mut self, client: ClientNo, page: PageNo, outbox: &mut Outbox) -> Fate
+    pub fn grant_first(&mut self, client: ClientNo, page: PageNo, outbox: &mut Outbox)
         requires agree { PartsAgree self.old }
         requires client { HasClient self.old client }
         requires page { HasPage self.old page }
@@ -102,20 +95,17 @@ impl ServerState {
         ensures says { Says (server_of self.old) (λ server. grant_row server page client)
             (server_of self.new) outbox.old outbox.new }
         ensures stays { Stays self.old self.new }
-        ensures fate { option_map granted (slice_get (queue_at self.old.asks page) 0)
-            ≡ Some result }
     {
         let incarnation = self.incarnation(client);
         let grant = self.directory.grant(client, page);
         let store = self.commits.store();
         let version = store.version(page);
         outbox.grant(client, incarnation, page, grant, version, store.bytes(page));
-        self.asks.leave(page).granted()
+        self.asks.leave(page).granted();
     }
 
-    /// The client's transaction is the victim of a deadlock: its ask goes as doomed, and it hears
-    /// AbortNow.
-    pub fn doom(&mut self, client: ClientNo, outbox: &mut Outbox) -> Option<Fate>
+    /// The client's transaction is the victim of a deadlock: its ask goes, and it hears AbortNow.
+    pub fn doom(&mut self, client: ClientNo, outbox: &mut Outbox)
         requires agree { PartsAgree self.old }
         requires client { HasClient self.old client }
         requires greeted { IsGreeted (server_of self.old) client }
@@ -126,13 +116,13 @@ impl ServerState {
         ensures says { Says (server_of self.old) (λ server. doom_client server client)
             (server_of self.new) outbox.old outbox.new }
         ensures stays { Stays self.old self.new }
-        ensures fate { IsSpent self.old.asks client (fate.Doomed client) result }
     {
         let incarnation = self.incarnation(client);
         let txn = self.txn(client);
+        if let Some(ask) = self.asks.remove(client) {
+            ask.doomed();
+        }
         self.sessions.doom(client);
         outbox.say(client, incarnation, ShortBody::AbortNow { txn });
-        let ask = self.asks.remove(client)?;
-        Some(ask.doomed())
     }
 }

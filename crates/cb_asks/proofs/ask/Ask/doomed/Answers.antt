@@ -1,8 +1,7 @@
 -- Goals of `Ask::doomed`.
 use Rattle.std.proofs.Common.{ap}
 use Rattle.cb_asks.specs.Queues.{Asked}
-use Rattle.cb_asks.specs.declared.ask.Fate.TheVariants as fate
 use Rattle.cb_asks.proofs.ask.Ask.doomed.Goals as goal
 
 pub returns : goal.returns
-returns c = ap (λ (a : Asked). fate.Doomed a.client) c.self.view_is
+returns c = ap (λ (a : Asked). a.client) c.self.view_is

@@ -16,9 +16,6 @@ again_pages-requires-clause-room c = room_first (again_pages s s.pages) (again_d
     s : Server
     s = server_of c.self.inside.state
 
-pub again_doomed-requires-clause-greeted : goal.again_doomed-requires-clause-greeted
-again_doomed-requires-clause-greeted c = c.self.invariant.waits.doomed
-
 pub again_doomed-requires-clause-room : goal.again_doomed-requires-clause-room
 again_doomed-requires-clause-room c = subst (λ (n : ℕ). HasRoomFor (again_doomed s n) c.again_pages.new.outbox) (sym all)
     (room_after s s (λ server. again_pages server server.pages) (again_doomed s s.clients) c.args.outbox.now c.again_pages.new.outbox

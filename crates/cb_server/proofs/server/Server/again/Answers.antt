@@ -4,8 +4,12 @@ use Rattle.std.specs.List.{AllByRecursion}
 use Rattle.cb_frame_types.specs.Grammar.{Fits}
 use Rattle.cb_protocol.specs.AnyMessages.{SendsAgain}
 use Rattle.cb_server.specs.ServerValue.{ServerValue}
-use Rattle.cb_server.proofs.Serving.{fits_said, rests}
+use Rattle.cb_server.proofs.Resending.{doomed_greeted}
+use Rattle.cb_server.proofs.Serving.{fits_said, rests, state}
 use Rattle.cb_server.proofs.server.Server.again.Goals as goal
+
+pub again-requires-clause-greeted : goal.again-requires-clause-greeted
+again-requires-clause-greeted c = doomed_greeted (state c.self.inside.limits c.self.inside.engine) c.self.invariant.is
 
 pub invariant_of-self-2 : goal.invariant_of-self-2
 invariant_of-self-2 c =

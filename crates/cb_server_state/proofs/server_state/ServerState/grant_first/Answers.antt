@@ -1,10 +1,8 @@
 -- Goals of `ServerState::grant_first`.
-use Rattle.std.proofs.Common.{◌≡◌, ◌∙◌, slice_get, refl, ap, arith}
-use Rattle.cb_asks.specs.Asks.{queue_at}
+use Rattle.std.proofs.Common.{◌≡◌, ◌∙◌, refl, ap, arith}
 use Rattle.cb_commit.specs.Stores.{StoreState, bytes_at, version_at}
 use Rattle.cb_server_state.specs.States.{server_of}
 use Rattle.cb_server_state.proofs.Changes.{grants}
-use Rattle.cb_server_state.proofs.Spending.{granted_first}
 use Rattle.cb_server_state.proofs.server_state.ServerState.grant_first.Goals as goal
 
 pub returns-clause-says : goal.returns-clause-says
@@ -16,7 +14,3 @@ returns-clause-says c =
     let copies = c.requires.room.copies in
     grants c.args.self.now c.grant-grant.new.self c.leave.new.self c.args.client c.args.page _ c.args.outbox.now c.grant.new.self
     c.grant-grant.ensures.grants c.leave.ensures.leaves (rw (c.incarnation-incarnation.ensures, c.grant-grant.ensures.number, version, bytes) refl) (omega (arith, copies)) c.grant.ensures
-
-pub returns-clause-fate : goal.returns-clause-fate
-returns-clause-fate c =
-    granted_first (slice_get (queue_at c.args.self.now.asks c.args.page) 0) c.leave.result c.granted.result c.leave.ensures.ask c.granted.ensures

@@ -1,14 +1,10 @@
 -- Goals of `ServerState::permit_first`.
-use Rattle.std.proofs.Common.{[], ◌∷◌, ◌≡◌, Some, slice_get, subst}
-use Rattle.std.specs.Option.{option_map}
-use Rattle.cb_asks.specs.Asks.{AsksState, queue_at}
-use Rattle.cb_asks.specs.Queues.{asked}
+use Rattle.std.proofs.Common.{[], ◌∷◌}
 use Rattle.cb_outbox.proofs.Saying.{says_then}
 use Rattle.cb_protocol.specs.Server.{LeaveQueue}
 use Rattle.cb_protocol.specs.Settling.{give_permission}
 use Rattle.cb_server_state.specs.States.{server_of}
 use Rattle.cb_server_state.proofs.Changes.{leaves_first}
-use Rattle.cb_server_state.proofs.Spending.{granted_first}
 use Rattle.cb_server_state.proofs.server_state.ServerState.permit_first.Goals as goal
 
 pub returns-clause-says : goal.returns-clause-says
@@ -16,10 +12,4 @@ returns-clause-says c =
     says_then (server_of c.args.self.now) (server_of c.give_permission.new.self) _
     (λ server. give_permission server c.args.client c.args.page c.args.grant) (λ server. LeaveQueue c.args.page ∷ [])
     c.args.outbox.now c.give_permission.new.outbox c.give_permission.new.outbox c.give_permission.ensures.says
-    (leaves_first c.give_permission.new.self c.leave-ask.new.self c.args.page c.give_permission.new.outbox c.leave-ask.ensures.leaves)
-
-pub returns-clause-fate : goal.returns-clause-fate
-returns-clause-fate c =
-    granted_first (slice_get (queue_at c.args.self.now.asks c.args.page) 0) c.leave-ask.result c.granted.result
-    (subst (λ (asks : AsksState). option_map asked (slice_get (queue_at asks c.args.page) 0) ≡ Some c.leave-ask.result) c.give_permission.ensures.asks c.leave-ask.ensures.ask)
-    c.granted.ensures
+    (leaves_first c.give_permission.new.self c.leave.new.self c.args.page c.give_permission.new.outbox c.leave.ensures.leaves)
