@@ -1,10 +1,9 @@
 /* A client over a connected stream socket, for hosts that may block. It is plain C over rughvadi.h,
  * and no part of what is proved: read it, change it, or write one of your own.
  *
- * A link is used by one thread at a time, as a handle is. Each call answers RUGHVADI_DONE, a fault of
- * rughvadi.h, or one of the faults below. After RUGHVADI_LINK_SYSTEM, _CLOSED and RUGHVADI_FRAME_..
- * the client is gone: each later call answers RUGHVADI_LINK_CLOSED, also of a page that it holds.
- * Close the link, and open another one in the client's next incarnation.
+ * All calls on a link are made by one thread. Each answers RUGHVADI_DONE, a fault of rughvadi.h, or
+ * one of the faults below. After RUGHVADI_LINK_SYSTEM, _CLOSED and RUGHVADI_FRAME_.. the connection
+ * is of no use any more: close the link, and open another one in the client's next incarnation.
  */
 #ifndef RUGHVADI_LINK_H
 #define RUGHVADI_LINK_H
@@ -25,7 +24,6 @@ enum {
 typedef struct {
   rughvadi_handle client;
   int socket;
-  bool gone;   /* the connection is of no use any more */
   int wait_ms; /* for so long it waits for an answer before it says again what may be lost */
   int tries;   /* and so often, before it answers RUGHVADI_LINK_SILENT */
   size_t page_size;

@@ -1,6 +1,7 @@
 -- What a client's hand holds, and how it changes.
-use Rattle.std.specs.Prelude.{◌≡◌, ℕ, Bool, true, false, List, length, replicate}
+use Rattle.std.specs.Prelude.{◌≡◌, ℕ, Bool, true, false, List, length, map, replicate}
 use Rattle.std.specs.Prelude.{slice_index_or, slice_set, Option, Some, None}
+use Rattle.std.specs.Option.{is_some}
 use Rattle.cb_hands.specs.declared.grant.Held.{Held}
 use Rattle.cb_hands.specs.declared.grant.Shown.{Shown}
 use Rattle.cb_page.specs.Flags.{has}
@@ -75,3 +76,7 @@ at_version version (Some held) = Some (record held { version = version })
 abbrev pub restamped : HandState → (page version : ℕ) → HandState
 restamped hand page version =
     record hand { held = slice_set hand.held page (at_version version (held_at hand.held page)) }
+
+-- these are the pages of which something is held
+abbrev pub AreHeld : List Bool → List (Option Held) → Type 0
+AreHeld flags held = flags ≡ map is_some held

@@ -3,5 +3,4 @@ pub mod Hands
 pub mod Joined
 pub mod OwnHand
 pub mod OwnStays
-pub mod Packed
 pub mod Running

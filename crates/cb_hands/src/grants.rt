@@ -1,10 +1,12 @@
 //! A table of grants.
-ghost use Rattle.std.specs.Prelude.{◌≡◌, ◌<◌, IfOk, None, length, replicate, slice_set};
+ghost use Rattle.std.specs.Prelude.{◌≡◌, ℕ, ◌<◌, ◌≤◌, None, length, map, replicate};
+ghost use Rattle.std.specs.Prelude.{slice_set, true, IfOk, MatchOption};
+ghost use Rattle.std.specs.Option.{is_some};
 ghost use Rattle.cb_hands.specs.Hands.{held_at};
 
-use crate::copies::Copies;
 use crate::grant::{Grant, Held};
-use cb_page::PageNo;
+use crate::stored_copies::flag;
+use cb_page::{PageNo, PageSet};
 use std::alloc::{AllocError, AllocFailed, Global};
 use std::marker::Model;
 use std::mem;
@@ -12,29 +14,35 @@ use std::mem;
 /// The grants that a client has, by page. Only `new` takes memory.
 pub(crate) struct Grants {
     entries: Vec<Option<Grant>>,
-    /// What they say.
-    copies: Copies,
+    /// Of which there is a grant.
+    pages: PageSet,
 }
 
 impl Model for Grants {
-    ghost use Rattle.std.specs.Prelude.{◌≡◌, List, Option};
+    ghost use Rattle.std.specs.Prelude.{List, Option};
     ghost use Rattle.cb_hands.specs.declared.grant.Held.{Held};
+    ghost use Rattle.cb_hands.specs.Hands.{AreHeld};
 
     ghost Value = { List (Option Held) };
 
     ghost view = { λ g. g.entries.items };
 
-    ghost invariant = { λ g. g.copies ≡ g.entries.items };
+    ghost invariant = { λ g. AreHeld g.pages g.entries.items };
 }
 
 impl Grants {
     /// No page has one.
+    #[tactic(auto, using(crate::proofs::Flagged::no_flags))]
     pub(crate) fn new(alloc: Global, pages: usize) -> Result<Grants, AllocError>
+        requires { pages ≤ 4096 }
         ensures { IfOk result (λ grants. grants ≡ replicate pages None) }
     {
-        let copies = Copies::new(alloc, pages)?;
+        let set = PageSet::new(alloc, pages)?;
         let entries = no_grants(alloc, pages)?;
-        Ok(Grants { entries, copies })
+        Ok(Grants {
+            entries,
+            pages: set,
+        })
     }
 
     pub(crate) fn len(&self) -> usize
@@ -43,11 +51,11 @@ impl Grants {
         self.entries.len()
     }
 
-    /// What they say.
-    pub(crate) fn copies(&self) -> &Copies
-        ensures { result.now ≡ self.now }
+    /// The pages that have one.
+    pub(crate) fn pages(&self) -> &PageSet
+        ensures { result.now ≡ map is_some self.now }
     {
-        &self.copies
+        &self.pages
     }
 
     /// What the grant of a page says.
@@ -64,16 +72,28 @@ impl Grants {
         }
     }
 
+    /// The least page that has one, at or after a place.
+    fn next(&self, from: usize) -> Option<PageNo>
+        ensures { MatchOption result
+            ((k : ℕ) → from ≤ k → held_at self.now k ≡ None)
+            (λ page. (from ≤ page) × (page < length self.now)
+            × ((k : ℕ) → from ≤ k → k < page → held_at self.now k ≡ None)
+            × (is_some (held_at self.now page) ≡ true)) }
+    {
+        self.pages.next(from)
+    }
+
     /// Makes the grant of a page, or takes it away; the one that was there is spent.
+    #[tactic(auto, using(crate::proofs::Flagged::flags_set, crate::proofs::Flagged::as_many))]
     pub(crate) fn put(&mut self, page: PageNo, held: Option<Held>)
         requires { page < length self.old }
         ensures { self.new ≡ slice_set self.old page held }
     {
-        let grant = match &held {
-            Some(held) => Some(Grant::new(*held)),
+        flag(&mut self.pages, page, held.is_some());
+        let grant = match held {
+            Some(held) => Some(Grant::new(held)),
             None => None,
         };
-        self.copies.put(page, held);
         let place = &mut self.entries[page.index()];
         if let Some(spent) = mem::replace(place, grant) {
             spent.spend();
@@ -84,14 +104,16 @@ impl Grants {
     pub(crate) fn clear(&mut self)
         ensures { self.new ≡ replicate (length self.old) None }
     {
-        while let Some(page) = self.copies().any() {
+        let mut from = 0;
+        while let Some(page) = self.next(from) {
             self.put(page, None);
+            from = page.index() + 1;
         }
     }
 
     /// Ends the table.
     pub(crate) fn spend(self) {
-        let Grants { entries, copies: _ } = self;
+        let Grants { entries, pages: _ } = self;
         spend_all(entries);
     }
 }

@@ -21,19 +21,18 @@
 //! hand agreeing ([`others_stay`]); and so does each change of a hand where the server has what
 //! comes ([`own_changes`], [`own_stays`], [`own_hand_stays`]).
 //!
-//! Each change of a hand costs what it changes; clearing a hand costs the pages that it holds. Both
-//! sides keep what is held side by side, in the same order, so comparing them is one pass over it.
+//! Each change of a hand costs what it changes; clearing a hand and comparing it cost the pages
+//! that it holds, and what [`PageSet`](cb_page::PageSet) says of a walk.
 #![tactic(auto)]
 
 mod agreement;
-mod copies;
 mod entry;
 mod grant;
 mod grants;
 mod hand;
 mod history;
 mod joined_hands;
-mod sets;
+mod stored_copies;
 mod stored_hand;
 
 pub use agreement::{hands_meet, others_stay, own_changes, own_hand_stays, own_stays};

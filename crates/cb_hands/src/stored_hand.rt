@@ -3,10 +3,9 @@ ghost use Rattle.std.specs.Prelude.{◌≡◌, ◌↔◌, ◌<◌, ◌≤◌, Is
 ghost use Rattle.cb_hands.specs.Hands.{empty_hand, permitted, restamped, with_copy};
 ghost use Rattle.cb_hands.specs.Hands.{without_copy, without_permissions};
 
-use crate::copies::Copies;
 use crate::grant::Held;
 use crate::hand::Hand;
-use crate::sets::same_pages;
+use crate::stored_copies::{StoredCopies, same_pages};
 use cb_page::{ClientNo, Incarnation, PageNo, PageSet, TxnNo, Version};
 use std::alloc::{AllocError, Global};
 use std::marker::Model;
@@ -17,7 +16,7 @@ pub(crate) struct StoredHand {
     client: ClientNo,
     incarnation: Incarnation,
     txn: Option<TxnNo>,
-    held: Copies,
+    held: StoredCopies,
     writable: PageSet,
 }
 
@@ -68,7 +67,7 @@ impl StoredHand {
             client,
             incarnation,
             txn: None,
-            held: Copies::new(alloc, pages)?,
+            held: StoredCopies::new(alloc, pages)?,
             writable: PageSet::new(alloc, pages)?,
         })
     }
@@ -82,7 +81,7 @@ impl StoredHand {
             && self.incarnation == hand.incarnation()
             && self.txn == hand.txn()
             && same_pages(&self.writable, &hand.writable)
-            && self.held.say_as(hand.grants.copies())
+            && self.held.are_of(&hand.grants)
     }
 
     /// As [`Hand::receive`].

@@ -8,8 +8,7 @@ use Rattle.std.proofs.lemmas.Option.{get_or_from_slice_get, slice_get_within}
 use Rattle.std.proofs.lemmas.Bool.Decides.{nat_tests}
 use Rattle.std.proofs.lemmas.List.{take_more, reverse-append, reverse-reverse, append-nil, length-set, get_or-set_same, get_or-set_other}
 use Rattle.cb_mailboxes.specs.Dispatching.{emptied, without_oldest}
-use Rattle.cb_mailboxes.specs.Mailboxes.{AsBefore, Moves, MailboxesState, addressed, is_for, is_said_to, mailbox_in}
-use Rattle.cb_page.specs.Clients.{Clients}
+use Rattle.cb_mailboxes.specs.Mailboxes.{AsBefore, Moves, MailboxesState, addressed, is_for, mailbox_in}
 use Rattle.cb_frame_types.specs.declared.frame.Frame.{Frame}
 use Rattle.cb_server_state.specs.Questions.{admission_in}
 use Rattle.cb_links.specs.declared.sessions.Admission.TheVariants.{Stale, Current, Unknown}
@@ -34,17 +33,16 @@ and_false true b e = e
 and_false false b e = refl
 
 -- the oldest is put into its mailbox
-pub placed : (untold : Clients) (current : ℕ → ℕ) (boxes : List (List Frame)) (late new_late new_box : List Frame) (client : ℕ) → client < length boxes
+pub placed : (current : ℕ → ℕ) (boxes : List (List Frame)) (late new_late new_box : List Frame) (client : ℕ) → client < length boxes
     → (m : Moves late (slice_index_or boxes client []) new_late new_box) → m.frame.client ≡ client → m.frame.incarnation ≡ current client
-    → AsBefore current (record { boxes = boxes; late = late; untold = untold }) (record { boxes = slice_set boxes client new_box; late = new_late; untold = untold })
-placed untold current boxes late new_late new_box client lt m e f = record {
+    → AsBefore current (record { boxes = boxes; late = late }) (record { boxes = slice_set boxes client new_box; late = new_late })
+placed current boxes late new_late new_box client lt m e f = record {
   mailbox = λ d. by d (cases_eq d client);
   clients = length-set boxes client new_box;
-  untold = refl;
 }
   where
     Goal : ℕ → Type 0
-    Goal d = mailbox_in current (record { boxes = slice_set boxes client new_box; late = new_late; untold = untold }) d ≡ mailbox_in current (record { boxes = boxes; late = late; untold = untold }) d
+    Goal d = mailbox_in current (record { boxes = slice_set boxes client new_box; late = new_late }) d ≡ mailbox_in current (record { boxes = boxes; late = late }) d
 
     box : List Frame
     box = slice_index_or boxes client []
@@ -69,13 +67,12 @@ placed untold current boxes late new_late new_box client lt m e f = record {
     by d (inr n) = ap (λ (l : List Frame). l ++ xs d) (get_or-set_other boxes client d new_box [] n) ∙ ap (λ (l : List Frame). slice_index_or boxes d [] ++ l) (sym (there d n))
 
 -- the oldest is for no current incarnation
-pub passed_over : (untold : Clients) (current : ℕ → ℕ) (boxes : List (List Frame)) (late new_late : List Frame) (frame : Frame) → late ≡ new_late ++ frame ∷ [] → frame.incarnation ≢ current frame.client
-    → AsBefore current (record { boxes = boxes; late = late; untold = untold }) (record { boxes = boxes; late = new_late; untold = untold })
-passed_over untold current boxes late new_late frame e n = record {
+pub passed_over : (current : ℕ → ℕ) (boxes : List (List Frame)) (late new_late : List Frame) (frame : Frame) → late ≡ new_late ++ frame ∷ [] → frame.incarnation ≢ current frame.client
+    → AsBefore current (record { boxes = boxes; late = late }) (record { boxes = boxes; late = new_late })
+passed_over current boxes late new_late frame e n = record {
   mailbox = λ d. ap (λ (l : List Frame). slice_index_or boxes d [] ++ l) (sym (oldest (is_for current d) late new_late frame e
       ∙ ap (λ (b : Bool). cond b (frame ∷ filter (is_for current d) (reverse new_late)) (filter (is_for current d) (reverse new_late))) (for_none d (cases_eq d frame.client))));
   clients = refl;
-  untold = refl;
 }
   where
     for_none : (d : ℕ) → (d ≡ frame.client) ⊎ (d ≢ frame.client) → is_for current d frame ≡ false
@@ -107,6 +104,10 @@ behind : (after : ℕ → ℕ) (boxes : List (List Frame)) (new : MailboxesState
 behind after boxes new said e f client =
     ap (λ (l : List (List Frame)). slice_index_or l client [] ++ addressed after client (reverse new.late)) e
     ∙ ap (λ (l : List Frame). slice_index_or boxes client [] ++ addressed after client l) (ap (λ (l : List Frame). reverse l) f ∙ reverse-reverse said)
+
+-- what was said last is what is said now
+pub said_now : (after : ℕ → ℕ) (new : MailboxesState) (said : List Frame) → new.late ≡ reverse said → (client : ℕ) → addressed after client (reverse new.late) ≡ addressed after client said
+said_now after new said e client = ap (λ (l : List Frame). addressed after client l) (ap (λ (l : List Frame). reverse l) e ∙ reverse-reverse said)
 
 -- what is said is put behind what was to be sent
 pub posted : (before after : ℕ → ℕ) (old ready new : MailboxesState) (said : List Frame) → AsBefore before old ready → ready.late ≡ [] → new.boxes ≡ ready.boxes → new.late ≡ reverse said
@@ -142,18 +143,6 @@ others current client d (frame ∷ said) n = by (others current client d said n)
     by rest true true e f = absurd (let g : frame.client ≡ client = grind (arith, nat_tests) in let h : frame.client ≡ d = grind (arith, nat_tests) in n (sym h ∙ g))
     by rest true false e f = rest
     by rest false true e f = rw f (ap (λ (l : List Frame). cond (frame.incarnation == current d) (frame ∷ l) l) rest)
-    by rest false false e f = rw f rest
-
--- so of whom they are to
-pub said_to_others : (client d : ℕ) (said : List Frame) → d ≢ client → is_said_to d (filter (λ frame. not (frame.client == client)) said) ≡ is_said_to d said
-said_to_others client d [] n = refl
-said_to_others client d (frame ∷ said) n = by (said_to_others client d said n) (frame.client == client) (frame.client == d) refl refl
-  where
-    by : is_said_to d (filter (λ f. not (f.client == client)) said) ≡ is_said_to d said → (u v : Bool) → (frame.client == client) ≡ u → (frame.client == d) ≡ v
-        → is_said_to d (cond (not u) (frame ∷ filter (λ f. not (f.client == client)) said) (filter (λ f. not (f.client == client)) said)) ≡ (v || is_said_to d said)
-    by rest true true e f = absurd (let g : frame.client ≡ client = grind (arith, nat_tests) in let h : frame.client ≡ d = grind (arith, nat_tests) in n (sym h ∙ g))
-    by rest true false e f = rest
-    by rest false true e f = rw f refl
     by rest false false e f = rw f rest
 
 nothing_for : (current : ℕ → ℕ) (client : ℕ) (said : List Frame) → addressed current client (filter (λ frame. not (frame.client == client)) said) ≡ []

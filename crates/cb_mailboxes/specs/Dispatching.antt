@@ -1,9 +1,7 @@
 -- A server with mailboxes as its callers see it, and what its steps put into them.
-use Rattle.std.specs.Prelude.{◌≡◌, ◌≢◌, ℕ, ◌==◌, ◌||◌, if◌then◌else◌, List, [], ◌++◌, drop}
-use Rattle.cb_mailboxes.specs.Mailboxes.{MailboxesState, addressed, current_in, is_said_to}
-use Rattle.cb_mailboxes.specs.Mailboxes.{mailbox_in}
+use Rattle.std.specs.Prelude.{◌≡◌, ◌≢◌, ℕ, ◌==◌, if◌then◌else◌, List, [], ◌++◌, drop, reverse}
+use Rattle.cb_mailboxes.specs.Mailboxes.{MailboxesState, addressed, current_in, mailbox_in}
 use Rattle.cb_frame_types.specs.declared.frame.Frame.{Frame}
-use Rattle.cb_page.specs.Clients.{Clients, has}
 use Rattle.cb_outbox.specs.Messages.{messages_of}
 use Rattle.cb_protocol.specs.AnyMessages.{Input}
 use Rattle.cb_protocol.specs.Server.{Server}
@@ -24,15 +22,6 @@ server_of state = server.server_of state.server
 abbrev pub forgot : DispatcherState → ℕ → DispatcherState
 forgot state number = record state { server = server.forgot state.server number }
 
--- who is to be told that there is something for it
-abbrev pub untold_in : DispatcherState → Clients
-untold_in state = state.mailboxes.untold
-
--- only who is to be told changes
-abbrev pub with_untold : DispatcherState → Clients → DispatcherState
-with_untold state clients =
-    record state { mailboxes = record state.mailboxes { untold = clients } }
-
 -- what is to be sent to a client, the oldest frame first
 abbrev pub mailbox_of : DispatcherState → (client : ℕ) → List Frame
 mailbox_of state client = mailbox_in (current_in (server_of state)) state.mailboxes client
@@ -41,19 +30,19 @@ mailbox_of state client = mailbox_in (current_in (server_of state)) state.mailbo
 pub record IsUnchanged (old new : DispatcherState) : Type 0 where
   pub server : server.IsUnchanged old.server new.server
   pub mailbox : (client : ℕ) → mailbox_of new client ≡ mailbox_of old client
-  pub untold : untold_in new ≡ untold_in old
 
 -- The server does what the protocol's does at the input. To each client that hears of it is to be
 -- sent what was to be sent before, and then what the server says to its current incarnation, in
--- order; and to be told is, beside who was before, each to whom the server says something.
+-- order; and what was said last to that is what the server says to it now.
 pub record Posts (old : DispatcherState) (input : Input) (before : ℕ → List Frame)
     (Hears : ℕ → Type 0) (new : DispatcherState) : Type 0 where
   pub said : List Frame
   pub does : Does old.server input (messages_of said) new.server
   pub mailbox : (client : ℕ) → Hears client → mailbox_of new client
       ≡ before client ++ addressed (current_in (server_of new)) client said
-  pub untold : (client : ℕ) → Hears client
-      → has (untold_in new) client ≡ (has (untold_in old) client || is_said_to client said)
+  pub last : (client : ℕ) → Hears client
+      → addressed (current_in (server_of new)) client (reverse new.mailboxes.late)
+      ≡ addressed (current_in (server_of new)) client said
 
 -- everybody hears; everybody else does
 abbrev pub Everybody : ℕ → Type 0

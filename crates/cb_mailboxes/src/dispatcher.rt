@@ -4,12 +4,10 @@ ghost use Rattle.std.specs.Prelude.{IsTrue, OnErr, OnOk, true, false, not, ◌==
 ghost use Rattle.std.specs.List.{AllByRecursion, filter};
 ghost use Rattle.cb_commit.specs.Stores.{IsOf};
 ghost use Rattle.cb_mailboxes.specs.Dispatching.{Everybody, IsUnchanged, Others, Posts, emptied};
-ghost use Rattle.cb_mailboxes.specs.Dispatching.{forgot, mailbox_of, server_of, untold_in};
-ghost use Rattle.cb_mailboxes.specs.Dispatching.{with_untold, without_oldest};
+ghost use Rattle.cb_mailboxes.specs.Dispatching.{forgot, mailbox_of, server_of, without_oldest};
 ghost use Rattle.cb_frame_types.specs.Grammar.{Fits};
-ghost use Rattle.cb_mailboxes.specs.Mailboxes.{AsBefore, IsNobody, current_in};
+ghost use Rattle.cb_mailboxes.specs.Mailboxes.{AsBefore, current_in};
 ghost use Rattle.cb_outbox.specs.Messages.{messages_of};
-ghost use Rattle.cb_page.specs.Clients.{has, with, without};
 ghost use Rattle.cb_protocol.specs.AnyMessages.{MessageComes, ReachesDisk};
 ghost use Rattle.cb_protocol.specs.Flush.{can_flush};
 ghost use Rattle.cb_protocol.specs.Messages.{Hello};
@@ -19,14 +17,14 @@ ghost use Rattle.cb_server.specs.Taking.{Does, Refuses, input_of, lacks_number_f
 use crate::mailboxes::Mailboxes;
 use cb_commit::Store;
 use cb_frame::{Frame, ShortBody, ShortFrame};
-use cb_page::{ClientNo, ClientSet, CommitNo, Incarnation, Limits};
+use cb_page::{ClientNo, CommitNo, Incarnation, Limits};
 use cb_server::{Server, ServerFault};
 use std::alloc::{AllocError, Global};
 use std::marker::Model;
 
 /// A server, and a mailbox for each of its clients.
 ///
-/// Every call but `server`, `has_frame_for`, `forget` and those of who is to be told takes memory.
+/// Every call but `server`, `has_frame_for` and `forget` takes memory.
 pub struct Dispatcher {
     server: Server,
     mailboxes: Mailboxes,
@@ -62,7 +60,6 @@ impl Dispatcher {
         requires { IsOf limits.now store }
         ensures new { IfOk result (λ d. IsNew limits.now store d.server) }
         ensures mailbox { IfOk result (λ d. (client : ℕ) → mailbox_of d client ≡ []) }
-        ensures untold { IfOk result (λ d. IsNobody (untold_in d)) }
         ensures arose { IfOk result (λ d. IsServer d.server) }
     {
         let mailboxes = Mailboxes::new(alloc, limits.clients())?;
@@ -183,38 +180,13 @@ impl Dispatcher {
         self.mailboxes.has_frame_for(self.server.state(), client)
     }
 
-    /// Who is to be told that there is something for it: each client to which the server said
-    /// something since it was told, or that was noticed.
-    pub fn untold(&self) -> ClientSet
-        ensures { result ≡ untold_in self.now }
+    /// What the server said in the last call in which it took something, the newest frame first:
+    /// each client that it said something to is told of it. Once a later call has put these frames
+    /// into the mailboxes there is nothing.
+    pub fn said_last(&self) -> &[Frame]
+        ensures { result.now ≡ self.now.mailboxes.late }
     {
-        self.mailboxes.untold()
-    }
-
-    /// The client is to be told too.
-    pub fn notice(&mut self, client: ClientNo)
-        ensures rest { self.new ≡ with_untold self.old (untold_in self.new) }
-        ensures noticed { (other : ℕ) → has (untold_in self.new) other
-            ≡ with (untold_in self.old) client other }
-    {
-        self.mailboxes.notice(client);
-    }
-
-    /// Everybody is to be told.
-    pub fn notice_all(&mut self)
-        ensures rest { self.new ≡ with_untold self.old (untold_in self.new) }
-        ensures all { (client : ℕ) → client < 32 → has (untold_in self.new) client ≡ true }
-    {
-        self.mailboxes.notice_all();
-    }
-
-    /// The client was told.
-    pub fn told(&mut self, client: ClientNo)
-        ensures rest { self.new ≡ with_untold self.old (untold_in self.new) }
-        ensures told { (other : ℕ) → has (untold_in self.new) other
-            ≡ without (untold_in self.old) client other }
-    {
-        self.mailboxes.told(client);
+        self.mailboxes.said_last()
     }
 
     /// The oldest frame to the client; `None` exactly where its mailbox is empty.
@@ -227,7 +199,6 @@ impl Dispatcher {
         ensures rest { OnOk result ((other : ℕ) → mailbox_of self.new other
             ≡ without_oldest (mailbox_of self.old) client other) }
         ensures server { self.new.server ≡ self.old.server }
-        ensures untold { untold_in self.new ≡ untold_in self.old }
         ensures unchanged { OnErr result (IsUnchanged self.old self.new) }
     {
         self.mailboxes.make_ready(self.server.state())?;

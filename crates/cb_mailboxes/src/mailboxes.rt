@@ -1,23 +1,21 @@
 //! What is to be sent to each client, in order.
 ghost use Rattle.std.specs.Prelude.{◌≡◌, ◌≢◌, ◌↔◌, ℕ, ◌<◌, ◌≤◌, [], drop, length, replicate};
 ghost use Rattle.std.specs.Prelude.{reverse, slice_get, slice_index_or, slice_set, IfOk, IsTrue};
-ghost use Rattle.std.specs.Prelude.{◌||◌, OnErr, OnOk, true};
+ghost use Rattle.std.specs.Prelude.{OnErr, OnOk, true};
 ghost use Rattle.std.specs.List.{All, list_any};
-ghost use Rattle.cb_mailboxes.specs.Mailboxes.{AsBefore, IsNobody, Places, current_in, is_for};
-ghost use Rattle.cb_mailboxes.specs.Mailboxes.{is_said_to, mailbox_in};
-ghost use Rattle.cb_page.specs.Clients.{has, with, without};
+ghost use Rattle.cb_mailboxes.specs.Mailboxes.{AsBefore, Places, current_in, is_for, mailbox_in};
 ghost use Rattle.cb_server_state.specs.States.{server_of};
 
 use crate::mailbox::Mailbox;
 use cb_frame::Frame;
 use cb_links::Admission;
-use cb_page::{ClientNo, ClientSet};
+use cb_page::ClientNo;
 use cb_server_state::ServerState;
 use std::alloc::{AllocError, Global};
 use std::marker::Model;
 
 /// A mailbox for each client, first in first out, and what was said last, which is put into them
-/// before anything else is said. And who is to be told that there is something for it.
+/// before anything else is said.
 ///
 /// So a step of the server, which can't be taken back, needs no room here: the room for what it
 /// says is taken by the next call.
@@ -26,8 +24,6 @@ pub(crate) struct Mailboxes {
     boxes: Vec<Mailbox>,
     /// What was said last, the newest first.
     late: Vec<Frame>,
-    /// To whom something was said since it was told.
-    untold: ClientSet,
 }
 
 impl Model for Mailboxes {
@@ -37,29 +33,19 @@ impl Model for Mailboxes {
 
     ghost Value = { MailboxesState };
 
-    ghost view = { λ o. record {
-      boxes = o.boxes.items;
-      late = o.late.items;
-      untold = o.untold;
-    } };
+    ghost view = { λ o. record { boxes = o.boxes.items; late = o.late.items } };
 
     ghost invariant = { λ o. All (λ frame. frame.client < length o.boxes.items) o.late.items };
 }
 
 impl Mailboxes {
-    /// Nothing is to be sent, and nobody is to be told.
+    /// Nothing is to be sent.
     pub(crate) fn new(alloc: Global, clients: u16) -> Result<Mailboxes, AllocError>
-        ensures empty { IfOk result (λ o. o ≡ record {
-          boxes = replicate clients [];
-          late = [];
-          untold = o.untold;
-        }) }
-        ensures nobody { IfOk result (λ o. IsNobody o.untold) }
+        ensures { IfOk result (λ o. o ≡ record { boxes = replicate clients []; late = [] }) }
     {
         Ok(Mailboxes {
             boxes: empty_mailboxes(alloc, clients)?,
             late: Vec::new(alloc),
-            untold: ClientSet::empty(),
         })
     }
 
@@ -118,52 +104,23 @@ impl Mailboxes {
         self.late.iter().any(|frame| frame.client == client && frame.incarnation.get() == current)
     }
 
-    /// What is said is to be sent, and to whom it is said is to be told; nothing may be late.
+    /// What was said last, the newest first, as long as it isn't in the mailboxes.
+    pub(crate) fn said_last(&self) -> &[Frame]
+        ensures { result.now ≡ self.now.late }
+    {
+        self.late.as_slice()
+    }
+
+    /// What is said is to be sent; nothing may be late.
     pub(crate) fn put(&mut self, said: Vec<Frame>)
         requires ready { self.old.late ≡ [] }
         requires clients { All (λ frame. frame.client < length self.old.boxes) said.items }
         ensures boxes { self.new.boxes ≡ self.old.boxes }
         ensures late { self.new.late ≡ reverse said.items }
-        ensures untold { (client : ℕ) → has self.new.untold client
-            ≡ (has self.old.untold client || is_said_to client said.items) }
     {
-        self.untold = self.untold.union(clients_of(said.as_slice()));
         let mut late = said;
         late.reverse();
         self.late = late;
-    }
-
-    /// Who is to be told.
-    pub(crate) fn untold(&self) -> ClientSet
-        ensures { result ≡ self.now.untold }
-    {
-        self.untold
-    }
-
-    /// The client is to be told too.
-    pub(crate) fn notice(&mut self, client: ClientNo)
-        ensures rest { self.new ≡ record self.old { untold = self.new.untold } }
-        ensures noticed { (other : ℕ) → has self.new.untold other
-            ≡ with self.old.untold client other }
-    {
-        self.untold.insert(client);
-    }
-
-    /// Everybody is to be told.
-    pub(crate) fn notice_all(&mut self)
-        ensures rest { self.new ≡ record self.old { untold = self.new.untold } }
-        ensures all { (client : ℕ) → client < 32 → has self.new.untold client ≡ true }
-    {
-        self.untold = everybody();
-    }
-
-    /// The client was told.
-    pub(crate) fn told(&mut self, client: ClientNo)
-        ensures rest { self.new ≡ record self.old { untold = self.new.untold } }
-        ensures told { (other : ℕ) → has self.new.untold other
-            ≡ without self.old.untold client other }
-    {
-        self.untold.remove(client);
     }
 
     /// Takes the oldest frame to that client; nothing may be late.
@@ -195,26 +152,4 @@ fn empty_mailboxes(alloc: Global, clients: u16) -> Result<Vec<Mailbox>, AllocErr
         mailboxes.push(Mailbox::new(alloc))?;
     }
     Ok(mailboxes)
-}
-
-/// To whom these frames are.
-fn clients_of(frames: &[Frame]) -> ClientSet
-    ensures { (client : ℕ) → has result client ≡ is_said_to client frames.now }
-{
-    let mut clients = ClientSet::empty();
-    for frame in frames {
-        clients.insert(frame.client);
-    }
-    clients
-}
-
-/// All clients that there may be.
-fn everybody() -> ClientSet
-    ensures { (client : ℕ) → client < 32 → has result client ≡ true }
-{
-    let mut clients = ClientSet::empty();
-    for client in 0..32 {
-        clients.insert(ClientNo::new(client));
-    }
-    clients
 }

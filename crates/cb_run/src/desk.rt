@@ -106,7 +106,7 @@ impl<R: Wait> Reports for Desk<'_, R> {
         if station.is_on_disk(number) {
             station.forget(number);
         }
-        self.office.tell(&mut station);
+        self.office.tell_clients(&station);
         if reported.is_err() {
             return Err(AllocError);
         }

@@ -43,7 +43,8 @@ pub fn work<R: Wait + Clock, Q: Chooser, G: Gate>(
     }
     let worked = run_jobs(run, &mut worker, jobs, results);
     let ended = end(rt, alloc, office, worker, worked);
-    office.end_work(rt);
+    office.lock(rt).end_work();
+    office.tell();
     ended
 }
 

@@ -2,23 +2,20 @@
 use Rattle.std.proofs.Common.{Bool, List, [], ap, arith, false, if◌then◌else◌, inl, inr, refl, subst, sym, true, true≢false, ℕ, ◌++◌, ◌<◌, ◌==◌, ◌∙◌, ◌∷◌, ◌≡◌, ◌⊎◌}
 use Rattle.std.proofs.lemmas.Bool.Decides.{nat_tests}
 use Rattle.std.proofs.lemmas.List.{append_assoc}
-use Rattle.cb_laws.proofs.NewRows.{new_rows_are_sent}
-use Rattle.cb_laws.specs.RowVersions.{GrantedSent, HasRow}
 use Rattle.cb_protocol.proofs.DoomedAsks.{doomed_have_no_ask, one_ask}
 use Rattle.cb_protocol.proofs.LedgerKept.{holds_always}
 use Rattle.cb_protocol.proofs.NoCycles.{doomed_on_cycle, no_cycle}
-use Rattle.cb_protocol.proofs.NoneWaits.{none_waits}
 use Rattle.cb_protocol.specs.AnyMessages.{AfterInput, ComesFromClient, Input, MessageComes, Opened, ReachedBy, ReachesDisk, SendsAgain, input_steps}
-use Rattle.cb_protocol.specs.Basics.{Bytes, Limits}
+use Rattle.cb_protocol.specs.Basics.{Limits}
 use Rattle.cb_protocol.specs.Deadlock.{AskInRange, InputInRange, ReachedServer}
 use Rattle.cb_protocol.specs.Messages.{AbortNow, AskRead, AskWrite, Body, Message}
 use Rattle.cb_protocol.specs.Ranges.{BodyFits, InputTaken}
 use Rattle.cb_protocol.specs.Server.{ChangeSession, DeadlockTest, Doom, EnterQueue, ForgetTransaction, LeaveQueue, MarkCalledBack, MarkDowngradeSent, MarkInUse, RemoveAsk, Send, Server, ServerStep, SetFlushed, UnmarkInUse, after_server_step, server_after}
 use Rattle.cb_protocol.specs.WaitsFor.{LiesOnCycle, WaitsFor, on_cycle}
-use Rattle.cb_protocol.specs.World.{Opening, messages_sent}
+use Rattle.cb_protocol.specs.World.{Opening}
 use Rattle.cb_protocol.proofs.AsksAnswered.{asks_answered}
 use Rattle.cb_protocol.specs.LeavingLaws.{IsAnswered, IsMet, IsTold, TransactionEnds, WaitsIn}
-use Rattle.cb_server.specs.ServerLaws.{AsksAreFew, DoomedLayOnCycle, FramesAreTaken, NewRowsAreAnswered, NoAskIsForgotten, NobodyIsDeadlocked, NobodyWaitsInVain, RulesAreKept}
+use Rattle.cb_server.specs.ServerLaws.{AsksAreFew, DoomedLayOnCycle, FramesAreTaken, NoAskIsForgotten, NobodyIsDeadlocked, RulesAreKept}
 use Rattle.cb_server.proofs.Arising.{frame_comes}
 use Rattle.cb_server.specs.ServerValue.{IsServer, ServerValue, limits_at, opening_at, server_of}
 
@@ -136,19 +133,3 @@ none_forgotten old new input messages does p c w h = go (asks_answered on_cycle 
 
 pub frames_taken : FramesAreTaken
 frames_taken state frame fits e = (frame_comes state.limits frame fits, e)
-
-pub nobody_waits : NobodyWaitsInVain
-nobody_waits state is = none_waits (server_of state) (reached state is)
-
-pub new_rows_answered : NewRowsAreAnswered
-new_rows_answered old new input messages does c p g row = go (new_rows_are_sent on_cycle (server_of old) input c p g (subst (λ (s : Server). HasRow s c p g) does.becomes row))
-  where
-    after : Server
-    after = server_after (server_of old) (input_steps on_cycle (server_of old) input)
-
-    IsSent : Server → List Message → Type 0
-    IsSent s fs = (version : ℕ) × (bytes : Bytes) × GrantedSent fs c (s.session c).current p g version bytes
-
-    go : HasRow (server_of old) c p g ⊎ IsSent after (messages_sent (input_steps on_cycle (server_of old) input)) → HasRow (server_of old) c p g ⊎ IsSent (server_of new) messages
-    go (inl was) = inl was
-    go (inr sent) = inr (subst (λ (fs : List Message). IsSent (server_of new) fs) (sym does.sends) (subst (λ (s : Server). IsSent s (messages_sent (input_steps on_cycle (server_of old) input))) (sym does.becomes) sent))

@@ -2,14 +2,11 @@
 use Rattle.std.specs.Prelude.{◌≡◌, ◌⊎◌, ℕ, true, false, List, ◌∷◌, ◌++◌, Option}
 use Rattle.cb_frame_types.specs.Grammar.{Fits}
 use Rattle.cb_frame_types.specs.declared.frame.Frame.{Frame}
-use Rattle.cb_laws.specs.RowVersions.{GrantedSent, HasRow}
 use Rattle.cb_protocol.specs.AnyMessages.{Input, RulesHold, input_steps}
-use Rattle.cb_protocol.specs.AskLaws.{MayBeMet}
-use Rattle.cb_protocol.specs.Basics.{Bytes}
 use Rattle.cb_protocol.specs.Deadlock.{OneAsk}
 use Rattle.cb_protocol.specs.Messages.{AbortNow, Message}
 use Rattle.cb_protocol.specs.Ranges.{InputTaken}
-use Rattle.cb_protocol.specs.Server.{Doom, RemoveAsk, ServerStep, WaitingAsk, server_after}
+use Rattle.cb_protocol.specs.Server.{Doom, RemoveAsk, ServerStep, server_after}
 use Rattle.cb_protocol.specs.WaitsFor.{HasAsk, LiesOnCycle, NoCycle, WaitsFor, on_cycle}
 use Rattle.cb_protocol.specs.LeavingLaws.{IsMet, IsTold, TransactionEnds, WaitsIn}
 use Rattle.cb_server.specs.ServerValue.{IsServer, ServerValue, limits_at, opening_at, server_of}
@@ -62,19 +59,3 @@ NoAskIsForgotten = (old new : ServerValue) (input : Input) (messages : List Mess
     ⊎ (IsMet (server_of old) page client write_grant messages
     ⊎ (IsTold (server_of old) client (AbortNow ((server_of old).session client).txn) messages
     ⊎ TransactionEnds client (input_steps on_cycle (server_of old) input)))
-
--- At no server does a page's first ask wait that may have what it asks for.
-abbrev pub NobodyWaitsInVain : Type 0
-NobodyWaitsInVain = (state : ServerValue) → IsServer state
-    → (page : ℕ) (ask : WaitingAsk) (behind : List WaitingAsk)
-    → (server_of state).queue page ≡ ask ∷ behind → MayBeMet (server_of state) page ask → ⊥
-
--- A row that is there after an input was there before, or its copy is among what that input sent.
-abbrev pub NewRowsAreAnswered : Type 0
-NewRowsAreAnswered = (old new : ServerValue) (input : Input) (messages : List Message)
-    → Does old input messages new → (client page grant : ℕ)
-    → HasRow (server_of new) client page grant
-    → HasRow (server_of old) client page grant
-    ⊎ ((version : ℕ) × (bytes : Bytes)
-    × GrantedSent messages client ((server_of new).session client).current page grant version
-    bytes)

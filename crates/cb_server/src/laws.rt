@@ -1,8 +1,7 @@
 //! What holds of every server, whatever was called before, as laws over its contracts: a caller has
 //! `arose` of [`Server::limits`](crate::Server::limits) and the contract of the call that it made.
 ghost use Rattle.cb_server.specs.ServerLaws.{AsksAreFew, DoomedLayOnCycle, FramesAreTaken};
-ghost use Rattle.cb_server.specs.ServerLaws.{NewRowsAreAnswered, NoAskIsForgotten};
-ghost use Rattle.cb_server.specs.ServerLaws.{NobodyIsDeadlocked, NobodyWaitsInVain, RulesAreKept};
+ghost use Rattle.cb_server.specs.ServerLaws.{NoAskIsForgotten, NobodyIsDeadlocked, RulesAreKept};
 
 /// A page with a write holder has rows of no other client, and grant numbers are distinct. No
 /// transaction commits twice; commits are numbered one by one, and the store is the opening store
@@ -29,11 +28,4 @@ pub fn doomed_lay_on_a_cycle()
 /// that the transaction is aborted, or that transaction ends.
 pub fn no_ask_is_forgotten()
     ensures law { NoAskIsForgotten }
-{}
-
-/// A new grant is sent in the step in which its ask may have it. No page's first ask waits that may
-/// have what it asks for, and whatever row a call makes, its copy is among that call's messages.
-pub fn grants_come_at_once()
-    ensures in_time { NobodyWaitsInVain }
-    ensures sent { NewRowsAreAnswered }
 {}

@@ -9,7 +9,6 @@
 -- Stations: what holds of every station holds after each call.
 -- Calls: what holds of every station holds after each call, by what the call did.
 -- Admitting: what a commit is answered, by why it is refused or that it is allowed.
--- Telling: a station stays one whoever is told, and whatever threads tell each other.
 pub mod Onward
 pub mod Reached
 pub mod Keeping
@@ -20,4 +19,3 @@ pub mod Remembering
 pub mod Stations
 pub mod Calls
 pub mod Admitting
-pub mod Telling

@@ -3,4 +3,3 @@ pub mod Stations
 pub mod Moves
 pub mod Commits
 pub mod Admission
-pub mod Telling

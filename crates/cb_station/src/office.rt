@@ -1,10 +1,6 @@
 //! The lock.
-ghost use Rattle.std.specs.Prelude.{◌≡◌};
 ghost use Rattle.std.specs.Sync.Mutex.{mutex_guard_value};
-ghost use Rattle.cb_mailboxes.specs.Mailboxes.{IsNobody};
 ghost use Rattle.cb_station.specs.Stations.{IsStation};
-ghost use Rattle.cb_station.specs.Telling.{EndsTry, Halts, IsTold, Tells, after_work, closed};
-ghost use Rattle.cb_station.specs.Telling.{untold_in, with_untold};
 
 use crate::station::Station;
 use cb_admission::{Ticket, TryEnd};
@@ -45,9 +41,8 @@ impl Office {
     /// stored of each hand the server has, and where it is halted it is closed.
     pub fn lock<R: Wait>(&self, rt: &R) -> MutexGuard<'_, Station>
         ensures sound { IsStation (mutex_guard_value result) }
-        ensures told { IsTold (mutex_guard_value result) }
     {
-        self.sound(self.station.lock(rt))
+        sound(self.station.lock(rt))
     }
 
     /// Lets the lock go until somebody tells of a commit or of the end of a call of `work`, closes
@@ -58,15 +53,8 @@ impl Office {
         station: MutexGuard<'a, Station>,
     ) -> MutexGuard<'a, Station>
         ensures sound { IsStation (mutex_guard_value result) }
-        ensures told { IsTold (mutex_guard_value result) }
     {
-        self.sound(self.changed.wait(rt, station))
-    }
-
-    /// How often those were told whom [`Office::wait`] lets sleep. It takes no lock: who looks for a
-    /// moment whether it has changed need not sleep.
-    pub fn times_told(&self) -> u64 {
-        self.changed.notifications()
+        sound(self.changed.wait(rt, station))
     }
 
     /// Lets the lock go until there may be a frame to that client, or the office is halted, and
@@ -78,9 +66,8 @@ impl Office {
         client: ClientNo,
     ) -> MutexGuard<'a, Station>
         ensures sound { IsStation (mutex_guard_value result) }
-        ensures told { IsTold (mutex_guard_value result) }
     {
-        self.sound(self.condition_of(client).wait(rt, station))
+        sound(self.frames[client.index()].wait(rt, station))
     }
 
     /// As [`Office::wait_for_frame`], and no longer than so long.
@@ -92,10 +79,12 @@ impl Office {
         limit: Duration,
     ) -> MutexGuard<'a, Station>
         ensures sound { IsStation (mutex_guard_value result) }
-        ensures told { IsTold (mutex_guard_value result) }
     {
-        let waited = self.condition_of(client).wait_timeout(rt, station, limit);
-        self.sound(waited.0)
+        sound(
+            self.frames[client.index()]
+                .wait_timeout(rt, station, limit)
+                .0,
+        )
     }
 
     /// As [`Office::wait`], until that commit is made or no call of `work` commits any more, and no
@@ -108,75 +97,48 @@ impl Office {
         limit: Duration,
     ) -> MutexGuard<'a, Station>
         ensures sound { IsStation (mutex_guard_value result) }
-        ensures told { IsTold (mutex_guard_value result) }
     {
         let waited = self
             .changed
             .wait_timeout_while(rt, station, limit, |station| {
                 !station.can_flush(number) && !station.is_over()
             });
-        self.sound(waited.0)
+        sound(waited.0)
     }
 
     /// A try ends: it gives its ticket back, and who is to be let in next is told.
     pub fn end_try<R: Wait>(&self, rt: &R, ticket: Ticket, end: TryEnd) {
-        self.end_try_at(&mut self.lock(rt), ticket, end);
-    }
-
-    /// As [`Office::end_try`], at the locked station.
-    pub fn end_try_at(&self, station: &mut Station, ticket: Ticket, end: TryEnd)
-        ensures { EndsTry station.old end station.new }
-    {
+        let mut station = self.lock(rt);
         station.end_try(ticket, end);
-        self.tell(station);
+        self.tell_next(&station);
     }
 
-    /// Tells all who are to be told of what was done under this lock: each client to which the
-    /// server said something, and the one that is to be let in next; and, of commits, of the end of
-    /// a call of `work`, of closing and of halting, whoever waits for these.
-    ///
-    /// Who changes a station by a call of its own calls this before the lock goes. Who is forgotten
-    /// is told by the next one that takes the lock.
-    pub fn tell(&self, station: &mut Station)
-        ensures { Tells station.old station.new }
-    {
-        self.tell_clients(station);
-        if station.has_news() {
-            self.changed.notify_all();
-            station.told_news();
+    /// Tells the client that is to be let in next, if there is one; the lock is held.
+    pub fn tell_next(&self, station: &Station) {
+        if let Some(client) = station.window().next() {
+            self.frames[client.index()].notify_all();
         }
     }
 
-    /// Tells each client that is to be told.
-    fn tell_clients(&self, station: &mut Station)
-        ensures rest { station.new ≡ with_untold station.old (untold_in station.new) }
-        ensures nobody { IsNobody (untold_in station.new) }
-    {
-        let mut from = 0;
-        while let Some(client) = station.untold().next(from) {
-            self.condition_of(client).notify_all();
-            station.told(client);
-            from = client.index() + 1;
+    /// Tells those clients that got a frame by the last call in which the station's server took
+    /// something; the lock is held since.
+    pub fn tell_clients(&self, station: &Station) {
+        for frame in station.said_last() {
+            self.frames[frame.client.index()].notify_all();
         }
     }
 
-    /// On which the client waits.
-    fn condition_of(&self, client: ClientNo) -> &Condvar {
-        &self.frames[client.index()]
+    /// Tells who waits for commits, the end of a call of `work`, closing or halting.
+    pub fn tell(&self) {
+        self.changed.notify_all();
     }
 
-    /// One call of `work` that began has ended, and who waits for that is told; the last one closes
-    /// the office.
-    pub fn end_work<R: Wait>(&self, rt: &R) {
-        self.end_work_at(&mut self.lock(rt));
-    }
-
-    /// As [`Office::end_work`], at the locked station.
-    pub fn end_work_at(&self, station: &mut Station)
-        ensures { Tells (after_work station.old) station.new }
-    {
-        station.end_work();
-        self.tell(station);
+    /// Tells everybody.
+    pub fn tell_all(&self) {
+        self.tell();
+        for waiting in &self.frames {
+            waiting.notify_all();
+        }
     }
 
     /// No call of `work` begins any more: one that would takes no job. Those that are going on do
@@ -186,40 +148,23 @@ impl Office {
     /// Whoever commits without `work`, and isn't counted by `begin_work`, isn't waited for: what he
     /// commits after the flusher has ended is in memory alone.
     pub fn close<R: Wait>(&self, rt: &R) {
-        self.close_at(&mut self.lock(rt));
-    }
-
-    /// As [`Office::close`], at the locked station.
-    pub fn close_at(&self, station: &mut Station)
-        ensures { Tells (closed station.old) station.new }
-    {
-        station.close();
-        self.tell(station);
+        self.lock(rt).close();
+        self.tell();
     }
 
     /// Closes the office, and every call that waits for it gives up. No call of `work` commits any
     /// more, so the flusher ends when all is written.
     pub fn halt<R: Wait>(&self, rt: &R) {
-        self.halt_at(&mut self.lock(rt));
+        self.lock(rt).halt();
+        self.tell_all();
     }
+}
 
-    /// As [`Office::halt`], at the locked station: everybody is told.
-    pub fn halt_at(&self, station: &mut Station)
-        ensures { Halts station.old station.new }
-    {
-        station.halt();
-        self.tell(station);
-    }
-
-    /// The station under the lock, with what always holds of it. Who was forgotten is told.
-    fn sound<'a>(&self, station: MutexGuard<'a, Station>) -> MutexGuard<'a, Station>
-        ensures sound { IsStation (mutex_guard_value result) }
-        ensures told { IsTold (mutex_guard_value result) }
-    {
-        let mut station = station;
-        self.tell(&mut station);
-        // What holds of every station, its history says.
-        let _known = station.history();
-        station
-    }
+/// The station under the lock, with what always holds of it.
+fn sound(station: MutexGuard<'_, Station>) -> MutexGuard<'_, Station>
+    ensures { IsStation (mutex_guard_value result) }
+{
+    // What holds of every station, its history says.
+    let _known = station.history();
+    station
 }

@@ -1,6 +1,6 @@
 //! The type, its opening, and what it shows.
 ghost use Rattle.std.specs.Prelude.{◌≡◌, ◌≢◌, ◌↔◌, ◌<◌, ◌≤◌, ◌+◌, ℕ, [], true, false, IfErr};
-ghost use Rattle.std.specs.Prelude.{IfOk, IfSome, IsSome, IsTrue, None, OnErr, OnOk, Ok, replicate};
+ghost use Rattle.std.specs.Prelude.{IfOk, IfSome, IsSome, IsTrue, None, OnOk, Ok, replicate};
 ghost use Rattle.std.specs.Option.{option_map};
 ghost use Rattle.cb_admission.specs.Windows.{IsNew as IsNewWindow};
 ghost use Rattle.cb_hands.specs.Agreement.{Meet};
@@ -11,8 +11,6 @@ ghost use Rattle.cb_hands.specs.Joined.{IsHeld};
 ghost use Rattle.cb_station.specs.Moves.{IsOwn};
 ghost use Rattle.cb_station.specs.Stations.{IsStation, forgot, mailbox_of, remembered, server_of};
 ghost use Rattle.cb_station.specs.declared.office_fault.OfficeFault.TheVariants as office;
-ghost use Rattle.cb_station.specs.Telling.{IsTold, untold_in, with_untold};
-ghost use Rattle.cb_page.specs.Clients.{has, without};
 ghost use Rattle.cb_page.specs.Numbers.{max_number};
 ghost use Rattle.cb_protocol.specs.Flush.{can_flush, next_batch};
 ghost use Rattle.cb_server.specs.ServerValue.{IsNew, commits_of};
@@ -30,7 +28,7 @@ use cb_commit::{Batch, Store};
 use cb_frame::Frame;
 use cb_hands::{Entry, Hand, JoinedHands};
 use cb_mailboxes::Dispatcher;
-use cb_page::{ClientNo, ClientSet, CommitNo, Limits};
+use cb_page::{ClientNo, CommitNo, Limits};
 use cb_past::Past;
 use std::alloc::{AllocError, Global};
 use std::marker::Model;
@@ -38,8 +36,7 @@ use std::marker::Model;
 /// A server that several clients share, with what each joined client's hand shows, what is to be
 /// sent to each, the history of commits, and what the threads that share it tell each other:
 /// whether it is closed, whether it is halted, how many calls of `work` are still to end, how many
-/// are going on, and which tries of transactions are let in. And who is to be told of what was
-/// done, and wasn't yet: [`crate::Office::tell`] tells them, under the same lock.
+/// are going on, and which tries of transactions are let in.
 ///
 /// Once it is closed no call of `work` begins. Those that are going on do their jobs to the end,
 /// and the flusher ends when none is left and all is written. A halted one is closed, and every
@@ -115,10 +112,8 @@ impl Station {
           left = 1;
           working = 0;
           window = station.flags.window;
-          news = false;
         }) }
         ensures window { IfOk result (λ station. IsNewWindow station.flags.window) }
-        ensures told { IfOk result IsTold }
     {
         Ok(Station {
             dispatcher: Dispatcher::new(alloc, limits, store)?,
@@ -165,26 +160,17 @@ impl Station {
             && self.dispatcher.has_frame_for(client)
     }
 
-    /// Which clients are to be told that there is something for them: those to whom the server said
-    /// something, and who is to be let in next.
-    pub(crate) fn untold(&self) -> ClientSet
-        ensures { result ≡ untold_in self.now }
+    /// The frames that came by the last call in which the server took something, the newest first,
+    /// until a later call puts them into the mailboxes.
+    pub fn said_last(&self) -> &[Frame]
+        ensures { result.now ≡ self.now.dispatcher.mailboxes.late }
     {
-        self.dispatcher.untold()
-    }
-
-    /// The client was told.
-    pub(crate) fn told(&mut self, client: ClientNo)
-        ensures rest { self.new ≡ with_untold self.old (untold_in self.new) }
-        ensures told { (other : ℕ) → has (untold_in self.new) other
-            ≡ without (untold_in self.old) client other }
-    {
-        self.dispatcher.told(client);
+        self.dispatcher.said_last()
     }
 
     /// What is to be written to disk next; `None` where every commit is on disk.
     ///
-    /// `Memory` only where a growth was refused, so never where there is nothing to write.
+    /// `Memory` only where a growth was refused.
     pub fn batch(&self, alloc: Global) -> Result<Option<Batch>, OfficeFault>
         ensures batch { IfOk result (λ batch.
             option_map batch_of batch ≡ next_batch (server_of self.now)) }
@@ -193,8 +179,6 @@ impl Station {
         ensures can_flush { IfOk result (λ batch.
             IfSome batch (λ b. can_flush (server_of self.now) b.number ≡ true)) }
         ensures err { IfErr result (λ fault. fault ≡ office.Memory) }
-        ensures needed { OnErr result
-            ((server_of self.now).flushed < (server_of self.now).store.last_commit) }
     {
         Ok(self.dispatcher.server().batch(alloc)?)
     }

@@ -9,9 +9,6 @@
 -- Asking: what the client's asks leave to be handed in.
 -- Steps: what a call that waits is answered, once a step has an answer.
 -- Serving: turns, one after another.
--- Dropping: how a transaction is dropped, and that it is said.
--- Telling: all who are to be told are told.
--- Entering: why a client doesn't join.
 pub mod Reading
 pub mod Kept
 pub mod Saying
@@ -22,6 +19,3 @@ pub mod Refusing
 pub mod Asking
 pub mod Steps
 pub mod Serving
-pub mod Dropping
-pub mod Telling
-pub mod Entering

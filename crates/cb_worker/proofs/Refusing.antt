@@ -46,7 +46,7 @@ collects old new before after x (Err f) c t = let e = t.0 in let is : x ≡ work
 collects old new before after x (Ok None) c t = absurd (let e = t.0 in cc)
 collects old new before after x (Ok (Some frame)) c t = of_taken (record old { hand = new.hand; collected = Some frame }) new frame x t
 
-pub turn_fault : (old new : WorkerState) (before after : StationState) (x : WorkerFault) → Turns old before (Err x) new after → IsTurnFault x
+turn_fault : (old new : WorkerState) (before after : StationState) (x : WorkerFault) → Turns old before (Err x) new after → IsTurnFault x
 turn_fault old new before after x t = go old.said old.collected t
   where
     go : (said : List Frame) (kept : Option Frame) → TurnsBy said kept old before (Err x) new after → IsTurnFault x
@@ -65,3 +65,10 @@ lacks_grant old new page b a e h s =
     let here : is_some (content_at old.client.copies page) ≡ true = bytes_here old.client page b a in
     let next : new.client ≡ page_read old.client page = e ∙ after_read_is old.client page (sym (read_so old.client page (Ok (read.Bytes b)) a)) here in
     (refl, rw (next, h) s, rw next here)
+
+-- why the station lets no client leave
+pub leaves_not : (old : WorkerState) (hand : HandState) (station : StationState) (f : OfficeFault) → old.hand ≡ hand → (f ≡ office.Foreign) ↔ (IsHeld station.hands hand → ⊥)
+    → (f ≡ office.Exhausted) ↔ (IsHeld station.hands hand × (max_number ≤ hand.incarnation)) → (f ≡ office.Foreign) ⊎ (f ≡ office.Exhausted) ⊎ (f ≡ office.Memory) → RefusesLeave old (worker.Office f)
+leaves_not old hand station f same foreign exhausted (inl e) = rw e (station, subst (λ (h : HandState). IsHeld station.hands h → ⊥) (sym same) (foreign.0 e))
+leaves_not old hand station f same foreign exhausted (inr (inl e)) = rw (e, same) (exhausted.0 e).1
+leaves_not old hand station f same foreign exhausted (inr (inr e)) = rw e tt

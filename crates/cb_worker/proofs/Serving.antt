@@ -2,11 +2,10 @@
 use Rattle.std.proofs.Common.{◌≡◌, ◌≢◌, inl, inr, Bool, true, false, List, [], ◌∷◌, Option, Some, None, Result, Ok, Err, refl, ap, ◌∙◌, subst}
 use Rattle.std.specs.Prelude.{⊤, ◌⊎◌}
 use Rattle.cb_frame_types.specs.declared.frame.Frame.{Frame}
-use Rattle.cb_station.specs.Stations.{IsStation, StationState}
+use Rattle.cb_station.specs.Stations.{StationState}
 use Rattle.cb_station.specs.declared.office_fault.OfficeFault.{OfficeFault}
-use Rattle.cb_worker.proofs.Refusing.{no_halt, turn_fault}
-use Rattle.cb_worker.specs.Refusals.{StopsAt, StopsServing}
-use Rattle.cb_worker.specs.Serving.{HandsOne, Serves, TurnsAt, TurnsThen, Turning}
+use Rattle.cb_worker.proofs.Refusing.{no_halt}
+use Rattle.cb_worker.specs.Serving.{Serves, TurnsAt, TurnsThen, Turning}
 use Rattle.cb_worker.specs.Turns.{Turns, TurnsBy, turned_by}
 use Rattle.cb_worker.specs.Workers.{WorkerState}
 use Rattle.cb_worker.specs.declared.worker_fault.WorkerFault.{WorkerFault}
@@ -69,17 +68,3 @@ does old new before after b n t = go old.said old.collected refl t
         by : (a : Result ⊤ OfficeFault) → Ok b ≡ turned_by a → b ≡ true
         by (Ok done) e = cc
         by (Err f) e = absurd cc
-
--- of turns that were made from a station which holds what always does, one was refused
-pub stopped : (old mid new : WorkerState) (before between after : StationState) (f : WorkerFault) → IsStation before → Turned Turns old before mid between → Turns mid between (Err f) new after → StopsServing new f
-stopped old mid new before between after (worker.Client f) s t d =
-    (old, record { kind = turn_fault mid new between after (worker.Client f) d; before = before; sound = s; after = after; turns = last Turns old mid new before between after (Err (worker.Client f)) t d })
-stopped old mid new before between after (worker.Office f) s t d =
-    (old, record { kind = turn_fault mid new between after (worker.Office f) d; before = before; sound = s; after = after; turns = last Turns old mid new before between after (Err (worker.Office f)) t d })
-stopped old mid new before between after worker.Halted s t d = tt
-
--- so of frames that are handed in
-pub kept_back : (old mid new : WorkerState) (before between after : StationState) (f : WorkerFault) → IsStation before → Turned HandsOne old before mid between → HandsOne mid between (Err f) new after
-    → StopsAt HandsOne old new f
-kept_back old mid new before between after f s t d =
-    record { kind = turn_fault mid new between after f d.1; before = before; sound = s; after = after; turns = last HandsOne old mid new before between after (Err f) t d }

@@ -1,5 +1,6 @@
 -- What the client's words of its transaction mean.
-use Rattle.std.proofs.Common.{◌≡◌, ◌≢◌, Bool, true, false, List, [], Option, Some, None, Result, Ok, Err, IfSome, ap, refl, sym, ◌∙◌, not, if◌then◌else◌}
+use Rattle.std.proofs.Common.{◌≡◌, ◌≢◌, inl, Bool, true, false, List, [], Option, Some, None, Result, Ok, Err, IfSome, OnOk, ap, refl, sym, ◌∙◌, not, if◌then◌else◌}
+use Rattle.std.specs.Prelude.{⊤}
 use Rattle.cb_client.specs.ByTable.{Calls, limits_at, over}
 use Rattle.cb_client_core.specs.ClientState.{ClientState, client_of, outcome_of, status_of}
 use Rattle.cb_client_core.specs.declared.stage.Outcome.{Outcome}
@@ -15,9 +16,10 @@ use Rattle.cb_protocol.specs.ClientCalls.{CallDrop, accept_or_refuse, call_fault
 use Rattle.cb_protocol.specs.Messages.{Message}
 use Rattle.cb_protocol.specs.Serial.{Operation}
 use Rattle.cb_worker.specs.Committing.{IsCommitting}
-use Rattle.cb_worker.specs.Waiting.{IsFinished, ending_of}
+use Rattle.cb_worker.specs.Waiting.{IsDropped, IsFinished, ending_of}
 use Rattle.cb_worker.specs.Workers.{Ended, HasTransaction, IsIdle, WorkerState}
 use Rattle.cb_worker.specs.declared.answers.Finished.{Finished}
+use Rattle.cb_worker.specs.declared.worker_fault.WorkerFault.{WorkerFault}
 
 committing : (w : Bool) (s : TransactionState) (a : Ask) → StatusCommitting ≡ (if not w then StatusNotWelcome else welcomed_status s a) → is_committing s ≡ true
 committing false s a e = absurd cc
@@ -80,10 +82,10 @@ dropped old new messages calls idle = record {
       ap (λ (c : Client). c.last_outcome) (sym (calls.makes.after ops)) ∙ so;
 }
 
--- a call to drop that is answered is accepted
-pub accepted : (v : ClientState) (ops : List Operation) → (client_call (limits_at v) (client_of v ops) CallDrop).word ≡ table.AnsweredOk → call_fault (limits_at v) (client_of v ops) CallDrop ≡ None
-unfolding call_fault
-accepted v ops e = unrefused v ops e
+-- one whose client stayed as it was has dropped its transaction too
+pub still_dropped : (old new : WorkerState) (r : Result ⊤ WorkerFault) → Ended old Dropped → new.client ≡ old.client → OnOk r (IsDropped new)
+still_dropped old new (Ok done) is same = inl (record { idle = λ ops. rw same (is.idle ops); so = λ ops. rw same (is.so ops) })
+still_dropped old new (Err fault) is same = tt
 
 -- one that says anything but that it isn't welcomed is
 pub welcomed_so : (v : ClientState) (s : says.ClientStatus) → ((ops : List Operation) → status_of s ≡ client_status (client_of v ops)) → s ≢ statuses.NotWelcome → v.welcomed ≡ true

@@ -10,7 +10,6 @@ use Rattle.cb_station.specs.Commits.{IsLive, IsOwnCommit, IsPermitted, txn_of, w
 use Rattle.cb_station.specs.Moves.{IsEntryOf, IsOwn, collected, committed, ended_if_over}
 use Rattle.cb_station.specs.Moves.{given_back, is_plain, is_stray}
 use Rattle.cb_station.specs.Stations.{IsUnchanged, StationState, mailbox_of, server_of}
-use Rattle.cb_station.specs.Telling.{untold_in}
 use Rattle.cb_station.specs.declared.office_fault.OfficeFault.{OfficeFault}
 use Rattle.cb_station.specs.declared.office_fault.OfficeFault.TheVariants as office
 use Rattle.cb_outbox.specs.Messages.{page_writes}
@@ -51,7 +50,6 @@ pub record Collected (before : StationState) (hand : HandState)
   pub rest : OnOk result ((client : ℕ)
       → mailbox_of after client ≡ without_oldest (mailbox_of before) hand.client client)
   pub server : after.dispatcher.server ≡ before.dispatcher.server
-  pub untold : untold_in after ≡ untold_in before
   pub moved : IfOk result (λ frame. next ≡ collected (server_of before) hand frame)
   pub stored : OnOk result (Follow before.hands after.hands hand next)
   pub history : after.history ≡ before.history
@@ -84,4 +82,4 @@ pub record Committed (before : StationState) (frame : Frame) (reads : List Bool)
       hand.incarnation (txn_of frame) (page_writes (writes_of frame)))
   pub moved : IfOk result (λ number. next ≡ committed hand (writes_of frame) number)
   pub stored : OnOk result (Follow before.hands after.hands hand next)
-  pub flags : OnOk result (after.flags ≡ record before.flags { news = true })
+  pub flags : after.flags ≡ before.flags

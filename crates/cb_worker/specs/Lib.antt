@@ -8,5 +8,3 @@ pub mod Refusals
 pub mod Asking
 pub mod Steps
 pub mod Serving
-pub mod Entering
-pub mod Dropping

@@ -1,20 +1,16 @@
 -- Why the calls that take the office are refused. What lies under its lock no clause of a call that
--- takes it can name: so each cause is one at some station, of which all holds that always does.
-use Rattle.std.specs.Prelude.{◌≡◌, ◌≤◌, ◌⊎◌, ℕ, true, false, None, Result, Ok, Err, ⊤}
+-- takes it can name: so each cause is one at something that lay there.
+use Rattle.std.specs.Prelude.{◌≡◌, ◌≤◌, ◌⊎◌, ℕ, true, false, None, Err, ⊤}
 use Rattle.std.specs.Option.{is_some}
 use Rattle.cb_client.specs.ByTable.{IsRefusal, IsRefused}
 use Rattle.cb_client.specs.declared.client_fault.ClientFault.TheVariants as client
 use Rattle.cb_cache.specs.CacheState.{content_at}
-use Rattle.cb_hands.specs.Hands.{HandState}
-use Rattle.cb_page.specs.Bounds.{Bounds}
-use Rattle.cb_station.specs.Stations.{IsStation, StationState}
-use Rattle.cb_station.specs.declared.office_fault.OfficeFault.{OfficeFault}
+use Rattle.cb_hands.specs.Joined.{IsHeld}
+use Rattle.cb_station.specs.Stations.{StationState}
 use Rattle.cb_station.specs.declared.office_fault.OfficeFault.TheVariants as office
+use Rattle.cb_page.specs.Numbers.{max_number}
 use Rattle.cb_protocol.specs.ClientCalls.{Call, CallDrop, CallRead, CallWant}
 use Rattle.cb_worker.specs.Committing.{CommitsAt}
-use Rattle.cb_worker.specs.Dropping.{SaysDrop}
-use Rattle.cb_worker.specs.Entering.{JoinsSome, LeavesSome, RestartsSome, TriesToLeave}
-use Rattle.cb_worker.specs.Serving.{HandsOne, Turning, TurnsThen}
 use Rattle.cb_worker.specs.Turns.{Turns}
 use Rattle.cb_worker.specs.Waiting.{LacksTransaction}
 use Rattle.cb_worker.specs.Workers.{IsStill, WorkerState, shows_copy}
@@ -29,20 +25,22 @@ IsTurnFault (worker.Office office.Memory) = ⊤
 IsTurnFault (worker.Client client.Memory) = ⊤
 IsTurnFault _ = ⊥
 
--- Turns of that kind were made, from a station of which all holds that always does, and one was
--- refused so, which left the worker thus.
-pub record StopsAt (Does : Turning) (old new : WorkerState) (fault : WorkerFault) : Type 0 where
-  pub kind : IsTurnFault fault
-  pub before : StationState
-  pub sound : IsStation before
-  pub after : StationState
-  pub turns : TurnsThen Does old before (Err fault) new after
+-- A turn was refused so, and left the worker and the station thus.
+pub record RefusesTurn (new : WorkerState) (after : StationState) (fault : WorkerFault) : Type 0
+  where
+    pub kind : IsTurnFault fault
+    pub old : WorkerState
+    pub before : StationState
+    pub turns : Turns old before (Err fault) new after
 
--- Serving was refused: a turn was. Of a halt nothing is said: that some station is halted is so
--- whatever happened.
+-- serving was refused: the station is halted, or a turn was refused
+abbrev pub RefusesServing : (new : WorkerState) → StationState → WorkerFault → Type 0
+RefusesServing new station worker.Halted = station.flags.halted ≡ true
+RefusesServing new station fault = RefusesTurn new station fault
+
+-- so at what lay under the lock
 abbrev pub StopsServing : (new : WorkerState) → WorkerFault → Type 0
-StopsServing new worker.Halted = ⊤
-StopsServing new fault = (old : WorkerState) × StopsAt Turns old new fault
+StopsServing new fault = (station : StationState) × RefusesServing new station fault
 
 -- a transaction is lacking, and nothing changes; or serving was refused
 abbrev pub RefusesAny : (old new : WorkerState) → WorkerFault → Type 0
@@ -80,23 +78,14 @@ abbrev pub RefusesToDrop : (new : WorkerState) → WorkerFault → Type 0
 RefusesToDrop new (worker.Client client.Memory) = IsRefusal new.client CallDrop None
 RefusesToDrop new fault = RefusesCall new CallDrop fault
 
--- its client dropped its transaction, and what it said of that wasn't all handed in: the Drop is
--- the first to be, or was handed in
-abbrev pub StopsDrop : (old new : WorkerState) → WorkerFault → Type 0
-StopsDrop old new fault = (served : WorkerState) × IsStill old served
-    × (dropped : WorkerState) × SaysDrop served dropped × StopsAt HandsOne dropped new fault
-
--- why one isn't dropped, or isn't said to be
+-- why one isn't dropped
 abbrev pub RefusesDrop : (old new : WorkerState) → WorkerFault → Type 0
-RefusesDrop old new fault =
-    RefusesAny old new fault ⊎ RefusesToDrop new fault ⊎ StopsDrop old new fault
+RefusesDrop old new fault = RefusesAny old new fault ⊎ RefusesToDrop new fault
 
--- A commit was refused so, at a station of which all holds that always does, and left the worker
--- thus.
+-- A commit was refused so, and left the worker thus.
 pub record RefusesCommit (new : WorkerState) (fault : WorkerFault) : Type 0 where
   pub old : WorkerState
   pub before : StationState
-  pub sound : IsStation before
   pub after : StationState
   pub commits : CommitsAt old before (Err fault) new after
 
@@ -104,42 +93,27 @@ pub record RefusesCommit (new : WorkerState) (fault : WorkerFault) : Type 0 wher
 abbrev pub RefusesFinish : (old new : WorkerState) → WorkerFault → Type 0
 RefusesFinish old new fault = RefusesAny old new fault ⊎ RefusesCommit new fault
 
--- why a worker's client doesn't leave: the station refused it so
+-- why a worker's client doesn't leave: the hand isn't the stored one; no incarnation is left; or
+-- memory was refused
 abbrev pub RefusesLeave : WorkerState → WorkerFault → Type 0
-RefusesLeave old (worker.Office fault) = LeavesSome old.hand (Err (fault, old.hand))
+RefusesLeave old (worker.Office office.Foreign) =
+    (station : StationState) × (IsHeld station.hands old.hand → ⊥)
+RefusesLeave old (worker.Office office.Exhausted) = max_number ≤ old.hand.incarnation
+RefusesLeave old (worker.Office office.Memory) = ⊤
 RefusesLeave old _ = ⊥
 
--- why it begins no such incarnation: the limits haven't got the client; the station refused it; or
--- there was no memory for its client
+-- why it begins no such incarnation: the limits haven't got the client, or the hand isn't the
+-- stored one; the incarnation isn't later; or memory was refused
 abbrev pub RefusesStart : WorkerState → (incarnation : ℕ) → WorkerFault → Type 0
-RefusesStart old incarnation (worker.Office fault) =
-    ((fault ≡ office.Foreign) × (old.client.copies.limits.clients ≤ old.hand.client))
-    ⊎ RestartsSome old.hand incarnation (Err (fault, old.hand))
-RefusesStart old incarnation (worker.Client fault) = fault ≡ client.Memory
+RefusesStart old incarnation (worker.Office office.Foreign) =
+    (old.client.copies.limits.clients ≤ old.hand.client)
+    ⊎ ((station : StationState) × (IsHeld station.hands old.hand → ⊥))
+RefusesStart old incarnation (worker.Office office.Old) = incarnation ≤ old.hand.incarnation
+RefusesStart old incarnation (worker.Office office.Memory) = ⊤
+RefusesStart old incarnation (worker.Client client.Memory) = ⊤
 RefusesStart old incarnation _ = ⊥
 
 -- it doesn't begin, and nothing changes; or it began, and serving was refused
 abbrev pub RefusesRestart : (old new : WorkerState) → (incarnation : ℕ) → WorkerFault → Type 0
 RefusesRestart old new incarnation fault =
     (RefusesStart old incarnation fault × (new ≡ old)) ⊎ StopsServing new fault
-
--- why a client doesn't enter: these limits haven't got it; or the station refused it
-abbrev pub RefusesEntry : Bounds → (number : ℕ) → WorkerFault → Type 0
-RefusesEntry limits number (worker.Office fault) =
-    ((fault ≡ office.Foreign) × (limits.clients ≤ number)) ⊎ JoinsSome number (Err fault)
-RefusesEntry limits number _ = ⊥
-
--- A client that had joined left again, where that wasn't refused: there was no memory for it; or
--- serving was refused before its Welcome came.
-pub record GivesUpJoining (number : ℕ) (fault : WorkerFault) : Type 0 where
-  pub joined : HandState
-  pub joins : JoinsSome number (Ok joined)
-  pub hand : HandState
-  pub same : (hand.client ≡ joined.client) × (hand.incarnation ≡ joined.incarnation)
-  pub leaves : TriesToLeave hand
-  pub why : (fault ≡ worker.Client client.Memory)
-      ⊎ ((worker : WorkerState) × (worker.hand ≡ hand) × StopsServing worker fault)
-
--- why a client doesn't join
-abbrev pub RefusesJoin : Bounds → (number : ℕ) → WorkerFault → Type 0
-RefusesJoin limits number fault = RefusesEntry limits number fault ⊎ GivesUpJoining number fault

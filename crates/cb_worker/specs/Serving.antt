@@ -1,8 +1,7 @@
 -- What serving does: turns, one after another.
 use Rattle.std.specs.Prelude.{◌≡◌, ◌≢◌, Bool, true, false, List, [], ◌∷◌, ⊤}
 use Rattle.std.specs.Prelude.{Result, Ok, Err}
-use Rattle.cb_station.specs.Stations.{IsStation, StationState}
-use Rattle.cb_station.specs.Telling.{Tells}
+use Rattle.cb_station.specs.Stations.{StationState}
 use Rattle.cb_worker.specs.Turns.{Turns}
 use Rattle.cb_worker.specs.Workers.{WorkerState}
 use Rattle.cb_worker.specs.declared.worker_fault.WorkerFault.{WorkerFault}
@@ -47,18 +46,7 @@ HandsAllIn old before (Ok done) new after = (at : List (WorkerState × StationSt
     × TurnsAt HandsOne at old before new after
 HandsAllIn old before (Err fault) new after = TurnsThen HandsOne old before (Err fault) new after
 
--- each of these, and then all who were to be told were
-abbrev pub ServesAndTells : (old : WorkerState) → (before : StationState) → Result ⊤ WorkerFault
-    → (new : WorkerState) → (after : StationState) → Type 0
-ServesAndTells old before result new after = (served : StationState)
-    × Serves old before result new served × Tells served after
-
-abbrev pub HandsInAndTells : (old : WorkerState) → (before : StationState) → Result ⊤ WorkerFault
-    → (new : WorkerState) → (after : StationState) → Type 0
-HandsInAndTells old before result new after = (handed : StationState)
-    × HandsAllIn old before result new handed × Tells handed after
-
--- so at a station of which all holds that always does
+-- so at what lay under the lock
 abbrev pub ServesSome : (old : WorkerState) → Result ⊤ WorkerFault → (new : WorkerState) → Type 0
-ServesSome old result new = (before : StationState) × (after : StationState) × IsStation before
-    × ServesAndTells old before result new after
+ServesSome old result new = (before : StationState) × (after : StationState)
+    × Serves old before result new after

@@ -67,3 +67,11 @@ IsFinished worker answer = Ended worker (ending_of answer)
 -- it is the one that there was
 abbrev pub Finishes : (old new : WorkerState) → Finished → Type 0
 Finishes old new answer = Ends old new (ending_of answer)
+
+-- the last transaction is over without a commit: it was dropped, or had been aborted
+abbrev pub IsDropped : WorkerState → Type 0
+IsDropped worker = Ended worker protocol.Dropped ⊎ Ended worker protocol.Aborted
+
+-- it is the one that there was
+abbrev pub Drops : (old new : WorkerState) → Type 0
+Drops old new = Ends old new protocol.Dropped ⊎ Ends old new protocol.Aborted

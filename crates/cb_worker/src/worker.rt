@@ -11,7 +11,6 @@ ghost use Rattle.cb_worker.specs.Workers.{Hits, after_hit, may_hit, shows_copy, 
 mod admitting;
 mod committing;
 mod entering;
-mod joining;
 mod standing;
 mod turning;
 mod waiting;

@@ -1,4 +1,4 @@
--- The machine values of a `Loose` and of a `Held`. Assumes `Logic`.
+-- The machine values of a `Loose` and of a `OnceBox`. Assumes `Logic`.
 use Rattle.std.proofs.Common.{lit<, ◌≡◌, ℕ, List, [], ◌∷◌, ◌++◌, refl, subst}
 use mathlib.Core.Bool.{Bool, true, false, ◌&&◌}
 use lib.Dec.{T}

@@ -29,9 +29,6 @@ impl Model for Held {
         (box_owns (ghosts.dealloc_token h.alloc) the_row h.at h.value) };
 }
 
-// Nobody else has the object, and each of its parts may go to another thread.
-unsafe impl Send for Held {}
-
 impl Held {
     pub(crate) fn of(from: Loose<Object, Global>) -> Held
         ensures value { result.value ≡ from.value }

@@ -6,13 +6,10 @@
 //! and answers 0 or the number of a fault (`rughvadi_fault_text`), after which all is as before.
 //! What a call says is fetched frame by frame by `rughvadi_next`, before the next call that says
 //! something.
-//!
-//! A handle may go to another thread (`handles_cross`), and has one call at a time.
 #![tactic(auto)]
 
 mod alone;
 mod client;
-mod crossing;
 mod frames;
 mod held;
 mod limits;
@@ -26,7 +23,6 @@ pub use client::{
     rughvadi_client_last, rughvadi_client_may_write, rughvadi_client_new, rughvadi_client_peek,
     rughvadi_client_read, rughvadi_client_status, rughvadi_client_want, rughvadi_client_write,
 };
-pub use crossing::handles_cross;
 pub use frames::{rughvadi_again, rughvadi_free, rughvadi_next, rughvadi_take};
 pub use held::Handle;
 pub use limits::StoreLimits;

@@ -38,12 +38,10 @@ class CFrameHead(ctypes.Structure):
     ]
 
 
-def _load() -> ctypes.PyDLL:
-    # A call is short and waits for nothing, so the interpreter's lock is kept during it: no two
-    # threads are in a call at once.
+def _load() -> ctypes.CDLL:
     named = os.environ.get("RUGHVADI_LIBRARY")
     beside = Path(__file__).with_name("librughvadi.so")
-    return ctypes.PyDLL(named or (str(beside) if beside.exists() else "librughvadi.so"))
+    return ctypes.CDLL(named or (str(beside) if beside.exists() else "librughvadi.so"))
 
 
 library = _load()

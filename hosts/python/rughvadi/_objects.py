@@ -76,7 +76,7 @@ def version() -> int:
 
 
 class _Object:
-    """A handle with its object. It may move to another thread, and is used by one at a time."""
+    """A handle with its object. It stays on the thread that made it."""
 
     def __init__(self, limits: Limits) -> None:
         self._limits = limits

@@ -1,7 +1,6 @@
 """A server and clients in one process: the clients' sockets hand their frames to the server at once,
 and what it says is read from them. So no test rests on time or on a schedule."""
 
-import threading
 import unittest
 
 from rughvadi import (
@@ -114,18 +113,6 @@ class OneProcess(unittest.TestCase):
         again = Host()
         again.server = Server(LIMITS, host.last_commit, host.disk)
         self.assertEqual(again.link(0).run(counted), 1)
-
-    def test_a_server_and_a_client_move_between_threads(self) -> None:
-        host = Host()
-        link = host.link(0)
-        seen: list[int] = []
-        for _ in range(3):
-            thread = threading.Thread(target=lambda: seen.append(link.run(counted)))
-            thread.start()
-            thread.join()
-        self.assertEqual(seen, [0, 1, 2])
-        self.assertEqual(link.run(counted), 3)
-        self.assertEqual(host.disk[2][1][0], 4)
 
     def test_a_client_that_went_away_is_left(self) -> None:
         host = Host()

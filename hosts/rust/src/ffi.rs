@@ -7,10 +7,6 @@ pub struct Handle {
     at: *mut c_void,
 }
 
-// SAFETY: the library proves of its handle that it may go to another thread with its object
-// (`handles_cross`). It isn't `Sync`: one call at a time is made on it.
-unsafe impl Send for Handle {}
-
 impl Handle {
     pub const fn empty() -> Handle {
         Handle {

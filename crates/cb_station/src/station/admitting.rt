@@ -3,7 +3,6 @@ ghost use Rattle.std.specs.Prelude.{◌≡◌, MatchOption};
 ghost use Rattle.std.specs.Option.{is_some};
 ghost use Rattle.cb_admission.specs.Windows.{Enters, GivesUp, StaysOut, after_try, may_enter};
 ghost use Rattle.cb_station.specs.Admission.{with_window};
-ghost use Rattle.cb_station.specs.Telling.{NoticesNext, untold_in, with_untold};
 
 use crate::station::Station;
 use cb_admission::{AdmissionWindow, Ticket, TryEnd};
@@ -11,56 +10,31 @@ use cb_page::ClientNo;
 
 impl Station {
     /// Lets a try of the client in, and answers its ticket, exactly where the window has room for
-    /// it and the client isn't passed over; else the client waits, and is to be told in its turn.
+    /// it and the client isn't passed over; else the client waits, and is told by
+    /// [`crate::Office::tell_next`].
     pub fn admit(&mut self, client: ClientNo) -> Option<Ticket>
         ensures exact { is_some result ≡ may_enter self.old.flags.window client }
         ensures after { MatchOption result
             (StaysOut self.old.flags.window client self.new.flags.window)
             (λ ticket. Enters self.old.flags.window client self.new.flags.window) }
-        ensures rest { self.new
-            ≡ with_untold (with_window self.old self.new.flags.window) (untold_in self.new) }
-        ensures next { MatchOption result (untold_in self.new ≡ untold_in self.old)
-            (λ ticket. NoticesNext self.new.flags.window (untold_in self.old)
-            (untold_in self.new)) }
+        ensures rest { self.new ≡ with_window self.old self.new.flags.window }
     {
-        let ticket = self.flags.window.enter(client)?;
-        self.notice_next();
-        Some(ticket)
+        self.flags.window.enter(client)
     }
 
-    /// A try ends, and gives its ticket back; who is next is to be told.
+    /// A try ends, and gives its ticket back.
     pub fn end_try(&mut self, ticket: Ticket, end: TryEnd)
-        ensures ends { self.new ≡ with_untold (with_window self.old
-            (after_try self.old.flags.window end)) (untold_in self.new) }
-        ensures next { NoticesNext self.new.flags.window (untold_in self.old)
-            (untold_in self.new) }
+        ensures { self.new ≡ with_window self.old (after_try self.old.flags.window end) }
     {
         self.flags.window.leave(ticket, end);
-        self.notice_next();
     }
 
-    /// The client no longer waits to be let in; who is next is to be told.
+    /// The client no longer waits to be let in.
     pub fn stop_waiting(&mut self, client: ClientNo)
         ensures gives_up { GivesUp self.old.flags.window client self.new.flags.window }
-        ensures rest { self.new
-            ≡ with_untold (with_window self.old self.new.flags.window) (untold_in self.new) }
-        ensures next { NoticesNext self.new.flags.window (untold_in self.old)
-            (untold_in self.new) }
+        ensures rest { self.new ≡ with_window self.old self.new.flags.window }
     {
         self.flags.window.give_up(client);
-        self.notice_next();
-    }
-
-    /// Who is to be let in next is to be told, if there is one.
-    fn notice_next(&mut self)
-        ensures rest { self.new ≡ with_untold self.old (untold_in self.new) }
-        ensures next { NoticesNext self.old.flags.window (untold_in self.old)
-            (untold_in self.new) }
-    {
-        let Some(client) = self.flags.window.next() else {
-            return;
-        };
-        self.dispatcher.notice(client);
     }
 
     /// How many tries are in, how many may be, and who is to be let in next.

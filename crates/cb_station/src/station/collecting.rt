@@ -6,7 +6,6 @@ ghost use Rattle.cb_hands.specs.Joined.{Follow, IsHeld};
 ghost use Rattle.cb_station.specs.Moves.{collected, is_lasting, received, received_of};
 ghost use Rattle.cb_station.specs.Moves.{told};
 ghost use Rattle.cb_station.specs.Stations.{IsUnchanged, mailbox_of, server_of};
-ghost use Rattle.cb_station.specs.Telling.{untold_in};
 ghost use Rattle.cb_station.specs.declared.office_fault.OfficeFault.TheVariants as office;
 ghost use Rattle.cb_protocol.specs.Server.{is_write_holder};
 ghost use Rattle.cb_server_state.specs.States.{HasClient, HasPage, PartsAgree};
@@ -38,7 +37,6 @@ impl Station {
         ensures rest { OnOk result ((client : ℕ) → mailbox_of self.new client
             ≡ without_oldest (mailbox_of self.old) hand.old.client client) }
         ensures server { self.new.dispatcher.server ≡ self.old.dispatcher.server }
-        ensures untold { untold_in self.new ≡ untold_in self.old }
         ensures hand { IfOk result (λ frame.
             hand.new ≡ collected (server_of self.old) hand.old frame) }
         ensures stored { OnOk result (Follow self.old.hands self.new.hands hand.old hand.new) }

@@ -73,8 +73,7 @@ impl Station {
         ensures hand { IfOk result (λ number.
             hand.new ≡ committed hand.old (writes_of frame.now) number) }
         ensures stored { OnOk result (Follow self.old.hands self.new.hands hand.old hand.new) }
-        ensures flags { OnOk result
-            (self.new.flags ≡ record self.old.flags { news = true }) }
+        ensures flags { self.new.flags ≡ self.old.flags }
     {
         let number = self.number_for(frame, reads, hand)?;
         let Body::Commit { txn, writes } = &frame.body else {
@@ -96,7 +95,6 @@ impl Station {
         restamp(&mut self.hands, hand, writes.as_slice(), version);
         self.hands.end_permissions(hand);
         self.history.push_reserved(entry);
-        self.flags.news = true;
         Ok(number)
     }
 

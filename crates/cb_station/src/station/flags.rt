@@ -1,16 +1,13 @@
 //! What the threads that share a station tell each other.
-ghost use Rattle.std.specs.Prelude.{◌≡◌, ◌==◌, ◌+◌, ◌<◌, ◌||◌, ℕ, true, false, MatchBool};
+ghost use Rattle.std.specs.Prelude.{◌≡◌, ◌==◌, ◌+◌, ◌-◌, ◌||◌, true, false, nat_le, MatchBool};
 ghost use Rattle.cb_admission.specs.Windows.{IsNew};
-ghost use Rattle.cb_page.specs.Clients.{has};
-ghost use Rattle.cb_station.specs.Flags.{AreFlags, is_cut_off, is_over, may_begin};
-ghost use Rattle.cb_station.specs.Telling.{after_work, closed, halted, untold_in};
+ghost use Rattle.cb_station.specs.Flags.{AreFlags, is_over, may_begin};
 
 use crate::station::Station;
 use cb_admission::AdmissionWindow;
 
 /// Whether the station is closed, whether it is halted, how many calls of `work` are still to end,
-/// how many are going on, how many tries are let in, and whether there is news of any of these, or
-/// of commits, which whoever waits for that wasn't told.
+/// how many are going on, and how many tries are let in.
 #[derive(Clone, Copy)]
 pub(crate) struct Flags {
     closed: bool,
@@ -18,7 +15,6 @@ pub(crate) struct Flags {
     left: usize,
     working: usize,
     pub(super) window: AdmissionWindow,
-    pub(super) news: bool,
 }
 
 impl Flags {
@@ -30,7 +26,6 @@ impl Flags {
           left = 1;
           working = 0;
           window = result.window;
-          news = false;
         } }
         ensures window { IsNew result.window }
         ensures are { AreFlags result }
@@ -41,7 +36,6 @@ impl Flags {
             left: 1,
             working: 0,
             window: AdmissionWindow::new(),
-            news: false,
         }
     }
 }
@@ -53,7 +47,6 @@ impl Station {
           flags = record self.old.flags {
             closed = self.old.flags.closed || workers == 0;
             left = workers;
-            news = self.old.flags.news || workers == 0;
           };
         } }
     {
@@ -65,21 +58,22 @@ impl Station {
 
     /// No call of `work` begins any more.
     pub fn close(&mut self)
-        ensures { self.new ≡ closed self.old }
+        ensures { self.new ≡ record self.old { flags = record self.old.flags { closed = true } } }
     {
         self.flags.closed = true;
-        self.flags.news = true;
     }
 
-    /// No call of `work` begins any more, and nobody waits: each client is to be told.
+    /// No call of `work` begins any more, and nobody waits.
     pub fn halt(&mut self)
-        ensures halted { self.new ≡ halted self.old (untold_in self.new) }
-        ensures everybody { (client : ℕ) → client < 32
-            → has (untold_in self.new) client ≡ true }
+        ensures { self.new ≡ record self.old {
+          flags = record self.old.flags {
+            closed = true;
+            halted = true;
+          };
+        } }
     {
         self.close();
         self.flags.halted = true;
-        self.dispatcher.notice_all();
     }
 
     /// A call of `work` begins, and is going on then; `false` where the station is closed, or so
@@ -103,9 +97,14 @@ impl Station {
 
     /// One call of `work` that began has ended; the last one closes the station.
     pub fn end_work(&mut self)
-        ensures { self.new ≡ after_work self.old }
+        ensures { self.new ≡ record self.old {
+          flags = record self.old.flags {
+            closed = self.old.flags.closed || nat_le self.old.flags.left 1;
+            left = self.old.flags.left - 1;
+            working = self.old.flags.working - 1;
+          };
+        } }
     {
-        self.flags.news = true;
         if self.flags.left <= 1 {
             self.close();
         }
@@ -119,29 +118,6 @@ impl Station {
         ensures { result ≡ is_over self.now.flags }
     {
         self.flags.halted || (self.flags.closed && self.flags.working == 0)
-    }
-
-    /// Whether whoever waits for commits, the end of a call of `work`, closing or halting is to be
-    /// told.
-    pub(crate) fn has_news(&self) -> bool
-        ensures { result ≡ self.now.flags.news }
-    {
-        self.flags.news
-    }
-
-    /// Those were told.
-    pub(crate) fn told_news(&mut self)
-        ensures { self.new ≡ record self.old { flags = record self.old.flags { news = false } } }
-    {
-        self.flags.news = false;
-    }
-
-    /// Whether calls of `work` may have left jobs undone: the station is halted, or such calls are
-    /// still to end that it is for.
-    pub fn is_cut_off(&self) -> bool
-        ensures { result ≡ is_cut_off self.now.flags }
-    {
-        self.flags.halted || self.flags.left > 0
     }
 
     /// Whether no call of `work` begins any more.

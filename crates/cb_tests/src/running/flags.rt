@@ -34,7 +34,7 @@ pub(crate) enum Moment {
 pub(crate) fn greet<R: Wait>(rt: &R, alloc: Global, office: &Office, client: ClientNo) {
     let mut station = office.lock(rt);
     let joined = station.join(alloc, client);
-    office.tell(&mut station);
+    office.tell_clients(&station);
     drop(station);
     match joined {
         Ok(hand) => hand.abandon(),
@@ -46,7 +46,7 @@ pub(crate) fn greet<R: Wait>(rt: &R, alloc: Global, office: &Office, client: Cli
 fn happens<R: Wait>(rt: &R, alloc: Global, office: &Office, moment: Moment) {
     match moment {
         Moment::Nothing => {}
-        Moment::EndOfWork => office.end_work(rt),
+        Moment::EndOfWork => office.lock(rt).end_work(),
         Moment::Closing => office.close(rt),
         Moment::Halting => office.halt(rt),
         Moment::Greeting => greet(rt, alloc, office, ClientNo::new(1)),

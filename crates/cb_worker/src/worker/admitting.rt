@@ -1,7 +1,6 @@
 //! Tries are let in, and a worker waits a moment.
 ghost use Rattle.std.specs.Prelude.{IfErr, OnOk};
-ghost use Rattle.cb_station.specs.Telling.{IsTold};
-ghost use Rattle.cb_worker.specs.Refusals.{StopsServing};
+ghost use Rattle.cb_worker.specs.Refusals.{RefusesServing, StopsServing};
 ghost use Rattle.cb_worker.specs.Waiting.{IsServed};
 ghost use Rattle.cb_worker.specs.Workers.{IsStill};
 
@@ -47,18 +46,19 @@ impl<Q: Chooser> Worker<Q> {
     ) -> Result<Option<Ticket>, WorkerFault>
         ensures served { OnOk result (IsServed self.new) }
         ensures still { IsStill self.old self.new }
-        ensures told { IsTold station.new }
         ensures refused { IfErr result (StopsServing self.new) }
     {
         let client = self.hand.client();
         if let Err(fault) = self.serve_at(rt, alloc, office, station) {
             // Who was told that it is to be let in next hands that on.
             station.stop_waiting(client);
-            office.tell(station);
+            office.tell_next(station);
             return Err(fault);
         }
         let ticket = station.admit(client);
-        office.tell(station);
+        if ticket.is_some() {
+            office.tell_next(station);
+        }
         Ok(ticket)
     }
 

@@ -1,15 +1,14 @@
 //! Workers join, begin another incarnation, and end.
-ghost use Rattle.std.specs.Prelude.{◌≡◌, ◌≤◌, ◌<◌, ◌⊎◌, [], true, Err, IfErr, IfOk, None, Ok, OnOk};
+ghost use Rattle.std.specs.Prelude.{◌≡◌, ◌≤◌, ◌<◌, ◌⊎◌, [], true, Err, IfErr, IfOk, None, OnOk};
 ghost use Rattle.cb_client_core.specs.ClientState.{new_state};
-ghost use Rattle.cb_worker.specs.Entering.{LeavesSome};
-ghost use Rattle.cb_worker.specs.Refusals.{RefusesJoin, RefusesLeave, RefusesRestart, RefusesStart};
+ghost use Rattle.cb_worker.specs.Refusals.{RefusesLeave, RefusesRestart, RefusesStart};
 ghost use Rattle.cb_worker.specs.Refusals.{StopsServing};
 ghost use Rattle.cb_worker.specs.Waiting.{IsServed};
 ghost use Rattle.cb_worker.specs.Workers.{IsOf, IsStill, last_txn};
 
 use crate::awaited::Awaited;
 use crate::said::Said;
-use crate::worker::{Worker, joining};
+use crate::worker::Worker;
 use crate::worker_fault::WorkerFault;
 use cb_client::{Client, ClientFault};
 use cb_hands::Hand;
@@ -22,8 +21,6 @@ use std::sync::Wait;
 impl<Q: Chooser> Worker<Q> {
     /// The client joins the office, over an empty chooser, and is welcomed. Its incarnation is the
     /// one that the station gave its hand. A client that these limits haven't got is `Foreign`.
-    ///
-    /// Where there is no memory for the client, or its Welcome doesn't come, it leaves again.
     pub fn join<R: Wait>(
         rt: &R,
         alloc: Global,
@@ -41,21 +38,21 @@ impl<Q: Chooser> Worker<Q> {
         ensures served { IfOk result IsServed }
         ensures foreign { limits.now.clients ≤ client
             → result ≡ Err (WorkerFault.Office OfficeFault.Foreign) }
-        ensures why { IfErr result (RefusesJoin limits.now client) }
     {
         if !limits.has_client(client.get()) {
             return Err(WorkerFault::Office(OfficeFault::Foreign));
         }
-        let hand = joining::join(rt, alloc, office, client)?;
+        let hand = office.lock(rt).join(alloc, client)?;
+        office.tell_all();
         let made = Client::new(alloc, client, hand.incarnation(), limits, chooser);
         let Ok(client) = made else {
-            joining::unjoin(rt, alloc, office, hand);
+            unjoin(rt, alloc, office, hand);
             return Err(WorkerFault::Client(ClientFault::Memory));
         };
         match Worker::new(alloc, client, hand).welcomed(rt, alloc, office) {
             Ok(worker) => Ok(worker),
             Err((fault, worker)) => {
-                joining::unjoin(rt, alloc, office, worker.into_hand());
+                unjoin(rt, alloc, office, worker.into_hand());
                 Err(fault)
             }
         }
@@ -94,7 +91,9 @@ impl<Q: Chooser> Worker<Q> {
             collected,
             said,
         } = self;
-        match joining::restart(rt, alloc, office, hand, incarnation) {
+        let restarted = office.lock(rt).restart(alloc, hand, incarnation);
+        office.tell_all();
+        match restarted {
             Ok(hand) => Worker::new(alloc, renewed, hand).welcomed(rt, alloc, office),
             Err((fault, hand)) => {
                 let worker = Worker {
@@ -117,7 +116,6 @@ impl<Q: Chooser> Worker<Q> {
         alloc: Global,
         office: &Office,
     ) -> Result<(), (WorkerFault, Worker<Q>)>
-        ensures left { OnOk result (LeavesSome self.hand (Ok tt)) }
         ensures refused { IfErr result (λ refused. refused.1 ≡ self) }
         ensures why { IfErr result (λ refused. RefusesLeave self refused.0) }
     {
@@ -127,7 +125,9 @@ impl<Q: Chooser> Worker<Q> {
             collected,
             said,
         } = self;
-        match joining::leave(rt, alloc, office, hand) {
+        let left = office.lock(rt).leave(alloc, hand);
+        office.tell_all();
+        match left {
             Ok(()) => Ok(()),
             Err((fault, hand)) => {
                 let worker = Worker {
@@ -209,4 +209,12 @@ impl<Q: Chooser> Worker<Q> {
         } = self;
         hand
     }
+}
+
+/// Takes back that the client joined; its hand is spent.
+fn unjoin<R: Wait>(rt: &R, alloc: Global, office: &Office, hand: Hand) {
+    if let Err((_, hand)) = office.lock(rt).leave(alloc, hand) {
+        hand.abandon();
+    }
+    office.tell_all();
 }

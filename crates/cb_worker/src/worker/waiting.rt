@@ -6,16 +6,12 @@ ghost use Rattle.cb_protocol.specs.Client as protocol;
 ghost use Rattle.cb_protocol.specs.ClientCalls.{CallDrop, CallWant};
 ghost use Rattle.cb_worker.specs.Asking.{AsksFor, AsksToWrite};
 ghost use Rattle.cb_worker.specs.Lending.{worker_ends};
-ghost use Rattle.cb_station.specs.Stations.{IsStation};
-ghost use Rattle.cb_station.specs.Telling.{IsTold};
-ghost use Rattle.cb_worker.specs.Dropping.{Drops, IsDropped, SaysDrop};
 ghost use Rattle.cb_worker.specs.Refusals.{RefusesAsk, RefusesCall, RefusesDrop, RefusesFetch};
-ghost use Rattle.cb_worker.specs.Refusals.{RefusesCommit, RefusesFinish, RefusesToDrop};
-ghost use Rattle.cb_worker.specs.Refusals.{RefusesWant, StopsAt, StopsFetch, StopsServing};
-ghost use Rattle.cb_worker.specs.Serving.{HandsAllIn, HandsInAndTells, HandsOne, Serves};
-ghost use Rattle.cb_worker.specs.Serving.{ServesAndTells, ServesSome};
+ghost use Rattle.cb_worker.specs.Refusals.{RefusesCommit, RefusesFinish, RefusesServing};
+ghost use Rattle.cb_worker.specs.Refusals.{RefusesToDrop, RefusesWant, StopsFetch, StopsServing};
+ghost use Rattle.cb_worker.specs.Serving.{HandsAllIn, Serves, ServesSome};
 ghost use Rattle.cb_worker.specs.Steps.{Comes, RefusesToBegin, StopsOr};
-ghost use Rattle.cb_worker.specs.Waiting.{Fetches, Finishes, HasRead};
+ghost use Rattle.cb_worker.specs.Waiting.{Drops, Fetches, Finishes, HasRead, IsDropped};
 ghost use Rattle.cb_worker.specs.Waiting.{IsServed, ReadsAtHand, Wants};
 ghost use Rattle.cb_worker.specs.Workers.{Ended, Ends, HasTransaction, IsStill};
 ghost use Rattle.cb_worker.specs.Workers.{after_hit, may_hit};
@@ -49,7 +45,7 @@ impl<Q: Chooser> Worker<Q> {
         self.serve_at(rt, alloc, office, &mut station)
     }
 
-    /// Makes turns until there is nothing to do, and tells all who are to be told.
+    /// Makes turns until there is nothing to do, and tells the others where a frame was handed in.
     pub(super) fn serve_at<R: Wait>(
         &mut self,
         rt: &R,
@@ -57,41 +53,22 @@ impl<Q: Chooser> Worker<Q> {
         office: &Office,
         station: &mut Station,
     ) -> Result<(), WorkerFault>
-        ensures serves { ServesAndTells self.old station.old result self.new station.new }
-        ensures served { OnOk result (IsServed self.new) }
-        ensures still { IsStill self.old self.new }
-        ensures halted { (result ≡ Err WorkerFault.Halted) ↔ (station.old.flags.halted ≡ true) }
-        ensures told { IsTold station.new }
-        ensures sound { IsStation station.old }
-        ensures refused { IfErr result (StopsServing self.new) }
-    {
-        let served = self.make_turns(rt, alloc, station);
-        office.tell(station);
-        served
-    }
-
-    /// Makes turns until there is nothing to do.
-    fn make_turns<R: Wait>(
-        &mut self,
-        rt: &R,
-        alloc: Global,
-        station: &mut Station,
-    ) -> Result<(), WorkerFault>
         ensures serves { Serves self.old station.old result self.new station.new }
         ensures served { OnOk result (IsServed self.new) }
         ensures still { IsStill self.old self.new }
         ensures halted { (result ≡ Err WorkerFault.Halted) ↔ (station.old.flags.halted ≡ true) }
-        ensures sound { IsStation station.old }
-        ensures refused { IfErr result (StopsServing self.new) }
+        ensures refused { IfErr result (RefusesServing self.new station.new) }
     {
-        // What holds of every station, its history says.
-        let _known = station.history();
         for _ in rt.forever() {
             if station.is_halted() {
                 return Err(WorkerFault::Halted);
             }
-            let turned = self.turn_at(alloc, station)?;
-            if !turned {
+            let hands_in = !self.said.is_empty();
+            let turned = self.turn_at(alloc, station);
+            if hands_in {
+                office.tell_clients(station);
+            }
+            if !turned? {
                 return Ok(());
             }
         }
@@ -110,8 +87,7 @@ impl<Q: Chooser> Worker<Q> {
             IsTrue aborted → Ended self.new protocol.Aborted) }
         ensures served { OnOk result (IsServed self.new) }
         ensures still { IsStill self.old self.new }
-        ensures told { IsTold station.new }
-        ensures refused { IfErr result (StopsServing self.new) }
+        ensures refused { IfErr result (RefusesServing self.new station.new) }
     {
         self.serve_at(rt, alloc, office, station)?;
         Ok(self.is_aborted())
@@ -179,7 +155,6 @@ impl<Q: Chooser> Worker<Q> {
         ensures comes { IfOk result (λ came. IfSome came (Comes (Awaited.Page page) self.new)) }
         ensures served { OnOk result (IsServed self.new) }
         ensures still { IsStill self.old self.new }
-        ensures told { IsTold station.new }
         ensures refused { IfErr result (StopsOr self.new (RefusesAsk self.new page)) }
     {
         let aborted = self.serve_first(rt, alloc, office, station)?;
@@ -251,7 +226,6 @@ impl<Q: Chooser> Worker<Q> {
             (λ came. IfSome came (Comes (Awaited.Permission page) self.new)) }
         ensures served { OnOk result (IsServed self.new) }
         ensures still { IsStill self.old self.new }
-        ensures told { IsTold station.new }
         ensures refused { IfErr result (StopsOr self.new (RefusesCall self.new (CallWant page))) }
     {
         let aborted = self.serve_first(rt, alloc, office, station)?;
@@ -276,10 +250,8 @@ impl<Q: Chooser> Worker<Q> {
         Ok(())
     }
 
-    /// Ends the open transaction without a commit; nothing is open or committing then, and its Drop
-    /// was handed in, unless it was aborted. Refused as the client does where nothing is before.
-    ///
-    /// After a fault of the office the Drop is kept, and a later call hands it in.
+    /// Ends the open transaction without a commit; nothing is open or committing then. Refused as
+    /// the client does where nothing is before.
     pub fn drop_txn<R: Wait>(
         &mut self,
         rt: &R,
@@ -304,10 +276,9 @@ impl<Q: Chooser> Worker<Q> {
         office: &Office,
         station: &mut Station,
     ) -> Result<(), WorkerFault>
-        ensures dropped { OnOk result (IsDropped self.old self.new) }
+        ensures dropped { OnOk result (IsDropped self.new) }
         ensures said { OnOk result (self.new.said ≡ []) }
         ensures still { IsStill self.old self.new }
-        ensures told { IsTold station.new }
         ensures refused { IfErr result (RefusesDrop self.old self.new) }
     {
         if self.serve_first(rt, alloc, office, station)? {
@@ -321,7 +292,6 @@ impl<Q: Chooser> Worker<Q> {
     fn drop_open(&mut self, alloc: Global) -> Result<(), WorkerFault>
         requires { self.old.said ≡ [] }
         ensures dropped { OnOk result (Ended self.new protocol.Dropped) }
-        ensures says { OnOk result (SaysDrop self.old self.new) }
         ensures still { IsStill self.old self.new }
         ensures refused { IfErr result (RefusesToDrop self.new) }
     {
@@ -330,39 +300,23 @@ impl<Q: Chooser> Worker<Q> {
         Ok(())
     }
 
-    /// Hands in all that the client said, takes nothing, and tells all who are to be told.
+    /// Hands in all that the client said, and takes nothing.
     fn hand_all_in(
         &mut self,
         alloc: Global,
         office: &Office,
         station: &mut Station,
     ) -> Result<(), WorkerFault>
-        ensures hands { HandsInAndTells self.old station.old result self.new station.new }
-        ensures client { self.new.client ≡ self.old.client }
-        ensures all { OnOk result (self.new.said ≡ []) }
-        ensures still { IsStill self.old self.new }
-        ensures told { IsTold station.new }
-        ensures sound { IsStation station.old }
-        ensures refused { IfErr result (StopsAt HandsOne self.old self.new) }
-    {
-        let handed = self.hand_kept_in(alloc, station);
-        office.tell(station);
-        handed
-    }
-
-    /// Hands in all that the client said, and takes nothing.
-    fn hand_kept_in(&mut self, alloc: Global, station: &mut Station) -> Result<(), WorkerFault>
         ensures hands { HandsAllIn self.old station.old result self.new station.new }
         ensures client { self.new.client ≡ self.old.client }
         ensures all { OnOk result (self.new.said ≡ []) }
         ensures still { IsStill self.old self.new }
-        ensures sound { IsStation station.old }
-        ensures refused { IfErr result (StopsAt HandsOne self.old self.new) }
+        ensures refused { IfErr result (RefusesServing self.new station.new) }
     {
-        // What holds of every station, its history says.
-        let _known = station.history();
         while !self.said.is_empty() {
-            let _handed = self.hand_in(alloc, station)?;
+            let handed = self.hand_in(alloc, station);
+            office.tell_clients(station);
+            let _handed = handed?;
         }
         Ok(())
     }
@@ -401,17 +355,16 @@ impl<Q: Chooser> Worker<Q> {
         ensures comes { IfOk result (λ came. IfSome came (Comes Awaited.End self.new)) }
         ensures served { OnOk result (IsServed self.new) }
         ensures still { IsStill self.old self.new }
-        ensures told { IsTold station.new }
         ensures refused { IfErr result (StopsOr self.new (RefusesCommit self.new)) }
     {
         self.serve_at(rt, alloc, office, station)?;
         if let Some(ended) = self.ended() {
             return Ok(Some(Came::Ended(ended)));
         }
-        // What holds of every station, its history says.
-        let _known = station.history();
-        let _number = self.commit_at(alloc, station)?;
-        // Serving tells all who are to be told of the commit.
+        let committed = self.commit_at(alloc, station);
+        office.tell();
+        office.tell_clients(station);
+        let _number = committed?;
         self.go_on(rt, alloc, office, &Awaited::End, station)
     }
 
@@ -452,7 +405,6 @@ impl<Q: Chooser> Worker<Q> {
         ensures comes { IfOk result (λ came. IfSome came (Comes awaited.now self.new)) }
         ensures served { OnOk result (IsServed self.new) }
         ensures still { IsStill self.old self.new }
-        ensures told { IsTold station.new }
         ensures refused { IfErr result (StopsOr self.new (RefusesToBegin awaited.now self.new)) }
     {
         match awaited {
@@ -475,7 +427,6 @@ impl<Q: Chooser> Worker<Q> {
         ensures comes { IfOk result (λ came. IfSome came (Comes awaited.now self.new)) }
         ensures served { OnOk result (IsServed self.new) }
         ensures still { IsStill self.old self.new }
-        ensures told { IsTold station.new }
         ensures refused { IfErr result (StopsServing self.new) }
     {
         self.serve_at(rt, alloc, office, station)?;

@@ -1,9 +1,10 @@
 -- Goals of `Grants::clear`.
-use Rattle.std.proofs.Common.{◌≡◌, ℕ, List, subst, Option, None}
-use Rattle.cb_hands.specs.Hands.{held_at}
-use Rattle.cb_hands.specs.declared.grant.Held.{Held}
-use Rattle.cb_hands.proofs.Packing.{none_left}
+use Rattle.cb_hands.proofs.Flagged.{cleared_all, cleared_next}
 use Rattle.cb_hands.proofs.grants.Grants.clear.Goals as goal
 
+pub loop-page-preserved : goal.loop-page-preserved
+loop-page-preserved c =
+    rw c.index-from.ensures.value (cleared_next _ _ _ c.loop-page.from c.in-Some.page c.loop-page.invariant c.put.ensures c.in-Some.ensures.0 c.in-Some.ensures.1 c.in-Some.ensures.2)
+
 pub returns : goal.returns
-returns c = none_left _ _ c.loop-page.invariant (subst (λ (held : List (Option Held)). (k : ℕ) → held_at held k ≡ None) c.copies.ensures c.in_default.ensures)
+returns c = cleared_all _ _ c.loop-page.from c.loop-page.invariant c.in_default.ensures

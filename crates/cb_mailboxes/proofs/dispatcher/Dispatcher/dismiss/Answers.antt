@@ -36,7 +36,7 @@ returns-clause-ok c =
     let lt : c.args.client < length c.make_ready.new.self.boxes = subst (λ (n : ℕ). c.args.client < n) (sym sizes) there in
     subst (λ (v : DispatcherState). Posts v (MessageComes c.args.client c.args.incarnation Hello) (mailbox_of v) (Others c.args.client) (record { server = c.hello.new.server; mailboxes = c.put.new.self })) c.self.view_is
     (dismisses d (MessageComes c.args.client c.args.incarnation Hello) c.make_ready.new.self c.hello.new.server c.in_ok-said.said.items ready c.in_ok-make_ready.ensures.ready c.in_ok-said.ensures.ok c.args.client c.keep_others.new.said.items c.clear.new.self
-    c.put.new.self lt c.keep_others.ensures c.clear.ensures c.put.ensures.boxes c.put.ensures.late c.put.ensures.untold)
+    c.put.new.self lt c.keep_others.ensures c.clear.ensures c.put.ensures.boxes c.put.ensures.late)
 
 pub returns-clause-silent : goal.returns-clause-silent
 returns-clause-silent c =

@@ -23,4 +23,4 @@ returns-clause-ok c =
     let d : DispatcherState = record { server = c.self.inside.server; mailboxes = c.self.inside.mailboxes } in
     let ready = by_server c.self.inside.server c.state.result.now c.self.inside.mailboxes c.make_ready.new.self c.state.ensures.value c.make_ready.ensures.as_before in
     subst (λ (v : DispatcherState). Posts v (ReachesDisk c.args.number) (mailbox_of v) Everybody (record { server = c.flushed.new.self; mailboxes = c.put.new.self })) c.self.view_is
-    (posts d (ReachesDisk c.args.number) c.make_ready.new.self c.flushed.new.self c.in_ok-said.said.items ready c.in_ok-make_ready.ensures.ready c.in_ok-said.ensures.ok c.put.new.self c.put.ensures.boxes c.put.ensures.late c.put.ensures.untold)
+    (posts d (ReachesDisk c.args.number) c.make_ready.new.self c.flushed.new.self c.in_ok-said.said.items ready c.in_ok-make_ready.ensures.ready c.in_ok-said.ensures.ok c.put.new.self c.put.ensures.boxes c.put.ensures.late)

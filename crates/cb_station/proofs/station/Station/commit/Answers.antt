@@ -25,7 +25,6 @@ use Rattle.cb_outbox.specs.Messages.{body_of, page_writes}
 use Rattle.cb_protocol.specs.CommitLaws.{IsApplied}
 use Rattle.cb_server.specs.Taking.{Does, input_of}
 use Rattle.cb_station.proofs.Remembering.{still_forgotten}
-use Rattle.cb_station.proofs.Telling.{noted_flags, with_flags}
 use Rattle.cb_station.proofs.station.Station.commit.Goals as goal
 
 pub returns-in_err-number-clause-foreign : goal.returns-in_err-number-clause-foreign
@@ -89,7 +88,7 @@ invariant_of-self-2 c =
     (restamped ∙ ap (λ (n : ℕ). all_restamped c.args.hand.now (pages_written (page_writes c.in-Commit.writes)) n) (c.new-version.ensures ∙ c.get.ensures.value ∙ number)) in
     let whole = commits_by (record { dispatcher = c.self.inside.dispatcher; hands = c.self.inside.hands; history = c.self.inside.history.items; flags = c.self.inside.flags }) (record { dispatcher = c.take.new.self; hands = c.end_permissions.new.self; history = c.push_reserved.new.self.items; flags = c.self.inside.flags }) c.self.invariant.0 (ok_fact c.take.result _ done c.take.ensures.arose) c.args.frame.now c.in-Commit.txn c.in-Commit.writes (messages_of posts.said) c.args.hand.now
     c.end_permissions.new.hand c.args.reads.now c.in_ok-entry.entry does own.held own.client own.incarnation fits.0.0 live may becomes follow entered history refl in (
-      with_flags c.take.new.self c.end_permissions.new.self c.push_reserved.new.self.items c.self.inside.flags whole.0 _ (noted_flags c.self.inside.flags c.self.invariant.0.flags),
+      whole.0,
       c.push_reserved.ensures.forgotten ∙ c.entry_of.ensures.forgotten ∙ c.self.invariant.1 ∙ sym posts.does.forgotten,
     )
 

@@ -1,26 +1,16 @@
 -- Goals of `Worker::begin_finish`.
-use Rattle.std.proofs.Common.{◌≡◌, Err, inr, rules}
+use Rattle.std.proofs.Common.{rules}
 use Rattle.cb_worker.proofs.Staying.{after, commits_still}
-use Rattle.cb_worker.proofs.Telling.{refused_told}
 use Rattle.cb_worker.proofs.worker.Worker.begin_finish.Goals as goal
 
 pub returns-in_err-_number-clause-still : goal.returns-in_err-_number-clause-still
 returns-in_err-_number-clause-still g c =
-    after c.args.self.now c.serve_at.new.self c.commit_at.new.self c.serve_at.ensures.still (commits_still c.serve_at.new.self c.commit_at.new.self _ _ c.commit_at.result c.commit_at.ensures)
+    after c.args.self.now c.serve_at.new.self c.commit_at-committed.new.self c.serve_at.ensures.still (commits_still c.serve_at.new.self c.commit_at-committed.new.self _ _ c.commit_at-committed.result c.commit_at-committed.ensures)
 
 pub returns-clause-still : goal.returns-clause-still
 returns-clause-still g c =
-    after c.args.self.now c.commit_at.new.self c.go_on.new.self (after c.args.self.now c.serve_at.new.self c.commit_at.new.self c.serve_at.ensures.still (commits_still c.serve_at.new.self c.commit_at.new.self _ _ c.commit_at.result c.commit_at.ensures))
+    after c.args.self.now c.commit_at-committed.new.self c.go_on.new.self (after c.args.self.now c.serve_at.new.self c.commit_at-committed.new.self c.serve_at.ensures.still (commits_still c.serve_at.new.self c.commit_at-committed.new.self _ _ c.commit_at-committed.result c.commit_at-committed.ensures))
     c.go_on.ensures.still
 
 pub returns-clause-comes : goal.returns-clause-comes
 returns-clause-comes g c = search rules
-
-pub returns-in_err-_number-clause-told : goal.returns-in_err-_number-clause-told
-returns-in_err-_number-clause-told g c =
-    refused_told c.serve_at.new.self c.commit_at.new.self c.serve_at.new.station c.commit_at.new.station c.in_err-_number.field-0.0 c.serve_at.ensures.told c.in_err-_number.ensures
-
-pub returns-in_err-_number-clause-refused : goal.returns-in_err-_number-clause-refused
-returns-in_err-_number-clause-refused g c =
-    let is : c.from_residual-in_err-_number.result ≡ Err c.in_err-_number.field-0.0 = search rules in
-    rw is (inr (record { old = c.serve_at.new.self; before = c.serve_at.new.station; sound = c.history-known.ensures.sound; after = c.commit_at.new.station; commits = c.in_err-_number.ensures }))

@@ -1,6 +1,6 @@
 -- Goals of `Worker::drop_at`.
 use Rattle.std.proofs.Common.{IsTrue, inr, rules}
-use Rattle.cb_worker.proofs.Dropping.{is_dropped, kept}
+use Rattle.cb_worker.proofs.Standing.{still_dropped}
 use Rattle.cb_worker.proofs.worker.Worker.drop_at.Goals as goal
 
 pub returns-then-branch-clause-dropped : goal.returns-then-branch-clause-dropped
@@ -9,10 +9,4 @@ returns-then-branch-clause-dropped g c =
     inr (c.in_ok-serve_first.ensures.aborted aborted)
 
 pub returns-clause-dropped : goal.returns-clause-dropped
-returns-clause-dropped g c =
-    is_dropped c.args.self.now c.serve_first.new.self c.drop_open.new.self c.hand_all_in.new.self c.serve_first.new.station c.hand_all_in.new.station c.hand_all_in.result c.serve_first.ensures.still c.in_ok-drop_open.ensures.dropped
-    c.in_ok-drop_open.ensures.says c.hand_all_in.ensures.sound c.hand_all_in.ensures.hands c.hand_all_in.ensures.client
-
-pub returns-clause-refused : goal.returns-clause-refused
-returns-clause-refused g c =
-    kept c.args.self.now c.serve_first.new.self c.drop_open.new.self c.hand_all_in.new.self c.hand_all_in.result c.serve_first.ensures.still c.in_ok-drop_open.ensures.says c.hand_all_in.ensures.refused
+returns-clause-dropped g c = still_dropped c.drop_open.new.self c.hand_all_in.new.self c.hand_all_in.result c.in_ok-drop_open.ensures.dropped c.hand_all_in.ensures.client
