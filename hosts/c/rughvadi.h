@@ -15,12 +15,11 @@
  * more is refused with RUGHVADI_UNFETCHED. So after each such call: fetch all.
  *
  * Answers. Where nothing else is said, a call answers RUGHVADI_DONE (0), or the number of a fault.
- * After a fault all is as it was before: the object, the buffers, and what the pointers to numbers
- * point to. There are two exceptions: rughvadi_open_serve, and the size that rughvadi_next and
- * rughvadi_fault_text tell with RUGHVADI_ROOM. Where several faults stand, the one is answered that
- * is listed first at the call; of a client's own (1 to 12) the lowest. RUGHVADI_MEMORY and
- * RUGHVADI_FRAME_MEMORY come last, and only where malloc or realloc refused: the same call may be
- * made again.
+ * After a fault the object and the buffers are as they were before, with one exception
+ * (rughvadi_open_serve); numbers that are handed out through a pointer may have changed then. Where
+ * several faults stand, any one of them is answered, but for a client's own, of which the one with
+ * the lowest number is. RUGHVADI_MEMORY and RUGHVADI_FRAME_MEMORY come only where malloc or realloc
+ * refused: the same call may be made again.
  *
  * Pointers. Each is valid for its length and no two of a call overlap; none is null, but a buffer of
  * length 0 may be any pointer that isn't null. The library keeps none of them after the call.
@@ -176,15 +175,14 @@ uint32_t rughvadi_frame_read(const rughvadi_limits *limits, const uint8_t *bytes
 
 /* Takes the frame that the bytes begin with, whatever follows it; *used is how many bytes it has. A
  * frame that is late, repeated or of another incarnation is taken, and nothing comes of it.
- * OTHER_KIND, UNFETCHED, FRAME_.. (MEMORY only of a commit or a page that was granted), EXHAUSTED (a
- * server's: no number is left for an ask to read or a commit), MEMORY. */
+ * OTHER_KIND, UNFETCHED, FRAME_.., EXHAUSTED (a server's), MEMORY. */
 uint32_t rughvadi_take(rughvadi_handle *h, const uint8_t *bytes, size_t len, size_t *used);
 
 /* Fetches the oldest frame that was said, to the beginning of the room: *size is how many bytes it
  * has, *client whose it is: of a client's frame its own number, of a server's the one that it is to
  * be sent to.
- * OTHER_KIND. NOTHING: all is fetched. MEMORY. ROOM: the room is too short; *size is what is needed,
- * and the frame stays. */
+ * OTHER_KIND. NOTHING: all is fetched. ROOM: the room is too short; *size is what is needed, and the
+ * frame stays. MEMORY. */
 uint32_t rughvadi_next(rughvadi_handle *h, uint8_t *room, size_t len, size_t *size,
                        uint32_t *client);
 
@@ -204,14 +202,14 @@ uint32_t rughvadi_server_new(const rughvadi_limits *limits, rughvadi_handle *h);
 
 /* A server over a store that was written before, in three steps. First: how large the store is, and
  * the number of the last commit that is on disk.
- * HELD, LIMIT_... RANGE: no commit has this number. MEMORY. */
+ * HELD, LIMIT_.., MEMORY. RANGE: no commit has this number. */
 uint32_t rughvadi_open_begin(const rughvadi_limits *limits, uint64_t last_commit,
                              rughvadi_handle *h);
 
 /* Second, once for each page, by rising number: the version that rughvadi_server_page told when the
  * page was written (0 where it never was), and its bytes (zeros then). They are copied.
- * OTHER_KIND. ROOM: the bytes aren't as long as a page, or each page has its row already. RANGE: the
- * version is above the last commit. MEMORY. */
+ * OTHER_KIND, MEMORY. ROOM: the bytes aren't as long as a page, or each page has its row already.
+ * RANGE: the version is above the last commit. */
 uint32_t rughvadi_open_row(rughvadi_handle *h, uint64_t version, const uint8_t *bytes, size_t len);
 
 /* Third: the handle holds the server then. All that it has counts as on disk, and it knows no
@@ -224,7 +222,7 @@ uint32_t rughvadi_open_serve(rughvadi_handle *h);
  * *number is the last commit in it, *pages how many pages it has.
  * The host writes these pages, and the number, in one transaction of its store, and syncs it. Only
  * then does it call rughvadi_server_flushed with the number.
- * OTHER_KIND. NOTHING: every commit is on disk. MEMORY. */
+ * OTHER_KIND, MEMORY. NOTHING: every commit is on disk. */
 uint32_t rughvadi_server_batch(rughvadi_handle *h, uint64_t *number, size_t *pages);
 
 /* A page of the batch, by its place from 0: its number, its version, and its bytes, to the room.
@@ -237,7 +235,7 @@ uint32_t rughvadi_server_page(rughvadi_handle *h, size_t at, uint8_t *room, size
 bool rughvadi_server_can_flush(rughvadi_handle *h, uint64_t number);
 
 /* The commits up to this number are on disk now, synced: their clients are told.
- * OTHER_KIND, UNFETCHED. RANGE: rughvadi_server_can_flush is false of it. MEMORY. */
+ * OTHER_KIND, UNFETCHED, MEMORY. RANGE: rughvadi_server_can_flush is false of it. */
 uint32_t rughvadi_server_flushed(rughvadi_handle *h, uint64_t number);
 
 /* The commits up to this number, which are on disk, leave the server's memory. The host calls it after
@@ -249,7 +247,7 @@ uint32_t rughvadi_server_forget(rughvadi_handle *h, uint64_t number);
 /* A client went away and won't come back by its present incarnation: what it held is taken from it,
  * and those who waited for it go on. Among what is said is a Welcome to it, which nobody awaits. A
  * commit of its that was applied stands. Without this call the others may wait for it forever.
- * OTHER_KIND, UNFETCHED. RANGE: there is no such client, or no incarnation is left. MEMORY. */
+ * OTHER_KIND, UNFETCHED, MEMORY. RANGE: there is no such client, or no incarnation is left. */
 uint32_t rughvadi_server_leave(rughvadi_handle *h, uint32_t client);
 
 /* The incarnation that the client may greet with next: one more than the last that the server heard
@@ -262,7 +260,7 @@ uint32_t rughvadi_server_incarnation(rughvadi_handle *h, uint32_t client, uint64
 
 /* A client at the start of an incarnation, which no earlier one of its number had: else frames that
  * were meant for that one are taken by this one.
- * HELD, LIMIT_... RANGE: there is no such client or incarnation (1 to 2^62 - 1). MEMORY. */
+ * HELD, LIMIT_.., MEMORY. RANGE: there is no such client or incarnation (1 to 2^62 - 1). */
 uint32_t rughvadi_client_new(const rughvadi_limits *limits, uint32_t client, uint64_t incarnation,
                              rughvadi_handle *h);
 
@@ -277,38 +275,38 @@ uint32_t rughvadi_client_begin(rughvadi_handle *h, uint64_t *txn);
 /* Reads a page in the open transaction. Where *here is true its bytes are in the room, no frame was
  * said, and nobody writes the page before the transaction ends. Else an ask is out: fetch it, send
  * it, hand in what comes until the status isn't WAITING any more, and read again.
- * OTHER_KIND. RANGE: no store has such a page (4,096 and more). UNFETCHED. ROOM: the room isn't as
- * long as a page. NOT_WELCOME. NO_TRANSACTION: also where it was aborted meanwhile. COMMITTING,
- * WAITING, PAGE_RANGE, POOL_FULL. */
+ * OTHER_KIND, UNFETCHED. NO_TRANSACTION: also where it was aborted meanwhile. NOT_WELCOME,
+ * COMMITTING, WAITING, PAGE_RANGE, POOL_FULL. ROOM: the room isn't as long as a page. RANGE: no
+ * store has such a page. */
 uint32_t rughvadi_client_read(rughvadi_handle *h, uint32_t page, uint8_t *room, size_t len,
                               bool *here);
 
 /* Wants to write a page that the transaction has read. Where *may is true it may now. Else an ask is
  * out, as with a read, and this call is made again after the answer.
- * OTHER_KIND, RANGE, UNFETCHED, NOT_WELCOME, NO_TRANSACTION, COMMITTING, WAITING, PAGE_RANGE,
- * NOT_READ, NOT_HERE (read it again first). */
+ * OTHER_KIND, UNFETCHED, NO_TRANSACTION, NOT_WELCOME, COMMITTING, WAITING, PAGE_RANGE, NOT_READ,
+ * NOT_HERE (read it again first), RANGE. */
 uint32_t rughvadi_client_want(rughvadi_handle *h, uint32_t page, bool *may);
 
 /* Writes a page that the transaction has read and may write: in this client's pool alone, until the
  * commit. The bytes are copied. It says nothing.
- * OTHER_KIND, RANGE, NOT_WELCOME, NO_TRANSACTION, COMMITTING, WAITING, PAGE_RANGE, NOT_READ,
- * NOT_HERE, NOT_WRITABLE, WRONG_LENGTH. */
+ * OTHER_KIND, NO_TRANSACTION, NOT_WELCOME, COMMITTING, WAITING, PAGE_RANGE, NOT_READ, NOT_HERE,
+ * NOT_WRITABLE, WRONG_LENGTH, RANGE. */
 uint32_t rughvadi_client_write(rughvadi_handle *h, uint32_t page, const uint8_t *bytes, size_t len);
 
 /* Commits the transaction: it is done, and on disk, once the status isn't COMMITTING any more and
  * rughvadi_client_last says that it committed.
- * OTHER_KIND, UNFETCHED, NOT_WELCOME, NO_TRANSACTION, COMMITTING, WAITING, MEMORY (only where it
- * wrote). */
+ * OTHER_KIND, UNFETCHED, NO_TRANSACTION, NOT_WELCOME, COMMITTING, WAITING, MEMORY. */
 uint32_t rughvadi_client_finish(rughvadi_handle *h);
 
 /* Ends the transaction without a commit: what it wrote is undone.
- * OTHER_KIND, UNFETCHED, NOT_WELCOME, NO_TRANSACTION, COMMITTING, MEMORY. */
+ * OTHER_KIND, UNFETCHED, NO_TRANSACTION, NOT_WELCOME, COMMITTING, MEMORY. */
 uint32_t rughvadi_client_drop(rughvadi_handle *h);
 
 /* What the client says of itself: RUGHVADI_STATUS_.. */
 uint32_t rughvadi_client_status(rughvadi_handle *h);
 
-/* How the last transaction ended: RUGHVADI_ENDED_..; *number is its commit's number, else 0. */
+/* How the last transaction ended: RUGHVADI_ENDED_..; *number is its commit's number, else 0. Where
+ * the handle is empty *number stays. */
 uint32_t rughvadi_client_last(rughvadi_handle *h, uint64_t *number);
 
 /* The bytes of the client's copy of a page, also outside of a transaction. It is no read: the bytes

@@ -35,12 +35,6 @@ static uint32_t send_bytes(int socket, const uint8_t *bytes, size_t len) {
   return RUGHVADI_DONE;
 }
 
-/* Whether the connection is of no use after this fault. */
-static bool is_last(uint32_t fault) {
-  return fault == RUGHVADI_LINK_SYSTEM || fault == RUGHVADI_LINK_CLOSED
-         || (fault >= RUGHVADI_FRAME_VERSION && fault <= RUGHVADI_FRAME_ORDER);
-}
-
 /* Fetches and sends all that the client said. */
 static uint32_t send_said(rughvadi_link *link) {
   for (;;) {
@@ -61,7 +55,6 @@ static uint32_t send_said(rughvadi_link *link) {
     }
     fault = send_bytes(link->socket, link->out, size);
     if (fault != RUGHVADI_DONE) {
-      link->gone = true;
       return fault;
     }
   }
@@ -96,7 +89,7 @@ static int comes(int socket, int wait_ms) {
 }
 
 /* Receives what is there and takes it. */
-static uint32_t receive_once(rughvadi_link *link) {
+static uint32_t receive(rughvadi_link *link) {
   if (!make_room(&link->in, &link->in_size, link->in_len + 65536)) {
     return RUGHVADI_MEMORY;
   }
@@ -114,16 +107,7 @@ static uint32_t receive_once(rughvadi_link *link) {
   return take_frames(link);
 }
 
-static uint32_t receive(rughvadi_link *link) {
-  uint32_t fault = receive_once(link);
-  link->gone = link->gone || is_last(fault);
-  return fault;
-}
-
 uint32_t rughvadi_link_serve(rughvadi_link *link, int wait_ms) {
-  if (link->gone) {
-    return RUGHVADI_LINK_CLOSED;
-  }
   uint32_t fault = send_said(link);
   if (fault != RUGHVADI_DONE) {
     return fault;
@@ -213,7 +197,7 @@ uint32_t rughvadi_link_begin(rughvadi_link *link) {
 }
 
 uint32_t rughvadi_link_fetch(rughvadi_link *link, uint32_t page, uint8_t *room, size_t len) {
-  while (!link->gone) {
+  for (;;) {
     bool here = false;
     uint32_t fault = rughvadi_client_read(&link->client, page, room, len, &here);
     if (fault != RUGHVADI_DONE) {
@@ -227,11 +211,10 @@ uint32_t rughvadi_link_fetch(rughvadi_link *link, uint32_t page, uint8_t *room, 
       return fault;
     }
   }
-  return RUGHVADI_LINK_CLOSED;
 }
 
 uint32_t rughvadi_link_want(rughvadi_link *link, uint32_t page) {
-  while (!link->gone) {
+  for (;;) {
     bool may = false;
     uint32_t fault = rughvadi_client_want(&link->client, page, &may);
     if (fault != RUGHVADI_DONE) {
@@ -245,7 +228,6 @@ uint32_t rughvadi_link_want(rughvadi_link *link, uint32_t page) {
       return fault;
     }
   }
-  return RUGHVADI_LINK_CLOSED;
 }
 
 /* The page's bytes left the pool since the transaction read it: they are fetched again. */
@@ -274,9 +256,6 @@ uint32_t rughvadi_link_put(rughvadi_link *link, uint32_t page, const uint8_t *by
 }
 
 uint32_t rughvadi_link_commit(rughvadi_link *link, uint64_t *number) {
-  if (link->gone) {
-    return RUGHVADI_LINK_CLOSED;
-  }
   uint32_t fault = rughvadi_client_finish(&link->client);
   if (fault == RUGHVADI_DONE) {
     fault = wait_while(link, RUGHVADI_STATUS_COMMITTING);
@@ -289,9 +268,6 @@ uint32_t rughvadi_link_commit(rughvadi_link *link, uint64_t *number) {
 }
 
 uint32_t rughvadi_link_drop(rughvadi_link *link) {
-  if (link->gone) {
-    return RUGHVADI_LINK_CLOSED;
-  }
   uint32_t fault = rughvadi_client_drop(&link->client);
   if (fault == RUGHVADI_DONE) {
     return send_said(link);

@@ -3,8 +3,8 @@
  *
  * A link is used by one thread at a time, as a handle is. Each call answers RUGHVADI_DONE, a fault of
  * rughvadi.h, or one of the faults below. After RUGHVADI_LINK_SYSTEM, _CLOSED and RUGHVADI_FRAME_..
- * the client is gone: each later call answers RUGHVADI_LINK_CLOSED, also of a page that it holds.
- * Close the link, and open another one in the client's next incarnation.
+ * the connection is of no use any more: close the link, and open another one in the client's next
+ * incarnation.
  */
 #ifndef RUGHVADI_LINK_H
 #define RUGHVADI_LINK_H
@@ -25,7 +25,6 @@ enum {
 typedef struct {
   rughvadi_handle client;
   int socket;
-  bool gone;   /* the connection is of no use any more */
   int wait_ms; /* for so long it waits for an answer before it says again what may be lost */
   int tries;   /* and so often, before it answers RUGHVADI_LINK_SILENT */
   size_t page_size;

@@ -67,8 +67,7 @@ pub fn put_events<O: Write>(out: &mut O, events: &[Event]) -> io::Result<()>
     Ok(())
 }
 
-/// Prints an event as a line of a schedule.
-pub fn put_event<O: Write>(out: &mut O, event: &Event) -> io::Result<()>
+fn put_event<O: Write>(out: &mut O, event: &Event) -> io::Result<()>
     ensures { OnOk result
         (Appends (O.contents out.old) (O.contents out.new) (event_text event.now)) }
 {
@@ -96,7 +95,7 @@ fn put_call<O: Write>(out: &mut O, client: u16, call: &Call) -> io::Result<()>
 }
 
 /// The word of a call.
-pub fn name_of(call: &Call) -> &'static str
+fn name_of(call: &Call) -> &'static str
     ensures { result.now ≡ call_name call.now }
 {
     match call {

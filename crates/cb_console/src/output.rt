@@ -42,8 +42,7 @@ fn put_line<O: Write>(out: &mut O, place: usize, answer: &Answer) -> io::Result<
     out.write_all(b"\n")
 }
 
-/// Prints the words of an answer, without the packets sent.
-pub fn put_word<O: Write>(out: &mut O, word: &AnswerWord) -> io::Result<()>
+fn put_word<O: Write>(out: &mut O, word: &AnswerWord) -> io::Result<()>
     ensures { OnOk result (Appends (O.contents out.old) (O.contents out.new) (word_text word.now)) }
 {
     match word {
@@ -79,7 +78,7 @@ fn put_sent<O: Write>(out: &mut O, sent: &SentPackets) -> io::Result<()>
 
 /// The byte that all the bytes are, if they are all one.
 #[tactic(auto, unfolding(crate::specs::Output::only_byte))]
-pub fn only_byte(bytes: &[u8]) -> Option<u8>
+fn only_byte(bytes: &[u8]) -> Option<u8>
     ensures { result ≡ only_byte bytes.now }
 {
     match bytes {

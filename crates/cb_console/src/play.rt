@@ -194,7 +194,7 @@ fn print_part<O: Write, E: Write>(
 }
 
 /// Says what a text was refused for, or that memory was.
-pub fn print_fault<E: Write>(fault: &ReadFault, err: &mut E) -> io::Result<u8>
+pub(crate) fn print_fault<E: Write>(fault: &ReadFault, err: &mut E) -> io::Result<u8>
     ensures { IfOk result
         (λ status. PrintsFault fault.now status (E.contents err.old) (E.contents err.new)) }
 {

@@ -1,4 +1,3 @@
-pub mod Causes
 pub mod Clients
 pub mod Faults
 pub mod Fetching

@@ -72,13 +72,13 @@ Takes (object.Client old) bytes used (object.Client new) =
 Takes _ _ _ _ = ⊥
 
 -- the oldest frame is fetched, and nothing else changes
-abbrev pub FetchesOne : Object → (before room : List ℕ) → (size client : ℕ) → Object → Type 0
-FetchesOne (object.Server old) before room size client (object.Server new) =
-    Fetches old.said before room size client new.said × (new.server ≡ old.server)
+abbrev pub FetchesOne : Object → (room : List ℕ) → (size client : ℕ) → Object → Type 0
+FetchesOne (object.Server old) room size client (object.Server new) =
+    Fetches old.said room size client new.said × (new.server ≡ old.server)
     × (new.batch ≡ old.batch)
-FetchesOne (object.Client old) before room size client (object.Client new) =
-    Fetches old.said before room size client new.said × (new.client ≡ old.client)
-FetchesOne _ _ _ _ _ _ = ⊥
+FetchesOne (object.Client old) room size client (object.Client new) =
+    Fetches old.said room size client new.said × (new.client ≡ old.client)
+FetchesOne _ _ _ _ _ = ⊥
 
 -- what may be lost is said again, by the protocol
 abbrev pub SaysAgain : Object → Object → Type 0
@@ -157,17 +157,16 @@ Begins (object.Client old) txn (object.Client new) =
     × (new.client.txn ≡ Some txn) × (new.said ≡ old.said)
 Begins _ _ _ = ⊥
 
--- the page's bytes are in the room, by the protocol's table; or the message that asks for it is
--- said, and the room is as before
-abbrev pub Reads : Object → (page : ℕ) → (before room : List ℕ) → (here : Bool) → Object → Type 0
-Reads (object.Client old) page before room true (object.Client new) =
+-- the page's bytes, by the protocol's table; or the message that asks for it
+abbrev pub Reads : Object → (page : ℕ) → (room : List ℕ) → (here : Bool) → Object → Type 0
+Reads (object.Client old) page room true (object.Client new) =
     Answers old.client (CallRead page) (table.AnsweredBytes room) []
     × (new.client ≡ after_read old.client page) × (old.said ≡ []) × (new.said ≡ [])
-Reads (object.Client old) page before room false (object.Client new) =
+Reads (object.Client old) page room false (object.Client new) =
     Answers old.client (CallRead page) table.Asked (read_ask old.client page ∷ [])
     × (new.client ≡ after_read old.client page) × (old.said ≡ [])
-    × (messages_of new.said ≡ read_ask old.client page ∷ []) × (room ≡ before)
-Reads _ _ _ _ _ _ = ⊥
+    × (messages_of new.said ≡ read_ask old.client page ∷ [])
+Reads _ _ _ _ _ = ⊥
 
 -- it may write the page at once; or the message that asks for that
 abbrev pub Wants : Object → (page : ℕ) → (may : Bool) → Object → Type 0

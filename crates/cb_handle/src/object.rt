@@ -1,9 +1,6 @@
 //! What a handle holds, and what may be called of it.
-ghost use Rattle.std.specs.Prelude.{◌≡◌, ◌≢◌, IfErr, IfOk, OnErr, length};
-ghost use Rattle.cb_handle.specs.Causes.{Decides, again_cause, again_may, fetch_cause, fetch_may};
-ghost use Rattle.cb_handle.specs.Causes.{never, past_pages, take_cause, take_may};
+ghost use Rattle.std.specs.Prelude.{◌≡◌, IfOk, OnErr};
 ghost use Rattle.cb_handle.specs.Objects.{FetchesOne, IsLeft, SaysAgain, Takes};
-ghost use Rattle.cb_handle.specs.declared.refusal.Refusal.TheVariants as refusal;
 
 mod clients;
 mod servers;
@@ -30,8 +27,7 @@ pub enum Object {
 
 /// The page of this number; `Range` where no store has one.
 fn page_of(page: u32) -> Result<PageNo, Refusal>
-    ensures page { IfOk result (λ no. no ≡ page) }
-    ensures why { Decides (past_pages page) never result }
+    ensures { IfOk result (λ no. no ≡ page) }
 {
     if page < 4096 {
         Ok(PageNo::new(page))
@@ -44,8 +40,6 @@ impl Object {
     /// Takes the frame that the bytes begin with, and says how many bytes it has.
     pub fn take(&mut self, alloc: Global, bytes: &[u8], used: &mut usize) -> Result<(), Refusal>
         ensures ok { IfOk result (λ _. Takes self.old bytes.now used.new self.new) }
-        ensures why { Decides (take_cause self.old bytes.now) (take_may self.old bytes.now) result }
-        ensures used { OnErr result (used.new ≡ used.old) }
         ensures err { OnErr result (IsLeft self.old self.new) }
     {
         match self {
@@ -69,14 +63,9 @@ impl Object {
         size: &mut usize,
         client: &mut u32,
     ) -> Result<(), Refusal>
-        ensures ok { IfOk result (λ _.
-            FetchesOne self.old room.old room.new size.new client.new self.new) }
-        ensures why { Decides (fetch_cause self.old)
-            (fetch_may self.old (length room.old) size.new) result }
+        ensures ok { IfOk result (λ _. FetchesOne self.old room.new size.new client.new self.new) }
         ensures err { OnErr result (IsLeft self.old self.new) }
         ensures kept { OnErr result (room.new ≡ room.old) }
-        ensures size { IfErr result (λ refused. refused ≢ refusal.Room → size.new ≡ size.old) }
-        ensures client { OnErr result (client.new ≡ client.old) }
     {
         match self {
             Object::Server(polled) => {
@@ -96,7 +85,6 @@ impl Object {
     /// What may be lost is said again.
     pub fn again(&mut self, alloc: Global) -> Result<(), Refusal>
         ensures ok { IfOk result (λ _. SaysAgain self.old self.new) }
-        ensures why { Decides (again_cause self.old) (again_may self.old) result }
         ensures err { OnErr result (IsLeft self.old self.new) }
     {
         match self {

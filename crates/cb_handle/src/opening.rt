@@ -1,10 +1,7 @@
 //! The rows of a store that a server is to open over.
-ghost use Rattle.std.specs.Prelude.{◌≡◌, ◌↔◌, IfErr, IfOk, IsOk, OnErr, length, nat_lt};
+ghost use Rattle.std.specs.Prelude.{◌≡◌, IfErr, IfOk, OnErr};
 ghost use Rattle.cb_commit.specs.Stores.{IsOf};
-ghost use Rattle.cb_handle.specs.Causes.{Decides, memory, never, no_row, refused_if};
 ghost use Rattle.cb_handle.specs.Opened.{no_rows, store_of, with_row};
-ghost use Rattle.cb_handle.specs.declared.refusal.Refusal.TheVariants as refusal;
-ghost use Rattle.cb_page.specs.Numbers.{max_number};
 
 use crate::refusal::Refusal;
 use cb_commit::{Store, StoredPage};
@@ -51,8 +48,7 @@ impl Model for Opening {
 impl Opening {
     /// No rows yet. `Range` where no commit has this number, which is 0 before the first.
     pub fn new(alloc: Global, limits: &Limits, number: u64) -> Result<Opening, Refusal>
-        ensures rows { IfOk result (λ opening. opening ≡ no_rows limits.now number) }
-        ensures why { Decides (refused_if (nat_lt max_number number) refusal.Range) never result }
+        ensures { IfOk result (λ opening. opening ≡ no_rows limits.now number) }
     {
         if number > MAX_NUMBER {
             return Err(Refusal::Range);
@@ -71,7 +67,6 @@ impl Opening {
     /// where the version is above the last commit's number; `Memory` where a growth was refused.
     pub fn row(&mut self, alloc: Global, version: u64, bytes: &[u8]) -> Result<(), Refusal>
         ensures ok { IfOk result (λ _. self.new ≡ with_row self.old version bytes.now) }
-        ensures why { Decides (no_row self.old version (length bytes.now)) memory result }
         ensures unchanged { OnErr result (self.new ≡ self.old) }
     {
         if bytes.len() != self.limits.page_size()
@@ -97,7 +92,6 @@ impl Opening {
         ensures store { IfOk result (λ opened. opened.1 ≡ store_of self) }
         ensures of { IfOk result (λ opened. IsOf opened.0 opened.1) }
         ensures back { IfErr result (λ opening. opening ≡ self) }
-        ensures whole { IsOk result ↔ (length self.rows ≡ self.limits.pages) }
     {
         if self.rows.len() != self.limits.pages() as usize {
             return Err(self);

@@ -1,20 +1,13 @@
 //! A client over 2Q, and what it said.
-ghost use Rattle.std.specs.Prelude.{◌≡◌, ◌≢◌, ◌<◌, ◌≤◌, ℕ, [], ◌∷◌, IfErr, IfOk, OnErr, IsOk, length};
-ghost use Rattle.std.specs.Prelude.{true, false, not, ◌==◌, Some, None};
-ghost use Rattle.std.specs.Option.{option_or};
-ghost use Rattle.cb_cache.specs.CacheState.{content_at};
+ghost use Rattle.std.specs.Prelude.{◌≡◌, ◌<◌, ◌≤◌, ℕ, [], ◌∷◌, IfOk, OnErr, IsOk};
+ghost use Rattle.std.specs.Prelude.{true, false, Some};
 ghost use Rattle.cb_client.specs.ByTable.{Calls, as_before, over};
 ghost use Rattle.cb_client.specs.CallAnswers.{Answers, after_read, puts, read_ask};
 ghost use Rattle.cb_client.specs.FramesTaken.{TakesBytes};
 ghost use Rattle.cb_client_core.specs.ClientState.{new_state, outcome_of};
 ghost use Rattle.cb_client_core.specs.declared.stage.PendingAsk.TheVariants as asks;
-ghost use Rattle.cb_handle.specs.Causes.{Decides, after_fetch, by_table, client_read_cause};
-ghost use Rattle.cb_handle.specs.Causes.{client_take_may, committing_may, in_bytes, memory, never};
-ghost use Rattle.cb_handle.specs.Causes.{past_pages, said_cause, said_may, saying_may, shown_in};
-ghost use Rattle.cb_handle.specs.Causes.{unknown_client};
 ghost use Rattle.cb_handle.specs.Clients.{IsOutcome, IsStatus, MayWrite, outcome_numbers};
 ghost use Rattle.cb_handle.specs.Fetching.{Fetches};
-ghost use Rattle.cb_handle.specs.declared.refusal.Refusal.TheVariants as refusal;
 ghost use Rattle.cb_outbox.specs.Messages.{messages_of};
 ghost use Rattle.cb_protocol.specs.Answers.{AnsweredBytes, AnsweredOk, Asked, Permitted};
 ghost use Rattle.cb_protocol.specs.ClientCalls.{CallAgain, CallBegin, CallDrop, CallFinish};
@@ -48,7 +41,6 @@ impl PolledClient {
         ensures state { IfOk result (λ polled.
             polled.client ≡ new_state no incarnation limits.now) }
         ensures said { IfOk result (λ polled. polled.said ≡ []) }
-        ensures why { Decides (unknown_client limits.now no incarnation) memory result }
     {
         let Some(no) = ClientNo::in_store(limits, u64::from(no)) else {
             return Err(Refusal::Range);
@@ -63,23 +55,28 @@ impl PolledClient {
         })
     }
 
+    /// That all that was said is fetched.
+    fn check_fetched(&self) -> Result<(), Refusal>
+        ensures { IsOk result → self.now.said ≡ [] }
+    {
+        if self.said.is_empty() {
+            Ok(())
+        } else {
+            Err(Refusal::Unfetched)
+        }
+    }
+
     /// Takes the frame that the bytes begin with; how many bytes it has.
     pub fn take(&mut self, alloc: Global, bytes: &[u8]) -> Result<usize, Refusal>
         ensures ok { IfOk result (λ used. (capacity : ℕ) × TakesBytes self.old.client
             bytes.now used (messages_of self.new.said) capacity self.new.client) }
         ensures fetched { IsOk result → self.old.said ≡ [] }
-        ensures why { Decides
-            (after_fetch self.old.said (in_bytes self.old.client.copies.limits bytes.now))
-            (client_take_may self.old.client bytes.now) result }
         ensures unchanged { OnErr result (self.new ≡ self.old) }
     {
-        self.said.check_fetched()?;
-        let limits = *self.client.limits();
-        // In range by their type: `page_size` says so.
-        let _known = limits.page_size();
+        self.check_fetched()?;
         match self.client.take_bytes(alloc, bytes) {
             Ok((said, used)) => {
-                self.said = Said::of(&limits, said);
+                self.said = Said::of(said);
                 Ok(used)
             }
             Err(BytesFault::Frame(fault)) => Err(Refusal::Frame(fault)),
@@ -92,13 +89,12 @@ impl PolledClient {
         ensures ok { IfOk result (λ _. Calls self.old.client CallAgain AnsweredOk
             (messages_of self.new.said) as_before self.new.client) }
         ensures fetched { IsOk result → self.old.said ≡ [] }
-        ensures why { Decides (after_fetch self.old.said None) (saying_may self.old.client) result }
         ensures unchanged { OnErr result (self.new ≡ self.old) }
     {
-        self.said.check_fetched()?;
+        self.check_fetched()?;
         match self.client.again(alloc) {
             Ok(said) => {
-                self.said = Said::of(self.client.limits(), said);
+                self.said = Said::of(said);
                 Ok(())
             }
             Err(fault) => Err(Refusal::Client(fault)),
@@ -110,23 +106,20 @@ impl PolledClient {
         ensures ok { IfOk result (λ _. Calls self.old.client CallHello AnsweredOk
             (messages_of self.new.said) as_before self.new.client) }
         ensures fetched { IsOk result → self.old.said ≡ [] }
-        ensures why { Decides (after_fetch self.old.said None) never result }
         ensures unchanged { OnErr result (self.new ≡ self.old) }
     {
-        self.said.check_fetched()?;
+        self.check_fetched()?;
         let frame = self.client.hello();
-        self.said.keep(self.client.limits(), frame);
+        self.said.keep(frame);
         Ok(())
     }
 
     /// Begins a transaction; its number.
-    #[tactic(auto, using(crate::proofs::Deciding::refused_so, crate::proofs::Deciding::called_free))]
     pub fn begin(&mut self) -> Result<u64, Refusal>
         ensures ok { IfOk result (λ txn. Calls self.old.client CallBegin AnsweredOk []
             as_before self.new.client) }
         ensures txn { IfOk result (λ txn. self.new.client.txn ≡ Some txn) }
         ensures said { self.new.said ≡ self.old.said }
-        ensures why { Decides (by_table self.old.client CallBegin) never result }
         ensures unchanged { OnErr result (self.new ≡ self.old) }
     {
         match self.client.begin() {
@@ -144,14 +137,14 @@ impl PolledClient {
         ensures client { self.new.client ≡ self.old.client }
     {
         if let Some(ask) = self.client.ask() {
-            self.said.keep(self.client.limits(), Frame::from(ask));
+            self.said.keep(Frame::from(ask));
         }
     }
 
     /// Reads a page: true where its bytes are in the room then, false where it is asked for.
     ///
     /// `Room` where the room isn't as long as a page.
-    #[tactic(auto, using(crate::proofs::Reading::read_sized, crate::proofs::Reading::read_refused, crate::proofs::Deciding::refused_so, crate::proofs::Deciding::answered_free))]
+    #[tactic(auto, using(crate::proofs::Reading::read_sized, crate::proofs::Reading::read_refused))]
     pub fn read(&mut self, page: PageNo, room: &mut [u8]) -> Result<bool, Refusal>
         ensures bytes { IfOk result (λ here. here ≡ true →
             Answers self.old.client (CallRead page) (AnsweredBytes room.new) []) }
@@ -162,13 +155,10 @@ impl PolledClient {
         ensures said { IfOk result (λ here. here ≡ false →
             messages_of self.new.said ≡ read_ask self.old.client page ∷ []) }
         ensures fetched { IsOk result → self.old.said ≡ [] }
-        ensures why { Decides (after_fetch self.old.said
-            (client_read_cause self.old.client page (length room.old))) never result }
         ensures unchanged { OnErr result (self.new ≡ self.old) }
         ensures kept { OnErr result (room.new ≡ room.old) }
-        ensures unread { IfOk result (λ here. here ≡ false → room.new ≡ room.old) }
     {
-        self.said.check_fetched()?;
+        self.check_fetched()?;
         if room.len() != self.client.limits().page_size() {
             return Err(Refusal::Room);
         }
@@ -185,7 +175,6 @@ impl PolledClient {
     }
 
     /// Wants to write a page: true where it may at once, false where that is asked for.
-    #[tactic(auto, using(crate::proofs::Deciding::refused_so, crate::proofs::Deciding::called_free))]
     pub fn want(&mut self, page: PageNo) -> Result<bool, Refusal>
         ensures granted { IfOk result (λ may. may ≡ true → Calls self.old.client (CallWant page)
             Permitted [] as_before self.new.client) }
@@ -193,16 +182,13 @@ impl PolledClient {
         ensures asked { IfOk result (λ may. may ≡ false → Calls self.old.client (CallWant page)
             Asked (messages_of self.new.said) as_before self.new.client) }
         ensures fetched { IsOk result → self.old.said ≡ [] }
-        ensures why { Decides (after_fetch self.old.said (by_table self.old.client (CallWant page)))
-            never result }
         ensures unchanged { OnErr result (self.new ≡ self.old) }
     {
-        self.said.check_fetched()?;
-        let limits = *self.client.limits();
+        self.check_fetched()?;
         match self.client.want(page) {
             Ok(WantAnswer::Permitted) => Ok(true),
             Ok(WantAnswer::Asked(frame)) => {
-                self.said.keep(&limits, Frame::from(frame));
+                self.said.keep(Frame::from(frame));
                 Ok(false)
             }
             Err(fault) => Err(Refusal::Client(fault)),
@@ -210,11 +196,9 @@ impl PolledClient {
     }
 
     /// Writes a page.
-    #[tactic(auto, using(crate::proofs::Deciding::refused_so, crate::proofs::Deciding::called_free))]
     pub fn write(&mut self, page: PageNo, bytes: &[u8]) -> Result<(), Refusal>
         ensures ok { IfOk result (λ _. Calls self.old.client (CallWrite page bytes.now)
             AnsweredOk [] (puts page bytes.now) self.new.client) }
-        ensures why { Decides (by_table self.old.client (CallWrite page bytes.now)) never result }
         ensures unchanged { OnErr result (self.new ≡ self.old) }
         ensures said { self.new.said ≡ self.old.said }
     {
@@ -225,20 +209,16 @@ impl PolledClient {
     }
 
     /// Commits the transaction.
-    #[tactic(auto, using(crate::proofs::Deciding::called_free))]
     pub fn finish(&mut self, alloc: Global) -> Result<(), Refusal>
         ensures ok { IfOk result (λ _. Calls self.old.client CallFinish AnsweredOk
             (messages_of self.new.said) as_before self.new.client) }
         ensures fetched { IsOk result → self.old.said ≡ [] }
-        ensures why { Decides (after_fetch self.old.said (by_table self.old.client CallFinish))
-            (committing_may self.old.client) result }
         ensures unchanged { OnErr result (self.new ≡ self.old) }
     {
-        self.said.check_fetched()?;
-        let limits = *self.client.limits();
+        self.check_fetched()?;
         match self.client.finish(alloc) {
             Ok(frame) => {
-                self.said.keep(&limits, frame);
+                self.said.keep(frame);
                 Ok(())
             }
             Err(fault) => Err(Refusal::Client(fault)),
@@ -246,20 +226,16 @@ impl PolledClient {
     }
 
     /// Ends the transaction without a commit.
-    #[tactic(auto, using(crate::proofs::Deciding::called_free))]
     pub fn drop_txn(&mut self, alloc: Global) -> Result<(), Refusal>
         ensures ok { IfOk result (λ _. Calls self.old.client CallDrop AnsweredOk
             (messages_of self.new.said) over self.new.client) }
         ensures fetched { IsOk result → self.old.said ≡ [] }
-        ensures why { Decides (after_fetch self.old.said (by_table self.old.client CallDrop)) memory
-            result }
         ensures unchanged { OnErr result (self.new ≡ self.old) }
     {
-        self.said.check_fetched()?;
-        let limits = *self.client.limits();
+        self.check_fetched()?;
         match self.client.drop_txn(alloc) {
             Ok(frames) => {
-                self.said = Said::of(&limits, frames);
+                self.said = Said::of(frames);
                 Ok(())
             }
             Err(fault) => Err(Refusal::Client(fault)),
@@ -289,12 +265,9 @@ impl PolledClient {
 
     /// The bytes of the client's copy of a page, which is no reference to it. `Nothing` where it
     /// has none; `Room` where the room isn't as long as a page.
-    #[tactic(auto, using(crate::proofs::Deciding::peeked))]
     pub fn peek(&self, page: PageNo, room: &mut [u8]) -> Result<(), Refusal>
         ensures ok { IfOk result (λ _. Calls self.now.client (CallPeek page)
             (AnsweredBytes room.new) [] as_before self.now.client) }
-        ensures why { Decides (shown_in (content_at self.now.client.copies page) (length room.old))
-            never result }
         ensures kept { OnErr result (room.new ≡ room.old) }
     {
         match self.client.peek(page) {
@@ -327,16 +300,13 @@ impl PolledClient {
         room: &mut [u8],
         size: &mut usize,
     ) -> Result<ClientNo, Refusal>
-        ensures ok { IfOk result (λ client. Fetches self.old.said room.old room.new size.new client
+        ensures ok { IfOk result (λ client. Fetches self.old.said room.new size.new client
             self.new.said) }
-        ensures why { Decides (said_cause self.old.said)
-            (said_may self.old.said (length room.old) size.new) result }
         ensures unchanged { OnErr result (self.new ≡ self.old) }
         ensures kept { OnErr result (room.new ≡ room.old) }
-        ensures size { IfErr result (λ refused. refused ≢ refusal.Room → size.new ≡ size.old) }
         ensures client { self.new.client ≡ self.old.client }
     {
-        self.said.fetch(alloc, room, size)
+        self.said.fetch(alloc, self.client.limits(), room, size)
     }
 }
 

@@ -1,17 +1,14 @@
 //! A server, and what it said.
-ghost use Rattle.std.specs.Prelude.{◌≡◌, ◌≢◌, ◌+◌, ◌<◌, ◌≤◌, ◌↔◌, [], IfErr, IfOk, IfSome, IsSome};
-ghost use Rattle.std.specs.Prelude.{OnErr, IsOk, None, Some, Err, length, true};
+ghost use Rattle.std.specs.Prelude.{◌≡◌, ◌+◌, ◌<◌, ◌≤◌, [], IfOk, IfSome, OnErr, IsOk, None, Some};
+ghost use Rattle.std.specs.Prelude.{Err, true};
 ghost use Rattle.cb_commit.specs.Stores.{IsOf, zeros};
 ghost use Rattle.cb_outbox.specs.Messages.{messages_of};
-ghost use Rattle.cb_handle.specs.Causes.{Decides, after_fetch, all_on_disk, memory, never, next_cause};
-ghost use Rattle.cb_handle.specs.Causes.{no_page, not_on_disk, not_to_flush, said_cause, said_may};
-ghost use Rattle.cb_handle.specs.Causes.{in_bytes, server_take_may};
 ghost use Rattle.cb_handle.specs.Fetching.{Fetches};
 ghost use Rattle.cb_handle.specs.Servers.{Does, HasNext, IsNew, IsUnchanged, Leaves, TakesBytes};
 ghost use Rattle.cb_handle.specs.Servers.{forgot, next_incarnation, or_zero, page_of_batch};
 ghost use Rattle.cb_handle.specs.Servers.{server_of};
 ghost use Rattle.cb_handle.specs.declared.refusal.Refusal.TheVariants as refusal;
-ghost use Rattle.cb_page.specs.Numbers.{IsNumber, max_number};
+ghost use Rattle.cb_page.specs.Numbers.{IsNumber};
 ghost use Rattle.cb_protocol.specs.AnyMessages.{ReachesDisk, SendsAgain};
 ghost use Rattle.cb_protocol.specs.Flush.{can_flush, next_batch};
 
@@ -38,7 +35,6 @@ impl PolledServer {
         ensures new { IfOk result (λ polled. IsNew limits.now store polled.server) }
         ensures said { IfOk result (λ polled. polled.said ≡ []) }
         ensures batch { IfOk result (λ polled. polled.batch ≡ None) }
-        ensures why { Decides None memory result }
     {
         Ok(PolledServer {
             server: Server::new(alloc, limits, store)?,
@@ -52,10 +48,20 @@ impl PolledServer {
         ensures new { IfOk result (λ polled. IsNew limits.now (zeros limits.now) polled.server) }
         ensures said { IfOk result (λ polled. polled.said ≡ []) }
         ensures batch { IfOk result (λ polled. polled.batch ≡ None) }
-        ensures why { Decides None memory result }
     {
         let store = Store::zeros(alloc, limits)?;
         PolledServer::over(alloc, limits, store)
+    }
+
+    /// That all that was said is fetched.
+    fn check_fetched(&self) -> Result<(), Refusal>
+        ensures { IsOk result → self.now.said ≡ [] }
+    {
+        if self.said.is_empty() {
+            Ok(())
+        } else {
+            Err(Refusal::Unfetched)
+        }
     }
 
     /// Takes the frame that the bytes begin with; how many bytes it has.
@@ -63,20 +69,14 @@ impl PolledServer {
         ensures ok { IfOk result (λ used. TakesBytes self.old.server bytes.now used
             (messages_of self.new.said) self.new.server) }
         ensures fetched { IsOk result → self.old.said ≡ [] }
-        ensures why { Decides
-            (after_fetch self.old.said (in_bytes self.old.server.limits bytes.now))
-            (server_take_may self.old.server bytes.now) result }
         ensures unchanged { OnErr result (IsUnchanged self.old.server self.new.server) }
         ensures unsaid { OnErr result (self.new.said ≡ self.old.said) }
         ensures batch { self.new.batch ≡ self.old.batch }
     {
-        self.said.check_fetched()?;
-        let limits = *self.server.limits();
-        // In range by their type: `page_size` says so.
-        let _known = limits.page_size();
+        self.check_fetched()?;
         match self.server.take_bytes(alloc, bytes) {
             Ok((said, used)) => {
-                self.said = Said::of(&limits, said);
+                self.said = Said::of(said);
                 Ok(used)
             }
             Err(BytesFault::Frame(fault)) => Err(Refusal::Frame(fault)),
@@ -89,15 +89,13 @@ impl PolledServer {
         ensures ok { IfOk result (λ _. Does self.old.server SendsAgain
             (messages_of self.new.said) self.new.server) }
         ensures fetched { IsOk result → self.old.said ≡ [] }
-        ensures why { Decides (after_fetch self.old.said None) memory result }
         ensures unchanged { IsUnchanged self.old.server self.new.server }
         ensures unsaid { OnErr result (self.new.said ≡ self.old.said) }
         ensures batch { self.new.batch ≡ self.old.batch }
     {
-        self.said.check_fetched()?;
-        let limits = *self.server.limits();
+        self.check_fetched()?;
         let said = self.server.again(alloc)?;
-        self.said = Said::of(&limits, said);
+        self.said = Said::of(said);
         Ok(())
     }
 
@@ -108,7 +106,6 @@ impl PolledServer {
         ensures within { IfOk result (λ found. found.0 < self.now.server.limits.clients) }
         ensures next { IfOk result (λ found.
             found.1 ≡ next_incarnation self.now.server client) }
-        ensures why { Decides (next_cause self.now.server client) never result }
     {
         let Some(no) = ClientNo::in_store(self.server.limits(), u64::from(client)) else {
             return Err(Refusal::Range);
@@ -126,14 +123,11 @@ impl PolledServer {
         ensures ok { IfOk result (λ _. Leaves self.old.server client
             (messages_of self.new.said) self.new.server) }
         ensures fetched { IsOk result → self.old.said ≡ [] }
-        ensures why { Decides (after_fetch self.old.said (next_cause self.old.server client)) memory
-            result }
         ensures unchanged { OnErr result (IsUnchanged self.old.server self.new.server) }
         ensures unsaid { OnErr result (self.new.said ≡ self.old.said) }
         ensures batch { self.new.batch ≡ self.old.batch }
     {
-        self.said.check_fetched()?;
-        let limits = *self.server.limits();
+        self.check_fetched()?;
         let (no, incarnation) = self.next_incarnation(client)?;
         // In range by its type: `get` says so.
         let _known = incarnation.get();
@@ -144,7 +138,7 @@ impl PolledServer {
         };
         match self.server.take_owned(alloc, hello) {
             Ok(said) => {
-                self.said = Said::of(&limits, said);
+                self.said = Said::of(said);
                 Ok(())
             }
             Err(refused) => Err(Refusal::Server(refused.0)),
@@ -158,7 +152,8 @@ impl PolledServer {
         ensures said { self.new.said ≡ self.old.said }
         ensures made { IfOk result (λ made.
             HasNext self.old.server self.new.batch made.0 made.1) }
-        ensures why { Decides (all_on_disk self.old.server) memory result }
+        ensures nothing { result ≡ Err refusal.Nothing →
+            next_batch (server_of self.old.server) ≡ None }
         ensures unchanged { OnErr result (self.new ≡ self.old) }
     {
         match self.server.batch(alloc)? {
@@ -180,7 +175,8 @@ impl PolledServer {
           version = shown.1;
           bytes = room.new;
         })) }
-        ensures why { Decides (no_page self.now.batch at (length room.old)) never result }
+        ensures nothing { result ≡ Err refusal.Nothing →
+            page_of_batch self.now.batch at ≡ None }
         ensures unchanged { OnErr result (room.new ≡ room.old) }
     {
         let Some(batch) = &self.batch else {
@@ -214,22 +210,19 @@ impl PolledServer {
         ensures fetched { IsOk result → self.old.said ≡ [] }
         ensures could { IsOk result → can_flush (server_of self.old.server) number ≡ true }
         ensures written { IsOk result → self.new.batch ≡ None }
-        ensures why { Decides (after_fetch self.old.said (not_to_flush self.old.server number)) memory
-            result }
         ensures unchanged { OnErr result (IsUnchanged self.old.server self.new.server) }
         ensures unsaid { OnErr result (self.new.said ≡ self.old.said) }
         ensures batch { OnErr result (self.new.batch ≡ self.old.batch) }
     {
-        self.said.check_fetched()?;
+        self.check_fetched()?;
         let Some(number) = CommitNo::checked(number) else {
             return Err(Refusal::Range);
         };
         if !self.server.can_flush(number) {
             return Err(Refusal::Range);
         }
-        let limits = *self.server.limits();
         let said = self.server.flushed(alloc, number)?;
-        self.said = Said::of(&limits, said);
+        self.said = Said::of(said);
         self.batch = None;
         Ok(())
     }
@@ -239,7 +232,6 @@ impl PolledServer {
     pub fn forget(&mut self, number: u64) -> Result<(), Refusal>
         ensures ok { IfOk result (λ _. self.new.server ≡ forgot self.old.server number) }
         ensures on_disk { IsOk result → number ≤ (server_of self.old.server).flushed }
-        ensures why { Decides (not_on_disk self.old.server number) never result }
         ensures unchanged { OnErr result (self.new ≡ self.old) }
         ensures said { self.new.said ≡ self.old.said }
         ensures batch { self.new.batch ≡ self.old.batch }
@@ -261,24 +253,20 @@ impl PolledServer {
         room: &mut [u8],
         size: &mut usize,
     ) -> Result<ClientNo, Refusal>
-        ensures ok { IfOk result (λ client. Fetches self.old.said room.old room.new size.new client
+        ensures ok { IfOk result (λ client. Fetches self.old.said room.new size.new client
             self.new.said) }
-        ensures why { Decides (said_cause self.old.said)
-            (said_may self.old.said (length room.old) size.new) result }
-        ensures size { IfErr result (λ refused. refused ≢ refusal.Room → size.new ≡ size.old) }
         ensures unchanged { OnErr result (self.new ≡ self.old) }
         ensures kept { OnErr result (room.new ≡ room.old) }
         ensures server { self.new.server ≡ self.old.server }
         ensures batch { self.new.batch ≡ self.old.batch }
     {
-        self.said.fetch(alloc, room, size)
+        self.said.fetch(alloc, self.server.limits(), room, size)
     }
 }
 
 /// The incarnation after the current one, 1 after none; `None` where all numbers are used up.
 fn next_of(current: Option<Incarnation>) -> Option<Incarnation>
-    ensures next { IfSome result (λ next. next ≡ or_zero current + 1) }
-    ensures left { IsSome result ↔ (or_zero current + 1 ≤ max_number) }
+    ensures { IfSome result (λ next. next ≡ or_zero current + 1) }
 {
     match current {
         None => Some(Incarnation::new(1)),

@@ -1,13 +1,8 @@
 //! What a server or a client said and nobody fetched yet.
-ghost use Rattle.std.specs.Prelude.{◌≡◌, ◌≢◌, ◌≤◌, ◌↔◌, ◌∷◌, [], IfErr, IfOk, IfSome, IsOk};
-ghost use Rattle.std.specs.Prelude.{IsTrue, OnErr, Option, Some, drop, length, slice_get, take};
-ghost use Rattle.std.specs.List.{AllByRecursion};
+ghost use Rattle.std.specs.Prelude.{◌≡◌, ◌≤◌, ◌↔◌, ◌∷◌, [], IfOk, IsTrue, OnErr, drop};
+ghost use Rattle.std.specs.Prelude.{length, slice_get, take};
 ghost use Rattle.std.specs.Option.{option_copied};
-ghost use Rattle.cb_frame_types.specs.Grammar.{Fits, FitsSome};
-ghost use Rattle.cb_handle.specs.Causes.{Decides, after_fetch, said_cause, said_may};
 ghost use Rattle.cb_handle.specs.Fetching.{Fetches};
-ghost use Rattle.cb_handle.specs.declared.refusal.Refusal.{Refusal as Why};
-ghost use Rattle.cb_handle.specs.declared.refusal.Refusal.TheVariants as refusal;
 
 use crate::refusal::Refusal;
 use cb_frame::{Frame, encode};
@@ -15,8 +10,7 @@ use cb_page::{ClientNo, Limits};
 use std::alloc::Global;
 use std::marker::Model;
 
-/// Frames that are still to be fetched, the oldest first. Each is one under some limits, so it can
-/// be spelled.
+/// Frames that are still to be fetched, the oldest first.
 ///
 /// A frame that is said alone has a place of its own: so it takes no memory.
 pub struct Said {
@@ -37,17 +31,12 @@ impl Drop for Said {
 }
 
 impl Model for Said {
-    ghost use Rattle.std.specs.List.{AllByRecursion};
     ghost use Rattle.std.specs.Prelude.{List, ◌++◌, option_to_list, reverse};
-    ghost use Rattle.cb_frame_types.specs.Grammar.{FitsSome};
     ghost use Rattle.cb_frame_types.specs.declared.frame.Frame.{Frame};
 
     ghost Value = { List Frame };
 
     ghost view = { λ said. reverse said.frames.items ++ option_to_list said.single };
-
-    ghost invariant = { λ said.
-        AllByRecursion FitsSome (reverse said.frames.items ++ option_to_list said.single) };
 }
 
 impl Said {
@@ -55,19 +44,13 @@ impl Said {
     pub fn nothing(alloc: Global) -> Said
         ensures { result ≡ [] }
     {
-        Said {
-            frames: Vec::new(alloc),
-            single: None,
-        }
+        Said::of(Vec::new(alloc))
     }
 
     /// These frames, of which the first was said first.
-    pub fn of(limits: &Limits, mut frames: Vec<Frame>) -> Said
-        requires { AllByRecursion (Fits limits.now) frames.items }
+    pub fn of(mut frames: Vec<Frame>) -> Said
         ensures { result ≡ frames.items }
     {
-        // In range by their type: `page_size` says so.
-        let _known = limits.page_size();
         frames.reverse();
         Said {
             frames,
@@ -76,27 +59,11 @@ impl Said {
     }
 
     /// A frame alone.
-    pub fn keep(&mut self, limits: &Limits, frame: Frame)
-        requires nothing { self.old ≡ [] }
-        requires fits { Fits limits.now frame }
+    pub fn keep(&mut self, frame: Frame)
+        requires { self.old ≡ [] }
         ensures { self.new ≡ frame ∷ [] }
     {
-        // In range by their type: `page_size` says so.
-        let _known = limits.page_size();
         self.single = Some(frame);
-    }
-
-    /// That all is fetched.
-    pub fn check_fetched(&self) -> Result<(), Refusal>
-        ensures first { IfErr result (λ refused. (rest : Option Why)
-            → after_fetch self.now rest ≡ Some refused) }
-        ensures fetched { IsOk result → self.now ≡ [] }
-    {
-        if self.is_empty() {
-            Ok(())
-        } else {
-            Err(Refusal::Unfetched)
-        }
     }
 
     /// Whether nothing is left.
@@ -108,8 +75,7 @@ impl Said {
 
     /// The oldest frame.
     pub fn oldest(&self) -> Option<&Frame>
-        ensures oldest { option_copied result ≡ slice_get self.now 0 }
-        ensures fits { IfSome result (λ frame. FitsSome frame.now) }
+        ensures { option_copied result ≡ slice_get self.now 0 }
     {
         match self.frames.as_slice().last() {
             Some(frame) => Some(frame),
@@ -132,26 +98,27 @@ impl Said {
     /// Writes the bytes of the oldest frame to the beginning of the room, says how many they are,
     /// and lets it go; the client that it is of or for.
     ///
-    /// `Nothing` where nothing is left; `Room` where they are more than there is room for: `size`
-    /// says how many they are. `Memory` where a growth was refused for them.
+    /// `Room` where they are more than there is room for: `size` says how many they are. `Nothing`
+    /// where nothing is left; `Memory` where a growth was refused for them; `Range` where the frame
+    /// isn't one under these limits.
     #[tactic(auto, using(crate::proofs::Kept::oldest_first))]
     pub fn fetch(
         &mut self,
         alloc: Global,
+        limits: &Limits,
         room: &mut [u8],
         size: &mut usize,
     ) -> Result<ClientNo, Refusal>
-        ensures ok { IfOk result (λ client. Fetches self.old room.old room.new size.new client
-            self.new) }
-        ensures why { Decides (said_cause self.old) (said_may self.old (length room.old) size.new)
-            result }
+        ensures ok { IfOk result (λ client. Fetches self.old room.new size.new client self.new) }
         ensures unchanged { OnErr result (self.new ≡ self.old) }
         ensures kept { OnErr result (room.new ≡ room.old) }
-        ensures size { IfErr result (λ refused. refused ≢ refusal.Room → size.new ≡ size.old) }
     {
         let Some(frame) = self.oldest() else {
             return Err(Refusal::Nothing);
         };
+        if !frame.fits(limits) {
+            return Err(Refusal::Range);
+        }
         let bytes = encode(alloc, frame)?;
         let client = frame.client;
         let len = bytes.len();
@@ -170,7 +137,6 @@ impl Said {
 fn put_front(bytes: &[u8], room: &mut [u8])
     requires { length bytes.now ≤ length room.old }
     ensures front { take (length bytes.now) room.new ≡ bytes.now }
-    ensures rest { drop (length bytes.now) room.new ≡ drop (length bytes.now) room.old }
     ensures size { length room.new ≡ length room.old }
 {
     room[..bytes.len()].copy_from_slice(bytes);

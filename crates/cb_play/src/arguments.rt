@@ -31,8 +31,6 @@ pub(crate) enum Request<'a> {
     Draw(DrawRequest<'a>),
     /// Run workers.
     Run(RunRequest<'a>),
-    /// Serve frames: the paths of the configuration and of the store.
-    Serve { config: &'a str, store: &'a str },
     /// Play the lists of frames and calls in the file of this path, each at one side alone.
     Sides(&'a str),
     /// Do the command lines in the file of this path.
@@ -53,9 +51,6 @@ const DRAW_ABOUT: &str =
 
 const RUN_ABOUT: &str =
     "Runs each client on a thread of its own, over the store in a file, until its jobs are done";
-
-const SERVE_ABOUT: &str =
-    "Serves the frames of the standard input over the store in a file, and answers on the output";
 
 const SIDES_ABOUT: &str =
     "Plays lists of frames and calls at a client or a server alone, and prints what it answers";
@@ -154,24 +149,6 @@ Statuses:
   4  no memory
   5  cannot write";
 
-const SERVE_HELP: &str = "\
-The standard input has frames of all clients, one after another; what is said to clients goes out
-the same way, until the input ends. STORE is a database file, made where it isn't there. A commit is
-answered once it is on disk; those that came together are written together.
-
-A frame that can't be read is passed over by the length in its header; how many were is said at the
-end, on the standard error. A header of version 2 and kind 0, whose other bytes are 0, stands alone:
-what may be lost is said again.
-
-CONFIG is as for play; jobs counts for nothing.
-
-Statuses:
-  0  the input ended, and all is written
-  2  wrong words or configuration
-  3  the store refused, or the input is no frames
-  4  no memory
-  5  cannot write";
-
 const SIDES_HELP: &str = "\
 A list of FILE begins with its side and its limits. Each line behind that is a frame that comes or a
 call, and is printed with all that the side answers.
@@ -252,14 +229,6 @@ fn run_command<'a>(alloc: Global) -> Result<Command<'a>, AllocError> {
         )
 }
 
-fn serve_command<'a>(alloc: Global) -> Result<Command<'a>, AllocError> {
-    Command::new(alloc, "serve")
-        .about(SERVE_ABOUT)
-        .after_help(SERVE_HELP)
-        .arg(path(alloc, "CONFIG", "File with the settings, as TOML"))?
-        .arg(path(alloc, "STORE", "File with the store's tables"))
-}
-
 /// A command that reads one file.
 fn file_command<'a>(
     alloc: Global,
@@ -312,7 +281,6 @@ fn command<'a>(alloc: Global) -> Result<Command<'a>, AllocError> {
     let command = with(command, play_command(alloc))?;
     let command = with(command, draw_command(alloc))?;
     let command = with(command, run_command(alloc))?;
-    let command = with(command, serve_command(alloc))?;
     let command = with(command, sides_command(alloc))?;
     with(command, script_command(alloc))
 }
@@ -334,10 +302,6 @@ fn asked<'a>(matches: &ArgMatches<'a>) -> Option<Request<'a>> {
             store: matches.get_str("STORE")?,
             progress: matches.get_flag("progress"),
         })),
-        Some(("serve", matches)) => Some(Request::Serve {
-            config: matches.get_str("CONFIG")?,
-            store: matches.get_str("STORE")?,
-        }),
         Some(("sides", matches)) => Some(Request::Sides(matches.get_str("FILE")?)),
         Some(("script", matches)) => Some(Request::Script(matches.get_str("FILE")?)),
         _ => None,

@@ -1,8 +1,8 @@
 //! The program: plays a page server with callback locking and its clients from a schedule of
 //! events, or runs them on threads over a store on disk.
 //!
-//! `cb_console` plays and draws, `cb_run` runs workers, `cb_serve` serves frames, `cb_one_side` plays
-//! at one side alone, `cb_console` reads configurations; here are the words of the command line, which files are read
+//! `cb_console` plays and draws, `cb_run` runs workers, `cb_one_side` plays at one side alone,
+//! `cb_console` reads configurations; here are the words of the command line, which files are read
 //! for them, a script of such words, and how the program ends.
 #![tactic(auto)]
 
@@ -11,7 +11,6 @@ mod endings;
 mod files;
 mod program;
 mod script;
-mod serve_run;
 mod store_run;
 
 use crate::endings::end_by;

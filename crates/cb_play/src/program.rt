@@ -6,7 +6,6 @@ use crate::arguments::{DrawRequest, Request, RunRequest, request_of};
 use crate::endings::end_by;
 use crate::files::{read_file, read_text};
 use crate::script::do_script;
-use crate::serve_run::serve_store;
 use crate::store_run::{AnyTime, run_store};
 use cb_console::{DONE, Escaped, WRONG_INPUT, draw_to, play_to};
 use cb_jobs::{Progress, Unwatched};
@@ -98,7 +97,6 @@ pub(crate) fn do_request<R: Threads + Wait + Clock + Sync, O: Write, E: Write>(
         Request::Play { config, schedule } => play_files(rt, config, schedule, out, err),
         Request::Draw(request) => draw_file(rt, &request, out, err),
         Request::Run(request) => run_workers(rt, threads, &request, out, err),
-        Request::Serve { config, store } => serve_frames(rt, config, store, out, err),
         Request::Sides(file) => play_sides(rt, file, out, err),
         Request::Script(_) => {
             writeln!(err, "script: a script in a script")?;
@@ -218,23 +216,6 @@ fn run_workers<R: Threads + Wait + Clock + Sync, O: Write, E: Write>(
             err,
         )
     }
-}
-
-/// Serves the frames of the standard input under the configuration of a file.
-fn serve_frames<O: Write, E: Write>(
-    rt: &HostRuntime,
-    config: &str,
-    store: &str,
-    out: &mut O,
-    err: &mut E,
-) -> io::Result<u8>
-    ensures { IfOk result IsAnswered }
-{
-    let Some(config) = read_file(rt, config, err)? else {
-        return Ok(WRONG_INPUT);
-    };
-    let mut input = rt.stdin();
-    serve_store(rt, config.as_slice(), store, &mut input, out, err)
 }
 
 /// Plays the lists of a file, each at one side alone.

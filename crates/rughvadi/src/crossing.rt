@@ -7,7 +7,8 @@ use crate::held::Handle;
 /// What may go to another thread.
 fn crosses<T: Send>()
     ensures { IsSend T.row }
-{}
+{
+}
 
 /// A handle may go to another thread, with the object that it holds. The function does nothing; its
 /// contract is this law.

@@ -1,7 +1,5 @@
 //! Calls of a server or a client.
-ghost use Rattle.std.specs.Prelude.{◌≡◌, ◌≢◌, false, length, true};
-ghost use Rattle.cb_handle.specs.Causes.{IsAnswer, again_cause, again_may, fetch_cause, fetch_may};
-ghost use Rattle.cb_handle.specs.Causes.{take_cause, take_may};
+ghost use Rattle.std.specs.Prelude.{◌≡◌, ◌≢◌, false, true};
 ghost use Rattle.cb_handle.specs.Objects.{FetchesOne, IsLeft, SaysAgain, Takes};
 
 use crate::held::Handle;
@@ -20,9 +18,6 @@ pub extern "C" fn rughvadi_take(
     ensures held { result ≡ 0 → h.old.live ≡ true }
     ensures done { result ≡ 0 → Takes h.old.held.value bytes.now used.new h.new.held.value }
     ensures left { result ≢ 0 → h.old.live ≡ true → IsLeft h.old.held.value h.new.held.value }
-    ensures why { h.old.live ≡ true → IsAnswer (take_cause h.old.held.value bytes.now)
-        (take_may h.old.held.value bytes.now) result }
-    ensures used { result ≢ 0 → used.new ≡ used.old }
     ensures empty { h.old.live ≡ false → result ≡ 769 }
 {
     let Some(mut b) = h.take(alloc) else {
@@ -49,13 +44,9 @@ pub extern "C" fn rughvadi_next(
     ensures live { h.new.live ≡ h.old.live }
     ensures held { result ≡ 0 → h.old.live ≡ true }
     ensures done { result ≡ 0 →
-        FetchesOne h.old.held.value room.old room.new size.new client.new h.new.held.value }
+        FetchesOne h.old.held.value room.new size.new client.new h.new.held.value }
     ensures left { result ≢ 0 → h.old.live ≡ true → IsLeft h.old.held.value h.new.held.value }
-    ensures why { h.old.live ≡ true → IsAnswer (fetch_cause h.old.held.value)
-        (fetch_may h.old.held.value (length room.old) size.new) result }
-    ensures client { result ≢ 0 → client.new ≡ client.old }
     ensures empty { h.old.live ≡ false → result ≡ 769 }
-    ensures size { result ≢ 0 → result ≢ 772 → size.new ≡ size.old }
     ensures kept { result ≢ 0 → room.new ≡ room.old }
 {
     let Some(mut b) = h.take(alloc) else {
@@ -76,8 +67,6 @@ pub extern "C" fn rughvadi_again(alloc: Global, h: &mut Handle) -> u32
     ensures held { result ≡ 0 → h.old.live ≡ true }
     ensures done { result ≡ 0 → SaysAgain h.old.held.value h.new.held.value }
     ensures left { result ≢ 0 → h.old.live ≡ true → IsLeft h.old.held.value h.new.held.value }
-    ensures why { h.old.live ≡ true → IsAnswer (again_cause h.old.held.value)
-        (again_may h.old.held.value) result }
     ensures empty { h.old.live ≡ false → result ≡ 769 }
 {
     let Some(mut b) = h.take(alloc) else {

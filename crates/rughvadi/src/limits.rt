@@ -1,6 +1,5 @@
 //! Limits, as C gives them, and objects in boxes.
-ghost use Rattle.std.specs.Prelude.{◌≡◌, IfOk, None, false};
-ghost use Rattle.cb_handle.specs.Causes.{Decides, in_limits, memory, never};
+ghost use Rattle.std.specs.Prelude.{◌≡◌, IfOk, false};
 ghost use Rattle.rughvadi.specs.Limits.{bounds_of};
 
 use cb_handle::{Object, Refusal};
@@ -23,8 +22,7 @@ pub struct StoreLimits {
 
 /// The limits, where each is in its range.
 pub(crate) fn limits_of(l: &StoreLimits) -> Result<Limits, Refusal>
-    ensures limits { IfOk result (λ limits. limits ≡ bounds_of l.now) }
-    ensures why { Decides (in_limits (bounds_of l.now)) never result }
+    ensures { IfOk result (λ limits. limits ≡ bounds_of l.now) }
 {
     match Limits::new(l.clients, l.pages, l.page_size, l.slots, l.kin, l.kout) {
         Ok(limits) => Ok(kept_if(limits, l.keep_write != 0)),
@@ -42,8 +40,7 @@ fn kept_if(limits: Limits, keep_write: bool) -> Limits
 
 /// The object in a box.
 pub(crate) fn boxed(alloc: Global, object: Object) -> Result<Box<Object>, Refusal>
-    ensures made { IfOk result (λ made. made.value ≡ object) }
-    ensures why { Decides None memory result }
+    ensures { IfOk result (λ made. made.value ≡ object) }
 {
     match Box::new(alloc, object) {
         Ok(boxed) => Ok(boxed),

@@ -1,7 +1,5 @@
 //! A server is opened over the rows of a store.
-ghost use Rattle.std.specs.Prelude.{◌≡◌, ◌≢◌, IfOk, false, length, true};
-ghost use Rattle.cb_handle.specs.Causes.{Decides, IsAnswer, memory, opening_cause, row_cause};
-ghost use Rattle.cb_handle.specs.Causes.{serve_cause};
+ghost use Rattle.std.specs.Prelude.{◌≡◌, ◌≢◌, IfOk, false, true};
 ghost use Rattle.cb_handle.specs.Objects.{AddsRow, IsLeft, Opens, Serves};
 ghost use Rattle.rughvadi.specs.Limits.{bounds_of};
 
@@ -11,8 +9,7 @@ use cb_handle::{Object, Refusal};
 use std::alloc::Global;
 
 fn opening(alloc: Global, limits: &StoreLimits, number: u64) -> Result<Box<Object>, Refusal>
-    ensures made { IfOk result (λ made. Opens (bounds_of limits.now) number made.value) }
-    ensures why { Decides (opening_cause (bounds_of limits.now) number) memory result }
+    ensures { IfOk result (λ made. Opens (bounds_of limits.now) number made.value) }
 {
     let limits = limits_of(limits)?;
     boxed(alloc, Object::opening(alloc, &limits, number)?)
@@ -31,9 +28,6 @@ pub extern "C" fn rughvadi_open_begin(
     ensures was_empty { result ≡ 0 → h.old.live ≡ false }
     ensures unchanged { result ≢ 0 → h.new.live ≡ h.old.live }
     ensures same { h.old.live ≡ true → h.new.held.value ≡ h.old.held.value }
-    ensures why { h.old.live ≡ false →
-        IsAnswer (opening_cause (bounds_of limits.now) number) memory result }
-    ensures full { h.old.live ≡ true → result ≡ 774 }
 {
     if h.live {
         return Refusal::Held.number();
@@ -60,8 +54,6 @@ pub extern "C" fn rughvadi_open_row(
     ensures done { result ≡ 0 →
         AddsRow h.old.held.value version bytes.now h.new.held.value }
     ensures left { result ≢ 0 → h.old.live ≡ true → IsLeft h.old.held.value h.new.held.value }
-    ensures why { h.old.live ≡ true → IsAnswer
-        (row_cause h.old.held.value version (length bytes.now)) memory result }
     ensures empty { h.old.live ≡ false → result ≡ 769 }
 {
     let Some(mut b) = h.take(alloc) else {
@@ -83,7 +75,6 @@ pub extern "C" fn rughvadi_open_serve(alloc: Global, h: &mut Handle) -> u32
     ensures live { result ≡ 0 → h.new.live ≡ true }
     ensures left { result ≢ 0 → h.new.live ≡ true → h.new.held.value ≡ h.old.held.value }
     ensures gone { h.old.live ≡ true → h.new.live ≡ false → result ≡ 13 }
-    ensures why { h.old.live ≡ true → IsAnswer (serve_cause h.old.held.value) memory result }
     ensures empty { h.old.live ≡ false → result ≡ 769 }
     ensures stays_empty { h.old.live ≡ false → h.new.live ≡ false }
 {

@@ -1,8 +1,5 @@
 //! A server's calls.
-ghost use Rattle.std.specs.Prelude.{◌≡◌, ◌≢◌, IfOk, false, length, true};
-ghost use Rattle.cb_handle.specs.Causes.{Decides, IsAnswer, batch_cause, flushed_cause, forget_cause};
-ghost use Rattle.cb_handle.specs.Causes.{incarnation_cause, leave_cause, memory, never, page_cause};
-ghost use Rattle.cb_handle.specs.Causes.{server_cause};
+ghost use Rattle.std.specs.Prelude.{◌≡◌, ◌≢◌, IfOk, false, true};
 ghost use Rattle.cb_handle.specs.Objects.{CanFlush, Flushes, Forgets, IsLeft};
 ghost use Rattle.cb_handle.specs.Objects.{IsNextIncarnation, Leaves, MakesBatch, Servers};
 ghost use Rattle.cb_handle.specs.Objects.{ShowsPage};
@@ -14,8 +11,7 @@ use cb_handle::{Object, Refusal};
 use std::alloc::Global;
 
 fn zeros(alloc: Global, limits: &StoreLimits) -> Result<Box<Object>, Refusal>
-    ensures made { IfOk result (λ made. Servers (bounds_of limits.now) made.value) }
-    ensures why { Decides (server_cause (bounds_of limits.now)) memory result }
+    ensures { IfOk result (λ made. Servers (bounds_of limits.now) made.value) }
 {
     let limits = limits_of(limits)?;
     boxed(alloc, Object::server(alloc, &limits)?)
@@ -29,9 +25,6 @@ pub extern "C" fn rughvadi_server_new(alloc: Global, limits: &StoreLimits, h: &m
     ensures was_empty { result ≡ 0 → h.old.live ≡ false }
     ensures unchanged { result ≢ 0 → h.new.live ≡ h.old.live }
     ensures same { h.old.live ≡ true → h.new.held.value ≡ h.old.held.value }
-    ensures why { h.old.live ≡ false →
-        IsAnswer (server_cause (bounds_of limits.now)) memory result }
-    ensures full { h.old.live ≡ true → result ≡ 774 }
 {
     if h.live {
         return Refusal::Held.number();
@@ -73,8 +66,6 @@ pub extern "C" fn rughvadi_server_incarnation(
     ensures held { result ≡ 0 → h.old.live ≡ true }
     ensures done { result ≡ 0 → IsNextIncarnation h.old.held.value client incarnation.new }
     ensures same { h.old.live ≡ true → h.new.held.value ≡ h.old.held.value }
-    ensures why { h.old.live ≡ true → IsAnswer (incarnation_cause h.old.held.value client) never result }
-    ensures incarnation { result ≢ 0 → incarnation.new ≡ incarnation.old }
     ensures empty { h.old.live ≡ false → result ≡ 769 }
 {
     let Some(b) = h.take(alloc) else {
@@ -104,9 +95,6 @@ pub extern "C" fn rughvadi_server_batch(
     ensures held { result ≡ 0 → h.old.live ≡ true }
     ensures done { result ≡ 0 → MakesBatch h.old.held.value number.new pages.new h.new.held.value }
     ensures left { result ≢ 0 → h.old.live ≡ true → IsLeft h.old.held.value h.new.held.value }
-    ensures why { h.old.live ≡ true → IsAnswer (batch_cause h.old.held.value) memory result }
-    ensures number { result ≢ 0 → number.new ≡ number.old }
-    ensures pages { result ≢ 0 → pages.new ≡ pages.old }
     ensures empty { h.old.live ≡ false → result ≡ 769 }
 {
     let Some(mut b) = h.take(alloc) else {
@@ -134,10 +122,6 @@ pub extern "C" fn rughvadi_server_page(
     ensures held { result ≡ 0 → h.old.live ≡ true }
     ensures done { result ≡ 0 → ShowsPage h.old.held.value at room.new page.new version.new }
     ensures same { h.old.live ≡ true → h.new.held.value ≡ h.old.held.value }
-    ensures why { h.old.live ≡ true → IsAnswer
-        (page_cause h.old.held.value at (length room.old)) never result }
-    ensures page { result ≢ 0 → page.new ≡ page.old }
-    ensures version { result ≢ 0 → version.new ≡ version.old }
     ensures empty { h.old.live ≡ false → result ≡ 769 }
     ensures kept { result ≢ 0 → room.new ≡ room.old }
 {
@@ -159,7 +143,6 @@ pub extern "C" fn rughvadi_server_flushed(alloc: Global, h: &mut Handle, number:
     ensures held { result ≡ 0 → h.old.live ≡ true }
     ensures done { result ≡ 0 → Flushes h.old.held.value number h.new.held.value }
     ensures left { result ≢ 0 → h.old.live ≡ true → IsLeft h.old.held.value h.new.held.value }
-    ensures why { h.old.live ≡ true → IsAnswer (flushed_cause h.old.held.value number) memory result }
     ensures empty { h.old.live ≡ false → result ≡ 769 }
 {
     let Some(mut b) = h.take(alloc) else {
@@ -180,7 +163,6 @@ pub extern "C" fn rughvadi_server_forget(alloc: Global, h: &mut Handle, number: 
     ensures held { result ≡ 0 → h.old.live ≡ true }
     ensures done { result ≡ 0 → Forgets h.old.held.value number h.new.held.value }
     ensures left { result ≢ 0 → h.old.live ≡ true → IsLeft h.old.held.value h.new.held.value }
-    ensures why { h.old.live ≡ true → IsAnswer (forget_cause h.old.held.value number) never result }
     ensures empty { h.old.live ≡ false → result ≡ 769 }
 {
     let Some(mut b) = h.take(alloc) else {
@@ -201,7 +183,6 @@ pub extern "C" fn rughvadi_server_leave(alloc: Global, h: &mut Handle, client: u
     ensures held { result ≡ 0 → h.old.live ≡ true }
     ensures done { result ≡ 0 → Leaves h.old.held.value client h.new.held.value }
     ensures left { result ≢ 0 → h.old.live ≡ true → IsLeft h.old.held.value h.new.held.value }
-    ensures why { h.old.live ≡ true → IsAnswer (leave_cause h.old.held.value client) memory result }
     ensures empty { h.old.live ≡ false → result ≡ 769 }
 {
     let Some(mut b) = h.take(alloc) else {

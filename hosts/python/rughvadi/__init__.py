@@ -8,13 +8,10 @@
         page[0] += 1
         t[5] = page
 
-`connect` makes one to a store of a gateway.
-
 The shared object librughvadi.so is found where the variable RUGHVADI_LIBRARY names it, else beside
 this package, else as the system finds libraries.
 """
 
-from ._connect import Refused, connect, read_token
 from ._link import Link, Transaction
 from ._objects import Batch, BatchPage, Client, Ended, Frame, Server, Status, read_frame, version
 from ._library import (
@@ -45,12 +42,9 @@ __all__ = [
     "NoTransaction",
     "NotHere",
     "OutOfMemory",
-    "Refused",
     "Server",
     "Status",
     "Transaction",
-    "connect",
     "read_frame",
-    "read_token",
     "version",
 ]

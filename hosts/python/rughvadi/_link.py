@@ -17,39 +17,21 @@ TRIES = 30
 
 class Link:
     """A client over a connected stream socket. Where the socket has a time-out, what may be lost is
-    said again after each. Once the connection failed or was closed the client is gone: each later
-    call raises `Closed`, also of a page that it holds."""
+    said again after each."""
 
     def __init__(
-        self,
-        limits: Limits,
-        client: int,
-        incarnation: int,
-        connected: socket.socket,
-        owns: bool = False,
+        self, limits: Limits, client: int, incarnation: int, connected: socket.socket
     ) -> None:
-        """Greets the server, and waits until the client is welcome. The socket is closed with the
-        link, if it owns it."""
+        """Greets the server, and waits until the client is welcome."""
         self.client = Client(limits, client, incarnation)
         self._socket = connected
-        self._owns = owns
         self._came = b""
-        self._gone = False
         self.client.hello()
         self._wait_while(Status.NOT_WELCOME)
 
     def close(self) -> None:
-        """Lets the client go. The socket stays the caller's, unless the link owns it."""
-        self._gone = True
+        """Lets the client go. The socket stays the caller's."""
         self.client.close()
-        if self._owns:
-            self._socket.close()
-
-    def __enter__(self) -> Link:
-        return self
-
-    def __exit__(self, *_: object) -> None:
-        self.close()
 
     def transaction(self) -> Transaction:
         """A transaction, which begins as it is entered by `with`: it commits at the end of that,
@@ -69,32 +51,20 @@ class Link:
     def serve(self) -> bool:
         """Takes what the socket gives next: others wait for the pages that the client holds until
         it has answered. False where the socket's time-out passed first."""
-        self._check()
         self._send_said()
         return self._receive()
 
-    def _check(self) -> None:
-        if self._gone:
-            raise Closed("the server closed the connection")
-
     def _send_said(self) -> None:
         for frame in self.client.frames():
-            try:
-                self._socket.sendall(frame.data)
-            except OSError:
-                self._gone = True
-                raise
+            self._socket.sendall(frame.data)
 
     def _receive(self) -> bool:
         try:
             got = self._socket.recv(1 << 16)
         except (socket.timeout, BlockingIOError):
             return False
-        except OSError:
-            self._gone = True
-            raise
-        self._gone = not got
-        self._check()
+        if not got:
+            raise Closed("the server closed the connection")
         self._came += got
         while self._came:
             try:
@@ -120,7 +90,6 @@ class Link:
         """What the call answers, once it needs to wait for nothing."""
         while True:
             self._wait_while(Status.WAITING)
-            self._check()
             try:
                 answer = ask()
             except NoTransaction:
@@ -159,7 +128,6 @@ class Transaction:
         """The number of its commit, once it has committed."""
 
     def __enter__(self) -> Transaction:
-        self._link._check()
         self._link.client.begin()
         return self
 
@@ -171,7 +139,7 @@ class Transaction:
     ) -> None:
         if kind is None:
             self.number = self._link._commit()
-        elif not self._link._gone and self._link.client.status in (Status.OPEN, Status.WAITING):
+        elif self._link.client.status in (Status.OPEN, Status.WAITING):
             self._link.client.drop()
             self._link._send_said()
 

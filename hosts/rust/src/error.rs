@@ -1,5 +1,4 @@
 //! Why a call is refused.
-use crate::connect::Refusal;
 use crate::ffi;
 use std::{error, fmt, io};
 
@@ -49,8 +48,6 @@ pub enum Error {
     Aborted,
     /// The server closed the connection.
     Closed,
-    /// The gateway refused the greeting.
-    Refused(Refusal),
     /// The connection failed.
     Io(io::Error),
     /// A number that this version doesn't know.
@@ -111,7 +108,7 @@ impl Error {
             Error::Unfetched => 0x302,
             Error::Room => ROOM,
             Error::Range => 0x305,
-            Error::Aborted | Error::Closed | Error::Refused(_) | Error::Io(_) => return None,
+            Error::Aborted | Error::Closed | Error::Io(_) => return None,
         })
     }
 }
@@ -133,7 +130,6 @@ impl fmt::Display for Error {
         match self {
             Error::Aborted => f.write_str("the transaction was the victim of a deadlock"),
             Error::Closed => f.write_str("the server closed the connection"),
-            Error::Refused(refusal) => f.write_str(refusal.text()),
             Error::Io(error) => error.fmt(f),
             known => f.write_str(&text_of(known.number().unwrap_or(0))),
         }

@@ -2,8 +2,7 @@
 //! the proved library of Rughvadi, for Rust.
 //!
 //! [`Server`] and [`Client`] do no input or output: frames are handed in ([`Client::take`]) and
-//! fetched ([`Client::next_frame`]). [`Link`] is a client over a stream, for programs that may block;
-//! [`Link::connect`] makes one to a store of a gateway.
+//! fetched ([`Client::next_frame`]). [`Link`] is a client over a stream, for programs that may block.
 //!
 //! Each may move to another thread, with all that it holds, and is used by one thread at a time:
 //!
@@ -21,7 +20,6 @@
 //! may_be_shared::<rughvadi::Client>();
 //! ```
 mod client;
-mod connect;
 mod error;
 mod ffi;
 mod link;
@@ -29,7 +27,6 @@ mod object;
 mod server;
 
 pub use client::{Client, Ended, Status};
-pub use connect::{read_token, Refusal, Stream, Token};
 pub use error::{Error, Result};
 pub use link::{Link, Transaction};
 pub use server::{Batch, BatchPage, Server};

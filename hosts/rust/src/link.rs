@@ -8,12 +8,10 @@ use std::io::{ErrorKind, Read, Write};
 const TRIES: u32 = 30;
 
 /// A client over a connected stream. Where the stream has a time-out for reads, what may be lost is
-/// said again after each. Once the stream failed or ended the client is gone: each later call answers
-/// [`Error::Closed`], also of a page that it holds.
+/// said again after each.
 pub struct Link<S> {
     client: Client,
     stream: S,
-    gone: bool,
     /// What came and isn't taken yet.
     came: Vec<u8>,
 }
@@ -24,7 +22,6 @@ impl<S: Read + Write> Link<S> {
         let mut link = Link {
             client: Client::new(limits, client, incarnation)?,
             stream,
-            gone: false,
             came: Vec::new(),
         };
         link.client.hello()?;
@@ -44,7 +41,6 @@ impl<S: Read + Write> Link<S> {
 
     /// Begins a transaction, which is dropped where it isn't committed.
     pub fn transaction(&mut self) -> Result<Transaction<'_, S>> {
-        self.check()?;
         self.client.begin()?;
         Ok(Transaction { link: self })
     }
@@ -71,46 +67,29 @@ impl<S: Read + Write> Link<S> {
     /// Takes what the stream gives next: others wait for the pages that the client holds until it
     /// has answered. `false` where the stream's time-out for reads passed first.
     pub fn serve(&mut self) -> Result<bool> {
-        self.check()?;
         self.send_said()?;
         self.receive()
     }
 
-    fn check(&self) -> Result<()> {
-        if self.gone {
-            return Err(Error::Closed);
-        }
-        Ok(())
-    }
-
-    /// What the stream answered: after a fault of its own it is of no use.
-    fn streamed<T>(&mut self, answer: std::io::Result<T>) -> Result<T> {
-        self.gone |= answer.is_err();
-        Ok(answer?)
-    }
-
     fn send_said(&mut self) -> Result<()> {
         while let Some(frame) = self.client.next_frame()? {
-            let sent = self.stream.write_all(&frame);
-            self.streamed(sent)?;
+            self.stream.write_all(&frame)?;
         }
-        let flushed = self.stream.flush();
-        self.streamed(flushed)
+        Ok(self.stream.flush()?)
     }
 
     /// Receives once, and takes each whole frame; `false` where nothing came in time.
     fn receive(&mut self) -> Result<bool> {
         let mut room = [0u8; 65536];
         let got = match self.stream.read(&mut room) {
+            Ok(0) => return Err(Error::Closed),
             Ok(got) => got,
             Err(error) => match error.kind() {
                 ErrorKind::WouldBlock | ErrorKind::TimedOut => return Ok(false),
                 ErrorKind::Interrupted => return Ok(true),
-                _ => return self.streamed(Err(error)),
+                _ => return Err(Error::Io(error)),
             },
         };
-        self.gone = got == 0;
-        self.check()?;
         self.came.extend_from_slice(&room[..got]);
         let mut at = 0;
         while at < self.came.len() {
@@ -153,7 +132,6 @@ impl<S: Read + Write> Link<S> {
     fn fetch(&mut self, page: u32, room: &mut [u8]) -> Result<()> {
         loop {
             self.wait_while(Status::Waiting)?;
-            self.check()?;
             match self.client.read(page, room) {
                 Ok(true) => return Ok(()),
                 Ok(false) => {}
@@ -165,7 +143,6 @@ impl<S: Read + Write> Link<S> {
     fn want(&mut self, page: u32) -> Result<()> {
         loop {
             self.wait_while(Status::Waiting)?;
-            self.check()?;
             match self.client.want(page) {
                 Ok(true) => return Ok(()),
                 Ok(false) => {}
@@ -179,7 +156,6 @@ impl<S: Read + Write> Link<S> {
     }
 
     fn commit(&mut self) -> Result<u64> {
-        self.check()?;
         if let Err(error) = self.client.finish() {
             return Err(self.aborted_or(error));
         }
@@ -237,8 +213,7 @@ impl<'l, S: Read + Write> Transaction<'l, S> {
 
 impl<S: Read + Write> Drop for Transaction<'_, S> {
     fn drop(&mut self) {
-        if !self.link.gone
-            && matches!(self.link.client.status(), Status::Open | Status::Waiting)
+        if matches!(self.link.client.status(), Status::Open | Status::Waiting)
             && self.link.client.drop_transaction().is_ok()
         {
             // Where the stream fails, the next call says so.

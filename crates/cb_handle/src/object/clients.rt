@@ -1,8 +1,5 @@
 //! The calls of a client.
-ghost use Rattle.std.specs.Prelude.{◌≡◌, IfOk, None, OnErr, length};
-ghost use Rattle.cb_handle.specs.Causes.{Decides, begin_cause, drop_cause, finish_cause, finish_may};
-ghost use Rattle.cb_handle.specs.Causes.{hello_cause, memory, never, peek_cause, read_cause};
-ghost use Rattle.cb_handle.specs.Causes.{unknown_client, want_cause, write_cause};
+ghost use Rattle.std.specs.Prelude.{◌≡◌, IfOk, OnErr};
 ghost use Rattle.cb_handle.specs.Objects.{Begins, Clients, Drops, Finishes, Greets, IsLeft, Peeks};
 ghost use Rattle.cb_handle.specs.Objects.{Reads, ShowsOutcome, ShowsPermission, ShowsStatus};
 ghost use Rattle.cb_handle.specs.Objects.{Wants, Writes};
@@ -21,8 +18,7 @@ impl Object {
         incarnation: u64,
         limits: &Limits,
     ) -> Result<Object, Refusal>
-        ensures client { IfOk result (Clients no incarnation limits.now) }
-        ensures why { Decides (unknown_client limits.now no incarnation) memory result }
+        ensures { IfOk result (Clients no incarnation limits.now) }
     {
         Ok(Object::Client(PolledClient::new(alloc, no, incarnation, limits)?))
     }
@@ -30,7 +26,6 @@ impl Object {
     /// Greets the server.
     pub fn hello(&mut self) -> Result<(), Refusal>
         ensures ok { IfOk result (λ _. Greets self.old self.new) }
-        ensures why { Decides (hello_cause self.old) never result }
         ensures err { OnErr result (IsLeft self.old self.new) }
     {
         match self {
@@ -42,8 +37,6 @@ impl Object {
     /// Begins a transaction; its number.
     pub fn begin(&mut self, txn: &mut u64) -> Result<(), Refusal>
         ensures ok { IfOk result (λ _. Begins self.old txn.new self.new) }
-        ensures why { Decides (begin_cause self.old) never result }
-        ensures txn { OnErr result (txn.new ≡ txn.old) }
         ensures err { OnErr result (IsLeft self.old self.new) }
     {
         match self {
@@ -57,15 +50,13 @@ impl Object {
 
     /// Reads a page: its bytes are in the room where `here` is true, else it is asked for.
     pub fn read(&mut self, page: u32, room: &mut [u8], here: &mut bool) -> Result<(), Refusal>
-        ensures ok { IfOk result (λ _. Reads self.old page room.old room.new here.new self.new) }
-        ensures why { Decides (read_cause self.old page (length room.old)) never result }
-        ensures here { OnErr result (here.new ≡ here.old) }
+        ensures ok { IfOk result (λ _. Reads self.old page room.new here.new self.new) }
         ensures err { OnErr result (IsLeft self.old self.new) }
         ensures kept { OnErr result (room.new ≡ room.old) }
     {
+        let page = page_of(page)?;
         match self {
             Object::Client(polled) => {
-                let page = page_of(page)?;
                 *here = polled.read(page, room)?;
                 Ok(())
             }
@@ -76,13 +67,11 @@ impl Object {
     /// Wants to write a page: it may at once where `may` is true, else that is asked for.
     pub fn want(&mut self, page: u32, may: &mut bool) -> Result<(), Refusal>
         ensures ok { IfOk result (λ _. Wants self.old page may.new self.new) }
-        ensures why { Decides (want_cause self.old page) never result }
-        ensures may { OnErr result (may.new ≡ may.old) }
         ensures err { OnErr result (IsLeft self.old self.new) }
     {
+        let page = page_of(page)?;
         match self {
             Object::Client(polled) => {
-                let page = page_of(page)?;
                 *may = polled.want(page)?;
                 Ok(())
             }
@@ -93,11 +82,11 @@ impl Object {
     /// Writes a page.
     pub fn write(&mut self, page: u32, bytes: &[u8]) -> Result<(), Refusal>
         ensures ok { IfOk result (λ _. Writes self.old page bytes.now self.new) }
-        ensures why { Decides (write_cause self.old page bytes.now) never result }
         ensures err { OnErr result (IsLeft self.old self.new) }
     {
+        let page = page_of(page)?;
         match self {
-            Object::Client(polled) => polled.write(page_of(page)?, bytes),
+            Object::Client(polled) => polled.write(page, bytes),
             _ => Err(Refusal::OtherKind),
         }
     }
@@ -105,7 +94,6 @@ impl Object {
     /// Commits the transaction.
     pub fn finish(&mut self, alloc: Global) -> Result<(), Refusal>
         ensures ok { IfOk result (λ _. Finishes self.old self.new) }
-        ensures why { Decides (finish_cause self.old) (finish_may self.old) result }
         ensures err { OnErr result (IsLeft self.old self.new) }
     {
         match self {
@@ -117,7 +105,6 @@ impl Object {
     /// Ends the transaction without a commit.
     pub fn drop_txn(&mut self, alloc: Global) -> Result<(), Refusal>
         ensures ok { IfOk result (λ _. Drops self.old self.new) }
-        ensures why { Decides (drop_cause self.old) memory result }
         ensures err { OnErr result (IsLeft self.old self.new) }
     {
         match self {
@@ -150,11 +137,11 @@ impl Object {
     /// The bytes of the client's copy of a page, which is no reference to it.
     pub fn peek(&self, page: u32, room: &mut [u8]) -> Result<(), Refusal>
         ensures ok { IfOk result (λ _. Peeks self.now page room.new) }
-        ensures why { Decides (peek_cause self.now page (length room.old)) never result }
         ensures kept { OnErr result (room.new ≡ room.old) }
     {
+        let page = page_of(page)?;
         match self {
-            Object::Client(polled) => polled.peek(page_of(page)?, room),
+            Object::Client(polled) => polled.peek(page, room),
             _ => Err(Refusal::OtherKind),
         }
     }

@@ -1,9 +1,5 @@
 //! The calls of a server, and of the rows that it opens over.
-ghost use Rattle.std.specs.Prelude.{◌≡◌, ◌⊎◌, Err, IfOk, None, OnErr, length, nat_lt};
-ghost use Rattle.cb_page.specs.Numbers.{max_number};
-ghost use Rattle.cb_handle.specs.Causes.{Decides, batch_cause, flushed_cause, forget_cause};
-ghost use Rattle.cb_handle.specs.Causes.{incarnation_cause, leave_cause, memory, never, page_cause};
-ghost use Rattle.cb_handle.specs.Causes.{refused_if, row_cause, serve_cause};
+ghost use Rattle.std.specs.Prelude.{◌≡◌, ◌⊎◌, Err, IfOk, OnErr};
 ghost use Rattle.cb_handle.specs.Objects.{AddsRow, CanFlush, Flushes, Forgets, IsLeft};
 ghost use Rattle.cb_handle.specs.Objects.{IsNextIncarnation, Leaves, MakesBatch, Opens, Servers};
 ghost use Rattle.cb_handle.specs.Objects.{Serves, ShowsPage};
@@ -21,16 +17,14 @@ use std::mem::replace;
 impl Object {
     /// A server over a store of zeros.
     pub fn server(alloc: Global, limits: &Limits) -> Result<Object, Refusal>
-        ensures server { IfOk result (Servers limits.now) }
-        ensures why { Decides None memory result }
+        ensures { IfOk result (Servers limits.now) }
     {
         Ok(Object::Server(PolledServer::zeros(alloc, limits)?))
     }
 
     /// No rows yet, of a store whose last commit has this number.
     pub fn opening(alloc: Global, limits: &Limits, number: u64) -> Result<Object, Refusal>
-        ensures rows { IfOk result (Opens limits.now number) }
-        ensures why { Decides (refused_if (nat_lt max_number number) refusal.Range) never result }
+        ensures { IfOk result (Opens limits.now number) }
     {
         Ok(Object::Opening(Opening::new(alloc, limits, number)?))
     }
@@ -38,7 +32,6 @@ impl Object {
     /// The row of the next page.
     pub fn row(&mut self, alloc: Global, version: u64, bytes: &[u8]) -> Result<(), Refusal>
         ensures ok { IfOk result (λ _. AddsRow self.old version bytes.now self.new) }
-        ensures why { Decides (row_cause self.old version (length bytes.now)) memory result }
         ensures err { OnErr result (IsLeft self.old self.new) }
     {
         match self {
@@ -51,7 +44,6 @@ impl Object {
     /// memory was refused the rows are gone, and there is nothing in their place.
     pub fn serve(&mut self, alloc: Global) -> Result<(), Refusal>
         ensures ok { IfOk result (λ _. Serves self.old self.new) }
-        ensures why { Decides (serve_cause self.old) memory result }
         ensures err { OnErr result ((result ≡ Err refusal.Memory) ⊎ (self.new ≡ self.old)) }
         ensures gone { result ≡ Err refusal.Memory → self.new ≡ object.Nothing }
     {
@@ -84,9 +76,6 @@ impl Object {
         pages: &mut usize,
     ) -> Result<(), Refusal>
         ensures ok { IfOk result (λ _. MakesBatch self.old number.new pages.new self.new) }
-        ensures why { Decides (batch_cause self.old) memory result }
-        ensures number { OnErr result (number.new ≡ number.old) }
-        ensures pages { OnErr result (pages.new ≡ pages.old) }
         ensures err { OnErr result (IsLeft self.old self.new) }
     {
         match self {
@@ -110,9 +99,6 @@ impl Object {
     ) -> Result<(), Refusal>
         ensures ok { IfOk result (λ _.
             ShowsPage self.now at room.new page.new version.new) }
-        ensures why { Decides (page_cause self.now at (length room.old)) never result }
-        ensures page { OnErr result (page.new ≡ page.old) }
-        ensures version { OnErr result (version.new ≡ version.old) }
         ensures kept { OnErr result (room.new ≡ room.old) }
     {
         match self {
@@ -139,7 +125,6 @@ impl Object {
     /// The commits up to this number are on disk now.
     pub fn flushed(&mut self, alloc: Global, number: u64) -> Result<(), Refusal>
         ensures ok { IfOk result (λ _. Flushes self.old number self.new) }
-        ensures why { Decides (flushed_cause self.old number) memory result }
         ensures err { OnErr result (IsLeft self.old self.new) }
     {
         match self {
@@ -151,7 +136,6 @@ impl Object {
     /// The commits up to this number, which is on disk, leave memory.
     pub fn forget(&mut self, number: u64) -> Result<(), Refusal>
         ensures ok { IfOk result (λ _. Forgets self.old number self.new) }
-        ensures why { Decides (forget_cause self.old number) never result }
         ensures err { OnErr result (IsLeft self.old self.new) }
     {
         match self {
@@ -163,7 +147,6 @@ impl Object {
     /// A client went away: at the server its next incarnation begins, which nobody is.
     pub fn leave(&mut self, alloc: Global, client: u32) -> Result<(), Refusal>
         ensures ok { IfOk result (λ _. Leaves self.old client self.new) }
-        ensures why { Decides (leave_cause self.old client) memory result }
         ensures err { OnErr result (IsLeft self.old self.new) }
     {
         match self {
@@ -174,9 +157,8 @@ impl Object {
 
     /// The incarnation that the client may greet with next.
     pub fn next_incarnation(&self, client: u32) -> Result<u64, Refusal>
-        ensures next { IfOk result (λ incarnation.
+        ensures { IfOk result (λ incarnation.
             IsNextIncarnation self.now client incarnation) }
-        ensures why { Decides (incarnation_cause self.now client) never result }
     {
         match self {
             Object::Server(polled) => {

@@ -2,7 +2,7 @@
 ghost use Rattle.std.specs.Prelude.{◌≡◌, ◌==◌, ◌+◌, ◌<◌, ◌||◌, ℕ, true, false, MatchBool};
 ghost use Rattle.cb_admission.specs.Windows.{IsNew};
 ghost use Rattle.cb_page.specs.Clients.{has};
-ghost use Rattle.cb_station.specs.Flags.{AreFlags, is_cut_off, is_over, may_begin};
+ghost use Rattle.cb_station.specs.Flags.{AreFlags, is_over, may_begin};
 ghost use Rattle.cb_station.specs.Telling.{after_work, closed, halted, untold_in};
 
 use crate::station::Station;
@@ -134,14 +134,6 @@ impl Station {
         ensures { self.new ≡ record self.old { flags = record self.old.flags { news = false } } }
     {
         self.flags.news = false;
-    }
-
-    /// Whether calls of `work` may have left jobs undone: the station is halted, or such calls are
-    /// still to end that it is for.
-    pub fn is_cut_off(&self) -> bool
-        ensures { result ≡ is_cut_off self.now.flags }
-    {
-        self.flags.halted || self.flags.left > 0
     }
 
     /// Whether no call of `work` begins any more.

@@ -5,6 +5,7 @@ use Rattle.cb_client.specs.declared.answers.ReadAnswer.TheVariants as read
 use Rattle.cb_worker.proofs.Asking.{asks_for, says_it}
 use Rattle.cb_worker.proofs.Reading.{at_hand}
 use Rattle.cb_worker.proofs.Refusing.{lacks_grant}
+use Rattle.cb_worker.proofs.Staying.{read_still}
 use Rattle.cb_worker.specs.Workers.{WorkerState, shows_copy}
 use Rattle.cb_worker.proofs.worker.Worker.read_or_ask.Goals as goal
 
