@@ -50,8 +50,6 @@ fn read(
     ensures kept { OnErr result (head.new ≡ head.old) }
 {
     let limits = limits_of(limits)?;
-    // In range by their type: `page_size` says so.
-    let _known = limits.page_size();
     match decode(alloc, &limits, bytes) {
         Ok((frame, used)) => {
             *head = head_of(&frame, used);

@@ -83,6 +83,7 @@ pub extern "C" fn rughvadi_open_serve(alloc: Global, h: &mut Handle) -> u32
     ensures live { result ≡ 0 → h.new.live ≡ true }
     ensures left { result ≢ 0 → h.new.live ≡ true → h.new.held.value ≡ h.old.held.value }
     ensures gone { h.old.live ≡ true → h.new.live ≡ false → result ≡ 13 }
+    ensures lost { result ≡ 13 → h.new.live ≡ false }
     ensures why { h.old.live ≡ true → IsAnswer (serve_cause h.old.held.value) memory result }
     ensures empty { h.old.live ≡ false → result ≡ 769 }
     ensures stays_empty { h.old.live ≡ false → h.new.live ≡ false }
