@@ -1,1 +1,2 @@
+mod Services
 mod Told

@@ -1,6 +1,7 @@
 //! A server of frames over a store in a file.
 ghost use Rattle.std.specs.Prelude.{IfOk};
 ghost use Rattle.cb_play.specs.Endings.{IsAnswered};
+ghost use Rattle.cb_play.specs.Services.{IsService, ServesDatabase};
 
 use cb_console::{Config, RunFault, print_refusal, read_config};
 use cb_serve::{RoundFault, Served, print_served, serve};
@@ -24,7 +25,10 @@ pub(crate) fn serve_store<I: Read, O: Write, E: Write>(
     out: &mut O,
     err: &mut E,
 ) -> io::Result<u8>
-    ensures { IfOk result IsAnswered }
+    ensures status { IfOk result IsAnswered }
+    ensures service { IfOk result (λ status. IsService config.now status
+        (I.remaining input.old) (I.remaining input.new)
+        (O.contents out.old) (O.contents out.new) (E.contents err.old) (E.contents err.new)) }
 {
     match read_config(rt.alloc(), config) {
         Ok(config) => print_served(serve_file(rt, &config, store, input, out), err),
@@ -57,7 +61,11 @@ fn serve_over<S: Alter, I: Read, O: Write>(
     conn: Connection<S>,
     input: &mut I,
     out: &mut O,
-) -> (Served, Connection<S>) {
+) -> (Served, Connection<S>)
+    ensures { ServesDatabase S.Store config.now.limits result.0.ending conn result.1
+        (I.remaining input.old) (I.remaining input.new)
+        (O.contents out.old) (O.contents out.new) }
+{
     match Shelf::open(alloc, conn, &config.limits) {
         Ok(mut shelf) => {
             let served = serve(alloc, &config.limits, &mut shelf, input, out);

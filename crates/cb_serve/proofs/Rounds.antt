@@ -1,5 +1,5 @@
 -- Rounds, one after another.
-use Rattle.std.proofs.Common.{◌≡◌, ◌∙◌, ◌≢◌, ◌⊎◌, inl, inr, ℕ, List, [], ◌∷◌, ◌++◌, Option, None, Result, Ok, Err, IfErr, OnOk, option_map, refl, sym, ap, subst, take, drop, length}
+use Rattle.std.proofs.Common.{◌≡◌, ◌∙◌, ◌≢◌, ◌⊎◌, inl, inr, ℕ, List, [], ◌∷◌, ◌++◌, Bool, true, false, Option, Some, None, IfSome, Result, Ok, Err, IfErr, OnOk, option_map, refl, sym, ap, subst, take, drop, length}
 use Rattle.std.proofs.KnownBytes.{Appends-nil, Appends-trans, Consumes-nil, Consumes-trans}
 use Rattle.std.proofs.Math.Seq.{take-length}
 use Rattle.std.proofs.lemmas.Grind.{flat_map-append}
@@ -22,8 +22,9 @@ use Rattle.cb_serve.proofs.Writing.{survives_still}
 use Rattle.cb_serve.specs.Answering.{Spells, after_inputs, inputs_in, said_to}
 use Rattle.cb_serve.specs.Parts.{Answered, Commits, DoesRound, EndsRound, StopsAnswering, StopsCommit, StopsRound, standing}
 use Rattle.cb_serve.specs.Rounds.{IsRound, Round, SaysDones, Standing, Writes, WritesOrNot, counted_on, reached}
-use Rattle.cb_serve.specs.Serving.{AreRounds, Ends, IsStopped, Serves, ServesStore, opened, put_in, read_in}
-use Rattle.cb_serve.specs.Streams.{IsNoFrame, IsPart, IsPiece, bytes_of, count_passed}
+use Rattle.cb_serve.specs.Serving.{AreRounds, Ends, IsStopped, PutsSome, Serves, ServesStore, opened, put_in, read_in}
+use Rattle.cb_serve.specs.Steps.{TakesAll}
+use Rattle.cb_serve.specs.Streams.{IsNoFrame, IsPart, IsPiece, IsRest, bytes_of, count_passed}
 use Rattle.cb_serve.specs.declared.fault.RoundFault.{RoundFault}
 use Rattle.cb_serve.specs.declared.fault.ServeFault.{ServeFault}
 use Rattle.cb_serve.specs.declared.fault.ServeFault.TheVariants as fault
@@ -33,8 +34,36 @@ use Rattle.cb_serve.specs.declared.round.RoundEnd.TheVariants as end
 use Rattle.cb_serve.specs.declared.taking.Taken.{Taken}
 
 -- nothing was taken or put out
-pub stops_at_once : (server : ServerValue) (out : Option (List ℕ)) → StopsAnswering server out out
-stops_at_once server out = record { pieces = []; answers = []; says = spells_nothing server.limits; count = 0; puts = Appends-nil out }
+pub stops_at_once : (server : ServerValue) (bytes : List ℕ) (out : Option (List ℕ)) → StopsAnswering server bytes out out
+stops_at_once server bytes out = record {
+  pieces = [];
+  rest = bytes;
+  answers = [];
+  are = tt;
+  cut = refl;
+  says = spells_nothing server.limits;
+  count = 0;
+  puts = Appends-nil out;
+}
+
+-- all whole pieces were taken, and a front of what is said to them was put out
+pub stops_at_answers : (old new : ServerValue) (bytes said after : List ℕ) (taken : Taken) (n : ℕ) (out out2 : Option (List ℕ)) → said ≡ []
+    → TakesAll old bytes said taken after new → Appends out out2 (take n after) → StopsAnswering old bytes out out2
+stops_at_answers old new bytes said after taken n out out2 empty t puts = record {
+  pieces = t.pieces;
+  rest = drop taken.used bytes;
+  answers = t.more;
+  are = t.takes.are;
+  cut = sym (take-append-drop taken.used bytes) ∙ ap (λ (k : List ℕ). k ++ drop taken.used bytes) t.takes.cut;
+  says = t.takes.answers.says;
+  count = n;
+  puts = subst (λ (k : List ℕ). Appends out out2 (take n k)) (t.said ∙ ap (λ (k : List ℕ). k ++ t.more) empty) puts;
+}
+
+-- what is left behind the pieces is none
+rest_at : (limits : Bounds) (bytes : List ℕ) (ends : Bool) → (ends ≡ false → IsPart limits bytes) → (ends ≡ true → IsNoFrame limits bytes) → IsRest limits bytes
+rest_at limits bytes false part no_frame = inl (part refl)
+rest_at limits bytes true part no_frame = inr (no_frame refl)
 
 module _ {S : Type 0} (g : Ghosts S) where
   -- the parts of a round are a round
@@ -53,6 +82,7 @@ module _ {S : Type 0} (g : Ghosts S) where
           are = subst (λ (l : Bounds). AllByRecursion (IsPiece l) a.pieces) same a.takes.are;
           cut = sym reads ∙ sym (take-append-drop taken.used read_desk.pending.items) ∙ ap (λ (k : List ℕ). k ++ drop taken.used read_desk.pending.items) a.takes.cut
               ∙ ap (λ (k : List ℕ). flat_map bytes_of a.pieces ++ k) (sym a.rest);
+          rest = subst (λ (l : Bounds). IsRest l after.pending.items) same (rest_at old.limits after.pending.items taken.ends a.part a.no_frame);
           passed = subst (λ (n : ℕ). after.passed_over ≡ counted_on n (count_passed a.pieces)) counts a.passed;
           answers = subst (λ (l : Bounds). Spells l (said_to (server_of old) (inputs_in a.pieces)) a.answers) same a.takes.answers.says;
           batch = subst (λ (s : Server). next_batch s ≡ option_map batch_of c.batch) is c.next;
@@ -80,50 +110,60 @@ module _ {S : Type 0} (g : Ghosts S) where
       )
 
   -- nothing more was done
-  pub stopped_still : (limits : Bounds) (old : Standing S) → IsStopped g limits [] old old.tables
-  stopped_still limits old = record {
+  pub stopped_still : (limits : Bounds) (old : Standing S) (read : List ℕ) → IsPart limits old.waiting → IsStopped g limits read [] old old.tables
+  stopped_still limits old read begins = record {
+    begins = begins;
     pieces = [];
+    rest = old.waiting ++ read;
+    are = tt;
+    cut = refl;
+    next = tt;
     batch = None;
     answers = [];
     dones = [];
     written = refl;
     crash = survives_still g old.tables _;
     says = spells_nothing limits;
-    put_out = inl (0, refl);
+    put_out = inl (0, refl, refl);
   }
 
   -- a read failed
   pub stops_reading : (limits : Bounds) (old : Standing S) (read : List ℕ) (in1 in2 out : Option (List ℕ)) → Consumes in1 in2 read
       → StopsRound g limits old old.tables in1 in2 out out
   stops_reading limits old read in1 in2 out consumes =
-      record { read = read; reads = consumes; put = []; puts = Appends-nil out; stopped = stopped_still limits old }
+      record { read = read; reads = consumes; put = []; puts = Appends-nil out; stopped = stopped_still limits old read }
 
   -- some answers were put out
-  pub stops_answering : (limits : Bounds) (old : ServerValue) (desk : Desk) (tables : Held S) (read : List ℕ) (in1 in2 out1 out2 : Option (List ℕ)) → old.limits ≡ limits
-      → Consumes in1 in2 read → StopsAnswering old out1 out2 → StopsRound g limits (standing g old desk tables) tables in1 in2 out1 out2
-  stops_answering limits old desk tables read in1 in2 out1 out2 same consumes a = record {
+  pub stops_answering : (limits : Bounds) (old : ServerValue) (desk : Desk) (tables : Held S) (read bytes : List ℕ) (in1 in2 out1 out2 : Option (List ℕ)) → old.limits ≡ limits
+      → bytes ≡ desk.pending.items ++ read → Consumes in1 in2 read → StopsAnswering old bytes out1 out2 → StopsRound g limits (standing g old desk tables) tables in1 in2 out1 out2
+  stops_answering limits old desk tables read bytes in1 in2 out1 out2 same reads consumes a = record {
     read = read;
     reads = consumes;
     put = take a.count a.answers;
     puts = a.puts;
-    stopped = record {
+    stopped = λ begins. record {
+      begins = begins;
       pieces = a.pieces;
+      rest = a.rest;
+      are = subst (λ (l : Bounds). AllByRecursion (IsPiece l) a.pieces) same a.are;
+      cut = sym reads ∙ a.cut;
+      next = tt;
       batch = None;
       answers = a.answers;
       dones = [];
       written = refl;
       crash = survives_still g tables _;
       says = subst (λ (l : Bounds). Spells l (said_to (server_of old) (inputs_in a.pieces)) a.answers) same a.says;
-      put_out = inl (a.count, refl);
+      put_out = inl (a.count, refl, refl);
     };
   }
 
   -- the answers were put out, and some of the Dones, or none
   pub stops_committing : (limits : Bounds) (old mid : ServerValue) (desk read_desk after : Desk) (tables later : Held S) (read : List ℕ) (taken : Taken)
-      (in1 in2 out1 out2 out3 : Option (List ℕ)) → old.limits ≡ limits → Consumes in1 in2 read
+      (in1 in2 out1 out2 out3 : Option (List ℕ)) → old.limits ≡ limits → read_desk.pending.items ≡ desk.pending.items ++ read → Consumes in1 in2 read
       → Answered old read_desk after taken mid out1 out2 → StopsCommit g mid tables later out2 out3
       → StopsRound g limits (standing g old desk tables) later in1 in2 out1 out3
-  stops_committing limits old mid desk read_desk after tables later read taken in1 in2 out1 out2 out3 same consumes a c =
+  stops_committing limits old mid desk read_desk after tables later read taken in1 in2 out1 out2 out3 same reads consumes a c =
       let is : server_of mid ≡ after_inputs (server_of old) (inputs_in a.pieces) = a.takes.answers.becomes in
       let kept : mid.limits ≡ limits = a.takes.answers.limits ∙ same in
       record {
@@ -131,8 +171,13 @@ module _ {S : Type 0} (g : Ghosts S) where
         reads = consumes;
         put = a.answers ++ c.put;
         puts = Appends-trans out1 out2 out3 a.answers c.put a.puts c.puts;
-        stopped = record {
+        stopped = λ begins. record {
+          begins = begins;
           pieces = a.pieces;
+          rest = drop taken.used read_desk.pending.items;
+          are = subst (λ (l : Bounds). AllByRecursion (IsPiece l) a.pieces) same a.takes.are;
+          cut = sym reads ∙ sym (take-append-drop taken.used read_desk.pending.items) ∙ ap (λ (k : List ℕ). k ++ drop taken.used read_desk.pending.items) a.takes.cut;
+          next = subst (λ (s : Server). IfSome c.batch (λ b. next_batch s ≡ Some (batch_of b))) is c.next;
           batch = c.batch;
           answers = a.answers;
           dones = c.dones;
@@ -145,21 +190,21 @@ module _ {S : Type 0} (g : Ghosts S) where
     where
       how : server_of mid ≡ after_inputs (server_of old) (inputs_in a.pieces) → mid.limits ≡ limits
           → ((c.put ≡ []) ⊎ ((n : ℕ) × (c.put ≡ take n c.dones) × SaysDones mid.limits (server_of mid) c.batch c.dones × Writes g mid.limits c.batch tables later))
-          → (((n : ℕ) × (a.answers ++ c.put ≡ take n a.answers)) ⊎ ((n : ℕ) × (a.answers ++ c.put ≡ a.answers ++ take n c.dones)
-          × SaysDones limits (after_inputs (server_of old) (inputs_in a.pieces)) c.batch c.dones × Writes g limits c.batch tables later))
-      how is kept (inl e) = inl (length a.answers, ap (λ (k : List ℕ). a.answers ++ k) e ∙ append-nil a.answers ∙ sym (take-length a.answers))
-      how is kept (inr w) = inr (
+          → PutsSome g limits (a.answers ++ c.put) a.answers c.dones c.batch (after_inputs (server_of old) (inputs_in a.pieces)) tables later
+      how is kept (inl e) = inr (inl (ap (λ (k : List ℕ). a.answers ++ k) e ∙ append-nil a.answers))
+      how is kept (inr w) = inr (inr (
         w.0,
         ap (λ (k : List ℕ). a.answers ++ k) w.1,
         subst (λ (s : Server). SaysDones limits s c.batch c.dones) is (subst (λ (l : Bounds). SaysDones l (server_of mid) c.batch c.dones) kept w.2),
         subst (λ (l : Bounds). Writes g l c.batch tables later) kept w.3,
-      )
+      ))
 
   -- one round more
-  rounds_more : (limits : Bounds) (rounds : List Round) (round : Round) (a b c : Standing S) → AreRounds g limits rounds a b → IsRound g limits round b c
+  rounds_more : (limits : Bounds) (rounds : List Round) (round : Round) (a b c : Standing S) → AreRounds g limits rounds a b → IsPart limits b.waiting → IsRound g limits round b c
       → AreRounds g limits (rounds ++ round ∷ []) a c
-  rounds_more limits [] round a b c are is = (c, subst (λ (s : Standing S). IsRound g limits round s c) are is, refl)
-  rounds_more limits (first ∷ rounds) round a b c are is = (are.0, are.1, rounds_more limits rounds round are.0 b c are.2 is)
+  rounds_more limits [] round a b c are part is =
+      (subst (λ (s : Standing S). IsPart limits s.waiting) are part, c, subst (λ (s : Standing S). IsRound g limits round s c) are is, refl)
+  rounds_more limits (first ∷ rounds) round a b c are part is = (are.0, are.1, are.2, rounds_more limits rounds round are.1 b c are.3 part is)
 
   -- How far a loop over rounds has come.
   pub record Far (limits : Bounds) (start now : Standing S) (in0 in1 out0 out1 : Option (List ℕ)) : Type 0 where
@@ -171,11 +216,11 @@ module _ {S : Type 0} (g : Ghosts S) where
   pub far_nothing : (limits : Bounds) (start : Standing S) (in0 out0 : Option (List ℕ)) → Far limits start start in0 in0 out0 out0
   far_nothing limits start in0 out0 = record { rounds = []; are = refl; reads = Consumes-nil in0; puts = Appends-nil out0 }
 
-  pub far_more : (limits : Bounds) (start now next : Standing S) (in0 in1 in2 out0 out1 out2 : Option (List ℕ)) → Far limits start now in0 in1 out0 out1
+  pub far_more : (limits : Bounds) (start now next : Standing S) (in0 in1 in2 out0 out1 out2 : Option (List ℕ)) → IsPart limits now.waiting → Far limits start now in0 in1 out0 out1
       → DoesRound g limits now next in1 in2 out1 out2 → Far limits start next in0 in2 out0 out2
-  far_more limits start now next in0 in1 in2 out0 out1 out2 far d = record {
+  far_more limits start now next in0 in1 in2 out0 out1 out2 part far d = record {
     rounds = far.rounds ++ d.round ∷ [];
-    are = rounds_more limits far.rounds d.round start now next far.are d.is;
+    are = rounds_more limits far.rounds d.round start now next far.are part d.is;
     reads = subst (λ (k : List ℕ). Consumes in0 in2 k) (sym (flat_map-append (λ (r : Round). r.read) far.rounds (d.round ∷ []) ∙ ap (λ (k : List ℕ). read_in far.rounds ++ k) (append-nil d.round.read)))
         (Consumes-trans in0 in1 in2 (read_in far.rounds) d.round.read far.reads d.reads);
     puts = subst (λ (k : List ℕ). Appends out0 out2 k)
@@ -184,15 +229,15 @@ module _ {S : Type 0} (g : Ghosts S) where
   }
 
   -- it ends there
-  pub serves_at : {E : Type 0} (limits : Bounds) (ending : Result E ServeFault) (start now : Standing S) (tables : Held S) (unread put : List ℕ)
-      (in0 in1 in2 out0 out1 out2 : Option (List ℕ)) → Far limits start now in0 in1 out0 out1 → Consumes in1 in2 unread → Appends out1 out2 put
-      → Ends g limits ending put now tables → Serves g limits ending start tables in0 in2 out0 out2
-  serves_at limits ending start now tables unread put in0 in1 in2 out0 out1 out2 far consumes appends ends = record {
+  pub serves_at : {E : Type 0} (limits : Bounds) (ending : Result E ServeFault) (start now : Standing S) (tables : Held S) (read put : List ℕ)
+      (in0 in1 in2 out0 out1 out2 : Option (List ℕ)) → Far limits start now in0 in1 out0 out1 → Consumes in1 in2 read → Appends out1 out2 put
+      → Ends g limits ending read put in2 now tables → Serves g limits ending start tables in0 in2 out0 out2
+  serves_at limits ending start now tables read put in0 in1 in2 out0 out1 out2 far consumes appends ends = record {
     rounds = far.rounds;
     last = now;
     are = far.are;
-    unread = unread;
-    reads = Consumes-trans in0 in1 in2 (read_in far.rounds) unread far.reads consumes;
+    read = read;
+    reads = Consumes-trans in0 in1 in2 (read_in far.rounds) read far.reads consumes;
     put = put;
     puts = Appends-trans out0 out1 out2 (put_in far.rounds) put far.puts appends;
     ends = ends;
@@ -200,44 +245,44 @@ module _ {S : Type 0} (g : Ghosts S) where
 
   -- a round stops
   pub serves_stopped : {E : Type 0} (limits l : Bounds) (start now : Standing S) (f : RoundFault) (tables : Held S) (in0 in1 in2 out0 out1 out2 : Option (List ℕ)) → l ≡ limits
-      → Far limits start now in0 in1 out0 out1 → StopsRound g l now tables in1 in2 out1 out2 → Serves g limits {E = E} (Err (fault.Round f)) start tables in0 in2 out0 out2
-  serves_stopped limits l start now f tables in0 in1 in2 out0 out1 out2 same far stops =
+      → IsPart limits now.waiting → Far limits start now in0 in1 out0 out1 → StopsRound g l now tables in1 in2 out1 out2 → Serves g limits {E = E} (Err (fault.Round f)) start tables in0 in2 out0 out2
+  serves_stopped limits l start now f tables in0 in1 in2 out0 out1 out2 same part far stops =
       serves_at limits (Err (fault.Round f)) start now tables stops.read stops.put in0 in1 in2 out0 out1 out2 far stops.reads stops.puts
-      (subst (λ (k : Bounds). IsStopped g k stops.put now tables) same stops.stopped)
+      (subst (λ (k : Bounds). IsPart k now.waiting → IsStopped g k stops.read stops.put now tables) same stops.stopped part)
 
   -- there are no more rounds
   pub serves_tired : {E : Type 0} (limits : Bounds) (start now : Standing S) (f : RoundFault) (in0 in1 out0 out1 : Option (List ℕ))
-      → Far limits start now in0 in1 out0 out1 → Serves g limits {E = E} (Err (fault.Round f)) start now.tables in0 in1 out0 out1
-  serves_tired limits start now f in0 in1 out0 out1 far =
-      serves_at limits (Err (fault.Round f)) start now now.tables [] [] in0 in1 in1 out0 out1 out1 far (Consumes-nil in1) (Appends-nil out1) (stopped_still limits now)
+      → IsPart limits now.waiting → Far limits start now in0 in1 out0 out1 → Serves g limits {E = E} (Err (fault.Round f)) start now.tables in0 in1 out0 out1
+  serves_tired limits start now f in0 in1 out0 out1 part far =
+      serves_at limits (Err (fault.Round f)) start now now.tables [] [] in0 in1 in1 out0 out1 out1 far (Consumes-nil in1) (Appends-nil out1) (stopped_still limits now [] part)
 
   round_at : (limits l : Bounds) (now next : Standing S) (in1 in2 out1 out2 : Option (List ℕ)) → l ≡ limits → DoesRound g l now next in1 in2 out1 out2 → DoesRound g limits now next in1 in2 out1 out2
   round_at limits l now next in1 in2 out1 out2 same d = subst (λ (k : Bounds). DoesRound g k now next in1 in2 out1 out2) same d
 
   -- a round was done, and the input goes on
   pub goes_on : (limits l : Bounds) (start now next : Standing S) (e : RoundEnd) (in0 in1 in2 out0 out1 out2 : Option (List ℕ)) → l ≡ limits → e ≡ end.GoesOn
-      → Far limits start now in0 in1 out0 out1 → EndsRound g l e now next in1 in2 out1 out2 → IsPart limits next.waiting × Far limits start next in0 in2 out0 out2
-  goes_on limits l start now next e in0 in1 in2 out0 out1 out2 same is far ends =
+      → IsPart limits now.waiting → Far limits start now in0 in1 out0 out1 → EndsRound g l e now next in1 in2 out1 out2 → IsPart limits next.waiting × Far limits start next in0 in2 out0 out2
+  goes_on limits l start now next e in0 in1 in2 out0 out1 out2 same is part far ends =
       let d = subst (λ (k : RoundEnd). EndsRound g l k now next in1 in2 out1 out2) is ends in
-      (subst (λ (k : Bounds). IsPart k next.waiting) same d.1, far_more limits start now next in0 in1 in2 out0 out1 out2 far (round_at limits l now next in1 in2 out1 out2 same d.0))
+      (subst (λ (k : Bounds). IsPart k next.waiting) same d.1, far_more limits start now next in0 in1 in2 out0 out1 out2 part far (round_at limits l now next in1 in2 out1 out2 same d.0))
 
   -- a round was done, and the input goes on wrongly
   pub serves_no_frame : {E : Type 0} (limits l : Bounds) (start now next : Standing S) (e : RoundEnd) (in0 in1 in2 out0 out1 out2 : Option (List ℕ)) → l ≡ limits → e ≡ end.NoFrame
-      → Far limits start now in0 in1 out0 out1 → EndsRound g l e now next in1 in2 out1 out2 → Serves g limits {E = E} (Err fault.NoFrame) start next.tables in0 in2 out0 out2
-  serves_no_frame limits l start now next e in0 in1 in2 out0 out1 out2 same is far ends =
+      → IsPart limits now.waiting → Far limits start now in0 in1 out0 out1 → EndsRound g l e now next in1 in2 out1 out2 → Serves g limits {E = E} (Err fault.NoFrame) start next.tables in0 in2 out0 out2
+  serves_no_frame limits l start now next e in0 in1 in2 out0 out1 out2 same is part far ends =
       let d = subst (λ (k : RoundEnd). EndsRound g l k now next in1 in2 out1 out2) is ends in
       serves_at limits (Err fault.NoFrame) start next next.tables [] [] in0 in2 in2 out0 out2 out2
-      (far_more limits start now next in0 in1 in2 out0 out1 out2 far (round_at limits l now next in1 in2 out1 out2 same d.0)) (Consumes-nil in2) (Appends-nil out2)
-      (subst (λ (k : Bounds). IsNoFrame k next.waiting) same d.1, refl, refl)
+      (far_more limits start now next in0 in1 in2 out0 out1 out2 part far (round_at limits l now next in1 in2 out1 out2 same d.0)) (Consumes-nil in2) (Appends-nil out2)
+      (subst (λ (k : Bounds). IsNoFrame k next.waiting) same d.1, (refl, refl, refl))
 
   -- how it ends with the input
-  ends_with_input : {E : Type 0} (limits : Bounds) (r : Result E ServeFault) (now next : Standing S) → next ≡ now → IsPart limits now.waiting → OnOk r (next.waiting ≡ [])
-      → IfErr r (λ f. (f ≡ fault.Cut) × (next.waiting ≢ [])) → Ends g limits r [] now next.tables
-  ends_with_input limits (Ok x) now next same part ok err =
-      (ap (λ (k : Standing S). k.waiting) (sym same) ∙ ok, refl, ap (λ (k : Standing S). k.tables) same)
-  ends_with_input {E} limits (Err f) now next same part ok err =
-      subst (λ (k : ServeFault). Ends g limits {E = E} (Err k) [] now next.tables) (sym err.0)
-      (part, (λ e. err.1 (ap (λ (k : Standing S). k.waiting) same ∙ e)), refl, ap (λ (k : Standing S). k.tables) same)
+  ends_with_input : {E : Type 0} (limits : Bounds) (r : Result E ServeFault) (now next : Standing S) (in2 : Option (List ℕ)) → next ≡ now → IsPart limits now.waiting → IsAtEnd in2
+      → OnOk r (next.waiting ≡ []) → IfErr r (λ f. (f ≡ fault.Cut) × (next.waiting ≢ [])) → Ends g limits r [] [] in2 now next.tables
+  ends_with_input limits (Ok x) now next in2 same part at_end ok err =
+      (ap (λ (k : Standing S). k.waiting) (sym same) ∙ ok, at_end, (refl, refl, ap (λ (k : Standing S). k.tables) same))
+  ends_with_input {E} limits (Err f) now next in2 same part at_end ok err =
+      subst (λ (k : ServeFault). Ends g limits {E = E} (Err k) [] [] in2 now next.tables) (sym err.0)
+      (part, (λ e. err.1 (ap (λ (k : Standing S). k.waiting) same ∙ e)), at_end, (refl, refl, ap (λ (k : Standing S). k.tables) same))
 
   pub serves_ended : {E : Type 0} (limits l : Bounds) (r : Result E ServeFault) (start now next : Standing S) (e : RoundEnd) (waiting : List ℕ) (in0 in1 in2 out0 out1 out2 : Option (List ℕ))
       → l ≡ limits → e ≡ end.Ended → waiting ≡ next.waiting → IsPart limits now.waiting → Far limits start now in0 in1 out0 out1
@@ -247,7 +292,7 @@ module _ {S : Type 0} (g : Ghosts S) where
       let d = subst (λ (k : RoundEnd). EndsRound g l k now next in1 in2 out1 out2) is ends in
       serves_at limits r start now next.tables [] [] in0 in1 in2 out0 out1 out2 far d.1
       (subst (λ (o : Option (List ℕ)). Appends out1 o []) (sym d.3) (Appends-nil out1))
-      (ends_with_input limits r now next d.0 part (subst (λ (k : List ℕ). OnOk r (k ≡ [])) names ok)
+      (ends_with_input limits r now next in2 d.0 part d.2 (subst (λ (k : List ℕ). OnOk r (k ≡ [])) names ok)
       (subst (λ (k : List ℕ). IfErr r (λ f. (f ≡ fault.Cut) × (k ≢ []))) names err))
 
   -- the whole of it, over a store

@@ -119,6 +119,7 @@ module _ {S : Type 0} (g : Ghosts S) where
     batch = None;
     dones = [];
     put = [];
+    next = tt;
     written = refl;
     crash = survives_still tables _;
     puts = Appends-nil out;
@@ -126,12 +127,13 @@ module _ {S : Type 0} (g : Ghosts S) where
   }
 
   -- a batch was refused, or was written, and nothing was put out
-  pub stops_at_batch : (old : ServerValue) (tables after : Held S) (batch : BatchState) (out : Option (List ℕ)) → WritesOrStays g old.limits batch tables after
+  pub stops_at_batch : (old : ServerValue) (tables after : Held S) (batch : BatchState) (out : Option (List ℕ)) → next_batch (server_of old) ≡ Some (batch_of batch) → WritesOrStays g old.limits batch tables after
       → Survives (state g tables) (state g after) (Wrote g batch tables) → StopsCommit g old tables after out out
-  stops_at_batch old tables after batch out wrote crash = record {
+  stops_at_batch old tables after batch out next wrote crash = record {
     batch = Some batch;
     dones = [];
     put = [];
+    next = next;
     written = wrote;
     crash = crash;
     puts = Appends-nil out;
@@ -140,13 +142,14 @@ module _ {S : Type 0} (g : Ghosts S) where
 
   -- a batch was written, and a front of the Dones was put out
   pub stops_at_dones : (old mid : ServerValue) (tables after : Held S) (batch : BatchState) (frames : List Frame) (out out2 : Option (List ℕ)) (n : ℕ)
-      → WritesOne g old.limits batch tables after → Survives (state g tables) (state g after) (Wrote g batch tables)
+      → next_batch (server_of old) ≡ Some (batch_of batch) → WritesOne g old.limits batch tables after → Survives (state g tables) (state g after) (Wrote g batch tables)
       → Does old (ReachesDisk batch.number) (messages_of frames) mid → AllByRecursion (FrameFits old.limits) frames
       → Appends out out2 (take n (flat_map spelling frames)) → StopsCommit g old tables after out out2
-  stops_at_dones old mid tables after batch frames out out2 n wrote crash does fit puts = record {
+  stops_at_dones old mid tables after batch frames out out2 n next wrote crash does fit puts = record {
     batch = Some batch;
     dones = flat_map spelling frames;
     put = take n (flat_map spelling frames);
+    next = next;
     written = inl wrote;
     crash = crash;
     puts = puts;

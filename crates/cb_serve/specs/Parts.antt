@@ -1,7 +1,8 @@
 -- The parts of a round.
 use Rattle.std.specs.Prelude.{◌≡◌, ◌⊎◌, ℕ, List, [], ◌++◌, take, drop, Option, None}
-use Rattle.std.specs.Prelude.{option_map, true, false}
+use Rattle.std.specs.Prelude.{Some, IfSome, option_map, true, false}
 use Rattle.std.specs.Io.KnownBytes.{Appends, Consumes, IsAtEnd}
+use Rattle.std.specs.List.{AllByRecursion, flat_map}
 use Rattle.sqlite.specs.Held.{Held}
 use Rattle.sqlite.specs.Store.{Ghosts}
 use Rattle.cb_commit.specs.Batches.{BatchState}
@@ -13,7 +14,7 @@ use Rattle.cb_serve.specs.Answering.{Spells, TakesPieces, inputs_in, said_to}
 use Rattle.cb_serve.specs.Rounds.{IsRound, LeavesBatch, Round, SaysDones, Standing, Writes}
 use Rattle.cb_serve.specs.Rounds.{WritesOrNot, counted_on, reached}
 use Rattle.cb_serve.specs.Serving.{IsStopped}
-use Rattle.cb_serve.specs.Streams.{IsNoFrame, IsPart, Piece, count_passed}
+use Rattle.cb_serve.specs.Streams.{IsNoFrame, IsPart, IsPiece, Piece, bytes_of, count_passed}
 use Rattle.cb_serve.specs.declared.round.Desk.{Desk}
 use Rattle.cb_serve.specs.declared.round.RoundEnd.{RoundEnd}
 use Rattle.cb_serve.specs.declared.round.RoundEnd.TheVariants as end
@@ -31,10 +32,14 @@ pub record Answered (old : ServerValue) (desk after : Desk) (taken : Taken) (new
   pub passed : after.passed_over ≡ counted_on desk.passed_over (count_passed pieces)
   pub puts : Appends old_out new_out answers
 
--- A front of what is said to some pieces was put out, and no more.
-pub record StopsAnswering (old : ServerValue) (old_out new_out : Option (List ℕ)) : Type 0 where
+-- The bytes begin with some pieces, and a front of what is said to them was put out, and no more.
+pub record StopsAnswering (old : ServerValue) (bytes : List ℕ) (old_out new_out : Option (List ℕ))
+    : Type 0 where
   pub pieces : List Piece
+  pub rest : List ℕ
   pub answers : List ℕ
+  pub are : AllByRecursion (IsPiece old.limits) pieces
+  pub cut : bytes ≡ flat_map bytes_of pieces ++ rest
   pub says : Spells old.limits (said_to (server_of old) (inputs_in pieces)) answers
   pub count : ℕ
   pub puts : Appends old_out new_out (take count answers)
@@ -54,12 +59,14 @@ module _ {S : Type 0} (g : Ghosts S) where
     pub crash : LeavesBatch g old.limits batch old_tables new_tables
     pub puts : Appends old_out new_out dones
 
-  -- Nothing was put out; or the batch is written, and a front of its Dones was put out.
+  -- Nothing was put out; or the batch is written, and a front of its Dones was put out. The batch is
+  -- the next one.
   pub record StopsCommit (old : ServerValue) (old_tables new_tables : Held S)
       (old_out new_out : Option (List ℕ)) : Type 0 where
     pub batch : Option BatchState
     pub dones : List ℕ
     pub put : List ℕ
+    pub next : IfSome batch (λ b. next_batch (server_of old) ≡ Some (batch_of b))
     pub written : WritesOrNot g old.limits batch old_tables new_tables
     pub crash : LeavesBatch g old.limits batch old_tables new_tables
     pub puts : Appends old_out new_out put
@@ -95,11 +102,11 @@ module _ {S : Type 0} (g : Ghosts S) where
   EndsRound limits end.NoFrame old new old_in new_in old_out new_out =
       DoesRound limits old new old_in new_in old_out new_out × IsNoFrame limits new.waiting
 
-  -- A round was begun and not finished.
+  -- A round was begun and not finished, behind less than a whole piece.
   pub record StopsRound (limits : Bounds) (old : Standing S) (tables : Held S)
       (old_in new_in old_out new_out : Option (List ℕ)) : Type 0 where
     pub read : List ℕ
     pub reads : Consumes old_in new_in read
     pub put : List ℕ
     pub puts : Appends old_out new_out put
-    pub stopped : IsStopped g limits put old tables
+    pub stopped : IsPart limits old.waiting → IsStopped g limits read put old tables

@@ -14,7 +14,7 @@ use Rattle.cb_server_state.specs.Commits.{batch_of}
 use Rattle.cb_shelf.specs.Flushing.{WritesOne, WritesOrStays}
 use Rattle.cb_sql.specs.Writing.{Wrote}
 use Rattle.cb_serve.specs.Answering.{Spells, after_inputs, inputs_in, said_to}
-use Rattle.cb_serve.specs.Streams.{IsPiece, Piece, bytes_of, count_passed}
+use Rattle.cb_serve.specs.Streams.{IsPiece, IsRest, Piece, bytes_of, count_passed}
 
 -- The bytes that a round read, the pieces that they completed, the bytes that it put out for them,
 -- the batch that it wrote, if there was one, and the bytes of the Dones.
@@ -64,11 +64,13 @@ module _ {S : Type 0} (g : Ghosts S) (limits : Bounds) where
   LeavesBatch batch old new = Survives (state g old) (state g new) (λ trees.
       IfSome batch (λ b. Wrote g b old trees))
 
-  -- A round: the bytes are cut into pieces and a rest; the protocol's server is called with the
-  -- pieces; all that is committed is written; and the commits are on disk when the Dones are said.
+  -- A round: the bytes are cut into pieces and a rest that is no whole one; the protocol's server is
+  -- called with the pieces; all that is committed is written; and the commits are on disk when the
+  -- Dones are said.
   pub record IsRound (round : Round) (old new : Standing S) : Type 0 where
     pub are : AllByRecursion (IsPiece limits) round.pieces
     pub cut : old.waiting ++ round.read ≡ flat_map bytes_of round.pieces ++ new.waiting
+    pub rest : IsRest limits new.waiting
     pub passed : new.passed ≡ counted_on old.passed (count_passed round.pieces)
     pub answers : Spells limits (said_to old.server (inputs_in round.pieces)) round.answers
     pub batch : next_batch (after_inputs old.server (inputs_in round.pieces)) ≡ option_map batch_of round.batch

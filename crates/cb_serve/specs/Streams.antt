@@ -73,3 +73,7 @@ IsPart limits bytes = (length bytes < 16)
 pub record IsNoFrame (limits : Bounds) (bytes : List ℕ) : Type 0 where
   pub header : is_no_header limits (header_of bytes) ≡ true
   pub not_again : ¬ (header_of bytes ≡ again_header)
+
+-- no whole piece: less than one, or what none begins with
+abbrev pub IsRest : Bounds → List ℕ → Type 0
+IsRest limits bytes = IsPart limits bytes ⊎ IsNoFrame limits bytes

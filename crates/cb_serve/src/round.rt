@@ -81,8 +81,8 @@ fn answer<W: Write>(
 ) -> Result<Taken, RoundFault>
     ensures ok { IfOk result (λ taken. Answered server.old desk.old desk.new taken server.new
         (W.contents output.old) (W.contents output.new)) }
-    ensures err { OnErr result (StopsAnswering server.old (W.contents output.old)
-        (W.contents output.new)) }
+    ensures err { OnErr result (StopsAnswering server.old desk.old.pending.items
+        (W.contents output.old) (W.contents output.new)) }
 {
     desk.said.clear();
     let taken = take_all(alloc, server, desk.pending.as_slice(), &mut desk.said)?;

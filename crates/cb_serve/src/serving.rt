@@ -16,7 +16,7 @@ use std::alloc::{AllocError, Global};
 use std::io::{Read, Write};
 
 /// How many bytes are read at once.
-const ROOM: usize = 65_536;
+const ROOM: usize = 1_048_576;
 
 /// What came of serving.
 #[derive(Debug, Drop)]

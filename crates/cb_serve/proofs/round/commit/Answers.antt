@@ -14,12 +14,12 @@ use Rattle.cb_serve.proofs.round.commit.Goals as goal
 pub returns-in_err-write-clause-err : goal.returns-in_err-write-clause-err
 returns-in_err-write-clause-err g c =
     on_err _ c.from_residual-in_err-write.result (stops_at_batch g.S.Store c.args.server.now c.args.shelf.now.conn c.write.new.self.conn c.in-Some.batch (g.W.Write.contents c.args.output.now)
-    (inr c.in_err-write.ensures.neither) c.in_err-write.ensures.crash)
+    (sym c.in_ok-batch.ensures.batch ∙ ap (option_map batch_of) c.in-Some.is) (inr c.in_err-write.ensures.neither) c.in_err-write.ensures.crash)
 
 pub returns-in_err-dones-clause-err : goal.returns-in_err-dones-clause-err
 returns-in_err-dones-clause-err g c =
     on_err _ c.from_residual-in_err-dones.result (stops_at_batch g.S.Store c.args.server.now c.args.shelf.now.conn c.write.new.self.conn c.in-Some.batch (g.W.Write.contents c.args.output.now)
-    (inl (wrote_one g.S.Store c.args.server.now.limits c.args.shelf.now.limits c.in-Some.batch c.args.shelf.now.conn c.write.new.self.conn c.requires
+    (sym c.in_ok-batch.ensures.batch ∙ ap (option_map batch_of) c.in-Some.is) (inl (wrote_one g.S.Store c.args.server.now.limits c.args.shelf.now.limits c.in-Some.batch c.args.shelf.now.conn c.write.new.self.conn c.requires
     c.in_ok-write.ensures.fits c.in_ok-write.ensures.both c.in_ok-write.ensures.settled)) c.in_ok-write.ensures.crash)
 
 pub forget-requires : goal.forget-requires

@@ -16,7 +16,7 @@ returns-in_err-commit-clause-err g c =
     (record { pending = c.read_more.new.pending; said = c.args.desk.now.said; passed_over = c.args.desk.now.passed_over }) c.answer.new.desk c.args.shelf.now.conn c.commit.new.shelf.conn
     c.in_ok-read_more.ensures.ok.0 c.in_ok-taken.taken (g.R.Read.remaining c.args.input.now) (g.R.Read.remaining c.read_more.new.input)
     (g.W.Write.contents c.args.output.now) (g.W.Write.contents c.answer.new.output) (g.W.Write.contents c.commit.new.output)
-    refl c.in_ok-read_more.ensures.ok.2 c.in_ok-taken.ensures.ok c.in_err-commit.ensures.err)
+    refl c.in_ok-read_more.ensures.ok.1 c.in_ok-read_more.ensures.ok.2 c.in_ok-taken.ensures.ok c.in_err-commit.ensures.err)
 
 pub returns-then-taken-clause-ok : goal.returns-then-taken-clause-ok
 returns-then-taken-clause-ok g c = (
