@@ -1,6 +1,6 @@
 -- How a worker's transaction is dropped, and that it is said.
 use Rattle.std.proofs.Common.{◌≡◌, inl, inr, true, List, [], ◌∷◌, Result, Ok, Err, OnOk, IfErr, ap, subst, sym, ◌∙◌}
-use Rattle.std.specs.Prelude.{⊤, ◌⊎◌}
+use Rattle.std.specs.Prelude.{⊤}
 use Rattle.cb_client.specs.ByTable.{Calls, limits_at, messages_from, over}
 use Rattle.cb_client_core.specs.ClientState.{ClientState, client_of}
 use Rattle.cb_frame_types.specs.declared.frame.Frame.{Frame}
@@ -14,7 +14,7 @@ use Rattle.cb_protocol.specs.ClientEnd.{end_pages}
 use Rattle.cb_protocol.specs.Messages.{Message}
 use Rattle.cb_station.specs.Stations.{IsStation, StationState}
 use Rattle.cb_worker.proofs.Standing.{accepted}
-use Rattle.cb_worker.specs.Dropping.{Drops, HandsDropIn, IsDropped, SaysDrop, drop_of}
+use Rattle.cb_worker.specs.Dropping.{Drops, IsDropped, SaysDrop, drop_of}
 use Rattle.cb_worker.specs.Refusals.{RefusesDrop, StopsAt}
 use Rattle.cb_worker.specs.Serving.{HandsInAndTells, HandsOne}
 use Rattle.cb_worker.specs.Workers.{Ended, HasTransaction, IsStill, WorkerState}

@@ -1,5 +1,10 @@
 -- What is proved where.
 -- Reading: what a worker's read of a page rests on.
+-- Keeping: what a transaction uses stays while it goes on.
+-- Going: an open transaction goes on by messages, or is aborted by one.
+-- Using: so while a worker serves.
+-- Written: what a transaction wrote is what its commit says.
+-- Chain: from the read of a page to its commit.
 -- Kept: the frames that are kept to be handed in.
 -- Saying: how a transaction's commit is said, and said again.
 -- Turning: what a turn leaves.
@@ -13,6 +18,11 @@
 -- Telling: all who are to be told are told.
 -- Entering: why a client doesn't join.
 pub mod Reading
+pub mod Keeping
+pub mod Going
+pub mod Using
+pub mod Written
+pub mod Chain
 pub mod Kept
 pub mod Saying
 pub mod Turning

@@ -118,7 +118,7 @@ answers v page bytes m e = record {
     reply ops = call_accepted (limits_at v) (client_of v ops) (CallRead page) (same_fault v page ops ∙ none_of _ m)
         ∙ ap (λ (o : Option Bytes). read_page (client_of v ops) page o) e
 
-three : (a b c : Bool) → (a && (b && c)) ≡ true → (a ≡ true) × (b ≡ true) × (c ≡ true)
+pub three : (a b c : Bool) → (a && (b && c)) ≡ true → (a ≡ true) × (b ≡ true) × (c ≡ true)
 three true true true e = (refl, refl, refl)
 three true true false e = absurd cc
 three true false c e = absurd cc

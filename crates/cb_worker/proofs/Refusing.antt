@@ -1,5 +1,5 @@
 -- Why a worker's calls are refused.
-use Rattle.std.proofs.Common.{◌≡◌, ◌↔◌, ◌≤◌, inl, inr, ℕ, true, false, List, [], ◌∷◌, Bor, Option, Some, None, Result, Ok, Err, refl, sym, ◌∙◌, subst}
+use Rattle.std.proofs.Common.{◌≡◌, inl, inr, ℕ, true, false, List, [], ◌∷◌, Bor, Option, Some, None, Result, Ok, Err, refl, sym, ◌∙◌, subst}
 use Rattle.std.specs.Prelude.{⊤, ◌⊎◌}
 use Rattle.cb_client.specs.CallAnswers.{AnswersRead, after_read, page_read}
 use Rattle.cb_client.specs.declared.answers.ReadAnswer.TheVariants as read
@@ -7,15 +7,13 @@ use Rattle.std.specs.Option.{is_some}
 use Rattle.cb_cache.specs.CacheState.{content_at}
 use Rattle.cb_frame_types.specs.declared.frame.Frame.{Frame}
 use Rattle.cb_hands.specs.Hands.{HandState}
-use Rattle.cb_hands.specs.Joined.{IsHeld}
 use Rattle.cb_station.specs.Stations.{StationState}
 use Rattle.cb_station.specs.declared.office_fault.OfficeFault.{OfficeFault}
 use Rattle.cb_station.specs.declared.office_fault.OfficeFault.TheVariants as office
-use Rattle.cb_page.specs.Numbers.{max_number}
 use Rattle.cb_protocol.specs.Basics.{Bytes}
 use Rattle.cb_worker.proofs.Reading.{after_read_is, bytes_here, read_so}
 use Rattle.cb_worker.specs.Calls.{Collected, Took}
-use Rattle.cb_worker.specs.Refusals.{IsTurnFault, LacksGrant, RefusesLeave}
+use Rattle.cb_worker.specs.Refusals.{IsTurnFault, LacksGrant}
 use Rattle.cb_worker.specs.Turns.{AfterCollecting, TakesCollected, Turns, TurnsBy, turned_by}
 use Rattle.cb_worker.specs.Workers.{WorkerState, shows_copy}
 use Rattle.cb_worker.specs.declared.worker_fault.WorkerFault.{WorkerFault}

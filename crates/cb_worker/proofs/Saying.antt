@@ -5,7 +5,7 @@ use Rattle.cb_client.specs.ByTable.{RefusesOrLacks, limits_at, messages_from}
 use Rattle.cb_client.specs.CallAnswers.{Finishes}
 use Rattle.cb_client.specs.declared.client_fault.ClientFault.{ClientFault}
 use Rattle.cb_client.specs.declared.client_fault.ClientFault.TheVariants as fault
-use Rattle.cb_client_core.specs.ClientState.{ClientState, client_of}
+use Rattle.cb_client_core.specs.ClientState.{ClientState, IsClient, client_of}
 use Rattle.cb_cache.specs.CacheState.{limits_of}
 use Rattle.cb_frame_types.specs.declared.frame.Frame.{Frame}
 use Rattle.cb_outbox.specs.Messages.{message_of}
@@ -21,6 +21,7 @@ use Rattle.cb_hands.specs.Hands.{HandState}
 use Rattle.cb_station.specs.Stations.{StationState}
 use Rattle.cb_station.specs.declared.office_fault.OfficeFault.{OfficeFault}
 use Rattle.cb_worker.proofs.Standing.{is_then}
+use Rattle.cb_worker.proofs.Written.{are_written}
 use Rattle.cb_worker.specs.Calls.{Committed}
 use Rattle.cb_worker.specs.Workers.{WorkerState, with_client}
 use Rattle.cb_worker.specs.Committing.{AreLocked, FinishesOrAgain, HandsCommitIn, IsCommitting, RefusesFrame, SaysCommit}
@@ -96,13 +97,14 @@ refusal_leaves old new f (inr r) = r.2
 
 -- the commit is handed in, once the client has said it
 pub hands_commit_in : (old mid : WorkerState) (before after : StationState) (frame : Frame) (reads : List Bool) (r : Result ℕ OfficeFault) (hand : HandState)
-    → FinishesOrAgain old.client frame mid.client → SaysCommit mid.client frame → AreLocked mid.client reads → mid ≡ with_client old mid.client → Committed before frame reads mid.hand r after hand
+    → FinishesOrAgain old.client frame mid.client → SaysCommit mid.client frame → IsClient mid.client → AreLocked mid.client reads → mid ≡ with_client old mid.client → Committed before frame reads mid.hand r after hand
     → HandsCommitIn old before r (record mid { hand = hand }) after
-hands_commit_in old mid before after frame reads r hand finishes says locked rest committed = record {
+hands_commit_in old mid before after frame reads r hand finishes says is locked rest committed = record {
   frame = frame;
   reads = reads;
   finishes = finishes;
   says = says;
+  written = are_written mid.client frame says is;
   locked = locked;
   committed = subst (λ (h : HandState). Committed before frame reads h r after hand) (ap (λ (w : WorkerState). w.hand) rest) committed;
   rest = ap (λ (w : WorkerState). record w { hand = hand }) rest;

@@ -1,5 +1,5 @@
 -- What the client's words of its transaction mean.
-use Rattle.std.proofs.Common.{◌≡◌, ◌≢◌, Bool, true, false, List, [], Option, Some, None, Result, Ok, Err, IfSome, ap, refl, sym, ◌∙◌, not, if◌then◌else◌}
+use Rattle.std.proofs.Common.{◌≡◌, ◌≢◌, Bool, true, false, List, [], Option, Some, None, IfSome, ap, refl, sym, ◌∙◌, not, if◌then◌else◌}
 use Rattle.cb_client.specs.ByTable.{Calls, limits_at, over}
 use Rattle.cb_client_core.specs.ClientState.{ClientState, client_of, outcome_of, status_of}
 use Rattle.cb_client_core.specs.declared.stage.Outcome.{Outcome}

@@ -1,8 +1,11 @@
 -- A worker stays the one that it is: of the same incarnation of the same client, and no transaction begins.
-use Rattle.std.proofs.Common.{◌≡◌, inl, inr, ℕ, Bool, true, false, List, [], ◌∷◌, Option, Some, None, Result, Ok, Err, refl, sym, ◌∙◌, ap, if◌then◌else◌}
+use Rattle.std.proofs.Common.{◌≡◌, inl, inr, ℕ, Bool, true, false, List, [], ◌∷◌, Option, Some, None, Result, Ok, Err, refl, sym, ◌∙◌, ap, subst, if◌then◌else◌}
 use Rattle.std.specs.Prelude.{⊤}
 use Rattle.cb_client.specs.ByTable.{Calls, Makes, limits_at, over}
-use Rattle.cb_client.specs.CallAnswers.{Wants, page_read}
+use Rattle.std.specs.Option.{is_some}
+use Rattle.cb_cache.specs.CacheState.{content_at}
+use Rattle.cb_client.specs.CallAnswers.{Wants, after_read, page_asked, page_read}
+use Rattle.cb_client_core.specs.declared.stage.Stage.TheVariants as stages
 use Rattle.cb_client.specs.FramesTaken.{TakesFrame, is_for}
 use Rattle.cb_client.specs.declared.answers.WantAnswer.{WantAnswer}
 use Rattle.cb_client.specs.declared.answers.WantAnswer.TheVariants as want
@@ -23,19 +26,22 @@ use Rattle.cb_protocol.proofs.Cases.{call_accepted, call_refused}
 use Rattle.cb_protocol.proofs.ClientReady.{Plain, PlainChange, plain_pages}
 use Rattle.cb_protocol.proofs.TranscriptStill.{Still, StillChange, still_number, still_takes}
 use Rattle.cb_protocol.specs.Answers as table
-use Rattle.cb_protocol.specs.Basics.{Limits}
+use Rattle.cb_protocol.specs.Basics.{Limits, is_none}
 use Rattle.cb_protocol.specs.Cache.{CacheChange, LetGo, MakeBare, RefuseGrant, YieldPermission}
 use Rattle.cb_protocol.specs.Client.{ChangeCache, Client, ClientStep, EndTransaction, MarkDue, MarkDueDowngrade, MarkWanted, Say, SetAsk, WriteAsk}
-use Rattle.cb_protocol.specs.ClientCalls.{Call, CallDrop, CallFinish, CallWant, accept_call, call_fault, client_call, reply_with, say_ask_write}
+use Rattle.cb_protocol.specs.ClientCalls.{Call, CallDrop, CallFinish, CallRead, CallWant, accept_call, call_fault, client_call, reply_with, say_ask_write}
 use Rattle.cb_protocol.specs.ClientEnd.{end_pages}
 use Rattle.cb_protocol.specs.ClientMessages.{client_take}
 use Rattle.cb_protocol.specs.Messages.{Message}
 use Rattle.cb_protocol.specs.Serial.{Operation}
 use Rattle.cb_protocol.specs.Server.{Server}
+use Rattle.cb_worker.proofs.Keeping.{fixed_alone, then_fixed}
+use Rattle.cb_worker.proofs.Using.{after_read_fixed, dropped_fixed, finishes_used, hit_used, same_used, takes_used, wants_used}
 use Rattle.cb_worker.specs.Calls.{Collected, Committed, Took}
+use Rattle.cb_worker.specs.Keeping.{KeepsFixed}
 use Rattle.cb_worker.specs.Committing.{CommitsAt, FinishesOrAgain, HandsCommitIn}
 use Rattle.cb_worker.specs.Turns.{AfterCollecting, Collects, HandsIn, TakesCollected, Turns, TurnsBy, without_first}
-use Rattle.cb_worker.specs.Workers.{IsOf, IsStill, WorkerState, after_hit, last_txn, may_hit, with_client}
+use Rattle.cb_worker.specs.Workers.{IsOf, IsStill, WorkerState, after_hit, last_txn, may_hit, seen_by, with_client}
 use Rattle.cb_worker.specs.declared.worker_fault.WorkerFault.{WorkerFault}
 use Rattle.cb_worker.specs.declared.worker_fault.WorkerFault.TheVariants as worker
 
@@ -146,6 +152,7 @@ pub record IsSameClient (old new : ClientState) : Type 0 where
   pub incarnation : new.incarnation ≡ old.incarnation
   pub limits : new.copies.limits ≡ old.copies.limits
   pub txn : last_txn new ≡ last_txn old
+  pub keeps : KeepsFixed (client_of old []) (client_of new [])
 
 same_client : (old new : ClientState) → new ≡ old → IsSameClient old new
 same_client old new e = record {
@@ -153,15 +160,18 @@ same_client old new e = record {
   incarnation = ap (λ (c : ClientState). c.incarnation) e;
   limits = ap (λ (c : ClientState). c.copies.limits) e;
   txn = ap (λ (c : ClientState). last_txn c) e;
+  keeps = fixed_alone _ _ (same_used old new e);
 }
 
 -- a client stays the same one by steps of which none begins a transaction
-made_same : (old new : ClientState) (steps : Client → List ClientStep) (said : List Message) (history : List Operation → List Operation) → Makes old steps said history new → Still (steps (client_of old [])) → IsSameClient old new
-made_same old new steps said history makes still = record {
+made_same : (old new : ClientState) (steps : Client → List ClientStep) (said : List Message) (history : List Operation → List Operation) → Makes old steps said history new → Still (steps (client_of old [])) → KeepsFixed (client_of old []) (client_of new [])
+    → IsSameClient old new
+made_same old new steps said history makes still keeps = record {
   no = makes.no;
   incarnation = makes.incarnation;
   limits = makes.limits;
   txn = ap (λ (c : Client). c.cache.number) (sym (makes.after [])) ∙ still_number old.copies.limits.keep_write (client_of old []) (steps (client_of old [])) still;
+  keeps = keeps;
 }
 
 -- so by what it takes
@@ -172,13 +182,14 @@ takes_same old new frame said t = by (is_for old frame) refl
     by true e =
         let takes = t.own e in
         made_same old new (λ (k : Client). client_take (limits_at old) k (body_of frame.body) takes.let_go) said takes.history takes.makes (still_takes (limits_at old) (client_of old []) (body_of frame.body) takes.let_go)
+        (fixed_alone _ _ (takes_used old new frame said t))
     by false e = same_client old new (t.unchanged e)
 
 -- and by a call that begins none
 called_same : (old new : ClientState) (call : Call) (word : table.AnswerWord) (said : List Message) (history : List Operation → List Operation) → Calls old call word said history new
-    → Still (accept_call (limits_at old) (client_of old []) call).steps → IsSameClient old new
-called_same old new call word said history calls still =
-    made_same old new (λ (k : Client). (client_call (limits_at old) k call).steps) said history calls.makes (call_still (limits_at old) (client_of old []) call still)
+    → Still (accept_call (limits_at old) (client_of old []) call).steps → KeepsFixed (client_of old []) (client_of new []) → IsSameClient old new
+called_same old new call word said history calls still keeps =
+    made_same old new (λ (k : Client). (client_call (limits_at old) k call).steps) said history calls.makes (call_still (limits_at old) (client_of old []) call still) keeps
 
 pub same : (old new : WorkerState) → new ≡ old → IsStill old new
 same old new e = record {
@@ -188,11 +199,12 @@ same old new e = record {
   txn = ap (λ (w : WorkerState). last_txn w.client) e;
   hand = ap (λ (w : WorkerState). w.hand.client) e;
   hand_incarnation = ap (λ (w : WorkerState). w.hand.incarnation) e;
+  keeps = fixed_alone _ _ (same_used old.client new.client (ap (λ (w : WorkerState). w.client) e));
 }
 
 -- so a worker whose client and whose hand stay the same
 still : (old new : WorkerState) → IsSameClient old.client new.client → IsSameHand new.hand old.hand → IsStill old new
-still old new c h = record { no = c.no; incarnation = c.incarnation; limits = c.limits; txn = c.txn; hand = h.0; hand_incarnation = h.1 }
+still old new c h = record { no = c.no; incarnation = c.incarnation; limits = c.limits; txn = c.txn; hand = h.0; hand_incarnation = h.1; keeps = c.keeps }
 
 -- and one whose hand is as it was
 same_hand_still : (old new : WorkerState) → IsSameClient old.client new.client → new.hand ≡ old.hand → IsStill old new
@@ -200,31 +212,31 @@ same_hand_still old new c e = still old new c (same_hand new.hand old.hand e)
 
 -- so by a read without the office
 pub hit_still : (w : WorkerState) (page : ℕ) → IsStill w (after_hit w page)
-hit_still w page = go (may_hit w page)
+hit_still w page = go (may_hit w page) (fixed_alone _ _ (hit_used w page))
   where
-    go : (b : Bool) → IsStill w (if b then with_client w (page_read w.client page) else w)
-    go true = record { no = refl; incarnation = refl; limits = refl; txn = refl; hand = refl; hand_incarnation = refl }
-    go false = same w w refl
+    go : (b : Bool) → KeepsFixed (seen_by w) (seen_by (if b then with_client w (page_read w.client page) else w)) → IsStill w (if b then with_client w (page_read w.client page) else w)
+    go true k = record { no = refl; incarnation = refl; limits = refl; txn = refl; hand = refl; hand_incarnation = refl; keeps = k }
+    go false k = same w w refl
 
 pub touched_still : (old new : WorkerState) (page : ℕ) → new ≡ after_hit old page → IsStill old new
 touched_still old new page e = rw e (hit_still old page)
 
 -- by a want
 wants_same : (old new : ClientState) (page : ℕ) (r : Result WantAnswer ClientFault) → Wants old page r new → IsSameClient old new
-wants_same old new page (Ok want.Permitted) calls = called_same old new (CallWant page) _ _ _ calls (want_still (limits_at old) (client_of old []) page)
-wants_same old new page (Ok (want.Asked frame)) calls = called_same old new (CallWant page) _ _ _ calls (want_still (limits_at old) (client_of old []) page)
+wants_same old new page (Ok want.Permitted) calls = called_same old new (CallWant page) _ _ _ calls (want_still (limits_at old) (client_of old []) page) (fixed_alone _ _ (wants_used old new page (Ok want.Permitted) calls))
+wants_same old new page (Ok (want.Asked frame)) calls = called_same old new (CallWant page) _ _ _ calls (want_still (limits_at old) (client_of old []) page) (fixed_alone _ _ (wants_used old new page (Ok (want.Asked frame)) calls))
 wants_same old new page (Err f) refuses = same_client old new refuses.1
 
 pub wants_still : (old new : WorkerState) (page : ℕ) (r : Result WantAnswer ClientFault) → Wants old.client page r new.client → new.hand ≡ old.hand → IsStill old new
 wants_still old new page r wants hand = same_hand_still old new (wants_same old.client new.client page r wants) hand
 
 -- by a drop
-pub dropped_still : (old new : WorkerState) (said : List Message) → Calls old.client CallDrop table.AnsweredOk said over new.client → new.hand ≡ old.hand → IsStill old new
-dropped_still old new said calls hand =
-    same_hand_still old new (called_same old.client new.client CallDrop table.AnsweredOk said over calls (drop_still (limits_at old.client) (client_of old.client []))) hand
+pub dropped_still : (old new : WorkerState) (said : List Message) → Calls old.client CallDrop table.AnsweredOk said over new.client → new.client.stage ≡ stages.Idle → new.hand ≡ old.hand → IsStill old new
+dropped_still old new said calls idle hand =
+    same_hand_still old new (called_same old.client new.client CallDrop table.AnsweredOk said over calls (drop_still (limits_at old.client) (client_of old.client [])) (dropped_fixed old.client new.client idle)) hand
 
 finishes_same : (old new : ClientState) (frame : Frame) → FinishesOrAgain old frame new → IsSameClient old new
-finishes_same old new frame (inl calls) = called_same old new CallFinish _ _ _ calls (tt, tt)
+finishes_same old new frame (inl calls) = called_same old new CallFinish _ _ _ calls (tt, tt) (fixed_alone _ _ (finishes_used old new frame (inl calls)))
 finishes_same old new frame (inr again) = same_client old new again.2
 
 -- a hand whose commit was handed in
@@ -273,7 +285,7 @@ collects_still old new before after r h = by h.answer h.collected h.taken
     by (Ok (Some frame)) c t =
         let hand = collected_same before after old.hand new.hand (Ok (Some frame)) c in
         let next = taken_still (record old { hand = new.hand; collected = Some frame }) new frame r t in
-        record { no = next.no; incarnation = next.incarnation; limits = next.limits; txn = next.txn; hand = hand.0; hand_incarnation = hand.1 }
+        record { no = next.no; incarnation = next.incarnation; limits = next.limits; txn = next.txn; hand = hand.0; hand_incarnation = hand.1; keeps = next.keeps }
 
 -- a turn leaves it the same
 pub turned : (old new : WorkerState) (before after : StationState) (r : Result Bool WorkerFault) → Turns old before r new after → IsStill old new
@@ -293,7 +305,18 @@ after one two three p q = record {
   txn = q.txn ∙ p.txn;
   hand = q.hand ∙ p.hand;
   hand_incarnation = q.hand_incarnation ∙ p.hand_incarnation;
+  keeps = then_fixed (seen_by one) (seen_by two) (seen_by three) p.keeps q.keeps;
 }
+
+-- a read or an ask for a page leaves it the same
+pub read_still : (old new : WorkerState) (page : ℕ) → new.client ≡ after_read old.client page → new.hand ≡ old.hand → IsStill old new
+read_still old new page e hand = same_hand_still old new (subst (λ (v : ClientState). IsSameClient old.client v) (sym e) (by (is_none (call_fault (limits_at old.client) (client_of old.client []) (CallRead page))) (is_some (content_at old.client.copies page)) (after_read_fixed old.client page))) hand
+  where
+    by : (a b : Bool) → KeepsFixed (client_of old.client []) (client_of (if a then if b then page_read old.client page else page_asked old.client page else old.client) [])
+        → IsSameClient old.client (if a then if b then page_read old.client page else page_asked old.client page else old.client)
+    by true true k = record { no = refl; incarnation = refl; limits = refl; txn = refl; keeps = k }
+    by true false k = record { no = refl; incarnation = refl; limits = refl; txn = refl; keeps = k }
+    by false b k = record { no = refl; incarnation = refl; limits = refl; txn = refl; keeps = k }
 
 -- and it is of the incarnation of the client that it was of
 pub stays : (old new : WorkerState) (client incarnation : ℕ) → IsOf old client incarnation → IsStill old new → IsOf new client incarnation

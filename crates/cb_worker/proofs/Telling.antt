@@ -1,11 +1,10 @@
 -- All who are to be told are told.
-use Rattle.std.proofs.Common.{◌≡◌, ◌∙◌, ap, sym, Err, subst}
+use Rattle.std.proofs.Common.{◌∙◌, ap, sym, Err, subst}
 use Rattle.cb_page.specs.Clients.{Clients, has}
 use Rattle.cb_station.specs.Stations.{IsUnchanged, StationState}
 use Rattle.cb_station.specs.Telling.{IsTold}
-use Rattle.cb_station.specs.declared.office_fault.OfficeFault.{OfficeFault}
 use Rattle.cb_station.specs.declared.station.flags.Flags.{Flags}
-use Rattle.cb_worker.specs.Committing.{CommitsAt, HandsCommitIn}
+use Rattle.cb_worker.specs.Committing.{CommitsAt}
 use Rattle.cb_worker.specs.Workers.{WorkerState}
 use Rattle.cb_worker.specs.declared.worker_fault.WorkerFault.{WorkerFault}
 use Rattle.cb_worker.specs.declared.worker_fault.WorkerFault.TheVariants as worker

@@ -1,20 +1,25 @@
 -- How a worker's transaction commits.
-use Rattle.std.specs.Prelude.{◌≡◌, ◌⊎◌, ℕ, Bool, List, [], ◌∷◌, Result, Ok, Err}
+use Rattle.std.specs.Prelude.{◌≡◌, ◌⊎◌, ℕ, Bool, List, [], ◌∷◌, Result, Ok, Err, ⊤}
 use Rattle.cb_client.specs.ByTable.{RefusesOrLacks, limits_at, messages_from}
 use Rattle.cb_client.specs.CallAnswers.{Finishes}
 use Rattle.cb_client.specs.declared.client_fault.ClientFault.{ClientFault}
 use Rattle.cb_client.specs.declared.client_fault.ClientFault.TheVariants as client
 use Rattle.cb_client_core.specs.ClientState.{ClientState, client_of}
 use Rattle.cb_frame_types.specs.declared.frame.Frame.{Frame}
-use Rattle.cb_station.specs.Stations.{StationState}
+use Rattle.cb_station.specs.Commits.{writes_of}
+use Rattle.cb_station.specs.Stations.{IsStation, StationState}
 use Rattle.cb_station.specs.declared.office_fault.OfficeFault.{OfficeFault}
-use Rattle.cb_outbox.specs.Messages.{message_of}
+use Rattle.cb_outbox.specs.Messages.{message_of, page_writes}
 use Rattle.cb_page.specs.Flags.{has}
-use Rattle.cb_protocol.specs.Client.{StatusCommitting, bodies_said, client_status}
+use Rattle.cb_protocol.specs.Cache.{Open}
+use Rattle.cb_protocol.specs.Client.{Aborted, StatusCommitting, bodies_said, client_status}
 use Rattle.cb_protocol.specs.ClientCalls.{CallFinish, say_commit}
 use Rattle.cb_protocol.specs.Serial.{Operation}
 use Rattle.cb_worker.specs.Calls.{Committed}
-use Rattle.cb_worker.specs.Workers.{WorkerState}
+use Rattle.cb_worker.specs.Keeping.{AreWritten}
+use Rattle.cb_worker.specs.Workers.{IsIdle, IsStill, WorkerState, seen_by}
+use Rattle.cb_worker.specs.declared.answers.Finished.{Finished}
+use Rattle.cb_worker.specs.declared.answers.Finished.TheVariants as finished
 use Rattle.cb_worker.specs.declared.worker_fault.WorkerFault.{WorkerFault}
 use Rattle.cb_worker.specs.declared.worker_fault.WorkerFault.TheVariants as worker
 
@@ -46,16 +51,40 @@ RefusesFrame old fault new = ((IsCommitting old → ⊥) × RefusesOrLacks old C
     ⊎ (IsCommitting old × (fault ≡ client.Memory) × (new ≡ old))
 
 -- The commit of the worker's transaction is handed in, with exactly its locked pages as reads and
--- the pages that it wrote, with the client's bytes.
+-- the pages that it wrote, each by the client's grant and with the client's bytes.
 pub record HandsCommitIn (old : WorkerState) (before : StationState) (result : Result ℕ OfficeFault)
     (new : WorkerState) (after : StationState) : Type 0 where
   pub frame : Frame
   pub reads : List Bool
   pub finishes : FinishesOrAgain old.client frame new.client
   pub says : SaysCommit new.client frame
+  pub written : AreWritten (seen_by new) (page_writes (writes_of frame))
   pub locked : AreLocked new.client reads
   pub committed : Committed before frame reads old.hand result after new.hand
   pub rest : new ≡ record old { client = new.client; hand = new.hand }
+
+-- Once it had served, its commit was handed in, at a station of which all holds that always does. It
+-- says exactly what the transaction had written, by the grants by which it had read.
+pub record HandedCommitIn (old : WorkerState) : Type 0 where
+  pub served : WorkerState
+  pub still : IsStill old served
+  pub before : StationState
+  pub sound : IsStation before
+  pub number : ℕ
+  pub new : WorkerState
+  pub after : StationState
+  pub commits : HandsCommitIn served before (Ok number) new after
+  pub written : AreWritten (seen_by old) (page_writes (writes_of commits.frame))
+
+-- It is over, and nothing was handed in: one that was open was aborted.
+pub record WasOver (old new : WorkerState) : Type 0 where
+  pub over : IsIdle new
+  pub aborted : (seen_by old).cache.status ≡ Open → (seen_by new).last_outcome ≡ Aborted
+
+-- one that is answered as committed was handed in so, or was committing before
+abbrev pub HasCommitted : WorkerState → Finished → Type 0
+HasCommitted old (finished.Committed number) = IsCommitting old.client ⊎ HandedCommitIn old
+HasCommitted old finished.Aborted = ⊤
 
 -- the commit's number; or the client refuses, and nothing changes; or the station does, and the
 -- client is committing

@@ -1,3 +1,4 @@
+pub mod Keeping
 pub mod Workers
 pub mod Calls
 pub mod Turns
@@ -10,3 +11,4 @@ pub mod Steps
 pub mod Serving
 pub mod Entering
 pub mod Dropping
+pub mod ReadToCommit

@@ -1,6 +1,6 @@
 -- Why the calls that take the office are refused. What lies under its lock no clause of a call that
 -- takes it can name: so each cause is one at some station, of which all holds that always does.
-use Rattle.std.specs.Prelude.{◌≡◌, ◌≤◌, ◌⊎◌, ℕ, true, false, None, Result, Ok, Err, ⊤}
+use Rattle.std.specs.Prelude.{◌≡◌, ◌≤◌, ◌⊎◌, ℕ, true, false, None, Ok, Err, ⊤}
 use Rattle.std.specs.Option.{is_some}
 use Rattle.cb_client.specs.ByTable.{IsRefusal, IsRefused}
 use Rattle.cb_client.specs.declared.client_fault.ClientFault.TheVariants as client
@@ -8,7 +8,6 @@ use Rattle.cb_cache.specs.CacheState.{content_at}
 use Rattle.cb_hands.specs.Hands.{HandState}
 use Rattle.cb_page.specs.Bounds.{Bounds}
 use Rattle.cb_station.specs.Stations.{IsStation, StationState}
-use Rattle.cb_station.specs.declared.office_fault.OfficeFault.{OfficeFault}
 use Rattle.cb_station.specs.declared.office_fault.OfficeFault.TheVariants as office
 use Rattle.cb_protocol.specs.ClientCalls.{Call, CallDrop, CallRead, CallWant}
 use Rattle.cb_worker.specs.Committing.{CommitsAt}

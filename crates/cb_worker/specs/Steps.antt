@@ -1,10 +1,12 @@
 -- What one step of a call that may wait has come to.
-use Rattle.std.specs.Prelude.{◌≡◌, ◌⊎◌, true}
+use Rattle.std.specs.Prelude.{◌≡◌, ◌⊎◌, true, ⊤}
 use Rattle.cb_protocol.specs.Client as protocol
 use Rattle.cb_protocol.specs.ClientCalls.{CallWant}
 use Rattle.cb_worker.specs.Refusals.{RefusesAsk, RefusesCall, RefusesCommit, StopsServing}
 use Rattle.cb_worker.specs.Waiting.{HasRead, IsFinished, MayWrite}
-use Rattle.cb_worker.specs.Workers.{Ended, WorkerState}
+use Rattle.cb_worker.specs.Committing.{HandedCommitIn, WasOver}
+use Rattle.cb_worker.specs.Keeping.{KeepsWanted}
+use Rattle.cb_worker.specs.Workers.{Ended, WorkerState, seen_by}
 use Rattle.cb_worker.specs.declared.answers.Finished.TheVariants as finished
 use Rattle.cb_worker.specs.declared.awaited.Awaited.{Awaited}
 use Rattle.cb_worker.specs.declared.awaited.Awaited.TheVariants as awaited
@@ -22,6 +24,13 @@ Comes (awaited.Permission page) new came.There = MayWrite new page
 Comes (awaited.Permission page) new (came.Ended finished.Aborted) = Ended new protocol.Aborted
 Comes awaited.End new (came.Ended finished) = IsFinished new finished
 Comes _ new _ = ⊥
+
+-- what is waited for was begun: the page is wanted, with the bytes that it had; the commit was
+-- handed in, unless the transaction was over
+abbrev pub Begun : Awaited → (old new : WorkerState) → Type 0
+Begun (awaited.Permission page) old new = KeepsWanted (seen_by old) (seen_by new) page
+Begun awaited.End old new = WasOver old new ⊎ HandedCommitIn old
+Begun _ old new = ⊤
 
 -- why the client doesn't ask for it, or commit
 abbrev pub RefusesToBegin : Awaited → (new : WorkerState) → WorkerFault → Type 0

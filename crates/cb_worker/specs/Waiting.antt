@@ -1,12 +1,13 @@
 -- What the calls that take the office are answered, where they return.
-use Rattle.std.specs.Prelude.{◌≡◌, ◌&&◌, ◌⊎◌, ℕ, true, false, List, [], None}
+use Rattle.std.specs.Prelude.{◌≡◌, ◌&&◌, ℕ, true, false, List, [], None}
 use Rattle.cb_client.specs.declared.client_fault.ClientFault.TheVariants as client
 use Rattle.cb_client_core.specs.ClientState.{client_of}
 use Rattle.cb_protocol.specs.Cache.{is_open}
 use Rattle.cb_protocol.specs.Client as protocol
 use Rattle.cb_protocol.specs.Serial.{Operation}
 use Rattle.cb_worker.specs.Workers.{Ended, Ends, HasTransaction, Hit, IsIdle, IsStill}
-use Rattle.cb_worker.specs.Workers.{WorkerState, after_hit, may_hit}
+use Rattle.cb_worker.specs.Keeping.{KeepsWanted, Uses}
+use Rattle.cb_worker.specs.Workers.{WorkerState, after_hit, may_hit, seen_by}
 use Rattle.cb_worker.specs.declared.answers.Fetched.{Fetched}
 use Rattle.cb_worker.specs.declared.answers.Fetched.TheVariants as fetched
 use Rattle.cb_worker.specs.declared.answers.Finished.{Finished}
@@ -37,11 +38,13 @@ HasRead worker page = (before : WorkerState) × (may_hit before page ≡ true)
 abbrev pub ReadsAtHand : (old : WorkerState) → (page : ℕ) → (new : WorkerState) → Type 0
 ReadsAtHand old page new = (may_hit old page ≡ true) × (new ≡ after_hit old page)
 
--- there was a transaction, and the page was read as `hit` reads it, with these bytes; or the
--- transaction was aborted; it is still the same worker, and no transaction began
+-- there was a transaction, and the page was read as `hit` reads it, with these bytes, which it uses
+-- from then on; or the transaction was aborted; it is still the same worker, and no transaction
+-- began
 abbrev pub Fetches : (old new : WorkerState) → (page : ℕ) → Fetched → Type 0
 Fetches old new page (fetched.Bytes bytes) = HasTransaction old × (before : WorkerState)
     × Hit before page bytes.now × (new ≡ after_hit before page) × IsStill old new
+    × ((grant : ℕ) × Uses (seen_by new) page grant bytes.now)
 Fetches old new page fetched.Aborted = Ends old new protocol.Aborted × IsStill old new
 
 -- the client may write the page in the transaction that is open
@@ -50,9 +53,11 @@ MayWrite worker page = (operations : List Operation)
     → (is_open (client_of worker.client operations).cache.status
     && (client_of worker.client operations).cache.may_write page) ≡ true
 
--- there was a transaction, and it is so after a want; or it was aborted
+-- there was a transaction, and it is so after a want: the page's bytes are as they were; or it was
+-- aborted
 abbrev pub Wants : (old new : WorkerState) → (page : ℕ) → Wanted → Type 0
 Wants old new page wanted.Permitted = HasTransaction old × MayWrite new page
+    × KeepsWanted (seen_by old) (seen_by new) page
 Wants old new page wanted.Aborted = Ends old new protocol.Aborted
 
 -- how such a transaction ended

@@ -9,9 +9,10 @@ use Rattle.cb_hands.specs.declared.grant.Held.{Held}
 use Rattle.cb_protocol.specs.Answers.{AnsweredBytes}
 use Rattle.cb_protocol.specs.Basics.{Bytes}
 use Rattle.cb_protocol.specs.Cache.{Idle}
-use Rattle.cb_protocol.specs.Client.{LastOutcome}
+use Rattle.cb_protocol.specs.Client.{Client, LastOutcome}
 use Rattle.cb_protocol.specs.ClientCalls.{CallRead}
 use Rattle.cb_protocol.specs.Serial.{Operation}
+use Rattle.cb_worker.specs.Keeping.{KeepsFixed}
 
 -- a client with its hand; the frame that was collected and not yet taken, and what the client said
 -- and nobody handed in yet, the oldest frame first
@@ -33,8 +34,13 @@ pub record IsOf (worker : WorkerState) (number current : ℕ) : Type 0 where
 abbrev pub last_txn : ClientState → ℕ
 last_txn client = unwrap_or client.txn 0
 
+-- its client as the protocol has it
+abbrev pub seen_by : WorkerState → Client
+seen_by worker = client_of worker.client []
+
 -- It is still the same one: of the same incarnation of the same client, with the same limits, and
--- so is its hand; and no transaction began.
+-- so is its hand; no transaction began; and while none is over, each page that it wants to write or
+-- wrote keeps its bytes.
 pub record IsStill (old new : WorkerState) : Type 0 where
   pub no : new.client.no ≡ old.client.no
   pub incarnation : new.client.incarnation ≡ old.client.incarnation
@@ -42,6 +48,7 @@ pub record IsStill (old new : WorkerState) : Type 0 where
   pub txn : last_txn new.client ≡ last_txn old.client
   pub hand : new.hand.client ≡ old.hand.client
   pub hand_incarnation : new.hand.incarnation ≡ old.hand.incarnation
+  pub keeps : KeepsFixed (seen_by old) (seen_by new)
 
 -- only the client changes
 abbrev pub with_client : WorkerState → ClientState → WorkerState

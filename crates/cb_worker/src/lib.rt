@@ -6,10 +6,12 @@
 
 mod answers;
 mod awaited;
+mod laws;
 mod said;
 mod worker;
 mod worker_fault;
 
 pub use answers::{Fetched, Finished, Wanted};
+pub use laws::what_was_written_is_committed;
 pub use worker::Worker;
 pub use worker_fault::WorkerFault;

@@ -14,8 +14,9 @@ use cb_twoq::Chooser;
 use std::alloc::Global;
 
 impl<Q: Chooser> Worker<Q> {
-    /// The open transaction commits, having read the pages that it locked. Where the station
-    /// refused it the client is committing, and the next call hands the same commit in.
+    /// The open transaction commits, having read the pages that it locked: what is committed is
+    /// exactly what it wrote. Where the station refused it the client is committing, and the next
+    /// call hands the same commit in.
     pub fn commit_at(
         &mut self,
         alloc: Global,
@@ -24,6 +25,8 @@ impl<Q: Chooser> Worker<Q> {
         ensures { CommitsAt self.old station.old result self.new station.new }
     {
         let frame = self.commit_frame(alloc)?;
+        // What holds of every client, its limits say.
+        let _known = self.client.limits();
         match station.commit(alloc, &frame, self.client.locked(), &mut self.hand) {
             Ok(number) => Ok(number),
             Err(fault) => Err(WorkerFault::Office(fault)),

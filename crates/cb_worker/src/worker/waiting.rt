@@ -8,17 +8,19 @@ ghost use Rattle.cb_worker.specs.Asking.{AsksFor, AsksToWrite};
 ghost use Rattle.cb_worker.specs.Lending.{worker_ends};
 ghost use Rattle.cb_station.specs.Stations.{IsStation};
 ghost use Rattle.cb_station.specs.Telling.{IsTold};
+ghost use Rattle.cb_worker.specs.Committing.{HasCommitted};
 ghost use Rattle.cb_worker.specs.Dropping.{Drops, IsDropped, SaysDrop};
+ghost use Rattle.cb_worker.specs.Keeping.{KeepsUsed, OpenOrAborted};
 ghost use Rattle.cb_worker.specs.Refusals.{RefusesAsk, RefusesCall, RefusesDrop, RefusesFetch};
 ghost use Rattle.cb_worker.specs.Refusals.{RefusesCommit, RefusesFinish, RefusesToDrop};
 ghost use Rattle.cb_worker.specs.Refusals.{RefusesWant, StopsAt, StopsFetch, StopsServing};
 ghost use Rattle.cb_worker.specs.Serving.{HandsAllIn, HandsInAndTells, HandsOne, Serves};
 ghost use Rattle.cb_worker.specs.Serving.{ServesAndTells, ServesSome};
-ghost use Rattle.cb_worker.specs.Steps.{Comes, RefusesToBegin, StopsOr};
+ghost use Rattle.cb_worker.specs.Steps.{Begun, Comes, RefusesToBegin, StopsOr};
 ghost use Rattle.cb_worker.specs.Waiting.{Fetches, Finishes, HasRead};
 ghost use Rattle.cb_worker.specs.Waiting.{IsServed, ReadsAtHand, Wants};
 ghost use Rattle.cb_worker.specs.Workers.{Ended, Ends, HasTransaction, IsStill};
-ghost use Rattle.cb_worker.specs.Workers.{after_hit, may_hit};
+ghost use Rattle.cb_worker.specs.Workers.{after_hit, may_hit, seen_by};
 
 use crate::answers::{Fetched, Finished, Wanted};
 use crate::awaited::{Awaited, Came};
@@ -43,6 +45,8 @@ impl<Q: Chooser> Worker<Q> {
         ensures serves { ServesSome self.old result self.new }
         ensures served { OnOk result (IsServed self.new) }
         ensures still { IsStill self.old self.new }
+        ensures used { KeepsUsed (seen_by self.old) (seen_by self.new) }
+        ensures goes { OpenOrAborted (seen_by self.old) (seen_by self.new) }
         ensures refused { IfErr result (StopsServing self.new) }
     {
         let mut station = office.lock(rt);
@@ -60,6 +64,8 @@ impl<Q: Chooser> Worker<Q> {
         ensures serves { ServesAndTells self.old station.old result self.new station.new }
         ensures served { OnOk result (IsServed self.new) }
         ensures still { IsStill self.old self.new }
+        ensures used { KeepsUsed (seen_by self.old) (seen_by self.new) }
+        ensures goes { OpenOrAborted (seen_by self.old) (seen_by self.new) }
         ensures halted { (result ≡ Err WorkerFault.Halted) ↔ (station.old.flags.halted ≡ true) }
         ensures told { IsTold station.new }
         ensures sound { IsStation station.old }
@@ -80,6 +86,8 @@ impl<Q: Chooser> Worker<Q> {
         ensures serves { Serves self.old station.old result self.new station.new }
         ensures served { OnOk result (IsServed self.new) }
         ensures still { IsStill self.old self.new }
+        ensures used { KeepsUsed (seen_by self.old) (seen_by self.new) }
+        ensures goes { OpenOrAborted (seen_by self.old) (seen_by self.new) }
         ensures halted { (result ≡ Err WorkerFault.Halted) ↔ (station.old.flags.halted ≡ true) }
         ensures sound { IsStation station.old }
         ensures refused { IfErr result (StopsServing self.new) }
@@ -110,6 +118,7 @@ impl<Q: Chooser> Worker<Q> {
             IsTrue aborted → Ended self.new protocol.Aborted) }
         ensures served { OnOk result (IsServed self.new) }
         ensures still { IsStill self.old self.new }
+        ensures used { KeepsUsed (seen_by self.old) (seen_by self.new) }
         ensures told { IsTold station.new }
         ensures refused { IfErr result (StopsServing self.new) }
     {
@@ -134,6 +143,8 @@ impl<Q: Chooser> Worker<Q> {
         if !self.fetch_copy(rt, alloc, office, page)? {
             return Ok(Fetched::Aborted);
         }
+        // What holds of every client, its limits say.
+        let _known = self.client.limits();
         let Some(bytes) = self.client.peek(page) else {
             unreachable!()
         };
@@ -217,8 +228,8 @@ impl<Q: Chooser> Worker<Q> {
         Ok(false)
     }
 
-    /// Wants to write a page that the open transaction has read, and waits until it may. Refused as
-    /// the client does where nothing is open or committing.
+    /// Wants to write a page that the open transaction has read, and waits until it may. The page's
+    /// bytes are then as they were. Refused as the client does where nothing is open or committing.
     pub fn want<R: Wait>(
         &mut self,
         rt: &R,
@@ -251,6 +262,7 @@ impl<Q: Chooser> Worker<Q> {
             (λ came. IfSome came (Comes (Awaited.Permission page) self.new)) }
         ensures served { OnOk result (IsServed self.new) }
         ensures still { IsStill self.old self.new }
+        ensures begun { OnOk result (Begun (Awaited.Permission page) self.old self.new) }
         ensures told { IsTold station.new }
         ensures refused { IfErr result (StopsOr self.new (RefusesCall self.new (CallWant page))) }
     {
@@ -367,8 +379,8 @@ impl<Q: Chooser> Worker<Q> {
         Ok(())
     }
 
-    /// The open transaction commits; waits until its commit is on disk. Refused as the client does
-    /// where nothing is open or committing.
+    /// The open transaction commits; waits until its commit is on disk. What is committed is exactly
+    /// what it wrote. Refused as the client does where nothing is open or committing.
     ///
     /// After a fault of the office the client is committing, and a later call goes on.
     pub fn finish<R: Wait>(
@@ -380,6 +392,7 @@ impl<Q: Chooser> Worker<Q> {
         ensures finishes { IfOk result (Finishes self.old self.new) }
         ensures served { OnOk result (IsServed self.new) }
         ensures still { IsStill self.old self.new }
+        ensures commits { IfOk result (HasCommitted self.old) }
         ensures refused { IfErr result (RefusesFinish self.old self.new) }
     {
         self.needs_transaction()?;
@@ -401,6 +414,7 @@ impl<Q: Chooser> Worker<Q> {
         ensures comes { IfOk result (λ came. IfSome came (Comes Awaited.End self.new)) }
         ensures served { OnOk result (IsServed self.new) }
         ensures still { IsStill self.old self.new }
+        ensures begun { OnOk result (Begun Awaited.End self.old self.new) }
         ensures told { IsTold station.new }
         ensures refused { IfErr result (StopsOr self.new (RefusesCommit self.new)) }
     {
@@ -426,6 +440,7 @@ impl<Q: Chooser> Worker<Q> {
         ensures comes { IfOk result (Comes awaited.now self.new) }
         ensures served { OnOk result (IsServed self.new) }
         ensures still { IsStill self.old self.new }
+        ensures begun { OnOk result (Begun awaited.now self.old self.new) }
         ensures refused { IfErr result (StopsOr self.new (RefusesToBegin awaited.now self.new)) }
     {
         let mut station = office.lock(rt);
@@ -452,6 +467,7 @@ impl<Q: Chooser> Worker<Q> {
         ensures comes { IfOk result (λ came. IfSome came (Comes awaited.now self.new)) }
         ensures served { OnOk result (IsServed self.new) }
         ensures still { IsStill self.old self.new }
+        ensures begun { OnOk result (Begun awaited.now self.old self.new) }
         ensures told { IsTold station.new }
         ensures refused { IfErr result (StopsOr self.new (RefusesToBegin awaited.now self.new)) }
     {
@@ -475,6 +491,7 @@ impl<Q: Chooser> Worker<Q> {
         ensures comes { IfOk result (λ came. IfSome came (Comes awaited.now self.new)) }
         ensures served { OnOk result (IsServed self.new) }
         ensures still { IsStill self.old self.new }
+        ensures goes { OpenOrAborted (seen_by self.old) (seen_by self.new) }
         ensures told { IsTold station.new }
         ensures refused { IfErr result (StopsServing self.new) }
     {
@@ -487,6 +504,7 @@ impl<Q: Chooser> Worker<Q> {
         ensures comes { IfSome result (Comes awaited.now self.new) }
         ensures served { IsServed self.old → IsServed self.new }
         ensures still { IsStill self.old self.new }
+        ensures goes { OpenOrAborted (seen_by self.old) (seen_by self.new) }
     {
         match awaited {
             Awaited::Welcome => {

@@ -1,7 +1,10 @@
 -- Goals of `Worker::begin_finish`.
-use Rattle.std.proofs.Common.{◌≡◌, Err, inr, rules}
+use Rattle.std.proofs.Common.{◌≡◌, Err, inl, inr, rules}
 use Rattle.cb_worker.proofs.Staying.{after, commits_still}
+use Rattle.cb_worker.proofs.Steps.{begun_at}
 use Rattle.cb_worker.proofs.Telling.{refused_told}
+use Rattle.cb_worker.proofs.Using.{was_over}
+use Rattle.cb_worker.proofs.Written.{handed_written}
 use Rattle.cb_worker.proofs.worker.Worker.begin_finish.Goals as goal
 
 pub returns-in_err-_number-clause-still : goal.returns-in_err-_number-clause-still
@@ -24,3 +27,20 @@ pub returns-in_err-_number-clause-refused : goal.returns-in_err-_number-clause-r
 returns-in_err-_number-clause-refused g c =
     let is : c.from_residual-in_err-_number.result ≡ Err c.in_err-_number.field-0.0 = search rules in
     rw is (inr (record { old = c.serve_at.new.self; before = c.serve_at.new.station; sound = c.history-known.ensures.sound; after = c.commit_at.new.station; commits = c.in_err-_number.ensures }))
+
+pub returns-in-Some-clause-begun : goal.returns-in-Some-clause-begun
+returns-in-Some-clause-begun g c = inl (was_over c.args.self.now c.serve_at.new.self c.serve_at.ensures.goes c.in-Some.ensures.idle)
+
+pub returns-clause-begun : goal.returns-clause-begun
+returns-clause-begun g c =
+    begun_at c.go_on.result (inr (record {
+      served = c.serve_at.new.self;
+      still = c.serve_at.ensures.still;
+      before = c.serve_at.new.station;
+      sound = c.history-known.ensures.sound;
+      number = c.in_ok-_number._number;
+      new = c.commit_at.new.self;
+      after = c.commit_at.new.station;
+      commits = c.in_ok-_number.ensures;
+      written = handed_written c.args.self.now c.serve_at.new.self c.commit_at.new.self _ _ _ c.serve_at.ensures.still c.in_ok-_number.ensures;
+    }))

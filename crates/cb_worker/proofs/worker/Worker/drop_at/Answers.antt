@@ -1,6 +1,7 @@
 -- Goals of `Worker::drop_at`.
 use Rattle.std.proofs.Common.{IsTrue, inr, rules}
 use Rattle.cb_worker.proofs.Dropping.{is_dropped, kept}
+use Rattle.cb_worker.proofs.Staying.{after}
 use Rattle.cb_worker.proofs.worker.Worker.drop_at.Goals as goal
 
 pub returns-then-branch-clause-dropped : goal.returns-then-branch-clause-dropped
@@ -16,3 +17,10 @@ returns-clause-dropped g c =
 pub returns-clause-refused : goal.returns-clause-refused
 returns-clause-refused g c =
     kept c.args.self.now c.serve_first.new.self c.drop_open.new.self c.hand_all_in.new.self c.hand_all_in.result c.serve_first.ensures.still c.in_ok-drop_open.ensures.says c.hand_all_in.ensures.refused
+
+pub returns-in_err-drop_open-clause-still : goal.returns-in_err-drop_open-clause-still
+returns-in_err-drop_open-clause-still g c = after c.args.self.now c.serve_first.new.self c.drop_open.new.self c.serve_first.ensures.still c.drop_open.ensures.still
+
+pub returns-clause-still : goal.returns-clause-still
+returns-clause-still g c =
+    after c.args.self.now c.drop_open.new.self c.hand_all_in.new.self (after c.args.self.now c.serve_first.new.self c.drop_open.new.self c.serve_first.ensures.still c.drop_open.ensures.still) c.hand_all_in.ensures.still

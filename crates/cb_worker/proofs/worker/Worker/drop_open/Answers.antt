@@ -9,7 +9,7 @@ pub returns-clause-dropped : goal.returns-clause-dropped
 returns-clause-dropped g c = dropped _ _ _ c.in_ok-said.ensures.ok c.in_ok-said.ensures.over
 
 pub returns-clause-still : goal.returns-clause-still
-returns-clause-still g c = rw (← c.self.view_is) (dropped_still _ _ _ c.in_ok-said.ensures.ok refl)
+returns-clause-still g c = rw (← c.self.view_is) (dropped_still _ _ _ c.in_ok-said.ensures.ok c.in_ok-said.ensures.over refl)
 
 pub returns-clause-says : goal.returns-clause-says
-returns-clause-says g c = rw (← c.self.view_is) (says _ _ c.in_ok-said.said.items c.of.ensures c.in_ok-said.ensures.ok (dropped_still _ _ _ c.in_ok-said.ensures.ok refl))
+returns-clause-says g c = rw (← c.self.view_is) (says _ _ c.in_ok-said.said.items c.of.ensures c.in_ok-said.ensures.ok (dropped_still _ _ _ c.in_ok-said.ensures.ok c.in_ok-said.ensures.over refl))

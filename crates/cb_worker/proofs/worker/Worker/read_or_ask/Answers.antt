@@ -5,6 +5,7 @@ use Rattle.cb_client.specs.declared.answers.ReadAnswer.TheVariants as read
 use Rattle.cb_worker.proofs.Asking.{asks_for, says_it}
 use Rattle.cb_worker.proofs.Reading.{at_hand}
 use Rattle.cb_worker.proofs.Refusing.{lacks_grant}
+use Rattle.cb_worker.proofs.Staying.{read_still}
 use Rattle.cb_worker.specs.Workers.{WorkerState, shows_copy}
 use Rattle.cb_worker.proofs.worker.Worker.read_or_ask.Goals as goal
 
@@ -32,3 +33,19 @@ pub returns-in_default-clause-reads : goal.returns-in_default-clause-reads
 returns-in_default-clause-reads g c =
     let a : AnswersRead c.self.inside.client c.args.page (Ok read.Asked) = rw c.in-Asked.is at c.in_ok-read.ensures.answer in
     absurd (says_it c.self.inside.client c.read.follows.lender-at-none c.args.page a c.read.follows.holds-at-none c.in_default.ensures.by_table)
+
+pub returns-then-shown-clause-still : goal.returns-then-shown-clause-still
+returns-then-shown-clause-still g c =
+    read_still c.args.self.now _ c.args.page (c.read.follows.holds-at-none ∙ ap (λ (w : WorkerState). after_read w.client c.args.page) c.self.view_is) (ap (λ (w : WorkerState). w.hand) c.self.view_is)
+
+pub returns-in-Bytes-clause-still : goal.returns-in-Bytes-clause-still
+returns-in-Bytes-clause-still g c =
+    read_still c.args.self.now _ c.args.page (c.read.follows.holds-at-none ∙ ap (λ (w : WorkerState). after_read w.client c.args.page) c.self.view_is) (ap (λ (w : WorkerState). w.hand) c.self.view_is)
+
+pub returns-in-Some-clause-still : goal.returns-in-Some-clause-still
+returns-in-Some-clause-still g c =
+    read_still c.args.self.now _ c.args.page (c.read.follows.holds-at-none ∙ ap (λ (w : WorkerState). after_read w.client c.args.page) c.self.view_is) (ap (λ (w : WorkerState). w.hand) c.self.view_is)
+
+pub returns-in_default-clause-still : goal.returns-in_default-clause-still
+returns-in_default-clause-still g c =
+    read_still c.args.self.now _ c.args.page (c.read.follows.holds-at-none ∙ ap (λ (w : WorkerState). after_read w.client c.args.page) c.self.view_is) (ap (λ (w : WorkerState). w.hand) c.self.view_is)

@@ -1,6 +1,6 @@
 -- What holds at each turn of the loops of `Worker::wait_for`.
 use Rattle.std.specs.Prelude.{IfErr, IfOk, IfSome, OnOk}
-use Rattle.cb_worker.specs.Steps.{Comes, RefusesToBegin, StopsOr}
+use Rattle.cb_worker.specs.Steps.{Begun, Comes, RefusesToBegin, StopsOr}
 use Rattle.cb_worker.specs.Waiting.{IsServed}
 use Rattle.cb_worker.specs.Workers.{IsStill}
 use Rattle.cb_worker.proofs.worker.Worker.wait_for.Given as goal
@@ -10,4 +10,4 @@ abbrev pub invariant-loop : goal.invariant-loop
 invariant-loop g l =
     (goal.iterator-loop g).can_next l.iterator' × (goal.iterator-loop g).is_finite l.iterator'
     × IsStill l.fn.self l.self × IfOk l.came (λ came. IfSome came (Comes l.fn.awaited l.self)) × OnOk l.came (IsServed l.self)
-    × IfErr l.came (StopsOr l.self (RefusesToBegin l.fn.awaited l.self))
+    × IfErr l.came (StopsOr l.self (RefusesToBegin l.fn.awaited l.self)) × OnOk l.came (Begun l.fn.awaited l.fn.self l.self)

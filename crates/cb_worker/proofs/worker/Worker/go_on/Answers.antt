@@ -1,0 +1,6 @@
+-- Goals of `Worker::go_on`.
+use Rattle.cb_worker.proofs.Staying.{after}
+use Rattle.cb_worker.proofs.worker.Worker.go_on.Goals as goal
+
+pub returns-clause-still : goal.returns-clause-still
+returns-clause-still g c = after c.args.self.now c.serve_at.new.self c.come.new.self c.serve_at.ensures.still c.come.ensures.still
