@@ -24,5 +24,6 @@ mod tickets;
 mod trials;
 mod unwatched;
 mod visits;
+mod wanting;
 mod work;
 mod writes;

@@ -14,7 +14,7 @@ use crate::running::tickets::{Wake, ends_its_wait};
 use crate::running::unwatched::is_counted;
 use crate::running::work::{Deed, Outcome};
 use cb_page::{ClientNo, Limits};
-use cb_shelf::Shelf;
+use cb_shelf::{Shelf, ShelfFault};
 use cb_station::{Office, Station};
 use cb_twoq::{Chooser, TwoQ};
 use cb_worker::Worker;
@@ -124,7 +124,7 @@ pub(crate) fn comes_over<R: Wait + Threads + Clock + Sync, S: Alter>(
             let office = Office::new(station, calls_of(trial));
             comes_with(trial, rt, alloc, limits, &office, shelf)
         }
-        Err(_) => Outcome::Well(false),
+        Err(_) => Outcome::Refused(ShelfFault::Memory),
     }
 }
 
