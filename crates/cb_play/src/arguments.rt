@@ -27,6 +27,9 @@ pub(crate) struct RunRequest<'a> {
 pub(crate) enum Request<'a> {
     /// Play a schedule: the paths of the configuration and of the schedule.
     Play { config: &'a str, schedule: &'a str },
+    /// Draw the picture of a schedule that is played: the paths of the configuration and of the
+    /// schedule.
+    Chart { config: &'a str, schedule: &'a str },
     /// Draw a schedule.
     Draw(DrawRequest<'a>),
     /// Run workers.
@@ -47,6 +50,8 @@ const ABOUT: &str =
 
 const PLAY_ABOUT: &str =
     "Plays a schedule on a store of zeros and prints what became of each event";
+
+const CHART_ABOUT: &str = "Plays a schedule on a store of zeros and prints a picture of it, as SVG";
 
 const DRAW_ABOUT: &str =
     "Draws a schedule by the words of a generator, and prints it, one event a line";
@@ -121,6 +126,20 @@ SCHEDULE has one event on a line; lines that begin with # are skipped:
 Statuses:
   0  done
   1  the serial check said no
+  2  wrong words, configuration or schedule
+  4  no memory
+  5  cannot write";
+
+const CHART_HELP: &str = "\
+The picture stands alone, in light and dark by the viewer's setting. It has a lane for the server
+and one for each client; time goes downwards, one row an event. An arrow goes from the event that
+sent a packet to each that took it. A bar stands while a client can read its copy of the page, a
+darker one while it may write it.
+
+CONFIG and SCHEDULE are as for play, with at most 2,000 events.
+
+Statuses:
+  0  done
   2  wrong words, configuration or schedule
   4  no memory
   5  cannot write";
@@ -200,12 +219,26 @@ fn path<'a>(alloc: Global, name: &'a str, help: &'a str) -> Arg<'a> {
         .help(help)
 }
 
-fn play_command<'a>(alloc: Global) -> Result<Command<'a>, AllocError> {
-    Command::new(alloc, "play")
-        .about(PLAY_ABOUT)
-        .after_help(PLAY_HELP)
+/// A command that plays the schedule of a file under the configuration of a file.
+fn schedule_command<'a>(
+    alloc: Global,
+    name: &'a str,
+    about: &'a str,
+    after_help: &'a str,
+) -> Result<Command<'a>, AllocError> {
+    Command::new(alloc, name)
+        .about(about)
+        .after_help(after_help)
         .arg(path(alloc, "CONFIG", "File with the settings, as TOML"))?
         .arg(path(alloc, "SCHEDULE", "File with the events, one a line"))
+}
+
+fn play_command<'a>(alloc: Global) -> Result<Command<'a>, AllocError> {
+    schedule_command(alloc, "play", PLAY_ABOUT, PLAY_HELP)
+}
+
+fn chart_command<'a>(alloc: Global) -> Result<Command<'a>, AllocError> {
+    schedule_command(alloc, "chart", CHART_ABOUT, CHART_HELP)
 }
 
 /// An option whose value is a whole number from 0 to the most.
@@ -310,6 +343,7 @@ fn command<'a>(alloc: Global) -> Result<Command<'a>, AllocError> {
         .subcommand_required(true)
         .arg_required_else_help(true);
     let command = with(command, play_command(alloc))?;
+    let command = with(command, chart_command(alloc))?;
     let command = with(command, draw_command(alloc))?;
     let command = with(command, run_command(alloc))?;
     let command = with(command, serve_command(alloc))?;
@@ -321,6 +355,10 @@ fn command<'a>(alloc: Global) -> Result<Command<'a>, AllocError> {
 fn asked<'a>(matches: &ArgMatches<'a>) -> Option<Request<'a>> {
     match matches.subcommand() {
         Some(("play", matches)) => Some(Request::Play {
+            config: matches.get_str("CONFIG")?,
+            schedule: matches.get_str("SCHEDULE")?,
+        }),
+        Some(("chart", matches)) => Some(Request::Chart {
             config: matches.get_str("CONFIG")?,
             schedule: matches.get_str("SCHEDULE")?,
         }),

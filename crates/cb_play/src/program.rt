@@ -11,6 +11,7 @@ use crate::store_run::{AnyTime, run_store};
 use cb_console::{DONE, Escaped, WRONG_INPUT, draw_to, play_to};
 use cb_jobs::{Progress, Unwatched};
 use cb_one_side::play_lists;
+use cb_svg::chart_to;
 use clap::Error;
 use clap::error::ErrorKind;
 use std::io::Write;
@@ -96,6 +97,7 @@ pub(crate) fn do_request<R: Threads + Wait + Clock + Sync, O: Write, E: Write>(
 {
     match request {
         Request::Play { config, schedule } => play_files(rt, config, schedule, out, err),
+        Request::Chart { config, schedule } => chart_files(rt, config, schedule, out, err),
         Request::Draw(request) => draw_file(rt, &request, out, err),
         Request::Run(request) => run_workers(rt, threads, &request, out, err),
         Request::Serve { config, store } => serve_frames(rt, config, store, out, err),
@@ -144,7 +146,7 @@ fn refuse_words<E: Write>(rt: &HostRuntime, words: &[String], err: &mut E) -> io
     Ok(WRONG_INPUT)
 }
 
-/// Plays the schedule of a file under the configuration of a file. The configuration is read first.
+/// Plays the schedule of a file under the configuration of a file.
 fn play_files<O: Write, E: Write>(
     rt: &HostRuntime,
     config: &str,
@@ -154,13 +156,43 @@ fn play_files<O: Write, E: Write>(
 ) -> io::Result<u8>
     ensures { IfOk result IsAnswered }
 {
-    let Some(config) = read_file(rt, config, err)? else {
-        return Ok(WRONG_INPUT);
-    };
-    let Some(schedule) = read_file(rt, schedule, err)? else {
+    let Some((config, schedule)) = read_both(rt, config, schedule, err)? else {
         return Ok(WRONG_INPUT);
     };
     play_to(rt.alloc(), config.as_slice(), schedule.as_slice(), out, err)
+}
+
+/// Prints the picture of the schedule of a file that is played under the configuration of a file.
+fn chart_files<O: Write, E: Write>(
+    rt: &HostRuntime,
+    config: &str,
+    schedule: &str,
+    out: &mut O,
+    err: &mut E,
+) -> io::Result<u8>
+    ensures { IfOk result IsAnswered }
+{
+    let Some((config, schedule)) = read_both(rt, config, schedule, err)? else {
+        return Ok(WRONG_INPUT);
+    };
+    chart_to(rt.alloc(), config.as_slice(), schedule.as_slice(), out, err)
+}
+
+/// The bytes of a configuration and of a schedule, read in this order. Where one can't be read that
+/// is said, and there are none.
+fn read_both<E: Write>(
+    rt: &HostRuntime,
+    config: &str,
+    schedule: &str,
+    err: &mut E,
+) -> io::Result<Option<(Vec<u8>, Vec<u8>)>> {
+    let Some(config) = read_file(rt, config, err)? else {
+        return Ok(None);
+    };
+    let Some(schedule) = read_file(rt, schedule, err)? else {
+        return Ok(None);
+    };
+    Ok(Some((config, schedule)))
 }
 
 /// Draws a schedule under the configuration of a file.

@@ -1,0 +1,4 @@
+pub mod Bars
+pub mod Arrows
+pub mod Sights
+pub mod Charts

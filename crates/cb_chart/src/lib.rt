@@ -1,0 +1,18 @@
+//! The chart of a run, as data: what is drawn of a schedule that is played over a store of zeros.
+//!
+//! [`Chart::new`] plays a schedule event by event and notes what there is to see: each event with
+//! its answer, the packets that it sent ([`Sending`]), which event took which packet ([`Arrow`]),
+//! when each client had a copy of a page that it could read ([`Bar`]), and which transactions
+//! ended ([`Mark`]). Who draws it is told all by numbers of events, counted from 0.
+#![tactic(auto)]
+
+mod arrows;
+mod bars;
+mod chart;
+mod copies;
+mod marks;
+
+pub use arrows::{Arrow, Sending};
+pub use bars::{Bar, ClientCopy};
+pub use chart::{Chart, ChartFault, MOST_EVENTS};
+pub use marks::{Ending, Mark};

@@ -1,0 +1,3 @@
+pub mod Layouts
+pub mod Signs
+pub mod Pictures
