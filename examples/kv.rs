@@ -41,6 +41,9 @@ impl Bucket {
         while rest.len() > 2 && rest[0] > 0 {
             let key_end = 2 + usize::from(rest[0]);
             let end = key_end + usize::from(rest[1]);
+            if end > rest.len() {
+                break; // it isn't a page of ours
+            }
             let text = |bytes: &[u8]| String::from_utf8_lossy(bytes).into_owned();
             entries.push((text(&rest[2..key_end]), text(&rest[key_end..end])));
             rest = &rest[end..];

@@ -31,7 +31,8 @@ enum {
   PART = 4096,        /* bytes of a page that are in one row */
   READ = 1 << 18,     /* bytes that are read at once */
   OUT_MOST = 1 << 22, /* bytes that may wait for one connection: one that reads slower is lost */
-  AGAIN = 500         /* milliseconds without a frame until what may be lost is said again */
+  AGAIN = 500,        /* milliseconds without a frame until what may be lost is said again */
+  BUSY = 5000         /* for so long it waits for others who use the database, as to copy it */
 };
 
 /* Ends the program. Nothing is lost that a client was told of. */
@@ -169,6 +170,7 @@ static void store_open(struct store *store, const char *path, const rughvadi_lim
   if (sqlite3_open(path, &store->database) != SQLITE_OK) {
     die("cannot open %s", path);
   }
+  must(store, sqlite3_busy_timeout(store->database, BUSY));
   run(store, "PRAGMA journal_mode = WAL; PRAGMA synchronous = FULL");
   if (one_number(store, "SELECT count(*) FROM sqlite_schema WHERE name = 'mark2'") == 0) {
     make_tables(store, limits);
@@ -414,12 +416,23 @@ static void stop(int signal) {
   is_stopping = 1;
 }
 
+/* Takes a socket away that a killed server left, and nobody listens to. */
+static void remove_left(const struct sockaddr_un *address) {
+  int probe = socket(AF_UNIX, SOCK_STREAM, 0);
+  if (probe >= 0 && connect(probe, (const struct sockaddr *)address, sizeof *address) != 0
+      && errno == ECONNREFUSED) {
+    unlink(address->sun_path);
+  }
+  close(probe);
+}
+
 static void listen_on(struct host *host, const char *path) {
   struct sockaddr_un address = {.sun_family = AF_UNIX};
   if (strlen(path) >= sizeof address.sun_path) {
     die("%s is too long", path);
   }
   memcpy(address.sun_path, path, strlen(path));
+  remove_left(&address);
   umask(0177);
   host->listener = socket(AF_UNIX, SOCK_STREAM, 0);
   if (host->listener < 0 || bind(host->listener, (const struct sockaddr *)&address, sizeof address)

@@ -1,5 +1,5 @@
-/* The heap that the library takes its memory from: the C library's. Each function is weak, so that a
- * host may define one of its own, as one that counts, or refuses. */
+/* The heap that the library takes its memory from: the C library's. Each function is weak, so that
+ * a host may define one of its own, as one that counts, or refuses. */
 #include <stdbool.h>
 #include <stddef.h>
 #include <stdlib.h>

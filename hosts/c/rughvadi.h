@@ -4,11 +4,12 @@
  * aborts. The host hands frames in (rughvadi_take), fetches those that are to be sent
  * (rughvadi_next), and writes the server's pages to disk (rughvadi_server_batch and what follows).
  *
- * A handle. `rughvadi_handle h = RUGHVADI_EMPTY;` is empty. rughvadi_server_new, rughvadi_open_begin
- * and rughvadi_client_new put an object into an empty handle, rughvadi_free takes it out again. A
- * handle is never copied, and its fields are the library's: the host neither reads nor writes them.
- * One call at a time is made on a handle. It may go to another thread, with what it holds, where the
- * host orders the calls: by a lock, a thread's start or join, or a sequentially consistent atomic.
+ * A handle. `rughvadi_handle h = RUGHVADI_EMPTY;` is empty. rughvadi_server_new,
+ * rughvadi_open_begin and rughvadi_client_new put an object into an empty handle, rughvadi_free
+ * takes it out again. A handle is never copied, and its fields are the library's: the host neither
+ * reads nor writes them. One call at a time is made on a handle. It may go to another thread, with
+ * what it holds, where the host orders the calls: by a lock, a thread's start or join, or a
+ * sequentially consistent atomic.
  *
  * What is said. A call may say frames: the server's answers, a client's asks. They are kept in the
  * handle until rughvadi_next has fetched each, the oldest first. Until then every call that may say
@@ -22,8 +23,8 @@
  * RUGHVADI_FRAME_MEMORY come last, and only where malloc or realloc refused: the same call may be
  * made again.
  *
- * Pointers. Each is valid for its length and no two of a call overlap; none is null, but a buffer of
- * length 0 may be any pointer that isn't null. The library keeps none of them after the call.
+ * Pointers. Each is valid for its length and no two of a call overlap; none is null, but a buffer
+ * of length 0 may be any pointer that isn't null. The library keeps none of them after the call.
  *
  * Sizes. A frame has at most rughvadi_frame_most(&limits) bytes.
  */
@@ -160,15 +161,15 @@ static inline size_t rughvadi_frame_most(const rughvadi_limits *limits) {
 /* The version of the library's interface: RUGHVADI_VERSION. */
 uint32_t rughvadi_version(void);
 
-/* Writes what a number means, in English and with no 0 behind it, to the room, and how many bytes it
- * has to *size, also where the room is too short for them. No text has more than 64.
+/* Writes what a number means, in English and with no 0 behind it, to the room, and how many bytes
+ * it has to *size, also where the room is too short for them. No text has more than 64.
  * ROOM: the room is too short; nothing is written to it. */
 uint32_t rughvadi_fault_text(uint32_t fault, uint8_t *room, size_t len, size_t *size);
 
 /* Reads the frame that the bytes begin with: so a host cuts a stream into frames, and knows whose
  * they are before it hands them in. Nothing else happens.
- * LIMIT_..: these are no limits. FRAME_SHORT: more bytes are needed. FRAME_..: no frame will come of
- * these bytes, whatever follows. */
+ * LIMIT_..: these are no limits. FRAME_SHORT: more bytes are needed. FRAME_..: no frame will come
+ * of these bytes, whatever follows. */
 uint32_t rughvadi_frame_read(const rughvadi_limits *limits, const uint8_t *bytes, size_t len,
                              rughvadi_frame_head *head);
 
@@ -176,15 +177,15 @@ uint32_t rughvadi_frame_read(const rughvadi_limits *limits, const uint8_t *bytes
 
 /* Takes the frame that the bytes begin with, whatever follows it; *used is how many bytes it has. A
  * frame that is late, repeated or of another incarnation is taken, and nothing comes of it.
- * OTHER_KIND, UNFETCHED, FRAME_.. (MEMORY only of a commit or a page that was granted), EXHAUSTED (a
- * server's: no number is left for an ask to read or a commit), MEMORY. */
+ * OTHER_KIND, UNFETCHED, FRAME_.. (MEMORY only of a commit or a page that was granted), EXHAUSTED
+ * (a server's: no number is left for an ask to read or a commit), MEMORY. */
 uint32_t rughvadi_take(rughvadi_handle *h, const uint8_t *bytes, size_t len, size_t *used);
 
 /* Fetches the oldest frame that was said, to the beginning of the room: *size is how many bytes it
  * has, *client whose it is: of a client's frame its own number, of a server's the one that it is to
  * be sent to.
- * OTHER_KIND. NOTHING: all is fetched. MEMORY. ROOM: the room is too short; *size is what is needed,
- * and the frame stays. */
+ * OTHER_KIND. NOTHING: all is fetched. MEMORY. ROOM: the room is too short; *size is what is
+ * needed, and the frame stays. */
 uint32_t rughvadi_next(rughvadi_handle *h, uint8_t *room, size_t len, size_t *size,
                        uint32_t *client);
 
@@ -210,8 +211,8 @@ uint32_t rughvadi_open_begin(const rughvadi_limits *limits, uint64_t last_commit
 
 /* Second, once for each page, by rising number: the version that rughvadi_server_page told when the
  * page was written (0 where it never was), and its bytes (zeros then). They are copied.
- * OTHER_KIND. ROOM: the bytes aren't as long as a page, or each page has its row already. RANGE: the
- * version is above the last commit. MEMORY. */
+ * OTHER_KIND. ROOM: the bytes aren't as long as a page, or each page has its row already. RANGE:
+ * the version is above the last commit. MEMORY. */
 uint32_t rughvadi_open_row(rughvadi_handle *h, uint64_t version, const uint8_t *bytes, size_t len);
 
 /* Third: the handle holds the server then. All that it has counts as on disk, and it knows no
@@ -240,9 +241,9 @@ bool rughvadi_server_can_flush(rughvadi_handle *h, uint64_t number);
  * OTHER_KIND, UNFETCHED. RANGE: rughvadi_server_can_flush is false of it. MEMORY. */
 uint32_t rughvadi_server_flushed(rughvadi_handle *h, uint64_t number);
 
-/* The commits up to this number, which are on disk, leave the server's memory. The host calls it after
- * rughvadi_server_flushed with the same number, or now and then; without it the memory grows with each
- * commit. It costs no more than what it lets go.
+/* The commits up to this number, which are on disk, leave the server's memory. The host calls it
+ * after rughvadi_server_flushed with the same number, or now and then; without it the memory grows
+ * with each commit. It costs no more than what it lets go.
  * OTHER_KIND. RANGE: no commit has this number, or not all up to it are on disk. */
 uint32_t rughvadi_server_forget(rughvadi_handle *h, uint64_t number);
 
@@ -283,8 +284,8 @@ uint32_t rughvadi_client_begin(rughvadi_handle *h, uint64_t *txn);
 uint32_t rughvadi_client_read(rughvadi_handle *h, uint32_t page, uint8_t *room, size_t len,
                               bool *here);
 
-/* Wants to write a page that the transaction has read. Where *may is true it may now. Else an ask is
- * out, as with a read, and this call is made again after the answer.
+/* Wants to write a page that the transaction has read. Where *may is true it may now. Else an ask
+ * is out, as with a read, and this call is made again after the answer.
  * OTHER_KIND, RANGE, UNFETCHED, NOT_WELCOME, NO_TRANSACTION, COMMITTING, WAITING, PAGE_RANGE,
  * NOT_READ, NOT_HERE (read it again first). */
 uint32_t rughvadi_client_want(rughvadi_handle *h, uint32_t page, bool *may);

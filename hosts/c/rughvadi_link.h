@@ -1,10 +1,10 @@
 /* A client over a connected stream socket, for hosts that may block. It is plain C over rughvadi.h,
  * and no part of what is proved: read it, change it, or write one of your own.
  *
- * A link is used by one thread at a time, as a handle is. Each call answers RUGHVADI_DONE, a fault of
- * rughvadi.h, or one of the faults below. After RUGHVADI_LINK_SYSTEM, _CLOSED and RUGHVADI_FRAME_..
- * the client is gone: each later call answers RUGHVADI_LINK_CLOSED, also of a page that it holds.
- * Close the link, and open another one in the client's next incarnation.
+ * A link is used by one thread at a time, as a handle is. Each call answers RUGHVADI_DONE, a fault
+ * of rughvadi.h, or one of the faults below. After RUGHVADI_LINK_SYSTEM, _CLOSED and
+ * RUGHVADI_FRAME_.. the client is gone: each later call answers RUGHVADI_LINK_CLOSED, also of a
+ * page that it holds. Close the link, and open another one in the client's next incarnation.
  */
 #ifndef RUGHVADI_LINK_H
 #define RUGHVADI_LINK_H
@@ -35,8 +35,8 @@ typedef struct {
   size_t in_size, in_len;
 } rughvadi_link;
 
-/* Opens a link over a connected socket, greets the server and waits until the client is welcome. The
- * socket stays the caller's, to be closed after the link. Where it fails nothing is held. */
+/* Opens a link over a connected socket, greets the server and waits until the client is welcome.
+ * The socket stays the caller's, to be closed after the link. Where it fails nothing is held. */
 uint32_t rughvadi_link_open(rughvadi_link *link, const rughvadi_limits *limits, uint32_t client,
                             uint64_t incarnation, int socket);
 
@@ -61,8 +61,8 @@ uint32_t rughvadi_link_commit(rughvadi_link *link, uint64_t *number);
 /* Ends the transaction without a commit. It may have been aborted before. */
 uint32_t rughvadi_link_drop(rughvadi_link *link);
 
-/* Takes what came, and waits for at most that many milliseconds where nothing did. Call it while the
- * client has nothing to do: others wait for the pages that it holds until it answers. */
+/* Takes what came, and waits for at most that many milliseconds where nothing did. Call it while
+ * the client has nothing to do: others wait for the pages that it holds until it answers. */
 uint32_t rughvadi_link_serve(rughvadi_link *link, int wait_ms);
 
 /* What a job does in a transaction that is open: RUGHVADI_DONE where it is to be committed. */

@@ -57,6 +57,11 @@ void connection_finish(struct connection *connection) {
   }
 }
 
+void connection_end(struct connection *connection) {
+  outgoing_send(&connection->out);
+  connection_cut(connection, NULL);
+}
+
 /* After a write: one that was to be closed then is. */
 static void moved(struct outgoing *out, int status) {
   struct connection *connection = out->owner;
@@ -260,11 +265,13 @@ static struct connection *connection_new(struct gateway *gateway, bool is_local)
 void connection_accept(uv_stream_t *listener, int status) {
   struct gateway *gateway = listener->data;
   bool is_local = listener == (uv_stream_t *)&gateway->local;
-  struct connection *connection = status < 0 ? NULL : connection_new(gateway, is_local);
-  if (connection == NULL) {
+  if (status < 0) {
     return;
   }
-  if (uv_accept(listener, &connection->peer.stream) != 0) {
+  struct connection *connection = connection_new(gateway, is_local);
+  if (connection == NULL) {
+    gateway->unaccepted[is_local] = listener;
+  } else if (uv_accept(listener, &connection->peer.stream) != 0) {
     connection_cut(connection, NULL);
   } else if (gateway->ungreeted > UNGREETED_MOST) {
     connection_cut(connection, "too many greet at once");

@@ -40,7 +40,8 @@ bool is_of_client(const struct header *header, const struct limits *limits) {
 }
 
 bool is_of_server(const struct header *header, const struct limits *limits) {
-  return header->kind >= WELCOME && header->kind <= LAST_KIND && header->client < limits->clients
+  return header->version == 2 && header->kind >= WELCOME && header->kind <= LAST_KIND
+         && header->client < limits->clients
          && header->body <= (header->kind == GRANTED ? 24 + limits->page_size : 20);
 }
 

@@ -64,6 +64,7 @@ struct store {
   bool is_told;      /* that another server holds the store was said */
   bool has_paused;   /* its clients aren't read */
   unsigned failures; /* how often the server ended before it said anything */
+  unsigned quiet;    /* pauses since its process ended or it said something */
 };
 
 struct gateway {
@@ -77,6 +78,7 @@ struct gateway {
   struct places places;
   struct store stores[MOST_STORES];
   struct connections connections;
+  uv_stream_t *unaccepted[2]; /* listeners with a connection that memory was refused for, or NULL */
   unsigned ungreeted;
   char **serve;       /* the words that start a server, NULL behind them */
   const char *socket; /* the path of the Unix socket, or NULL */
@@ -97,6 +99,9 @@ void connection_cut(struct connection *connection, const char *reason);
 
 /* Ends it once all that waits for it is out. */
 void connection_finish(struct connection *connection);
+
+/* Ends it now, with as much of what waits for it as goes out at once. */
+void connection_end(struct connection *connection);
 
 /* Hands a frame of the server to it. */
 void connection_put(struct connection *connection, const uint8_t *frame, size_t size);

@@ -1,5 +1,7 @@
 #include "gather.h"
 
+#include "frame.h"
+
 #include <sys/timerfd.h>
 #include <unistd.h>
 
@@ -19,16 +21,38 @@ static void arm(struct gather *gather, uint64_t nanoseconds) {
   gather->at_arming = gather->count;
 }
 
-void gather_send(struct gather *gather) {
-  if (gather->count == 0 || !gather->send(gather->owner, &gather->held)) {
-    return;
+/* The bytes of those that go together: the first ones, as many as are read at once. */
+static size_t first_ones(const struct gather *gather, unsigned *count) {
+  size_t size = 0;
+  for (*count = 0; *count < gather->count; ++*count) {
+    size_t next = size + HEADER + (size_t)header_at(gather->held.at + size).body;
+    if (size > 0 && next > ROUND) {
+      break;
+    }
+    size = next;
   }
-  bytes_cut(&gather->held, gather->held.size);
-  gather->out = gather->count;
-  gather->count = 0;
+  return size;
+}
+
+/* Sends the first ones; false where none wait, or memory was refused. */
+static bool send_first(struct gather *gather) {
+  unsigned count;
+  size_t size = first_ones(gather, &count);
+  if (count == 0 || !gather->send(gather->owner, gather->held.at, size)) {
+    return false;
+  }
+  bytes_cut(&gather->held, size);
+  gather->out = count;
+  gather->count -= count;
   gather->is_out = true;
   gather->sent = uv_hrtime();
   arm(gather, UNANSWERED + 4 * gather->took);
+  return true;
+}
+
+void gather_send_all(struct gather *gather) {
+  while (send_first(gather)) {
+  }
 }
 
 /* Sends them, or waits for others. */
@@ -36,8 +60,9 @@ static void look(struct gather *gather) {
   if (gather->count == 0 || gather->is_out) {
     return;
   }
-  if (gather->clock < 0 || gather->skips > 0 || gather->count >= gather->wanted) {
-    gather_send(gather);
+  bool is_full = gather->held.size + gather->last > ROUND;
+  if (gather->clock < 0 || gather->skips > 0 || gather->count >= gather->wanted || is_full) {
+    send_first(gather);
   } else if (!gather->is_armed) {
     uint64_t half = gather->took / 2;
     arm(gather, half > 0 && half < WAIT_MOST ? half : WAIT_MOST);
@@ -49,6 +74,7 @@ bool gather_put(struct gather *gather, const uint8_t *frame, size_t size) {
     return false;
   }
   gather->count++;
+  gather->last = size;
   look(gather);
   return true;
 }
@@ -79,7 +105,7 @@ static void is_time(uv_poll_t *poll, int status, int events) {
     gather->skips = SKIPS;
   }
   gather->is_out = false;
-  gather_send(gather);
+  send_first(gather);
 }
 
 void gather_begin(struct gather *gather, uv_loop_t *loop) {

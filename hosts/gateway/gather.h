@@ -1,5 +1,5 @@
 /* Commits on their way to a server, handed on together: the server syncs once for all that it
- * finds.
+ * reads at once. So no more go together than it reads, but for one that is longer.
  *
  * While some are out the others wait. Once those are answered their clients will commit again in a
  * moment, and it pays to wait for them: for at most half as long as the last ones took, and not for
@@ -11,11 +11,14 @@
 
 #include <uv.h>
 
+enum { ROUND = 1048576 }; /* bytes that `cb_play serve` reads at once */
+
 struct gather {
   uv_poll_t poll;
   int clock;          /* a timer that counts nanoseconds; -1: none could be had */
   struct bytes held;  /* the commits that wait, */
-  unsigned count;     /* how many, */
+  size_t last;        /* the bytes of the last that came, */
+  unsigned count;     /* how many wait, */
   unsigned at_arming; /* and how many there were as the timer was set */
   unsigned wanted;    /* with so many they go at once */
   unsigned out;       /* how many went together last */
@@ -23,7 +26,7 @@ struct gather {
   bool is_armed;
   unsigned skips;      /* so often nobody is waited for */
   uint64_t sent, took; /* nanoseconds: when they went, and how long the last ones took */
-  bool (*send)(void *owner, const struct bytes *commits);
+  bool (*send)(void *owner, const uint8_t *commits, size_t size);
   void *owner;
 };
 
@@ -36,7 +39,7 @@ bool gather_put(struct gather *gather, const uint8_t *frame, size_t size);
 void gather_answered(struct gather *gather);
 
 /* All that wait go now. */
-void gather_send(struct gather *gather);
+void gather_send_all(struct gather *gather);
 
 /* Forgets all, as the server ends. */
 void gather_clear(struct gather *gather);

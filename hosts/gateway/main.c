@@ -93,6 +93,13 @@ static void tick(uv_timer_t *timer) {
   for (size_t at = 0; at < gateway->places.count && !gateway->is_stopping; at++) {
     store_tick(&gateway->stores[at]);
   }
+  for (size_t at = 0; at < 2 && !gateway->is_stopping; at++) {
+    uv_stream_t *listener = gateway->unaccepted[at];
+    gateway->unaccepted[at] = NULL;
+    if (listener != NULL) {
+      connection_accept(listener, 0);
+    }
+  }
 }
 
 /* ---- its beginning ---- */
@@ -100,9 +107,6 @@ static void tick(uv_timer_t *timer) {
 /* Whether somebody listens on a socket of that path already. */
 static bool is_listened_to(const char *path) {
   struct sockaddr_un address = {.sun_family = AF_UNIX};
-  if (strlen(path) >= sizeof address.sun_path) {
-    return false;
-  }
   memcpy(address.sun_path, path, strlen(path));
   int fd = socket(AF_UNIX, SOCK_STREAM | SOCK_CLOEXEC, 0);
   bool answers = fd >= 0 && connect(fd, (const struct sockaddr *)&address, sizeof address) == 0;
@@ -115,6 +119,9 @@ static bool is_listened_to(const char *path) {
 /* Listens on a Unix socket; one that nobody listens to any more is taken away first. */
 static int listen_local(struct gateway *gateway) {
   struct stat state;
+  if (strlen(gateway->socket) >= sizeof((struct sockaddr_un *)0)->sun_path) {
+    return UV_ENAMETOOLONG; /* libuv would cut it */
+  }
   if (stat(gateway->socket, &state) == 0 && S_ISSOCK(state.st_mode)) {
     if (is_listened_to(gateway->socket)) {
       return UV_EADDRINUSE;
@@ -206,7 +213,7 @@ static bool take_word(struct gateway *gateway, struct words *words, int which, c
     case 's': words->stores = text; return true;
     case 'a': words->address = text; return true;
     case 'u': gateway->socket = text; return true;
-    case 't': return number_of(text, 0, &words->tcp) && words->tcp <= 65535;
+    case 't': return number_of(text, 1, &words->tcp) && words->tcp <= 65535;
     case 'm': return number_of(text, 1, &words->make) && words->make <= MOST_CLIENTS;
     case 'p': return number_of(text, 1, &words->patience) && words->patience <= 86400;
     case 'l': return number_of(text, 0, &words->silence) && words->silence <= 86400;

@@ -24,13 +24,16 @@ void complain(const char *format, ...) {
 /* Takes a line of a file; false where it is wrong. */
 typedef bool (*line_taker)(void *into, char *line);
 
-/* Hands in each line of a file that isn't empty or a remark, without its end. */
-static bool each_line(const char *path, line_taker take, void *into) {
+static FILE *opened(const char *path) {
   FILE *file = fopen(path, "re");
   if (file == NULL) {
     complain("cannot read %s: %s", path, strerror(errno));
-    return false;
   }
+  return file;
+}
+
+/* Hands in each line of a file that isn't empty or a remark, without its end; closes the file. */
+static bool each_line(FILE *file, const char *path, line_taker take, void *into) {
   char line[MOST_LINE];
   bool right = true;
   for (int number = 1; right && fgets(line, sizeof line, file) != NULL; number++) {
@@ -81,18 +84,28 @@ static bool take_token(void *into, char *line) {
     return false;
   }
   size_t gap = strspn(end, " \t");
-  tokens->is_there[client] = gap > 0 && token_of(tokens->of[client], end + gap);
-  return tokens->is_there[client];
+  uint8_t token[TOKEN];
+  if (gap == 0 || !token_of(token, end + gap) || tokens_find(tokens, token) >= 0) {
+    return false;
+  }
+  memcpy(tokens->of[client], token, TOKEN);
+  tokens->is_there[client] = true;
+  return true;
 }
 
 bool tokens_read(struct tokens *tokens, const char *path) {
   struct stat state;
   *tokens = (struct tokens){0};
-  if (stat(path, &state) == 0 && (state.st_mode & 077) != 0) {
-    complain("%s: others than its owner may use it: chmod 600", path);
+  FILE *file = opened(path);
+  if (file == NULL) {
     return false;
   }
-  return each_line(path, take_token, tokens);
+  if (fstat(fileno(file), &state) != 0 || (state.st_mode & 077) != 0) {
+    complain("%s: others than its owner may use it: chmod 600", path);
+    fclose(file);
+    return false;
+  }
+  return each_line(file, path, take_token, tokens);
 }
 
 int tokens_find(const struct tokens *tokens, const uint8_t *token) {
@@ -147,7 +160,7 @@ struct key {
   uint32_t number;
 };
 
-enum { CLIENTS, PAGES, PAGE_SIZE, SLOTS, KIN, KOUT, KEEP_WRITE, KEYS };
+enum { CLIENTS, PAGES, PAGE_SIZE, SLOTS, KIN, KOUT, JOBS, KEEP_WRITE, KEYS };
 
 struct config {
   struct key keys[KEYS];
@@ -192,9 +205,11 @@ static bool limits_read(struct limits *limits, const char *path) {
       [SLOTS] = {"slots", 2, 1024, true, false, 0},
       [KIN] = {"kin", 1, 1023, false, false, 0},
       [KOUT] = {"kout", 1, 4096, false, false, 0},
+      [JOBS] = {"jobs", 0, 100000, false, false, 0}, /* of a run: it counts for nothing here */
       [KEEP_WRITE] = {"keep_write", 0, 1, false, false, 0},
   }};
-  if (!each_line(path, take_setting, &config)) {
+  FILE *file = opened(path);
+  if (file == NULL || !each_line(file, path, take_setting, &config)) {
     return false;
   }
   for (struct key *key = config.keys; key < config.keys + KEYS; key++) {
@@ -251,7 +266,8 @@ static bool take_place(void *into, char *line) {
 
 bool places_read(struct places *places, const char *path) {
   *places = (struct places){0};
-  if (!each_line(path, take_place, places)) {
+  FILE *file = opened(path);
+  if (file == NULL || !each_line(file, path, take_place, places)) {
     return false;
   }
   if (places->count == 0) {

@@ -13,7 +13,8 @@
 enum {
   LOCK_PAUSE = 100,  /* milliseconds until a store that another server holds is tried again */
   START_PAUSE = 200, /* until a server is started again; twice as long after each failure */
-  START_PAUSE_MOST = 10000
+  START_PAUSE_MOST = 10000,
+  PIPE = 1 << 20 /* bytes on their way to a server */
 };
 
 static void start(uv_timer_t *timer);
@@ -48,9 +49,9 @@ bool store_put(struct store *store, const uint8_t *frame, size_t size) {
 }
 
 /* Commits that were gathered go. */
-static bool send_commits(void *owner, const struct bytes *commits) {
+static bool send_commits(void *owner, const uint8_t *commits, size_t size) {
   struct store *store = owner;
-  return outgoing_put(&store->to_server, commits->at, commits->size);
+  return outgoing_put(&store->to_server, commits, size);
 }
 
 static void close_once(void *handle);
@@ -63,11 +64,21 @@ static void end_input(struct store *store) {
   }
 }
 
-/* After a write to the server. One that fails is told by the end of its output. */
+static void kill_server(uv_timer_t *timer);
+
+/* After a write to the server. Where one fails it takes no more: what it said is heard to the end
+ * of its output, which comes, or it is killed. */
 static void moved(struct outgoing *out, int status) {
-  (void)status;
-  pause_or_read(out->owner);
-  end_input(out->owner);
+  struct store *store = out->owner;
+  if (status == 0) {
+    pause_or_read(store);
+    end_input(store);
+    return;
+  }
+  store->is_up = false;
+  if (!uv_is_closing((uv_handle_t *)&store->process)) {
+    uv_timer_start(&store->timer, kill_server, STOP, 0);
+  }
 }
 
 /* Tells the server of the clients that are to be left: by a Hello of a later incarnation. */
@@ -75,7 +86,8 @@ static void say_leaving(struct store *store) {
   for (uint16_t client = 0; client < store->place->limits.clients; client++) {
     uint8_t frame[HEADER];
     header_to(frame, &(struct header){2, KIND_HELLO, client, store->leaving[client], 0});
-    if (store->leaving[client] != 0 && outgoing_put(&store->to_server, frame, HEADER)) {
+    if (store->leaving[client] != 0 && outgoing_size(&store->to_server) < TO_SERVER_MOST
+        && outgoing_put(&store->to_server, frame, HEADER)) {
       store->leaving[client] = 0;
     }
   }
@@ -118,6 +130,9 @@ void store_enter(struct store *store, struct connection *connection) {
   connection->store = store;
   connection->incarnation = store_incarnation(store, client);
   store->clients[client] = connection;
+  if (store->has_paused) {
+    connection_pause(connection);
+  }
 }
 
 void store_leave(struct store *store, struct connection *connection) {
@@ -198,20 +213,34 @@ static void close_once(void *handle) {
   }
 }
 
-/* The server takes and says nothing any more: its clients hear what it said, and go. */
+/* The server takes and says nothing any more: its clients hear what it said, and go. Before
+ * another server is started their connections are closed, whatever still waits for them: who holds
+ * pages of this one is to know that it is gone. */
 static void go_down(struct store *store) {
   store->is_up = false;
   for (size_t client = 0; client < MOST_CLIENTS; client++) {
     store->leaving[client] = 0;
-    if (store->clients[client] != NULL) {
+    if (store->clients[client] == NULL) {
+      continue;
+    }
+    if (store->gateway->is_stopping) {
       connection_finish(store->clients[client]);
+    } else {
+      connection_end(store->clients[client]);
     }
   }
   close_once(&store->input);
   close_once(&store->output);
 }
 
-static void abandon(uv_timer_t *timer) { go_down(timer->data); }
+/* Its process has ended, and its output hasn't: nothing comes of it if nothing came in two pauses,
+ * between which it was looked at. */
+static void abandon(uv_timer_t *timer) {
+  struct store *store = timer->data;
+  if (store->quiet++ > 0) {
+    go_down(store);
+  }
+}
 
 /* It had time enough. */
 static void kill_server(uv_timer_t *timer) {
@@ -224,6 +253,7 @@ static void said(uv_stream_t *stream, ssize_t count, const uv_buf_t *buffer) {
   struct store *store = stream->data;
   bool right = count >= 0 && bytes_put(&store->from_server, buffer->base, (size_t)count);
   if (right && count > 0) {
+    store->quiet = 0;
     store->failures = 0;
     right = hand_on_all(store);
   }
@@ -250,7 +280,8 @@ static void exited(uv_process_t *process, int64_t status, int signal) {
   }
   store->failures++;
   /* What it said comes to its end now, unless a process of its own holds the stream. */
-  uv_timer_start(&store->timer, abandon, START_PAUSE, 0);
+  store->quiet = 0;
+  uv_timer_start(&store->timer, abandon, START_PAUSE, START_PAUSE);
   close_once(process);
 }
 
@@ -277,8 +308,25 @@ static bool is_locked(struct store *store) {
   return false;
 }
 
-/* Starts the process; 0 or libuv's fault. */
-static int spawn(struct store *store) {
+/* A pipe to the server, for its end: what is written at once can be read at once, which it can't
+ * from a socket. Libuv's fault, or 0. */
+static int open_input(struct store *store, int *end) {
+  int ends[2];
+  if (pipe2(ends, O_CLOEXEC) != 0) {
+    return uv_translate_sys_error(errno);
+  }
+  *end = ends[0];
+  fcntl(ends[1], F_SETPIPE_SZ, PIPE); /* else it is shorter */
+  int fault = uv_pipe_open(&store->input, ends[1]);
+  if (fault != 0) {
+    close(ends[0]);
+    close(ends[1]);
+  }
+  return fault;
+}
+
+/* Starts the process, whose standard input that is; 0 or libuv's fault. */
+static int spawn(struct store *store, int input) {
   struct gateway *gateway = store->gateway;
   size_t count = 0;
   while (gateway->serve[count] != NULL) {
@@ -292,7 +340,7 @@ static int spawn(struct store *store) {
   words[count] = store->place->config;
   words[count + 1] = store->place->database;
   uv_stdio_container_t streams[] = {
-      {.flags = UV_CREATE_PIPE | UV_READABLE_PIPE, .data.stream = (uv_stream_t *)&store->input},
+      {.flags = UV_INHERIT_FD, .data.fd = input},
       {.flags = UV_CREATE_PIPE | UV_WRITABLE_PIPE, .data.stream = (uv_stream_t *)&store->output},
       {.flags = UV_INHERIT_FD, .data.fd = 2},
       {.flags = UV_INHERIT_FD, .data.fd = store->lock},
@@ -304,8 +352,12 @@ static int spawn(struct store *store) {
                                   .flags = UV_PROCESS_DETACHED,
                                   .stdio = streams,
                                   .stdio_count = 4};
+  store->handles++;
   int fault = uv_spawn(gateway->loop, &store->process, &options);
   free(words);
+  if (fault != 0) {
+    close_once(&store->process);
+  }
   return fault;
 }
 
@@ -322,11 +374,16 @@ static void start(uv_timer_t *timer) {
   uv_pipe_init(store->gateway->loop, &store->input, 0);
   uv_pipe_init(store->gateway->loop, &store->output, 0);
   store->input.data = store->output.data = store->process.data = store;
-  store->handles = 3;
+  store->handles = 2;
   store->to_server =
       (struct outgoing){.stream = (uv_stream_t *)&store->input, .moved = moved, .owner = store};
   store->has_paused = false;
-  int fault = spawn(store);
+  int input = -1;
+  int fault = open_input(store, &input);
+  if (fault == 0) {
+    fault = spawn(store, input);
+    close(input);
+  }
   if (fault == 0) {
     store->is_up = true;
     uv_read_start((uv_stream_t *)&store->output, room_for, said);
@@ -335,7 +392,6 @@ static void start(uv_timer_t *timer) {
   complain("store %s: cannot start %s: %s", store->place->name, store->gateway->serve[0],
            uv_strerror(fault));
   store->failures++;
-  close_once(&store->process);
   go_down(store);
 }
 
@@ -361,7 +417,7 @@ void store_stop(struct store *store) {
     }
   }
   store->is_ending = true;
-  gather_send(&store->commits);
+  gather_send_all(&store->commits);
   store_send(store);
   uv_timer_start(&store->timer, kill_server, STOP, 0);
 }

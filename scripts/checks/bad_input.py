@@ -1,4 +1,4 @@
-"""Bad input at the gateway, for `scripts/check serve`: raw connections beside a client that works."""
+"""Bad input at the gateway, for `scripts/check serve`: raw connections beside one that works."""
 from __future__ import annotations
 
 import os
@@ -109,7 +109,9 @@ def no_greeting(gateway: Gateway) -> bool:
     with Peer(gateway) as silent, Peer(gateway) as half, Peer(gateway) as other:
         half.socket.sendall(b"rughvadi\x01\x04")
         other.socket.sendall(b"GET / HTTP/1.1\r\n\r\n")
-        return other.is_closed(2) and silent.is_closed() and half.is_closed()
+        closed = other.is_closed() and silent.is_closed() and half.is_closed()
+    log = gateway.log()
+    return closed and "no greeting" in log and log.count("it doesn't greet") == 2
 
 
 def wrong_tokens(gateway: Gateway) -> bool:
@@ -118,9 +120,9 @@ def wrong_tokens(gateway: Gateway) -> bool:
     near = right[:-1] + bytes([right[-1] ^ 1])
     for token, store in ((bytes(32), b"main"), (near, b"main"), (right, b"other")):
         with Peer(gateway) as peer:
-            answers.append((peer.greeted(token, store)[:2], peer.is_closed(2)))
+            answers.append((peer.greeted(token, store)[:2], peer.is_closed()))
     with Peer(gateway) as peer:
-        answers.append((peer.greeted(token_of(gateway, 20))[:2], peer.is_closed(2)))
+        answers.append((peer.greeted(token_of(gateway, 20))[:2], peer.is_closed()))
     return answers == [(bytes([1, number]), True) for number in (2, 2, 3, 4)]
 
 
@@ -161,7 +163,7 @@ def wrong_frames(gateway: Gateway) -> bool:
                 each(peer)
             except OSError:
                 pass
-            closed.append(peer.is_closed(5))
+            closed.append(peer.is_closed())
     return all(closed)
 
 
@@ -203,7 +205,9 @@ def never_reads(gateway: Gateway) -> bool:
                 peer.socket.sendall(ask)
         except OSError:
             pass
-        return wrote(gateway, 2, 9) and "reads too slowly" in gateway.log()
+        # Nobody asks for what it holds before: so it isn't closed for want of an answer.
+        slow = wait_for(lambda: "reads too slowly" in gateway.log(), 60)
+        return slow and wrote(gateway, 2, 9)
 
 
 def never_answers(gateway: Gateway) -> bool:
@@ -223,7 +227,7 @@ def comes_anew(gateway: Gateway) -> bool:
         first.welcome()
         with Peer(gateway, 1) as second:
             second.welcome()
-            return first.is_closed(2) and second.incarnation > first.incarnation
+            return first.is_closed() and second.incarnation > first.incarnation
 
 
 def idle_stays(gateway: Gateway) -> bool:
@@ -261,36 +265,57 @@ def drawn_input(gateway: Gateway) -> bool:
     return wrote(gateway, 2, 13)
 
 
+def sent_by(peer: Peer, seconds: float) -> int:
+    """How many bytes of frames a connection takes, of 160 MB, until it takes none for so long."""
+    frames, sent = 1000 * frame(HELLO, peer.client, peer.incarnation), 0
+    try:
+        peer.socket.settimeout(seconds)
+        for _ in range(10_000):
+            sent += peer.socket.send(frames)
+    except OSError:
+        pass
+    return sent
+
+
 def server_halts(gateway: Gateway) -> bool:
-    """While the server takes nothing clients aren't read, and none is taken for silent."""
+    """While the server takes nothing clients aren't read, not those either who come then, and none
+    is taken for silent."""
     with Peer(gateway, 1) as peer:
         peer.welcome()
-        server, sent = gateway.servers()[0], 0
-        frames = 1000 * frame(HELLO, peer.client, peer.incarnation)
+        server = gateway.servers()[0]
         os.kill(server, signal.SIGSTOP)
         try:
-            peer.socket.settimeout(2 * SILENCE)
-            for _ in range(10_000):
-                sent += peer.socket.send(frames)
-        except OSError:
-            pass
-        right = sent < 1 << 25 and gateway.size() < 500_000
-        os.kill(server, signal.SIGCONT)
-        return right and wrote(gateway, 2, 2)
+            sent = sent_by(peer, 2 * SILENCE)
+            with Peer(gateway, 3) as later:
+                sent += sent_by(later, 2)
+        finally:
+            os.kill(server, signal.SIGCONT)
+        return sent < 1 << 25 and gateway.size() < 500_000 and wrote(gateway, 2, 2)
+
+
+def begun_by_tcp(gateway: Gateway) -> tuple[subprocess.Popen, int]:
+    """A gateway at a port that was free; another one where somebody took it meanwhile."""
+    for _ in range(20):
+        with socket.socket() as free:
+            free.bind(("127.0.0.1", 0))
+            port = free.getsockname()[1]
+        words = [gateway.program, "--tokens", gateway.tokens, "--tcp", port]
+        words += [gateway.room / "config", gateway.room / "tcp.db", "--", gateway.play, "serve"]
+        begun = subprocess.Popen([str(it) for it in words], stdout=subprocess.PIPE)
+        if begun.stdout and begun.stdout.readline() == b"ready\n":
+            return begun, port
+        begun.communicate()
+    raise OSError("no port is free")
 
 
 def by_tcp(gateway: Gateway) -> bool:
-    """A port of this machine serves as a socket does."""
-    with socket.socket() as free:
-        free.bind(("127.0.0.1", 0))
-        port = free.getsockname()[1]
-    room = gateway.room / "tcp"
-    room.mkdir()
-    words = [gateway.program, "--tokens", gateway.tokens, "--tcp", port]
-    words += [gateway.room / "config", room / "main.db", "--", gateway.play, "serve"]
-    other = subprocess.Popen([str(it) for it in words], stdout=subprocess.PIPE)
+    """A port of this machine serves as a socket does; at the machine's other addresses nobody
+    listens."""
+    other, port = begun_by_tcp(gateway)
     try:
-        other.stdout.readline()
+        with socket.socket() as elsewhere:
+            if elsewhere.connect_ex(("127.0.0.2", port)) == 0:
+                return False
         with Peer(gateway) as peer:
             peer.socket.close()
             peer.socket = socket.create_connection(("127.0.0.1", port), timeout=20)
@@ -299,8 +324,7 @@ def by_tcp(gateway: Gateway) -> bool:
             return peer.welcome().client == 3
     finally:
         other.terminate()
-        other.wait(20)
-        other.stdout.close()
+        other.communicate(timeout=60)
 
 
 def server_dies(gateway: Gateway) -> bool:
@@ -308,10 +332,29 @@ def server_dies(gateway: Gateway) -> bool:
         peer.welcome()
         for number in gateway.servers():
             os.kill(number, signal.SIGKILL)
-        if not peer.is_closed(5):
+        if not peer.is_closed():
             return False
         last = peer.incarnation
-    return wait_for(lambda: comes(gateway, last)) and wrote(gateway, 2, 1)
+    return wait_for(lambda: comes(gateway, last), 60) and wrote(gateway, 2, 1)
+
+
+def slow_reader_goes(gateway: Gateway) -> bool:
+    """Once another server is there, no connection is left of the former, whatever waits for it."""
+    with Peer(gateway, 1) as peer:
+        last = peer.welcome().incarnation
+        for page in range(100):
+            peer.say(ASK_READ, number_of(1, page % 64))
+        with Peer(gateway, 2) as other:
+            other.welcome()
+        for number in gateway.servers():
+            os.kill(number, signal.SIGKILL)
+        if not wait_for(lambda: comes(gateway, last, 3), 60):
+            return False
+        try:
+            peer.socket.send(b"x")
+        except OSError:
+            return True
+    return False
 
 
 def gateway_dies(gateway: Gateway) -> bool:
@@ -320,14 +363,24 @@ def gateway_dies(gateway: Gateway) -> bool:
         last = peer.welcome().incarnation
         gateway.stop(signal.SIGKILL)
         gateway.start()
-        if not peer.is_closed(5):
+        if not peer.is_closed():
             return False
-    return wait_for(lambda: comes(gateway, last))
+    return wait_for(lambda: comes(gateway, last), 60)
 
 
-def comes(gateway: Gateway, last: int) -> bool:
+def says_again(gateway: Gateway) -> bool:
+    """What the server wants back is said again, while nobody else says anything."""
+    with Peer(gateway, 1) as peer, Peer(gateway, 2) as other:
+        for each in (peer, other):
+            each.welcome().say(ASK_READ, number_of(1, 3))
+            body = each.hear()[1]
+        other.say(ASK_WRITE, number_of(1, 3) + body[4:12])
+        return [peer.hear()[0] for _ in range(3)] == 3 * [CALLBACK]
+
+
+def comes(gateway: Gateway, last: int, client: int = 1) -> bool:
     try:
-        with Peer(gateway, 1) as peer:
+        with Peer(gateway, client) as peer:
             return peer.welcome().incarnation > last
     except (EOFError, OSError):
         return False
@@ -339,7 +392,7 @@ def ends_in_order(gateway: Gateway) -> bool:
         is_private = stat.S_IMODE(gateway.socket.stat().st_mode) == 0o600
         status = gateway.stop()
         ended = status == 0 and not gateway.socket.exists()
-        return is_private and ended and peer.is_closed(2) and other.is_closed(2)
+        return is_private and ended and peer.is_closed() and other.is_closed()
 
 
 def refused(gateway: Gateway, *words: object) -> tuple[int, str]:
@@ -347,7 +400,7 @@ def refused(gateway: Gateway, *words: object) -> tuple[int, str]:
     store = [gateway.room / "config", gateway.database()]
     done = subprocess.run(
         [str(it) for it in (gateway.program, *words, *store, "--", gateway.play, "serve")],
-        capture_output=True, text=True, timeout=20, check=False,
+        capture_output=True, text=True, timeout=120, check=False,
     )
     return done.returncode, done.stderr
 
@@ -355,9 +408,10 @@ def refused(gateway: Gateway, *words: object) -> tuple[int, str]:
 def wrong_files(gateway: Gateway) -> bool:
     """Files and words that it doesn't begin with, and a socket that another listens on."""
     right, socket_words = gateway.tokens.read_text(), ["--unix", gateway.room / "other"]
+    same = f"0 {32 * 'ab'}\n1 {32 * 'AB'}\n"
     files = {
         "wide": (right, 0o644), "short": ("0 abcd\n", 0o600), "twice": (right + right, 0o600),
-        "high": (right.replace("0 ", "32 ", 1), 0o600), "none": (None, 0),
+        "high": (right.replace("0 ", "32 ", 1), 0o600), "none": (None, 0), "same": (same, 0o600),
     }
     ended = []
     for name, (text, mode) in files.items():
@@ -367,16 +421,19 @@ def wrong_files(gateway: Gateway) -> bool:
             path.chmod(mode)
         ended.append(refused(gateway, "--tokens", path, *socket_words))
     ended.append(refused(gateway, "--tokens", gateway.tokens))
-    ended.append(refused(gateway, "--tokens", gateway.tokens, "--tcp", "70000"))
+    for port in ("0", "70000", "x"):
+        ended.append(refused(gateway, "--tokens", gateway.tokens, "--tcp", port))
     right_ones = all(status == 2 and said for status, said in ended)
-    status, said = refused(gateway, "--tokens", gateway.tokens, "--unix", gateway.socket)
-    return right_ones and status == 1 and "cannot listen" in said
+    for path in (gateway.socket, gateway.room / ("long" * 40), gateway.room / "no" / "folder"):
+        status, said = refused(gateway, "--tokens", gateway.tokens, "--unix", path)
+        right_ones = right_ones and status == 1 and "cannot listen" in said
+    return right_ones
 
 
 SCENES = [
     wrong_files, no_greeting, wrong_tokens, many_greet, wrong_frames, cut_frames, flood,
     never_reads, never_answers, comes_anew, idle_stays, drawn_input, server_halts, by_tcp,
-    server_dies, gateway_dies, ends_in_order,
+    server_dies, slow_reader_goes, gateway_dies, ends_in_order,
 ]
 
 
@@ -384,13 +441,16 @@ def tried(tries, it) -> None:
     """Plays each scene at one gateway, and looks whether a sanitizer found something."""
     words = ["--patience", str(PATIENCE), "--silence", str(SILENCE), "--buffer", "262144"]
     gateway = it.served("bad_input", *words, limits=(8, 64, 4096, 32, 1))
-    for scene in SCENES:
+    patient = it.served("again", "--silence", "0", limits=(8, 64, 4096, 32, 0))
+    for scene in [*SCENES, says_again]:
+        at = patient if scene is says_again else gateway
         try:
-            right, why = scene(gateway), gateway.log()[-1000:]
+            right, why = scene(at), at.log()[-1000:]
         except (OSError, EOFError, struct.error, subprocess.SubprocessError) as fault:
-            right, why = False, f"{gateway.log()[-1000:]}{fault!r}"
+            right, why = False, f"{at.log()[-1000:]}{fault!r}"
         tries.told(f"gateway: {scene.__name__.replace('_', ' ')}", right, "" if right else why)
     gateway.stop()
-    log = gateway.log()
+    patient.stop()
+    log = gateway.log() + patient.log()
     found = "AddressSanitizer" in log or "runtime error" in log or "LeakSanitizer" in log
     tries.told("gateway: the sanitizers", not found, log[-3000:] if found else "nothing found")

@@ -5,7 +5,9 @@
 It installs the library in a folder of its own, by `scripts/library`, and runs, each to its end:
 
 - the sweep of refused growths, from the first to the last
-- a million random calls, with damaged frames, by a program that is built with ASan and UBSan
+- a million random calls, with damaged frames, by a program that is built with ASan and UBSan; after
+  each that is refused all is as it was
+- a link in C: greetings that are answered and refused, and that it is gone with its connection
 - a server and two clients in one process, over frames of which a tenth is lost, repeated or late,
   for so many seeds (10 if not said; an odd one keeps write permissions): each transaction checks
   a sum over all pages
@@ -35,7 +37,7 @@ from checks import docs
 FLAGS = ["-std=c11", "-D_GNU_SOURCE", "-g", "-O1", "-Wall", "-Wextra", "-Wpedantic", "-Werror"]
 SANITIZERS = ["-fsanitize=address,undefined", "-fno-sanitize-recover=all"]
 HOSTS = building.TOP / "hosts"
-SOAKS = ["lossy", "random_calls", "refused_growths"]
+SOAKS = ["lossy", "random_calls", "refused_growths", "link"]
 EACH = 100
 
 
@@ -100,6 +102,7 @@ def run_soaks(tries, it, seeds):
     """The programs in C that call the library in one process."""
     tries.command("refused growths", it.room / "refused_growths")
     tries.command("random calls", it.room / "random_calls", 1, 1_000_000)
+    tries.command("links at their end", it.room / "link")
     for seed in range(1, seeds + 1):
         tries.command(f"lossy frames, seed {seed}", it.room / "lossy", seed, 2000)
 

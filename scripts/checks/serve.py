@@ -2,10 +2,16 @@
 
     scripts/check serve [--built] [KILLS [SEED]]      200 kills without a number
 
+- Bad input and faults at `cb_play serve`: frames cut, damaged, of strangers and of kinds for
+  clients, headers that are none, stores that refuse, full disks, outputs that are closed, memory
+  refused. Each ends with its line and status, and the store has what was answered as done.
 - Bad input at the gateway, which is built with ASan and UBSan: no token, a wrong one, frames of
   others, frames that are none, half a frame and then silence, floods, clients that don't read or
   don't answer, a server that dies, files that others may read. Each ends in a closed connection, a
   line or a status, while another client goes on.
+- A client of a wrapper that holds a page as the server becomes another: it is gone.
+- The host in C, `hosts/served.c`: copies of its store by sqlite3 while it serves, a kill, and
+  frames that are none.
 - The examples: a counter in C by four processes, transfers in Python, keys in Rust in one store and
   in four.
 - The same over datagrams of which a tenth is lost, repeated or late.
@@ -30,7 +36,7 @@ from pathlib import Path
 
 import building
 import serving
-from checks import bad_input
+from checks import bad_input, serve_host, serve_input
 from checks.library import Tries
 from serving import Gateway, wait_for
 
@@ -54,7 +60,7 @@ class Built:
 
     def served(self, name: str, *words: str, **more) -> Gateway:
         """A gateway in a folder of its own."""
-        room = self.room / name
+        room = self.room / f"served_{name}"
         room.mkdir()
         gateway = Gateway(room, self.gateway, self.play, words=words, **more)
         gateway.start()
@@ -113,7 +119,8 @@ def examples(
     ]
     right, said = together(it, counters)
     tries.told(f"{name}: counter in C, by four", right, said)
-    right, said = together(it, [[it.examples / "kv", address, tokens, 5, "main", "fill", times]])
+    # The keys' pages aren't those of the counter and the accounts.
+    right, said = together(it, [[it.examples / "kv", address, tokens, 5, "a", "fill", times]])
     tries.told(f"{name}: keys in Rust, in one store", right, said)
     stores = [
         [it.examples / "kv", address, tokens, client, "a,b,c,d", "fill", 2 * times]
@@ -124,7 +131,7 @@ def examples(
 
 
 def run_examples(tries: Tries, it: Built) -> None:
-    gateway = it.served("examples", stores=("main", "money", "a", "b", "c", "d"))
+    gateway = it.served("examples", stores=("main", "a", "b", "c", "d"))
     try:
         examples(tries, it, "examples", gateway.socket, gateway, False)
     finally:
@@ -145,6 +152,21 @@ def transfers(
     words = [sys.executable, building.TOP / "examples/transfers.py", address, gateway.tokens, times]
     right, said = together(it, [words])
     tries.told(f"{name}: transfers in Python", right, said)
+
+
+def run_gone(tries: Tries, it: Built) -> None:
+    """The server is killed, and another one serves, while a client holds a page."""
+    gateway = it.served("gone")
+    words = [sys.executable, TEXTS / "gone.py", gateway.socket, gateway.tokens, "1"]
+    pipes = {"stdin": subprocess.PIPE, "stdout": subprocess.PIPE, "text": True}
+    with subprocess.Popen(list(map(str, words)), env=it.env, **pipes) as client:
+        held = client.stdout.readline()
+        for number in gateway.servers():
+            os.kill(number, signal.SIGKILL)
+        wait_for(lambda: bad_input.comes(gateway, 0, 2), 60)
+        said, _ = client.communicate("\n", 60)
+    gateway.stop()
+    tries.told("a held page is gone with its server", (held, said) == ("held\n", "gone\n"), said)
 
 
 # ---- frames over datagrams ----
@@ -327,7 +349,10 @@ def main(words: list[str]) -> int:
     tries = Tries()
     with building.a_room() as room:
         it = build(room, built)
+        serve_input.tried(tries, it)
         bad_input.tried(tries, it)
+        run_gone(tries, it)
+        serve_host.tried(tries, it)
         run_examples(tries, it)
         run_lossy(tries, it, seed)
         run_copies(tries, it)

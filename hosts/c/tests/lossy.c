@@ -1,8 +1,8 @@
-/* lossy SEED COMMITS: a server and two clients over frames of which a tenth each is lost, repeated or
- * late, while clients go away and come back. Each transaction reads every page and moves an amount
- * from one to another: so all it reads adds up to the same sum, whoever wrote what when, if what it
- * reads is what the store had at one moment. A page that is read twice is the same twice. Where the
- * seed is odd, write permissions are kept. */
+/* lossy SEED COMMITS: a server and two clients over frames of which a tenth each is lost, repeated
+ * or late, while clients go away and come back. Each transaction reads every page and moves an
+ * amount from one to another: so all it reads adds up to the same sum, whoever wrote what when, if
+ * what it reads is what the store had at one moment. A page that is read twice is the same twice.
+ * Where the seed is odd, write permissions are kept. */
 #include "parties.h"
 
 enum { CLIENTS = 2, PAGES = 8, SIZE = 64, SLOTS = 6, START = 1000, NET = 4096 };
@@ -218,11 +218,8 @@ static void flush(void) {
   send_all(&server, true);
 }
 
-int main(int argc, char **argv) {
-  uint64_t seed = argc > 1 ? strtoull(argv[1], NULL, 10) : 0;
-  random_state += seed * 0x9E3779B97F4A7C15u;
-  limits.keep_write = seed % 2;
-  long wanted = argc > 2 ? atol(argv[2]) : 2000, steps = 0;
+/* A server over a store that was written before, and clients. */
+static void open_all(void) {
   uint8_t bytes[SIZE];
   WANT(rughvadi_open_begin(&limits, 1, &server));
   spell(bytes, START);
@@ -234,29 +231,28 @@ int main(int argc, char **argv) {
   for (int no = 0; no < CLIENTS; no++) {
     WANT(rughvadi_client_new(&limits, (uint32_t)no, 1, &clients[no]));
   }
-  for (; commits < wanted; steps++) {
-    uint64_t what = draw() % 100;
-    int no = (int)(draw() % CLIENTS);
-    if (what < 30) {
-      turn(no);
-    } else if (what < 90) {
-      deliver();
-    } else if (what < 94) {
-      flush();
-    } else if (what < 97) {
-      WANT(rughvadi_again(&clients[no]));
-      send_all(&clients[no], false);
-    } else if (what < 99) {
-      WANT(rughvadi_again(&server));
-      send_all(&server, true);
-    } else if (draw() % 20 == 0) {
-      restart(no);
-    }
-    HOLD(steps < 2000 * (wanted + 1000));
+}
+
+/* Something happens. */
+static void event(uint64_t what, int no) {
+  if (what < 30) {
+    turn(no);
+  } else if (what < 90) {
+    deliver();
+  } else if (what < 94) {
+    flush();
+  } else if (what < 97) {
+    WANT(rughvadi_again(&clients[no]));
+    send_all(&clients[no], false);
+  } else if (what < 99) {
+    WANT(rughvadi_again(&server));
+    send_all(&server, true);
+  } else if (draw() % 20 == 0) {
+    restart(no);
   }
-  printf("commits %ld, pages read %ld, aborted %ld, restarts %ld; frames lost %ld, repeated %ld, "
-         "late %ld: none broken\n",
-         commits, reads, aborts, restarts, lost, repeated, late);
+}
+
+static void free_all(void) {
   rughvadi_free(&server);
   for (int no = 0; no < CLIENTS; no++) {
     rughvadi_free(&clients[no]);
@@ -264,5 +260,22 @@ int main(int argc, char **argv) {
   while (on_net > 0) {
     free(net[--on_net].bytes);
   }
+}
+
+int main(int argc, char **argv) {
+  uint64_t seed = argc > 1 ? strtoull(argv[1], NULL, 10) : 0;
+  random_state += seed * 0x9E3779B97F4A7C15u;
+  limits.keep_write = seed % 2;
+  long wanted = argc > 2 ? atol(argv[2]) : 2000;
+  open_all();
+  for (long steps = 0; commits < wanted; steps++) {
+    uint64_t what = draw() % 100;
+    event(what, (int)(draw() % CLIENTS));
+    HOLD(steps < 2000 * (wanted + 1000));
+  }
+  printf("commits %ld, pages read %ld, aborted %ld, restarts %ld; frames lost %ld, repeated %ld, "
+         "late %ld: none broken\n",
+         commits, reads, aborts, restarts, lost, repeated, late);
+  free_all();
   return 0;
 }

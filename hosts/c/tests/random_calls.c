@@ -1,5 +1,6 @@
-/* random_calls SEED CALLS: calls of every kind in any order, at a server and two clients, with frames
- * that are whole, cut, damaged, of others or of nobody. Each answers a number that there is. */
+/* random_calls SEED CALLS: calls of every kind in any order, at a server and two clients, with
+ * frames that are whole, cut, damaged, of others or of nobody. Each answers a number that there is,
+ * and after each that is refused all is as it was. */
 #include "parties.h"
 
 static const rughvadi_limits limits = {4, 8, 64, 4, 1, 4, 1};
@@ -54,9 +55,37 @@ static uint32_t fetch(rughvadi_handle *h) {
   return fault;
 }
 
+/* All that can be asked of a handle with no change to it. */
+struct look {
+  uint32_t status, last, peeks[8], nexts[4];
+  uint64_t number, incarnations[4];
+  uint8_t bytes[8][64];
+  bool may[8], can;
+};
+
+static void look_at(rughvadi_handle *h, struct look *look) {
+  memset(look, 0, sizeof *look);
+  look->status = rughvadi_client_status(h);
+  look->last = rughvadi_client_last(h, &look->number);
+  look->can = rughvadi_server_can_flush(h, 1);
+  for (uint32_t page = 0; page < 8; page++) {
+    look->peeks[page] = rughvadi_client_peek(h, page, look->bytes[page], 64);
+    look->may[page] = rughvadi_client_may_write(h, page);
+  }
+  for (uint32_t client = 0; client < 4; client++) {
+    look->nexts[client] = rughvadi_server_incarnation(h, client, &look->incarnations[client]);
+  }
+}
+
+/* A new object in place of the old one; where that isn't let go it is held. */
 static uint32_t renew(rughvadi_handle *h) {
   if (draw() % 200 != 0) {
     return RUGHVADI_DONE;
+  }
+  if (draw() % 8 == 0 && (rughvadi_client_status(h) != 0 || rughvadi_again(h) == RUGHVADI_DONE)) {
+    uint32_t fault = rughvadi_server_new(&limits, h);
+    HOLD(fault == RUGHVADI_HELD);
+    return fault;
   }
   rughvadi_free(h);
   if (h == handles && draw() % 2) {
@@ -99,8 +128,20 @@ static uint32_t call(rughvadi_handle *h) {
   case 26:
     is = rughvadi_client_may_write(h, draw() % 5000) || rughvadi_server_can_flush(h, draw() % 9);
     return rughvadi_client_status(h) + rughvadi_client_last(h, &version) + is;
-  default: return renew(h);
+  default: return RUGHVADI_DONE;
   }
+}
+
+/* One call; where it is refused nothing has changed. */
+static uint32_t looked_at_call(rughvadi_handle *h) {
+  struct look before, after;
+  look_at(h, &before);
+  uint32_t fault = call(h);
+  if (fault != RUGHVADI_DONE) {
+    look_at(h, &after);
+    HOLD(memcmp(&before, &after, sizeof before) == 0);
+  }
+  return fault;
 }
 
 int main(int argc, char **argv) {
@@ -110,7 +151,8 @@ int main(int argc, char **argv) {
   WANT(rughvadi_client_new(&limits, 0, 1, &handles[1]));
   WANT(rughvadi_client_new(&limits, 1, 1, &handles[2]));
   for (long made = 0; made < calls; made++) {
-    uint32_t answer = call(&handles[draw() % 3]);
+    rughvadi_handle *h = &handles[draw() % 3];
+    uint32_t answer = draw() % 28 == 0 ? renew(h) : looked_at_call(h);
     HOLD(answer < 0x400);
     seen[answer]++;
   }

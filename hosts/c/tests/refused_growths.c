@@ -1,5 +1,5 @@
-/* Each growth of a scene is refused in turn: the call answers that memory was, is made once more, and
- * all goes on as if nothing had been refused. At the end nothing is left of the heap. */
+/* Each growth of a scene is refused in turn: the call answers that memory was, is made once more,
+ * and all goes on as if nothing had been refused. At the end nothing is left of the heap. */
 #include "parties.h"
 
 /* ---- a heap that refuses its growth of one number ---- */

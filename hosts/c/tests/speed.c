@@ -1,5 +1,5 @@
-/* speed SIZE: times a read of a held page beside a look-up in a hash table and a copy of as many bytes,
- * and a commit in one process (client, frames, server, no disk), for pages of so many bytes.
+/* speed SIZE: times a read of a held page beside a look-up in a hash table and a copy of as many
+ * bytes, and a commit in one process (client, frames, server, no disk), for pages of so many bytes.
  * The table is uthash's where that is installed, else a chained one of 64-bit keys below. */
 #include "parties.h"
 

@@ -77,4 +77,7 @@ def _greet(connected: socket.socket, token: bytes, store: str) -> tuple[int, int
     of, answer, client, incarnation, *numbers = _ANSWER.unpack(came)
     if of != _VERSION or answer != 0:
         raise Refused(answer if of == _VERSION else 1)
-    return client, incarnation, Limits(*numbers[:6], keep_write=bool(numbers[6]))
+    clients, pages, page_size, slots, kin, kout, keep_write = numbers
+    return client, incarnation, Limits(
+        clients, pages, page_size, slots, kin, kout, keep_write=bool(keep_write)
+    )

@@ -131,7 +131,7 @@ class Aborted(Exception):
     """The transaction was the victim of a deadlock, and is undone: begin again."""
 
 
-class Closed(Exception):
+class Closed(ConnectionError):
     """The server closed the connection."""
 
 

@@ -6,7 +6,7 @@ import socket
 from types import TracebackType
 from typing import Callable, Optional, TypeVar
 
-from ._library import Aborted, Closed, FrameShort, Limits, NoTransaction, NotHere
+from ._library import Aborted, Closed, Fault, FrameShort, Limits, NoTransaction, NotHere
 from ._objects import Client, Ended, Status
 
 T = TypeVar("T")
@@ -17,8 +17,8 @@ TRIES = 30
 
 class Link:
     """A client over a connected stream socket. Where the socket has a time-out, what may be lost is
-    said again after each. Once the connection failed or was closed the client is gone: each later
-    call raises `Closed`, also of a page that it holds."""
+    said again after each. Once the connection failed or was closed, or gave what can't be taken,
+    the client is gone: each later call raises `Closed`, also of a page that it holds."""
 
     def __init__(
         self,
@@ -80,10 +80,22 @@ class Link:
     def _send_said(self) -> None:
         for frame in self.client.frames():
             try:
-                self._socket.sendall(frame.data)
+                self._send(frame.data)
             except OSError:
                 self._gone = True
                 raise
+
+    def _send(self, data: bytes) -> None:
+        # The socket's time-out is for answers. A frame that is sent in part has to go on.
+        left, silent = memoryview(data), 0
+        while left:
+            try:
+                left = left[self._socket.send(left) :]
+                silent = 0
+            except socket.timeout:
+                silent += 1
+                if silent > TRIES:
+                    raise
 
     def _receive(self) -> bool:
         try:
@@ -101,6 +113,9 @@ class Link:
                 used = self.client.take(self._came)
             except FrameShort:
                 break
+            except Fault:
+                self._gone = True
+                raise
             self._came = self._came[used:]
             self._send_said()
         return True
@@ -142,7 +157,11 @@ class Link:
         self.client.write(page, data)
 
     def _commit(self) -> int:
-        self._asked(lambda: (self.client.finish(), True)[1])
+        def finish() -> bool:
+            self.client.finish()
+            return True
+
+        self._asked(finish)
         self._wait_while(Status.COMMITTING)
         how, number = self.client.last
         if how is not Ended.COMMITTED:
@@ -155,6 +174,7 @@ class Transaction:
 
     def __init__(self, link: Link) -> None:
         self._link = link
+        self._dropped = False
         self.number: Optional[int] = None
         """The number of its commit, once it has committed."""
 
@@ -169,6 +189,8 @@ class Transaction:
         error: Optional[BaseException],
         trace: Optional[TracebackType],
     ) -> None:
+        if self._dropped:
+            return
         if kind is None:
             self.number = self._link._commit()
         elif not self._link._gone and self._link.client.status in (Status.OPEN, Status.WAITING):
@@ -178,6 +200,14 @@ class Transaction:
     def read(self, page: int) -> bytes:
         """The bytes of a page. Nobody writes the page before the transaction ends."""
         return self._link._fetch(page)
+
+    def drop(self) -> None:
+        """Ends it, as the last call of the `with`: nothing is written and no answer awaited, where a
+        commit of reads alone waits for a sync. What it read has no place among the commits."""
+        self._link._check()
+        self._link.client.drop()
+        self._dropped = True
+        self._link._send_said()
 
     def write(self, page: int, data: bytes) -> None:
         """Writes a page that the transaction has read."""

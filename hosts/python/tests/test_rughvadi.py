@@ -1,5 +1,5 @@
-"""A server and clients in one process: the clients' sockets hand their frames to the server at once,
-and what it says is read from them. So no test rests on time or on a schedule."""
+"""A server and clients in one process: the clients' sockets hand their frames to the server at
+once, and what it says is read from them. So no test rests on time or on a schedule."""
 
 import threading
 import unittest
@@ -54,9 +54,10 @@ class Socket:
     def __init__(self, host: Host, client: int) -> None:
         self.host, self.client = host, client
 
-    def sendall(self, data: bytes) -> None:
-        assert self.host.server.take(data) == len(data)
+    def send(self, data: memoryview) -> int:
+        assert self.host.server.take(bytes(data)) == len(data)
         self.host.deliver()
+        return len(data)
 
     def recv(self, most: int) -> bytes:
         self.host.flush()
@@ -107,6 +108,17 @@ class OneProcess(unittest.TestCase):
                 raise KeyError
         self.assertEqual(link.client.last, (Ended.DROPPED, 0))
         self.assertEqual(link.run(counted), 0)
+
+    def test_a_transaction_that_only_looks_is_dropped(self) -> None:
+        host = Host()
+        link = host.link(0)
+        link.run(counted)
+        with link.transaction() as transaction:
+            self.assertEqual(transaction.read(2)[0], 1)
+            transaction.drop()
+        self.assertIsNone(transaction.number)
+        self.assertEqual(link.client.last, (Ended.DROPPED, 0))
+        self.assertEqual((host.last_commit, link.run(counted)), (1, 1))
 
     def test_a_server_opens_over_what_was_written(self) -> None:
         host = Host()

@@ -41,13 +41,23 @@ pub struct FrameHead {
     pub incarnation: u64,
 }
 
-#[rustfmt::skip]
 extern "C" {
     pub fn rughvadi_version() -> u32;
     pub fn rughvadi_fault_text(fault: u32, room: *mut u8, len: usize, size: *mut usize) -> u32;
-    pub fn rughvadi_frame_read(limits: *const Limits, bytes: *const u8, len: usize, head: *mut FrameHead) -> u32;
+    pub fn rughvadi_frame_read(
+        limits: *const Limits,
+        bytes: *const u8,
+        len: usize,
+        head: *mut FrameHead,
+    ) -> u32;
     pub fn rughvadi_take(h: *mut Handle, bytes: *const u8, len: usize, used: *mut usize) -> u32;
-    pub fn rughvadi_next(h: *mut Handle, room: *mut u8, len: usize, size: *mut usize, client: *mut u32) -> u32;
+    pub fn rughvadi_next(
+        h: *mut Handle,
+        room: *mut u8,
+        len: usize,
+        size: *mut usize,
+        client: *mut u32,
+    ) -> u32;
     pub fn rughvadi_again(h: *mut Handle) -> u32;
     pub fn rughvadi_free(h: *mut Handle);
     pub fn rughvadi_server_new(limits: *const Limits, h: *mut Handle) -> u32;
@@ -55,15 +65,33 @@ extern "C" {
     pub fn rughvadi_open_row(h: *mut Handle, version: u64, bytes: *const u8, len: usize) -> u32;
     pub fn rughvadi_open_serve(h: *mut Handle) -> u32;
     pub fn rughvadi_server_batch(h: *mut Handle, number: *mut u64, pages: *mut usize) -> u32;
-    pub fn rughvadi_server_page(h: *mut Handle, at: usize, room: *mut u8, len: usize, page: *mut u32, version: *mut u64) -> u32;
+    pub fn rughvadi_server_page(
+        h: *mut Handle,
+        at: usize,
+        room: *mut u8,
+        len: usize,
+        page: *mut u32,
+        version: *mut u64,
+    ) -> u32;
     pub fn rughvadi_server_flushed(h: *mut Handle, number: u64) -> u32;
     pub fn rughvadi_server_forget(h: *mut Handle, number: u64) -> u32;
     pub fn rughvadi_server_leave(h: *mut Handle, client: u32) -> u32;
     pub fn rughvadi_server_incarnation(h: *mut Handle, client: u32, incarnation: *mut u64) -> u32;
-    pub fn rughvadi_client_new(limits: *const Limits, client: u32, incarnation: u64, h: *mut Handle) -> u32;
+    pub fn rughvadi_client_new(
+        limits: *const Limits,
+        client: u32,
+        incarnation: u64,
+        h: *mut Handle,
+    ) -> u32;
     pub fn rughvadi_client_hello(h: *mut Handle) -> u32;
     pub fn rughvadi_client_begin(h: *mut Handle, txn: *mut u64) -> u32;
-    pub fn rughvadi_client_read(h: *mut Handle, page: u32, room: *mut u8, len: usize, here: *mut bool) -> u32;
+    pub fn rughvadi_client_read(
+        h: *mut Handle,
+        page: u32,
+        room: *mut u8,
+        len: usize,
+        here: *mut bool,
+    ) -> u32;
     pub fn rughvadi_client_want(h: *mut Handle, page: u32, may: *mut bool) -> u32;
     pub fn rughvadi_client_write(h: *mut Handle, page: u32, bytes: *const u8, len: usize) -> u32;
     pub fn rughvadi_client_finish(h: *mut Handle) -> u32;

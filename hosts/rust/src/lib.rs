@@ -2,8 +2,8 @@
 //! the proved library of Rughvadi, for Rust.
 //!
 //! [`Server`] and [`Client`] do no input or output: frames are handed in ([`Client::take`]) and
-//! fetched ([`Client::next_frame`]). [`Link`] is a client over a stream, for programs that may block;
-//! [`Link::connect`] makes one to a store of a gateway.
+//! fetched ([`Client::next_frame`]). [`Link`] is a client over a stream, for programs that may
+//! block; [`Link::connect`] makes one to a store of a gateway.
 //!
 //! Each may move to another thread, with all that it holds, and is used by one thread at a time:
 //!

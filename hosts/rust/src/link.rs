@@ -8,8 +8,8 @@ use std::io::{ErrorKind, Read, Write};
 const TRIES: u32 = 30;
 
 /// A client over a connected stream. Where the stream has a time-out for reads, what may be lost is
-/// said again after each. Once the stream failed or ended the client is gone: each later call answers
-/// [`Error::Closed`], also of a page that it holds.
+/// said again after each. Once the stream failed or ended, or gave what can't be taken, the client
+/// is gone: each later call answers [`Error::Closed`], also of a page that it holds.
 pub struct Link<S> {
     client: Client,
     stream: S,
@@ -117,7 +117,10 @@ impl<S: Read + Write> Link<S> {
             match self.client.take(&self.came[at..]) {
                 Ok(used) => at += used,
                 Err(Error::FrameShort) => break,
-                Err(error) => return Err(error),
+                Err(error) => {
+                    self.gone = true;
+                    return Err(error);
+                }
             }
             self.send_said()?;
         }

@@ -16,8 +16,8 @@ impl Object {
         }
     }
 
-    /// The handle for one call. No two calls are made at once, since an object isn't `Sync`, and the
-    /// library calls nobody back.
+    /// The handle for one call. No two calls are made at once, since an object isn't `Sync`, and
+    /// the library calls nobody back.
     pub(crate) fn at(&self) -> *mut ffi::Handle {
         self.handle.get()
     }

@@ -1,5 +1,5 @@
-//! A server and clients in one process: the clients' streams hand their frames to the server at once,
-//! and what it says is read from them. So no test rests on time or on a schedule.
+//! A server and clients in one process: the clients' streams hand their frames to the server at
+//! once, and what it says is read from them. So no test rests on time or on a schedule.
 use rughvadi::{read_frame, Client, Ended, Error, Limits, Link, Server, Status};
 use std::cell::RefCell;
 use std::collections::VecDeque;

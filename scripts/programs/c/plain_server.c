@@ -1,5 +1,6 @@
-/* plain_server SOCKET DATABASE PAGES PAGE_SIZE: what a server does with no protocol. A frame is a page's number (4 bytes) and its
- * bytes; all that came in a round are written in one SQLite transaction, with version and number, and 8 bytes answer each. */
+/* plain_server SOCKET DATABASE PAGES PAGE_SIZE: what a server does with no protocol. A frame is a
+ * page's number (4 bytes) and its bytes; all that came in a round are written in one SQLite
+ * transaction, with version and number, and 8 bytes answer each. */
 #include <errno.h>
 #include <poll.h>
 #include <sqlite3.h>
@@ -50,15 +51,18 @@ static void make(const char *path, int pages) {
   char text[400];
   must(sqlite3_open(path, &db));
   run("PRAGMA journal_mode = WAL; PRAGMA synchronous = FULL; BEGIN;"
-      "CREATE TABLE mark2(id INTEGER PRIMARY KEY, commits INTEGER NOT NULL, page_size INTEGER NOT NULL, pages INTEGER NOT NULL) STRICT;"
+      "CREATE TABLE mark2(id INTEGER PRIMARY KEY, commits INTEGER NOT NULL, page_size INTEGER NOT "
+      "NULL, pages INTEGER NOT NULL) STRICT;"
       "CREATE TABLE page2(no INTEGER PRIMARY KEY, version INTEGER NOT NULL) STRICT;"
-      "CREATE TABLE part(no INTEGER NOT NULL, place INTEGER NOT NULL, body BLOB NOT NULL, PRIMARY KEY(no, place)) STRICT");
+      "CREATE TABLE part(no INTEGER NOT NULL, place INTEGER NOT NULL, body BLOB NOT NULL, PRIMARY "
+      "KEY(no, place)) STRICT");
   for (int no = 0; no < pages; no++) {
     snprintf(text, sizeof text, "INSERT INTO page2 VALUES (%d, 0)", no);
     run(text);
     for (size_t from = 0; from < page_size; from += PART) {
       size_t size = page_size - from < PART ? page_size - from : PART;
-      snprintf(text, sizeof text, "INSERT INTO part VALUES (%d, %zu, zeroblob(%zu))", no, from / PART, size);
+      snprintf(text, sizeof text, "INSERT INTO part VALUES (%d, %zu, zeroblob(%zu))", no,
+               from / PART, size);
       run(text);
     }
   }
@@ -101,13 +105,16 @@ static int receive(struct peer *peer) {
 static void one_round(int listener) {
   struct pollfd watched[MOST + 1] = {{.fd = listener, .events = POLLIN}};
   int whole[MOST], wholes = 0;
-  for (int at = 0; at < count; at++) watched[at + 1] = (struct pollfd){peers[at].fd, POLLIN, 0};
+  for (int at = 0; at < count; at++)
+    watched[at + 1] = (struct pollfd){peers[at].fd, POLLIN, 0};
   must(poll(watched, (nfds_t)count + 1, -1) < 0);
   for (int at = 0; at < count; at++)
-    if (watched[at + 1].revents && receive(&peers[at])) whole[wholes++] = at;
+    if (watched[at + 1].revents && receive(&peers[at]))
+      whole[wholes++] = at;
   if (wholes > 0) {
     done(begin);
-    for (int at = 0; at < wholes; at++) put(peers[whole[at]].in);
+    for (int at = 0; at < wholes; at++)
+      put(peers[whole[at]].in);
     sqlite3_bind_int64(mark, 1, number);
     done(mark);
     done(commit);
@@ -116,11 +123,13 @@ static void one_round(int listener) {
     must(write(peers[whole[at]].fd, &number, sizeof number) != sizeof number);
     peers[whole[at]].size = 0;
   }
-  if (watched[0].revents && count < MOST) peers[count++] = (struct peer){.fd = accept(listener, NULL, NULL)};
+  if (watched[0].revents && count < MOST)
+    peers[count++] = (struct peer){.fd = accept(listener, NULL, NULL)};
 }
 
 int main(int words, char **text) {
-  if (words != 5) return 2;
+  if (words != 5)
+    return 2;
   page_size = strtoul(text[4], NULL, 10);
   make(text[2], atoi(text[3]));
   struct sockaddr_un address = {.sun_family = AF_UNIX};
@@ -129,5 +138,6 @@ int main(int words, char **text) {
   must(bind(listener, (struct sockaddr *)&address, sizeof address) || listen(listener, MOST));
   puts("ready");
   fflush(stdout);
-  for (;;) one_round(listener);
+  for (;;)
+    one_round(listener);
 }

@@ -137,7 +137,9 @@ int main(int count, char **words) {
       _exit(0);
     }
   }
+  /* Where one fails, what the others say isn't waited for. */
   close(ready[1]);
+  close(counts[1]);
   for (int client = 0; client < processes; client++) {
     whole(ready[0], &(char){0}, 1, false);
   }

@@ -1,4 +1,5 @@
-// Loaded before a program (LD_PRELOAD), it makes each sync of a file take SYNC_MICROSECONDS longer, as on a slower disk.
+// Loaded before a program (LD_PRELOAD), it makes each sync of a file take SYNC_MICROSECONDS longer,
+// as on a slower disk.
 #define _GNU_SOURCE
 #include <dlfcn.h>
 #include <stdlib.h>

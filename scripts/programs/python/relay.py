@@ -1,12 +1,13 @@
 """relay.py SOCKET GATEWAY SEED: clients connect to SOCKET, and their frames go over datagrams.
 
 Greetings go through as they are. Then each frame is a datagram, of which a tenth is lost, a tenth
-is sent twice and a tenth comes late, behind some that follow it; at the other end they are put on the
-connection to GATEWAY, or back to the client.
+is sent twice and a tenth comes late, behind some that follow it; at the other end they are put on
+the connection to GATEWAY, or back to the client.
 """
 
 from __future__ import annotations
 
+import contextlib
 import random
 import socket
 import sys
@@ -51,8 +52,9 @@ class Datagrams:
         self.late = [it for it in self.late if it[0] >= 0]
 
     def end(self) -> None:
-        # An empty datagram is no frame.
-        self.giver.send(b"")
+        # An empty datagram is no frame. Whoever takes may have ended before.
+        with contextlib.suppress(OSError):
+            self.giver.send(b"")
 
 
 def give(stream: socket.socket, datagrams: Datagrams) -> None:

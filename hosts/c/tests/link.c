@@ -1,0 +1,165 @@
+/* link: a link at a gateway and at a server, each a process: the greeting and its refusals, tokens,
+ * and what is left of a client whose connection ended, also of a page that it holds. */
+#include "parties.h"
+#include "rughvadi_connect.h"
+
+#include <sys/socket.h>
+#include <sys/wait.h>
+#include <unistd.h>
+
+enum { SIZE = 64, GREETING = 8 + 1 + 1 + RUGHVADI_TOKEN + 4, ANSWER = 40 };
+
+static const rughvadi_limits limits = {2, 4, SIZE, 4, 1, 4, 0};
+static int ours, theirs;
+
+/* ---- the other end ---- */
+
+/* Sends what the server says. */
+static void send_said(rughvadi_handle *server) {
+  uint8_t room[1024];
+  size_t size;
+  uint32_t client;
+  while (rughvadi_next(server, room, sizeof room, &size, &client) == RUGHVADI_DONE) {
+    HOLD(send(theirs, room, size, MSG_NOSIGNAL) == (ssize_t)size);
+  }
+}
+
+/* A server with no disk, until the connection ends. */
+static void serve(void) {
+  rughvadi_handle server = RUGHVADI_EMPTY;
+  uint8_t came[4096];
+  size_t count = 0, used;
+  WANT(rughvadi_server_new(&limits, &server));
+  for (ssize_t got = 1; got > 0; count += got > 0 ? (size_t)got : 0) {
+    while (rughvadi_take(&server, came, count, &used) == RUGHVADI_DONE) {
+      count -= used;
+      memmove(came, came + used, count);
+      send_said(&server);
+    }
+    got = read(theirs, came + count, sizeof came - count);
+  }
+  rughvadi_free(&server);
+}
+
+/* A gateway that answers a greeting, with so many bytes of the answer. */
+static void answer(uint8_t version, uint8_t what, size_t count) {
+  uint8_t greeting[GREETING], bytes[ANSWER] = {version, what, 0, 1};
+  HOLD(recv(theirs, greeting, sizeof greeting, MSG_WAITALL) == GREETING);
+  HOLD(memcmp(greeting, "rughvadi\1\4", 10) == 0 && memcmp(greeting + 42, "main", 4) == 0);
+  for (int place = 0; place < RUGHVADI_TOKEN; place++) {
+    HOLD(greeting[10 + place] == 7);
+  }
+  static const uint8_t numbers[] = {2, 4, SIZE, 4, 1, 4, 0};
+  for (int place = 0; place < 7 && what == 0; place++) {
+    bytes[15 + 4 * place] = numbers[place];
+  }
+  bytes[11] = what == 0 ? 9 : 0;
+  HOLD(send(theirs, bytes, count, MSG_NOSIGNAL) == (ssize_t)count);
+}
+
+/* ---- this end ---- */
+
+static pid_t forked(void) {
+  int pair[2];
+  HOLD(socketpair(AF_UNIX, SOCK_STREAM, 0, pair) == 0);
+  ours = pair[0];
+  theirs = pair[1];
+  pid_t child = fork();
+  HOLD(child >= 0);
+  if (child == 0) {
+    close(ours);
+  }
+  return child;
+}
+
+static void ended(pid_t child) {
+  int status;
+  close(ours);
+  close(theirs);
+  HOLD(waitpid(child, &status, 0) == child && status == 0);
+}
+
+static void greet(uint8_t version, uint8_t what, size_t count, uint32_t wanted) {
+  uint8_t token[RUGHVADI_TOKEN];
+  rughvadi_seat seat = {0};
+  memset(token, 7, sizeof token);
+  pid_t child = forked();
+  if (child == 0) {
+    answer(version, what, count);
+    exit(0);
+  }
+  close(theirs);
+  HOLD(rughvadi_greet(ours, token, "main", &seat) == wanted);
+  bool right = seat.client == 1 && seat.incarnation == 9 && seat.limits.page_size == SIZE
+               && seat.limits.kout == 4 && seat.limits.keep_write == 0;
+  HOLD(wanted == RUGHVADI_DONE ? right : seat.incarnation == 0);
+  theirs = -1;
+  ended(child);
+}
+
+static void greetings(void) {
+  greet(1, 0, ANSWER, RUGHVADI_DONE);
+  greet(1, 1, ANSWER, RUGHVADI_CONNECT_GREETING);
+  greet(1, 2, ANSWER, RUGHVADI_CONNECT_TOKEN);
+  greet(1, 3, ANSWER, RUGHVADI_CONNECT_STORE);
+  greet(1, 4, ANSWER, RUGHVADI_CONNECT_CLIENT);
+  greet(1, 5, ANSWER, RUGHVADI_CONNECT_DOWN);
+  greet(1, 6, ANSWER, RUGHVADI_CONNECT_GREETING);
+  greet(2, 0, ANSWER, RUGHVADI_CONNECT_GREETING);
+  greet(1, 0, ANSWER - 1, RUGHVADI_CONNECT_CLOSED);
+}
+
+static void tokens(void) {
+  char path[] = "/tmp/rughvadi_tokens_XXXXXX";
+  uint8_t token[RUGHVADI_TOKEN];
+  FILE *file = fdopen(mkstemp(path), "w");
+  HOLD(file != NULL);
+  fputs("# of two clients\n\n0 00\n1 ", file);
+  for (int place = 0; place < RUGHVADI_TOKEN; place++) {
+    fputs("aB", file);
+  }
+  fputs("\n", file);
+  HOLD(fclose(file) == 0);
+  WANT(rughvadi_token_read(path, 1, token));
+  HOLD(token[0] == 0xab && token[RUGHVADI_TOKEN - 1] == 0xab);
+  HOLD(rughvadi_token_read(path, 0, token) == RUGHVADI_CONNECT_TOKEN);
+  HOLD(rughvadi_token_read(path, 2, token) == RUGHVADI_CONNECT_TOKEN);
+  unlink(path);
+  HOLD(rughvadi_token_read(path, 1, token) == RUGHVADI_CONNECT_SYSTEM);
+}
+
+/* The connection ends amid a transaction that holds a page. */
+static void gone(void) {
+  pid_t child = forked();
+  if (child == 0) {
+    serve();
+    exit(0);
+  }
+  rughvadi_link link;
+  uint8_t page[SIZE];
+  uint64_t number;
+  WANT(rughvadi_link_open(&link, &limits, 1, 9, ours));
+  WANT(rughvadi_link_begin(&link));
+  WANT(rughvadi_link_fetch(&link, 2, page, SIZE));
+  WANT(rughvadi_link_put(&link, 2, page, SIZE));
+  WANT(rughvadi_link_serve(&link, 0));
+  shutdown(theirs, SHUT_RDWR);
+  HOLD(rughvadi_link_serve(&link, 1000) == RUGHVADI_LINK_CLOSED);
+  HOLD(rughvadi_link_fetch(&link, 2, page, SIZE) == RUGHVADI_LINK_CLOSED);
+  HOLD(rughvadi_link_want(&link, 2) == RUGHVADI_LINK_CLOSED);
+  HOLD(rughvadi_link_put(&link, 2, page, SIZE) == RUGHVADI_LINK_CLOSED);
+  HOLD(rughvadi_link_commit(&link, &number) == RUGHVADI_LINK_CLOSED);
+  HOLD(rughvadi_link_drop(&link) == RUGHVADI_LINK_CLOSED);
+  HOLD(rughvadi_link_begin(&link) == RUGHVADI_LINK_CLOSED);
+  HOLD(rughvadi_link_serve(&link, 0) == RUGHVADI_LINK_CLOSED);
+  rughvadi_link_close(&link);
+  ended(child);
+}
+
+int main(void) {
+  greetings();
+  tokens();
+  gone();
+  puts("nine greetings, tokens, and a held page that is gone with its connection");
+  return 0;
+}

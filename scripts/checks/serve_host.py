@@ -1,0 +1,145 @@
+"""The host in C, `hosts/served.c`, for `scripts/check serve`: copies of its store while it serves,
+a kill, wrong frames, and its end in order. It is built with ASan and UBSan.
+
+Each commit of its clients adds one to one page's counter. So in the store, and in each copy of it,
+the number of the last commit is the sum of all counters.
+"""
+from __future__ import annotations
+
+import contextlib
+import signal
+import socket
+import sqlite3
+import subprocess
+from pathlib import Path
+
+import building
+import serving
+from checks.bad_input import ASK_READ, HELLO, Peer, frame, number_of
+from serving import wait_for
+
+CLIENTS, PAGES, SIZE = 8, 16, 4096
+COPIES = 5
+
+
+class Host:
+    """The host, in a folder of its own."""
+
+    def __init__(self, room: Path, library: Path) -> None:
+        self.room = room
+        flags = [*serving.SANITIZERS.split(), "-lsqlite3"]
+        self.program = serving.in_c(building.TOP / "hosts/served.c", room, library, *flags)
+        self.client = serving.in_c(building.PROGRAMS / "c/serve_client.c", room, library)
+        self.store, self.socket = room / "pages.db", room / "socket"
+
+    def start(self) -> subprocess.Popen:
+        words = [self.program, self.socket, self.store, CLIENTS, PAGES, SIZE, 0]
+        with (self.room / "log").open("ab") as log:
+            begun = subprocess.Popen(list(map(str, words)), stdout=subprocess.PIPE, stderr=log)
+        if not begun.stdout or begun.stdout.readline() != b"ready\n":
+            raise building.NotBuilt("served didn't start: " + self.log())
+        return begun
+
+    def log(self) -> str:
+        return (self.room / "log").read_text()
+
+    def clients(self, processes: int, seconds: int) -> subprocess.Popen:
+        """Processes that commit for some seconds."""
+        words = [self.client, "served", self.socket, CLIENTS, PAGES, SIZE, 0, processes, seconds]
+        pipes = {"stdout": subprocess.PIPE, "stderr": subprocess.DEVNULL, "text": True}
+        return subprocess.Popen(list(map(str, words)), **pipes)
+
+    def copy(self, how: str, to: Path) -> str:
+        """A copy by sqlite3; what it said."""
+        done = subprocess.run(["sqlite3", str(self.store), how.format(to)], capture_output=True,
+                              text=True, check=False)
+        return done.stdout + done.stderr
+
+
+def counted(store: Path) -> int:
+    """How many commits a store has; -1 where it isn't so that each counted one."""
+    with contextlib.closing(sqlite3.connect(store, isolation_level=None)) as tables:
+        tables.execute("BEGIN")  # all of it is of one moment
+        whole = tables.execute("PRAGMA integrity_check").fetchone()[0]
+        (number,) = tables.execute("SELECT commits FROM mark2").fetchone()
+        bodies = tables.execute("SELECT body FROM part WHERE place = 0").fetchall()
+    total = sum(int.from_bytes(body[:8], "little") for (body,) in bodies)
+    return number if whole == "ok" and total == number and len(bodies) == PAGES else -1
+
+
+def ended(host: subprocess.Popen, how: signal.Signals) -> int:
+    host.send_signal(how)
+    host.communicate(timeout=60)
+    return host.returncode
+
+
+def copies(it: Host) -> str:
+    """Copies of each kind while clients commit: what is wrong."""
+    server, found = it.start(), []
+    clients = it.clients(4, 6)
+    for place in range(COPIES):
+        for name, how in (("backup", ".backup '{}'"), ("vacuum", "VACUUM INTO '{}'")):
+            to = it.room / f"{name}_{place}.db"
+            said = it.copy(how, to)
+            found.append(counted(to) if to.exists() and not said else -2)
+    clients.communicate(timeout=120)
+    right = ended(server, signal.SIGTERM) == 0 and clients.returncode == 0
+    last = counted(it.store)
+    in_order = found == sorted(found) and found[0] >= 0 and found[-1] <= last
+    return "" if right and in_order and not it.socket.exists() else f"{found}, {last}: {it.log()}"
+
+
+def killed(it: Host) -> str:
+    """It is killed while clients commit, and begun again where its socket was left."""
+    before = counted(it.store)
+    server = it.start()
+    clients = it.clients(4, 60)
+    wait_for(lambda: counted(it.store) > before + 20, 60)
+    ended(server, signal.SIGKILL)
+    clients.communicate(timeout=120)
+    between = counted(it.store)
+    server = it.start()
+    clients = it.clients(2, 1)
+    clients.communicate(timeout=120)
+    right = ended(server, signal.SIGTERM) == 0 and clients.returncode == 0
+    last = counted(it.store)
+    return "" if right and before + 20 < between < last else f"{before}, {between}, {last}"
+
+
+class Caller(Peer):
+    """A raw connection to the host, which has no greeting."""
+
+    def __init__(self, it: Host, client: int) -> None:
+        self.socket = socket.socket(socket.AF_UNIX)
+        self.socket.connect(str(it.socket))
+        self.socket.settimeout(20)
+        self.client, self.incarnation = client, 1 << 61
+
+
+def wrong_frames(it: Host) -> str:
+    """Frames that are none, or another's, end a connection; half a frame holds up nobody."""
+    server, closed = it.start(), []
+    with Caller(it, 1) as holder, Caller(it, 2) as half:
+        holder.welcome()
+        half.socket.sendall(frame(HELLO, 2, 1)[:9])
+        for said in (frame(HELLO, 1, 1 << 61), frame(HELLO, CLIENTS, 1),
+                     b"GET / HTTP/1.1\r\n\r\n", frame(ASK_READ, 3, 1, number_of(1, PAGES))):
+            with Caller(it, 3) as peer:
+                peer.socket.sendall(said)
+                closed.append(peer.is_closed())
+        right = holder.welcome() is holder
+    status = ended(server, signal.SIGTERM)
+    return "" if right and all(closed) and status == 0 else f"{closed}, {status}: {it.log()}"
+
+
+def tried(tries, it) -> None:
+    """Tries the host."""
+    room = it.room / "serve_host"
+    room.mkdir()
+    host = Host(room, it.library)
+    for scene in (copies, killed, wrong_frames):
+        try:
+            why = scene(host)
+        except (OSError, EOFError, sqlite3.Error, subprocess.SubprocessError) as fault:
+            why = f"{fault!r}: {host.log()}"
+        tries.told(f"the host in C: {scene.__name__.replace('_', ' ')}", not why, why)
