@@ -1,21 +1,28 @@
-"""Says how much memory a server takes that forgets what is on disk.
+"""Says how much memory a server and a run take that forget what is on disk.
 
-    scripts/check memory [FEW [MANY]]      10,000 and 1,000,000 commits
+    scripts/check memory [FEW [MANY]]        a server: 10,000 and 1,000,000 commits
+    scripts/check memory run [FEW [MANY]]    a run: 30,000 and 3,000,000 jobs
 
 A server alone commits a page of 4,096 bytes so many times, and forgets each commit once it is on
-disk, in batches of 16; beside it stands one that forgets nothing. It prints the greatest resident
-memory of each run in KB.
+disk, in batches of 16; beside it stands one that forgets nothing. A run is one client that does so
+many jobs over a store in a file of its own, as `cb_play run` does them; beside it stands one whose
+results lie in their channel until the end. It prints the greatest resident memory of each in KB.
 
-It needs the program of scripts/programs/server_memory, which is built first unless PROGRAM names a
-built one. The status is 1 where the memory after MANY commits is more than 1.1 times that after
-FEW.
+It needs the program of scripts/programs/server_memory, or of run_memory, which is built first
+unless PROGRAM names a built one. ROOM is the folder of the stores (the system's temporary one if it
+isn't set): in memory, as /dev/shm, a run of 3,000,000 jobs takes some ten minutes. The status is 1
+where the memory after MANY is more than 1.1 times that after FEW.
 """
 import subprocess
 import sys
 
 import building
 
-LIBRARIES = ["cb_page", "cb_frame", "cb_commit", "cb_server", "cb_server_state", "anyhow"]
+SERVER = ["cb_page", "cb_frame", "cb_commit", "cb_server", "cb_server_state", "anyhow"]
+RUN = [
+    "cb_page", "cb_twoq", "cb_station", "cb_shelf", "cb_worker", "cb_jobs", "cb_run", "sqlite",
+    "crossbeam_channel", "anyhow",
+]
 PEAK = """
 import resource, subprocess, sys
 subprocess.run(sys.argv[1:], check=True, stdout=subprocess.DEVNULL)
@@ -30,12 +37,32 @@ def peak(program, *words):
     return int(said.stdout)
 
 
+def of_server(room):
+    """The greatest memory of a server after so many commits, by what else is said."""
+    program = building.named("PROGRAM") or building.program("server_memory", SERVER, ["1"], room)
+    return lambda *more: peak(program, *more), ["10000", "1000000"], "commits"
+
+
+def of_run(room):
+    """The same of a run after so many jobs, over a new store each time."""
+    first = [f"{room}/first.db", "1"]
+    program = building.named("PROGRAM") or building.program("run_memory", RUN, first, room)
+
+    def run(*more):
+        for each in room.glob("run.db*"):
+            each.unlink()
+        return peak(program, f"{room}/run.db", *more)
+
+    return run, ["30000", "3000000"], "jobs"
+
+
 def main(words):
-    few, many = (words + ["10000", "1000000"][len(words) :])[:2]
     with building.a_room() as room:
-        program = building.named("PROGRAM")
-        program = program or building.program("server_memory", LIBRARIES, ["1"], room)
-        small, great = peak(program, few), peak(program, many)
-        print(f"{few} commits: {small} KB; {many} commits: {great} KB, {great / small:.3f} times")
-        print(f"nothing forgotten, {few} commits: {peak(program, few, 'keep')} KB")
+        is_run = words[:1] == ["run"]
+        of, counts, name = of_run(room) if is_run else of_server(room)
+        given = words[1:] if is_run else words
+        few, many = (given + counts[len(given) :])[:2]
+        small, great = of(few), of(many)
+        print(f"{few} {name}: {small} KB; {many} {name}: {great} KB, {great / small:.3f} times")
+        print(f"nothing forgotten, {few} {name}: {of(few, 'keep')} KB")
         return int(great > 1.1 * small)

@@ -7,6 +7,7 @@
     scripts/check refused shelf            a shelf over a new file, and over one with older tables
     scripts/check refused station [ROOM]   all calls of a station, in a folder that stays, or in one
                                            that is removed
+    scripts/check refused run              a run of two clients, and each thread that it makes
     scripts/check refused growths [MOST]   tests that accept want of memory, with the first growths
                                            refused (12)
 
@@ -29,18 +30,25 @@ Each begins the program anew for each growth that it makes, and refuses that one
   station where nothing was refused. The test is in scripts/programs/station_growths. It isn't in
   the gate, where no growth can be refused, and where its proof would take minutes. The last line
   counts the runs.
+- run: a test of cb_tests over disks in memory, with two clients of two jobs each. However a run
+  with one refused growth ends, all threads end, every ticket is back, and the disk has at least
+  what was answered as done; it says how many ended as done, how many by want of memory, and how
+  many were refused outside the run. Where a thread can't be made it ends by want of memory. A
+  worker, `work` and the flusher take memory there as their threads come to it, so that the growth
+  of a number isn't the same in each run. JOBS is how many runs there are at once (2).
 - growths: only the named tests of cb_layer_tests count. The others want memory, and fail in such a
   run.
 
-They need `cb_play` (calls, plays), a C compiler (all but growths), and their own programs, which
-are built first; PROGRAM names a built one for calls, plays and shelf. Of `shelf` the build takes 12
+They need `cb_play` (calls, plays), a C compiler (all but growths), the tests that the gate or `rt
+test` built (run), and their own programs, which are built first; PROGRAM names a built one for
+calls, plays, shelf and run. Of `shelf` the build takes 12
 processor minutes over libraries that are checked already. `growths` builds the tests anew for each
 number, which takes minutes. The status is 1 where a call ended in another way.
 """
 import importlib
 import sys
 
-KINDS = ["calls", "plays", "shelf", "station", "growths"]
+KINDS = ["calls", "plays", "shelf", "station", "run", "growths"]
 
 
 def main(words):

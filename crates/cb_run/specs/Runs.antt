@@ -1,7 +1,6 @@
 -- How a run of workers ends, and what its counts are. This project's rules.
-use Rattle.std.specs.Prelude.{◌≡◌, ◌≤◌, ℕ, Bool, List, length, ⊤}
+use Rattle.std.specs.Prelude.{◌≡◌, ◌≤◌, ◌⊎◌, ◌==◌, ◌&&◌, ◌||◌, ℕ, Bool, true, nat_lt, ⊤}
 use Rattle.std.specs.Prelude.{Option, Some, None, Result, Ok, Err, IsTrue}
-use Rattle.std.specs.List.{All}
 use Rattle.cb_client.specs.declared.client_fault.ClientFault.TheVariants as client
 use Rattle.cb_commit.specs.Stores.{StoreState}
 use Rattle.cb_jobs.specs.Counters.{sum_of_counters}
@@ -11,6 +10,8 @@ use Rattle.cb_jobs.specs.declared.ending.Ending.{Ending}
 use Rattle.cb_jobs.specs.declared.ending.Ending.TheVariants as ending
 use Rattle.cb_jobs.specs.declared.printing.Counted.{Counted}
 use Rattle.cb_shelf.specs.Reading.{Holds}
+use Rattle.cb_station.specs.Flags.{is_cut_off}
+use Rattle.cb_station.specs.Stations.{IsStation, StationState}
 use Rattle.cb_sql.specs.declared.fault.ShelfFault.{ShelfFault}
 use Rattle.cb_sql.specs.declared.fault.ShelfFault.TheVariants as shelf
 use Rattle.cb_worker.specs.declared.worker_fault.WorkerFault.{WorkerFault}
@@ -42,23 +43,25 @@ ending_of_run (Err fault) told = Err (ending_of_shelf fault)
 ending_of_run (Ok done) (Some told) = Err told.ending
 ending_of_run (Ok done) None = Ok tt
 
--- a tally of at most so many clients with at most so many jobs each
-abbrev pub HasRows : (clients : ℕ) → (jobs : ℕ) → List (List Bool) → Type 0
-HasRows clients jobs tally = (length tally ≤ clients) × All (λ row. length row ≤ jobs) tally
+-- The run was cut off: while nobody had the lock, a station lay there that was halted, or of which
+-- calls of `work` were still to end.
+abbrev pub WasCutOff : Type 0
+WasCutOff = (station : StationState) × IsStation station × (is_cut_off station.flags ≡ true)
 
--- it stays one
-abbrev pub KeepsRows : (old : List (List Bool)) → (new : List (List Bool)) → Type 0
-KeepsRows old new = (clients jobs : ℕ) → HasRows clients jobs old → HasRows clients jobs new
+-- whether so many committed jobs are all, or fewer where the run was cut off
+abbrev pub adds_up : (committed all : ℕ) → (cut_off : Bool) → Bool
+adds_up committed all cut_off = (committed == all) || (cut_off && nat_lt committed all)
 
 -- the sum of the counters in the store that the tables hold
 abbrev pub IsSumIn : Database → (sum : ℕ) → Type 0
 IsSumIn db sum = (tables : _) × (store : StoreState) × Holds tables db store
     × (sum ≡ sum_of_counters store)
 
--- So many jobs were committed at most, and the sum is that of the tables as they are, unless the
--- disk failed or the connection was closed.
-pub record IsCounted {S : Type 0} (g : Ghosts S) (most : ℕ) (after : Held S) (counted : Counted)
+-- All jobs were committed, fewer only where the run was cut off; and the sum is that of the tables
+-- as they are, unless the disk failed or the connection was closed.
+pub record IsCounted {S : Type 0} (g : Ghosts S) (all : ℕ) (after : Held S) (counted : Counted)
     : Type 0 where
-  pub few : counted.committed ≤ most
+  pub few : counted.committed ≤ all
+  pub exact : (counted.committed ≡ all) ⊎ WasCutOff
   pub summed : HasCleanDisk (state g after) → IsTrue (state g after).is_open
       → IsSumIn (state g after).now counted.sum

@@ -1,7 +1,6 @@
 //! What the flusher asks of the office, and what it tells it.
-ghost use Rattle.std.specs.Prelude.{◌≡◌, ◌↔◌, ℕ, true, false, Err, IfErr, IfOk, IfSome, None, Ok};
-ghost use Rattle.std.specs.Prelude.{OnErr};
-ghost use Rattle.std.specs.Prelude.{OnOk, Some};
+ghost use Rattle.std.specs.Prelude.{◌≡◌, ◌↔◌, ◌<◌, ◌≤◌, ℕ, true, false, Err, IfErr, IfOk, IfSome};
+ghost use Rattle.std.specs.Prelude.{None, Ok, OnErr, OnOk, Some};
 ghost use Rattle.std.specs.Option.{option_map};
 ghost use Rattle.sqlite.specs.Held.{state};
 ghost use Rattle.sqlite.specs.State.{Survives};
@@ -51,13 +50,10 @@ fn await_others<'a, R: Wait + Clock>(
     station: MutexGuard<'a, Station>,
     pace: &Pace,
 ) -> MutexGuard<'a, Station> {
-    let (Some(first), Some(awaited)) = (pace.first(), pace.awaited) else {
-        return station;
-    };
-    if !station.can_flush(first) {
-        return station;
+    match pace.waits_for(&station) {
+        Some(number) => office.wait_for_commit(rt, station, number, pace.limit),
+        None => station,
     }
-    office.wait_for_commit(rt, station, awaited, pace.limit)
 }
 
 /// The next batch; `None` once nothing is left and no call of `work` commits any more. The watch is
@@ -83,8 +79,23 @@ pub(crate) fn next_batch<R: Wait + Clock, W: Watch>(
     unreachable!()
 }
 
-/// The office, to which a batch is reported under its lock; what was reported is forgotten. What
-/// that makes of the station no contract says.
+/// Reports the commits up to a number, and forgets them. Where memory is refused for that they are
+/// still to be reported.
+fn report_at(alloc: Global, station: &mut Station, number: CommitNo) -> Result<(), AllocError>
+    ensures reported { OnOk result (number ≤ (server_of station.new).flushed) }
+    ensures refused { OnErr result ((server_of station.new).flushed < number) }
+{
+    // Whether that was refused, the station shows.
+    let _ = station.flushed(alloc, number);
+    if !station.is_on_disk(number) {
+        return Err(AllocError);
+    }
+    station.forget(number);
+    Ok(())
+}
+
+/// The office, to which a batch is reported under its lock (`report_at`). That the station lies
+/// there no contract says.
 #[derive(Drop)]
 struct Desk<'a, R> {
     rt: &'a R,
@@ -102,14 +113,9 @@ impl<R: Wait> Reports for Desk<'_, R> {
 
     fn report(&mut self, alloc: Global, number: CommitNo) -> Result<(), AllocError> {
         let mut station = self.office.lock(self.rt);
-        let reported = station.flushed(alloc, number);
-        if station.is_on_disk(number) {
-            station.forget(number);
-        }
+        let reported = report_at(alloc, &mut station, number);
         self.office.tell(&mut station);
-        if reported.is_err() {
-            return Err(AllocError);
-        }
+        reported?;
         self.next = station.next_commit();
         Ok(())
     }

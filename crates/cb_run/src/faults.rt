@@ -34,11 +34,9 @@ pub(crate) fn of_worker(fault: WorkerFault) -> Option<Ending>
     }
 }
 
-/// By the flusher's fault, else by that of the lowest client that told of one.
-pub(crate) fn of_run(
-    flushed: Result<(), ShelfFault>,
-    told: Option<ClientEnding>,
-) -> Result<(), Ending>
+/// By the flusher's fault, else by that of the lowest client that told of one: how a run ends whose
+/// threads have all ended.
+pub fn of_run(flushed: Result<(), ShelfFault>, told: Option<ClientEnding>) -> Result<(), Ending>
     ensures { result ≡ ending_of_run flushed told }
 {
     if let Err(fault) = flushed {

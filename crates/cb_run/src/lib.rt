@@ -6,7 +6,9 @@
 //!   is refused comes with the stop, and [`flush_again`] writes it before any other;
 //!   [`flush_in_tries`] tries it three times in all.
 //! - [`run_on`] is the body of `run`: workers on threads of their own, the flusher on the calling
-//!   one. [`of_shelf`] says how a fault of the store ends a run.
+//!   one. Results are counted as batches are written. All jobs are committed where it says that the
+//!   run is done, unless somebody else cut it off. [`of_run`] says which fault ends a run, and
+//!   [`of_shelf`] how one of the store does.
 //! - [`flush_loop_watched`], [`flush_again_watched`] and [`run_on_watched`] are the same, and tell
 //!   a [`cb_jobs::Watch`] of each batch.
 #![tactic(auto)]
@@ -25,7 +27,7 @@ mod running;
 mod tries;
 mod working;
 
-pub use faults::of_shelf;
+pub use faults::{of_run, of_shelf};
 pub use flusher::FlushStop;
 pub use job::DoneJob;
 pub use loops::{flush_again, flush_again_watched, flush_loop, flush_loop_watched};

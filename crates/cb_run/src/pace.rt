@@ -1,5 +1,12 @@
 //! For which commits the flusher waits before it takes a batch.
+ghost use Rattle.std.specs.Prelude.{◌≡◌, ◌+◌, ◌/◌, ◌≤◌, ℕ, None, Some, IfSome, IsSome, true, false};
+ghost use Rattle.std.specs.Duration.{as_nanos};
+ghost use Rattle.cb_page.specs.Numbers.{max_number};
+ghost use Rattle.cb_run.specs.Pacing.{awaited_after, waits_for};
+ghost use Rattle.cb_station.specs.Stations.{server_of};
+
 use cb_page::CommitNo;
+use cb_station::Station;
 use std::time::{Clock, Duration, Instant};
 
 /// The flusher waits no longer for others than this part of what the last write took.
@@ -13,14 +20,17 @@ pub(crate) struct Pace {
     /// The number of the last commit that was reported; `None` before the first report.
     reported: Option<CommitNo>,
     /// The commit that is waited for.
-    pub(crate) awaited: Option<CommitNo>,
+    awaited: Option<CommitNo>,
     /// It is waited for no longer than so long.
     pub(crate) limit: Duration,
 }
 
 impl Pace {
     /// Nothing was reported yet, and nothing is waited for.
-    pub(crate) fn new() -> Pace {
+    pub(crate) fn new() -> Pace
+        ensures reported { result.reported ≡ None }
+        ensures awaited { result.awaited ≡ None }
+    {
         Pace {
             reported: None,
             awaited: None,
@@ -28,15 +38,26 @@ impl Pace {
         }
     }
 
-    /// The least number that a commit can have which isn't reported yet; `None` before the first
-    /// report.
-    pub(crate) fn first(&self) -> Option<CommitNo> {
-        CommitNo::checked(self.reported?.get() + 1)
+    /// For which commit the flusher waits before it takes a batch: the one that the last report
+    /// says, where something is to be written and that one isn't made yet.
+    pub(crate) fn waits_for(&self, station: &Station) -> Option<CommitNo>
+        ensures { result ≡ waits_for self.now.reported self.now.awaited (server_of station.now) }
+    {
+        let (reported, awaited) = (self.reported?, self.awaited?);
+        let first = CommitNo::checked(reported.get() + 1)?;
+        if station.can_flush(first) && !station.can_flush(awaited) {
+            return Some(awaited);
+        }
+        None
     }
 
     /// Once the commits up to a number are reported, by a write that took so long, while the next
     /// commit to be made has that other number.
-    pub(crate) fn report(&mut self, number: CommitNo, next: Option<CommitNo>, took: Duration) {
+    pub(crate) fn report(&mut self, number: CommitNo, next: Option<CommitNo>, took: Duration)
+        ensures reported { self.new.reported ≡ Some number }
+        ensures awaited { self.new.awaited ≡ awaited_after self.old.reported number next }
+        ensures limit { as_nanos self.new.limit ≡ as_nanos took / 10 }
+    {
         let told = match self.reported {
             Some(before) => number.get().saturating_sub(before.get()).max(1),
             None => 1,

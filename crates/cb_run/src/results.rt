@@ -1,6 +1,6 @@
 //! What workers tell of the jobs that they did.
 use crate::job::DoneJob;
-use crossbeam_channel::{Receiver, Sender};
+use crossbeam_channel::{Receiver, Sender, TryIter};
 use std::alloc::{AllocError, Global};
 use std::sync::Wait;
 
@@ -30,7 +30,12 @@ impl Results {
         Ok(())
     }
 
-    /// Those that were sent; no more come.
+    /// Those that were sent and nobody took yet; each is taken as it is drawn.
+    pub fn so_far<'a, R: Wait>(&'a self, rt: &'a R) -> TryIter<'a, DoneJob, R> {
+        self.from.try_iter(rt)
+    }
+
+    /// Those that were sent and nobody took; no more come.
     pub fn into_receiver(self) -> Receiver<DoneJob> {
         let Results { to, from } = self;
         drop(to);

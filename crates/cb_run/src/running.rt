@@ -1,17 +1,17 @@
 //! Workers and the flusher, to their end.
-ghost use Rattle.std.specs.Prelude.{◌*◌, IfOk};
+ghost use Rattle.std.specs.Prelude.{◌≡◌, ◌*◌, true, IfOk};
 ghost use Rattle.cb_jobs.specs.Outcomes.{PrintsCounted};
-ghost use Rattle.cb_run.specs.Runs.{IsCounted};
+ghost use Rattle.cb_run.specs.Runs.{IsCounted, WasCutOff};
 
 use crate::client::{give_up, job_list, run_client};
-use crate::counting::{count_results, new_tally, sum_up};
+use crate::counting::{Counting, adds_up, all_jobs, sum_up};
 use crate::faults::of_run;
 use crate::results::Results;
 use crate::run::Run;
 use crate::tries::flush_in_tries;
 use cb_jobs::{Counted, Ending, FirstEnding, Gate, Unwatched, Watch, print_run};
 use cb_page::Limits;
-use cb_shelf::Shelf;
+use cb_shelf::{Shelf, ShelfFault};
 use cb_station::Office;
 use cb_twoq::TwoQ;
 use sqlite::Alter;
@@ -89,8 +89,9 @@ where
     print_run(outcome, out, err)
 }
 
-/// Runs all to their end, and counts the results: how many jobs were committed, and the sum of the
-/// counters as the tables have them.
+/// Runs all to their end, and counts the results as they come: how many jobs were committed, and the
+/// sum of the counters as the tables have them. Where not all were committed, and nobody cut the run
+/// off, a worker is at fault.
 fn counted<R, G, S, W>(
     run: Run<'_, R, G>,
     limits: &Limits,
@@ -106,18 +107,22 @@ where
     ensures { IfOk result
         (IsCounted S.Store (limits.now.clients * jobs) shelf.new.conn) }
 {
-    let mut tally = new_tally(run.alloc, limits, jobs)?;
     let Ok(results) = Results::new(run.alloc) else {
         return Err(Ending::Memory);
     };
-    run_all(run, limits, shelf, jobs, watch, &results)?;
-    let told = results.into_receiver();
-    count_results(run.rt, &mut tally, &told)?;
-    sum_up(run.alloc, shelf, tally.committed())
+    let mut counting = Counting::new(run.rt, run.alloc, limits, jobs, &results, watch)?;
+    let cut_off = run_all(run, limits, shelf, jobs, &mut counting, &results)?;
+    let committed = counting.committed()?;
+    if !adds_up(committed, all_jobs(limits, jobs), cut_off) {
+        return Err(Ending::Worker);
+    }
+    let sum = sum_up(run.alloc, shelf)?;
+    Ok(Counted { committed, sum })
 }
 
 /// Runs the workers on threads of their own, and the flusher on this one, until all have ended. The
-/// flusher ends once the last worker has; should it end before, the others are halted.
+/// flusher ends once the last worker has; should it end before, the others are halted. Whether the
+/// run was cut off by others, who halted the office, or closed it before all had begun to work.
 fn run_all<R, G, S, W>(
     run: Run<'_, R, G>,
     limits: &Limits,
@@ -125,33 +130,49 @@ fn run_all<R, G, S, W>(
     jobs: u32,
     watch: &mut W,
     results: &Results,
-) -> Result<(), Ending>
+) -> Result<bool, Ending>
 where
     R: Threads + Wait + Clock + Sync,
     G: Gate + Sync,
     S: Alter,
     W: Watch,
+    ensures { IfOk result (λ cut_off. cut_off ≡ true → WasCutOff) }
 {
     let noted = Mutex::new(FirstEnding::none());
     let faults = &noted;
-    let flushed = thread::scope(thread::scope_env(), run.rt, |scope| {
-        for client in 0..limits.clients() {
-            let started = match job_list(run.rt, run.alloc, jobs) {
-                Ok(list) => scope
-                    .spawn(move || {
-                        run_client::<TwoQ, R, G>(run, limits, client, &list, results, faults)
-                    })
-                    .is_ok(),
-                Err(_) => false,
-            };
-            if !started {
-                give_up(run.rt, run.office, faults, client, Ending::Memory);
+    let (flushed, cut_off) = thread::scope(
+        thread::scope_env(),
+        run.rt,
+        |scope| -> (Result<(), ShelfFault>, bool)
+            ensures { result.1 ≡ true → WasCutOff }
+        {
+            for client in 0..limits.clients() {
+                let started = match job_list(run.rt, run.alloc, jobs) {
+                    Ok(list) => scope
+                        .spawn(move || {
+                            run_client::<TwoQ, R, G>(run, limits, client, &list, results, faults)
+                        })
+                        .is_ok(),
+                    Err(_) => false,
+                };
+                if !started {
+                    give_up(run.rt, run.office, faults, client, Ending::Memory);
+                }
             }
-        }
-        let flushed = flush_in_tries(run.rt, run.alloc, run.office, shelf, watch);
-        run.office.halt(run.rt);
-        flushed
-    });
+            let flushed = flush_in_tries(run.rt, run.alloc, run.office, shelf, watch);
+            (flushed, halt_at_end(run.rt, run.office))
+        },
+    );
     let told = noted.lock(run.rt).told;
-    of_run(flushed, told)
+    of_run(flushed, told)?;
+    Ok(cut_off)
+}
+
+/// Halts the office once the flusher has ended. Whether the run was cut off before.
+fn halt_at_end<R: Wait>(rt: &R, office: &Office) -> bool
+    ensures { result ≡ true → WasCutOff }
+{
+    let cut_off = office.lock(rt).is_cut_off();
+    office.halt(rt);
+    cut_off
 }

@@ -2,7 +2,7 @@
 //! other.
 use crate::running::run::{Came, run_to_end};
 use cb_jobs::{Gate, Turn};
-use cb_page::ClientNo;
+use cb_page::{ClientNo, CommitNo};
 use cb_station::{Office, Station};
 use std::sync::atomic::{AtomicU64, Ordering};
 use std::sync::{Mutex, Wait};
@@ -47,7 +47,8 @@ pub(crate) struct Counts {
     calls: Mutex<u64>,
     /// How many jobs were answered as done.
     pub(crate) answered: AtomicU64,
-    /// How many entries of the history hadn't both pages read and written, as jobs were answered.
+    /// How many entries of the history hadn't both pages read and written, as jobs were answered;
+    /// and of how many jobs, as they were answered, the commit wasn't on disk.
     pub(crate) odd: AtomicU64,
     /// How many writes are left to be refused.
     pub(crate) left: AtomicU64,
@@ -152,13 +153,24 @@ impl<R: Wait> Gate for Guarded<'_, R> {
     }
 
     fn after_commit(&self, client: ClientNo, job: u64) {
-        self.counts.answered.fetch_add(1, Ordering::SeqCst);
-        let odd = odd_entries(&self.office.lock(self.rt));
+        let answered = self.counts.answered.fetch_add(1, Ordering::SeqCst);
+        let station = self.office.lock(self.rt);
+        let unreported = u64::from(!has_reported(&station, answered));
+        let odd = odd_entries(&station).saturating_add(unreported);
+        drop(station);
         self.counts.odd.fetch_add(odd, Ordering::SeqCst);
         self.note_call(false);
         if let Act::Mutual = self.counts.plan.act {
             self.counts.turns.note(client.index() % 2, job);
         }
+    }
+}
+
+/// Whether one more than so many commits are on disk, in a store that had none.
+fn has_reported(station: &Station, answered: u64) -> bool {
+    match CommitNo::checked(answered.saturating_add(1)) {
+        Some(number) => station.is_on_disk(number),
+        None => false,
     }
 }
 

@@ -9,7 +9,7 @@ use cb_jobs::Watch;
 use cb_page::{ClientNo, CommitNo, Limits};
 use cb_run::run_on_watched;
 use cb_shelf::{Shelf, ShelfFault};
-use cb_station::{Office, Station};
+use cb_station::{Office, OfficeFault, Station};
 use sqlite::Alter;
 use std::alloc::Global;
 use std::sync::Wait;
@@ -83,11 +83,15 @@ pub(crate) enum Came {
     Exhausted,
     /// A worker couldn't join.
     Fault,
+    /// Memory was refused, or a thread.
+    Memory,
+    /// Memory was refused as its line was printed, or as its disk was looked at behind it.
+    Unseen,
     /// Something else.
     Wrong,
 }
 
-/// What ended a run, by what it said of it.
+/// What ended a run with status 3, by what it said of it.
 fn ended_by(err: &[u8]) -> Came {
     if err == b"store: Store\n".as_slice() {
         return Came::Stopped;
@@ -121,17 +125,54 @@ fn are_fair(window: &AdmissionWindow, answered: u64) -> bool {
     window.inside() == 0 && window.aborted() <= widened.saturating_mul(3).saturating_add(63)
 }
 
-/// What came of a run that said this: it is to say that so many jobs were done, and the sum that
-/// the tables have. Where these can't be looked at any more, the disk stopped.
-fn came_of<S: Alter>(alloc: Global, shelf: &mut Shelf<S>, answered: u64, out: &[u8]) -> Came {
-    let Ok(store) = shelf.load(alloc) else {
-        return Came::Stopped;
+/// Whether a commit may be on disk that was answered to nobody: of a worker that was halted.
+fn may_be_unanswered(act: Act) -> bool {
+    match act {
+        Act::CutOff { halts, .. } => halts,
+        _ => false,
+    }
+}
+
+/// What came of a run that said this: it is to say that so many jobs were done, each by a commit of
+/// its own, and the sum that the tables have. Where these can't be looked at any more, the disk
+/// stopped.
+fn came_of<S: Alter>(
+    alloc: Global,
+    shelf: &mut Shelf<S>,
+    answered: u64,
+    act: Act,
+    out: &[u8],
+) -> Came {
+    let number = match shelf.load(alloc) {
+        Ok(store) => store.number(),
+        Err(ShelfFault::Memory) => return Came::Unseen,
+        Err(_) => return Came::Stopped,
     };
-    let sum = store.number().wrapping_mul(2);
+    if number != answered && !may_be_unanswered(act) {
+        return Came::Wrong;
+    }
+    let sum = number.wrapping_mul(2);
     match format!(in alloc; "committed {answered}\nsum {sum}\n") {
         Ok(lines) if lines.as_bytes() == out => Came::Done(answered),
-        _ => Came::Wrong,
+        Ok(_) => Came::Wrong,
+        Err(_) => Came::Unseen,
     }
+}
+
+/// Whether each client has left, so that it may join again. Where the run was cut off that isn't
+/// looked at.
+fn have_left<R: Wait>(rt: &R, alloc: Global, office: &Office, plan: Plan) -> bool {
+    if let Act::CutOff { .. } = plan.act {
+        return true;
+    }
+    for client in 0..plan.clients {
+        let joined = office.lock(rt).join(alloc, ClientNo::new(client % 32));
+        match joined {
+            Ok(hand) => hand.abandon(),
+            Err(fault) => return fault == OfficeFault::Memory,
+        }
+    }
+    true
 }
 
 /// What comes of a run in an office.
@@ -165,8 +206,12 @@ pub(crate) fn came_in<R: Threads + Wait + Clock + Sync, S: Alter>(
         return Came::Wrong;
     }
     match ran.ok() {
-        Some(0) if whole && err.is_empty() => came_of(alloc, shelf, answered, out.as_slice()),
+        None => Came::Unseen,
+        Some(0) if whole && err.is_empty() && have_left(rt, alloc, office, counts.plan) => {
+            came_of(alloc, shelf, answered, counts.plan.act, out.as_slice())
+        }
         Some(3) if out.is_empty() => ended_by(err.as_slice()),
+        Some(4) if out.is_empty() && err.as_slice() == b"memory\n".as_slice() => Came::Memory,
         _ => Came::Wrong,
     }
 }
@@ -205,6 +250,7 @@ pub(crate) fn came_over<R: Threads + Wait + Clock + Sync>(
         db: calls.1,
         left: Some(&counts.left),
         frees: is_full(plan.act),
+        clock: None,
     };
     let works = [running(text, &counts), opening(Deed::Begin(&counts))];
     match both(rt, alloc, (plan.clients, 16), faults, works) {

@@ -106,7 +106,7 @@ fn done<R: Threads + Wait + Clock + Sync, S: Alter>(
         Deed::Hold(number, rows) => Outcome::Well(holds(alloc, limits, shelf, number, rows)),
         Deed::Write(writing) => Outcome::Well(writes_well(alloc, limits, shelf, writing)),
         Deed::Find(old) => Outcome::Found(find(alloc, limits, shelf, old)),
-        Deed::Begin(counts) => Outcome::Well(is_beginning(alloc, limits, shelf, counts)),
+        Deed::Begin(counts) => is_beginning(alloc, limits, shelf, counts),
         Deed::Try(trial) => comes_over(trial, rt, alloc, limits, shelf),
     }
 }

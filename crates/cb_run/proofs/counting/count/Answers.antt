@@ -1,1 +1,0 @@
--- Nothing is answered here: each goal is searched. With this file a refused edit is not proved twice.
