@@ -21,7 +21,11 @@ use cb_station::{Office, Station};
 use sqlite::Alter;
 use std::alloc::{AllocError, Global};
 use std::sync::{MutexGuard, Wait};
+use std::thread;
 use std::time::{Clock, Instant};
+
+/// So often the flusher looks whether somebody commits, before it sleeps.
+const LOOKS: u32 = 200;
 
 /// The next batch, or `None` once nothing is left and no call of `work` commits any more; nothing
 /// where that is to be waited for.
@@ -56,8 +60,27 @@ fn await_others<'a, R: Wait + Clock>(
     }
 }
 
+/// Lets the lock go for a moment, in which it looks whether somebody tells of a commit, and takes it
+/// again. Who commits at once wakes nobody then: that takes longer than to commit.
+fn linger<'a, R: Wait>(
+    rt: &R,
+    office: &'a Office,
+    station: MutexGuard<'a, Station>,
+) -> MutexGuard<'a, Station> {
+    let told = office.times_told();
+    drop(station);
+    for _look in 0..LOOKS {
+        if office.times_told() != told {
+            break;
+        }
+        thread::yield_now();
+    }
+    office.lock(rt)
+}
+
 /// The next batch; `None` once nothing is left and no call of `work` commits any more. The watch is
-/// told each time that it is waited for. Who is about to commit is waited for as the pace says.
+/// told each time that it is waited for, first for a moment and then asleep. Who is about to commit
+/// is waited for as the pace says.
 pub(crate) fn next_batch<R: Wait + Clock, W: Watch>(
     rt: &R,
     alloc: Global,
@@ -68,13 +91,19 @@ pub(crate) fn next_batch<R: Wait + Clock, W: Watch>(
     ensures { IfErr result (λ fault. fault ≡ ShelfFault.Memory) }
 {
     let mut station = office.lock(rt);
+    let mut sleeps = false;
     for _ in rt.forever() {
         station = await_others(rt, office, station, pace);
         if let Some(next) = batch_at(alloc, &station) {
             return next;
         }
         watch.waits();
-        station = office.wait(rt, station);
+        station = if sleeps {
+            office.wait(rt, station)
+        } else {
+            linger(rt, office, station)
+        };
+        sleeps = true;
     }
     unreachable!()
 }
