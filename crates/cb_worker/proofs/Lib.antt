@@ -2,6 +2,7 @@
 -- Reading: what a worker's read of a page rests on.
 -- Kept: the frames that are kept to be handed in.
 -- Saying: how a transaction's commit is said, and said again.
+-- Owning: what a station answers to a commit whose frame is handed over.
 -- Turning: what a turn leaves.
 -- Standing: what the client's words of its transaction mean.
 -- Staying: a worker stays the one that it is.
@@ -15,6 +16,7 @@
 pub mod Reading
 pub mod Kept
 pub mod Saying
+pub mod Owning
 pub mod Turning
 pub mod Standing
 pub mod Staying

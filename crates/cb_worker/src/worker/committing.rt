@@ -24,9 +24,9 @@ impl<Q: Chooser> Worker<Q> {
         ensures { CommitsAt self.old station.old result self.new station.new }
     {
         let frame = self.commit_frame(alloc)?;
-        match station.commit(alloc, &frame, self.client.locked(), &mut self.hand) {
+        match station.commit_owned(alloc, frame, self.client.locked(), &mut self.hand) {
             Ok(number) => Ok(number),
-            Err(fault) => Err(WorkerFault::Office(fault)),
+            Err((fault, _frame)) => Err(WorkerFault::Office(fault)),
         }
     }
 
