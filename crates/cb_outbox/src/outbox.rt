@@ -1,6 +1,7 @@
 //! What is to be sent, in order.
 ghost use Rattle.std.specs.Prelude.{◌≡◌, ◌+◌, ◌++◌, ◌∷◌, ◌-◌, [], ◌<◌, ◌≤◌, ℕ, length, IfOk, OnOk};
 ghost use Rattle.std.specs.Prelude.{IsOk, max};
+ghost use Rattle.std.specs.Vec.{vec_capacity};
 ghost use Rattle.cb_outbox.specs.Messages.{messages_of, short_of};
 ghost use Rattle.cb_protocol.specs.Messages.{Granted};
 
@@ -52,6 +53,7 @@ impl Outbox {
     /// Nothing is sent, and there is no room. It takes no memory.
     pub fn new(alloc: Global, limits: &Limits) -> Outbox
         ensures sent { result.sent ≡ [] }
+        ensures room { result.room ≡ 0 }
         ensures spare { result.spare ≡ 0 }
         ensures page_size { result.page_size ≡ limits.now.page_size }
     {
@@ -62,9 +64,9 @@ impl Outbox {
         }
     }
 
-    /// Room for so many frames more, and at least so many spare pages. Spare pages that no step
-    /// used are there the next time: no more are made than lack, so there are never more than the
-    /// most that were asked for at once.
+    /// Room for so many frames more, and at least so many spare pages. Room for no more frames is
+    /// taken than is asked for. Spare pages that no step used are there the next time: no more are
+    /// made than lack, so there are never more than the most that were asked for at once.
     ///
     /// `AllocError` only where memory was refused, so never where that room and these pages are
     /// there; what is sent is as before.
@@ -75,10 +77,11 @@ impl Outbox {
         ensures spare { OnOk result (copies ≤ self.new.spare) }
         ensures kept { self.old.spare ≤ self.new.spare }
         ensures most { self.new.spare ≤ max self.old.spare copies }
+        ensures most_room { self.new.room ≤ max self.old.room (length self.old.sent + frames) }
         ensures succeeds { length self.old.sent + frames ≤ self.old.room
             → copies ≤ self.old.spare → IsOk result }
     {
-        self.frames.reserve(frames)?;
+        self.frames.reserve_exact(frames)?;
         for _made in self.spare.len()..copies {
             self.spare.push(Page::zeros(alloc, self.page_size)?)?;
         }
@@ -138,10 +141,12 @@ impl Outbox {
         });
     }
 
-    /// Hands out what is sent; nothing is left.
+    /// Hands out what is sent, with the room that it has; nothing is left.
     pub fn take(&mut self, alloc: Global) -> Vec<Frame>
         ensures frames { messages_of result.items ≡ self.old.sent }
+        ensures room { vec_capacity result ≡ self.old.room }
         ensures left { self.new.sent ≡ [] }
+        ensures no_room { self.new.room ≡ 0 }
         ensures spare { self.new.spare ≡ self.old.spare }
         ensures page_size { self.new.page_size ≡ self.old.page_size }
     {

@@ -1,5 +1,5 @@
 -- Steps of the engine, one after another, and what one change of its tables is.
-use Rattle.std.proofs.Common.{◌≡◌, ℕ, nat_lt, Bool, true, false, if◌then◌else◌, List, [], ◌∷◌, ◌++◌, length, Result, Ok, Err, OnOk, OnErr, refl, sym, ap, ◌∙◌, arith}
+use Rattle.std.proofs.Common.{◌≡◌, ◌≤◌, ◌+◌, ℕ, nat_lt, Bool, true, false, if◌then◌else◌, List, [], ◌∷◌, ◌++◌, length, Result, Ok, Err, OnOk, OnErr, refl, sym, ap, ◌∙◌, subst, arith}
 use Rattle.std.proofs.lemmas.Bool.Decides.{nat_tests}
 use Rattle.std.proofs.lemmas.List.{append-nil, append_assoc}
 use Rattle.cb_server_state.proofs.Later.{stays_then}
@@ -15,7 +15,8 @@ use Rattle.cb_protocol.specs.ServerMessages.{and_then, begin_transaction, direct
 use Rattle.cb_protocol.specs.Settling.{settle_pages}
 use Rattle.cb_protocol.specs.WaitsFor.{on_cycle}
 use Rattle.cb_protocol.specs.World.{messages_sent}
-use Rattle.cb_server.specs.Answering.{Begins, IsLeft, Makes, Serves, answer_to, server_in}
+use Rattle.cb_server.specs.Answering.{Begins, IsLeft, Makes, Serves, answer_to, most_room, server_in}
+use Rattle.cb_server.specs.ServerValue.{most_frames}
 use Rattle.cb_server.specs.declared.engine.Engine.{Engine}
 
 pub stays_same : (h : ServerState) → Stays h h
@@ -108,6 +109,7 @@ serves old mid new f l m = record {
   stays = stays_left old.callbacks.state mid.callbacks.state new.callbacks.state l.rest m.stays;
   page_size = m.says.page_size ∙ l.page_size;
   few = λ few. let middle = l.few few in let spare = m.says.spare in omega (arith, middle, spare);
+  room = λ little. let middle = l.room little in let same = m.says.room in omega (arith, middle, same);
 }
 
 pub serves_as : (old new : Engine) (f g : Server → List ServerStep) → f (server_in old) ≡ g (server_in old) → Serves old g new → Serves old f new
@@ -117,10 +119,11 @@ serves_as old new f g e m = record {
   stays = m.stays;
   page_size = m.page_size;
   few = m.few;
+  room = m.room;
 }
 
 pub serves_nothing : (e : Engine) → Serves e (λ s. []) e
-serves_nothing e = record { becomes = refl; sends = sym (append-nil e.outbox.sent); stays = stays_same e.callbacks.state; page_size = refl; few = λ few. few }
+serves_nothing e = record { becomes = refl; sends = sym (append-nil e.outbox.sent); stays = stays_same e.callbacks.state; page_size = refl; few = λ few. few; room = λ little. little }
 
 -- room for an ask's place is made before
 pub reserved : (old res : Engine) → Does old.callbacks.state [] res.callbacks.state → res.outbox ≡ old.outbox → Makes old (λ s. []) res
@@ -167,4 +170,8 @@ left_then old mid new a b = record {
   sent = b.sent ∙ a.sent;
   page_size = b.page_size ∙ a.page_size;
   few = λ few. b.few (a.few few);
+  room = λ little. subst (λ (n : ℕ). new.outbox.room ≤ n) same (b.room (subst (λ (n : ℕ). mid.outbox.room ≤ n) (sym same) (a.room little)));
 }
+  where
+    same : most_room mid ≡ most_room old
+    same = ap (λ (l : List Message). length l + most_frames (server_in mid)) a.sent ∙ ap (λ (s : Server). length old.outbox.sent + most_frames s) a.server

@@ -1,5 +1,5 @@
 -- The server between two calls, and after each.
-use Rattle.std.proofs.Common.{◌≡◌, ℕ, ◌<◌, false, List, [], ◌++◌, refl, sym, ap, ◌∙◌, subst, arith}
+use Rattle.std.proofs.Common.{◌≡◌, ℕ, ◌<◌, ◌≤◌, false, length, List, [], ◌++◌, refl, sym, ap, ◌∙◌, subst, arith}
 use Rattle.std.specs.List.{AllByRecursion}
 use Rattle.cb_server_state.specs.States as states
 use Rattle.cb_server_state.specs.declared.server_state.ServerState.{ServerState}
@@ -18,8 +18,8 @@ use Rattle.cb_protocol.specs.Server.{Server, new_server}
 use Rattle.cb_protocol.specs.ServerMessages.{is_exhausted}
 use Rattle.cb_protocol.specs.WaitsFor.{on_cycle}
 use Rattle.cb_protocol.specs.World.{messages_sent, opening_store}
-use Rattle.cb_server.specs.Answering.{FitsIn, IsLeft, IsReady, Serves, server_in}
-use Rattle.cb_server.specs.ServerValue.{IsAtRest, IsServer, IsUnchanged, ServerValue, forgot}
+use Rattle.cb_server.specs.Answering.{FitsIn, HasLittleRoom, IsLeft, IsReady, Serves, server_in}
+use Rattle.cb_server.specs.ServerValue.{IsAtRest, IsServer, IsUnchanged, ServerValue, forgot, most_frames}
 use Rattle.cb_server.specs.Taking.{Does, Takes, input_of}
 use Rattle.cb_server.specs.declared.engine.Engine.{Engine}
 use Rattle.cb_protocol.proofs.SettlingAgain.{settled}
@@ -48,14 +48,25 @@ into_tables limits e frame rest fits = body_fits_in e limits frame.body rest.is.
 
 -- it is at rest again once it has served an input and what it says was handed out
 pub rests : (limits : Bounds) (old new : Engine) (outbox : OutboxState) (input : Input) → IsAtRest (state limits old) old.outbox → InputTaken (limits_of limits) (server_in old) input
-    → Serves old (λ s. input_steps on_cycle s input) new → outbox.sent ≡ [] → outbox.page_size ≡ new.outbox.page_size → outbox.spare ≡ new.outbox.spare
+    → Serves old (λ s. input_steps on_cycle s input) new → outbox.sent ≡ [] → outbox.page_size ≡ new.outbox.page_size → outbox.spare ≡ new.outbox.spare → outbox.room ≡ 0
     → IsAtRest (record { limits = limits; state = new.callbacks.state }) outbox
-rests limits old new outbox input rest taken serves sent size spare = record {
+rests limits old new outbox input rest taken serves sent size spare room = record {
   is = arises limits old.callbacks.state new.callbacks.state input rest.is taken serves.stays serves.becomes;
   sent = sent;
   page_size = size ∙ serves.page_size ∙ rest.page_size;
+  room = omega (arith, room);
   spare = let few = serves.few rest.spare in omega (arith, few, spare);
 }
+
+-- there is little room
+little : (limits : Bounds) (e : Engine) → IsAtRest (state limits e) e.outbox → HasLittleRoom e
+little limits e rest = let room = rest.room in let none = ap length rest.sent in omega (arith, room, none)
+
+-- and no more in what is handed out
+pub said_room : (limits : Bounds) (old new : Engine) (input : Input) (room : ℕ) → IsAtRest (state limits old) old.outbox
+    → Serves old (λ s. input_steps on_cycle s input) new → room ≡ new.outbox.room → room ≤ most_frames (server_in old)
+said_room limits old new input room rest serves is =
+    let most = serves.room (little limits old rest) in let none = ap length rest.sent in omega (arith, is, most, none)
 
 -- and where nothing changed but room
 pub rests_unchanged : (limits : Bounds) (old new : Engine) → IsAtRest (state limits old) old.outbox → IsLeft old new → IsAtRest (state limits new) new.outbox
@@ -68,6 +79,8 @@ rests_unchanged limits old new rest left = record {
   };
   sent = left.sent ∙ rest.sent;
   page_size = left.page_size ∙ rest.page_size;
+  room = subst (λ (s : Server). new.outbox.room ≤ most_frames s) (sym left.server)
+      (let most = left.room (little limits old rest) in let none = ap length rest.sent in omega (arith, most, none));
   spare = left.few rest.spare;
 }
   where
@@ -110,8 +123,8 @@ fits_said limits old new input frames rest taken serves is =
 pub begins_at_rest : (limits : Bounds) (store : StoreState) (kept : ServerState) (outbox : OutboxState) → IsSound store → IsOf limits store → AreOf limits kept
     → kept.commits ≡ begun store
     → states.server_of kept ≡ new_server limits.clients limits.pages (opening_store (limits_of limits) (opening_of store))
-    → outbox.sent ≡ [] → outbox.page_size ≡ limits.page_size → outbox.spare ≡ 0 → IsAtRest (record { limits = limits; state = kept }) outbox
-begins_at_rest limits store kept outbox sound of are commits server sent size spare = record {
+    → outbox.sent ≡ [] → outbox.page_size ≡ limits.page_size → outbox.spare ≡ 0 → outbox.room ≡ 0 → IsAtRest (record { limits = limits; state = kept }) outbox
+begins_at_rest limits store kept outbox sound of are commits server sent size spare room = record {
   is = record {
     opening = subst (λ (o : StoreState). StoreFits (limits_of limits) (opening_of o)) (sym same) (store_fits limits store sound of);
     reached = subst (λ (o : StoreState). ReachedBy (limits_of limits) on_cycle (opening_of o) (InputTaken (limits_of limits)) (states.server_of kept)) (sym same)
@@ -120,6 +133,7 @@ begins_at_rest limits store kept outbox sound of are commits server sent size sp
   };
   sent = sent;
   page_size = size;
+  room = omega (arith, room);
   spare = omega (arith, spare);
 }
   where

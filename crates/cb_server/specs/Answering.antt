@@ -28,6 +28,7 @@ use Rattle.cb_protocol.specs.World.{messages_sent}
 use Rattle.cb_server_state.specs.Questions.{IsLastIfLive, standing_in}
 use Rattle.cb_server_state.specs.States as states
 use Rattle.cb_server_state.specs.States.{AreOf, IsAsLarge, Stays, server_of}
+use Rattle.cb_server.specs.ServerValue.{most_frames}
 use Rattle.cb_server.specs.declared.engine.Engine.{Engine}
 use Rattle.cb_server.specs.declared.engine.Met.{Met}
 use Rattle.cb_server.specs.declared.engine.Met.TheVariants as met
@@ -124,13 +125,22 @@ pub record Makes (old : Engine) (steps : Server → List ServerStep) (new : Engi
 abbrev pub HasFewSpare : Engine → Type 0
 HasFewSpare engine = engine.outbox.spare ≤ 33
 
--- So it does, in whatever room.
+-- how much room for frames one message can need, beside those that are to be sent already
+abbrev pub most_room : Engine → ℕ
+most_room engine = length engine.outbox.sent + most_frames (server_in engine)
+
+-- there is no more
+abbrev pub HasLittleRoom : Engine → Type 0
+HasLittleRoom engine = engine.outbox.room ≤ most_room engine
+
+-- So it does, in whatever room; it asks for no more than one message can need.
 pub record Serves (old : Engine) (steps : Server → List ServerStep) (new : Engine) : Type 0 where
   pub becomes : server_in new ≡ server_after (server_in old) (steps (server_in old))
   pub sends : new.outbox.sent ≡ old.outbox.sent ++ messages_sent (steps (server_in old))
   pub stays : Stays old.callbacks.state new.callbacks.state
   pub page_size : new.outbox.page_size ≡ old.outbox.page_size
   pub few : HasFewSpare old → HasFewSpare new
+  pub room : HasLittleRoom old → new.outbox.room ≤ most_room old
 
 -- a message's transaction begins, and it is answered; settling is still to come
 abbrev pub answer_to : DeadlockTest → ℕ → protocol.Body → Server → List ServerStep
@@ -171,6 +181,7 @@ pub record IsLeft (old new : Engine) : Type 0 where
   pub sent : new.outbox.sent ≡ old.outbox.sent
   pub page_size : new.outbox.page_size ≡ old.outbox.page_size
   pub few : HasFewSpare old → HasFewSpare new
+  pub room : HasLittleRoom old → new.outbox.room ≤ most_room old
 
 -- the client's incarnation that is current
 abbrev pub IsCurrent : Engine → (client incarnation : ℕ) → Type 0

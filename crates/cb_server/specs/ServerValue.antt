@@ -1,11 +1,12 @@
 -- A server as its callers see it: the protocol's server, and how it arose.
-use Rattle.std.specs.Prelude.{◌≡◌, ◌≤◌, ℕ, []}
+use Rattle.std.specs.Prelude.{◌≡◌, ◌≤◌, ◌+◌, ℕ, []}
 use Rattle.cb_commit.specs.History.{CommitsState, begun}
 use Rattle.cb_commit.specs.Stores.{StoreState}
 use Rattle.cb_outbox.specs.Saying.{OutboxState}
 use Rattle.cb_page.specs.Bounds.{Bounds}
 use Rattle.cb_protocol.specs.AnyMessages.{ReachedBy}
 use Rattle.cb_protocol.specs.Basics.{Limits}
+use Rattle.cb_protocol.specs.Numbers.{messages_for_pages}
 use Rattle.cb_protocol.specs.Ranges.{InputTaken, StoreFits}
 use Rattle.cb_protocol.specs.Server.{Server, new_server}
 use Rattle.cb_protocol.specs.WaitsFor.{on_cycle}
@@ -60,10 +61,16 @@ pub record IsUnchanged (old new : ServerValue) : Type 0 where
   pub server : server_of new ≡ server_of old
   pub rest : new.state ≡ record old.state { asks = new.state.asks }
 
--- Between two calls nothing is to be sent, and there are no more spare pages than one message can
--- need: at most 32 asks to read wait, and its own comes.
+-- For how many frames a call asks for room at most: what settling may send for the asks that wait,
+-- and 33 more, as an ask to write sends one to each of 32 clients and one to its own.
+abbrev pub most_frames : Server → ℕ
+most_frames server = messages_for_pages server server.pages + 33
+
+-- Between two calls nothing is to be sent, and there is no more room for frames than one message
+-- can need, and no more spare pages: at most 32 asks to read wait, and its own comes.
 pub record IsAtRest (value : ServerValue) (outbox : OutboxState) : Type 0 where
   pub is : IsServer value
   pub sent : outbox.sent ≡ []
   pub page_size : outbox.page_size ≡ value.limits.page_size
+  pub room : outbox.room ≤ most_frames (server_of value)
   pub spare : outbox.spare ≤ 33

@@ -1,7 +1,7 @@
 //! What a server does for a message, step by step.
 ghost use Rattle.std.specs.Prelude.{◌≡◌, ◌==◌, ◌<◌, ◌≤◌, ◌∷◌, [], false, true, IfErr, IfOk};
 ghost use Rattle.std.specs.Prelude.{OnErr};
-ghost use Rattle.std.specs.Prelude.{◌+◌, OnOk, max};
+ghost use Rattle.std.specs.Prelude.{◌+◌, OnOk, length, max};
 ghost use Rattle.cb_outbox.specs.Messages.{body_of, short_of};
 ghost use Rattle.cb_protocol.specs.Messages.{Hello, Welcome, to_server};
 ghost use Rattle.cb_protocol.specs.Ranges.{BodyFits};
@@ -357,6 +357,8 @@ impl Engine {
             (read_asks_in_all self.new + copies)) }
         ensures most { self.new.outbox.spare ≤ max self.old.outbox.spare
             (read_asks_in_all self.old + copies) }
+        ensures most_room { self.new.outbox.room ≤ max self.old.outbox.room
+            (length self.old.outbox.sent + (messages_in_all self.old + messages)) }
         ensures callbacks { self.new.callbacks ≡ self.old.callbacks }
         ensures left { IsLeft self.old self.new }
     {

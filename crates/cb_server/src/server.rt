@@ -4,6 +4,7 @@ ghost use Rattle.std.specs.Prelude.{Err};
 ghost use Rattle.std.specs.Prelude.{slice_index, false, true};
 ghost use Rattle.std.specs.List.{AllByRecursion};
 ghost use Rattle.std.specs.Option.{option_map};
+ghost use Rattle.std.specs.Vec.{vec_capacity};
 ghost use Rattle.cb_commit.specs.History.{CatchesUp, remembered};
 ghost use Rattle.cb_commit.specs.Stores.{IsOf};
 ghost use Rattle.cb_frame.specs.Checks.{has_pages, kind_of};
@@ -14,7 +15,7 @@ ghost use Rattle.cb_outbox.specs.Messages.{messages_of};
 ghost use Rattle.cb_protocol.specs.AnyMessages.{ReachesDisk, SendsAgain};
 ghost use Rattle.cb_protocol.specs.Flush.{can_flush, next_batch};
 ghost use Rattle.cb_server.specs.ServerValue.{IsNew, IsServer, IsUnchanged, commits_of, forgot};
-ghost use Rattle.cb_server.specs.ServerValue.{server_of};
+ghost use Rattle.cb_server.specs.ServerValue.{most_frames, server_of};
 ghost use Rattle.cb_server.specs.Taking.{Does, IsBytesFault, MayWantMemory, Refuses, Takes};
 ghost use Rattle.cb_server.specs.Taking.{TakesBytes, lacks_number_for};
 ghost use Rattle.cb_server_state.specs.Commits.{batch_of};
@@ -98,7 +99,8 @@ impl Server {
     }
 
     /// Takes a frame, from an honest client or not, and answers what is said to it, in order: to
-    /// its client and to others.
+    /// its client and to others. What is answered has room for no more frames than one message can
+    /// need by the asks that wait.
     ///
     /// `Exhausted` exactly where no number is left for it: a grant number for an ask to read that
     /// would enter a queue, beyond one for each that waits, or a commit number for a commit that
@@ -113,6 +115,7 @@ impl Server {
         ensures ok { IfOk result (λ said.
             Takes self.old frame.now (messages_of said.items) self.new) }
         ensures fits { IfOk result (λ said. AllByRecursion (Fits self.old.limits) said.items) }
+        ensures room { IfOk result (λ said. vec_capacity said ≤ most_frames (server_of self.old)) }
         ensures err { IfErr result (Refuses self.old frame.now) }
         ensures needed { OnErr result (MayWantMemory self.old frame.now) }
         ensures unchanged { OnErr result (IsUnchanged self.old self.new) }
@@ -133,6 +136,7 @@ impl Server {
         requires { Fits self.old.limits frame }
         ensures ok { IfOk result (λ said. Takes self.old frame (messages_of said.items) self.new) }
         ensures fits { IfOk result (λ said. AllByRecursion (Fits self.old.limits) said.items) }
+        ensures room { IfOk result (λ said. vec_capacity said ≤ most_frames (server_of self.old)) }
         ensures err { IfErr result (λ refused. Refuses self.old frame refused.0) }
         ensures back { IfErr result (λ refused. refused.1 ≡ frame) }
         ensures needed { OnErr result (MayWantMemory self.old frame) }
@@ -180,6 +184,8 @@ impl Server {
             (messages_of answered.0.items) self.new) }
         ensures fits { IfOk result (λ answered.
             AllByRecursion (Fits self.old.limits) answered.0.items) }
+        ensures room { IfOk result (λ answered.
+            vec_capacity answered.0 ≤ most_frames (server_of self.old)) }
         ensures err { IfErr result (IsBytesFault self.old bytes.now) }
         // Reading it wants memory only where the kind is one whose frames have page bytes.
         ensures memory { has_pages (kind_of (slice_index bytes.now 1)) ≡ false →
@@ -203,6 +209,7 @@ impl Server {
         ensures ok { IfOk result (λ said. Does self.old SendsAgain (messages_of said.items)
             self.new) }
         ensures fits { IfOk result (λ said. AllByRecursion (Fits self.old.limits) said.items) }
+        ensures room { IfOk result (λ said. vec_capacity said ≤ most_frames (server_of self.old)) }
         ensures unchanged { IsUnchanged self.old self.new }
     {
         self.engine.again(alloc, &self.limits)?;

@@ -1,6 +1,7 @@
 -- Goals of `Engine::again`.
-use Rattle.std.proofs.Common.{length, refl, sym, ap, ◌∙◌, arith}
+use Rattle.std.proofs.Common.{◌≤◌, length, refl, sym, ap, ◌∙◌, arith}
 use Rattle.cb_protocol.specs.Resend.{server_again}
+use Rattle.cb_server.specs.Answering.{HasLittleRoom, most_room}
 use Rattle.cb_server.specs.declared.engine.Engine.{Engine}
 use Rattle.cb_server.proofs.Making.{if_err, serves, stays_same}
 use Rattle.cb_server.proofs.engine.Engine.again.Goals as goal
@@ -14,11 +15,14 @@ again-requires-clause-room c =
 pub returns-clause-ok : goal.returns-clause-ok
 returns-clause-ok c =
     serves c.args.self.now middle (record { callbacks = c.args.self.now.callbacks; outbox = c.again.new.outbox }) server_again
-    (record { server = refl; rest = refl; sent = c.reserve.ensures.sent; page_size = c.reserve.ensures.page_size; few = λ few. let most = c.reserve.ensures.most in omega (arith, few, most) })
+    (record { server = refl; rest = refl; sent = c.reserve.ensures.sent; page_size = c.reserve.ensures.page_size; few = λ few. let most = c.reserve.ensures.most in omega (arith, few, most); room = little })
     (record { says = c.again.ensures; stays = stays_same c.args.self.now.callbacks.state })
   where
     middle : Engine
     middle = record { callbacks = c.args.self.now.callbacks; outbox = c.reserve.new.self }
+
+    little : HasLittleRoom c.args.self.now → middle.outbox.room ≤ most_room c.args.self.now
+    little few = let most = c.reserve.ensures.most_room in let asks = c.messages_to_settle.ensures.messages in let clients = c.clients.ensures.in_range.clients in let value = c.clients.ensures.value in omega (arith, few, most, asks, clients, value)
 
 pub returns-in_err-reserve-clause-left : goal.returns-in_err-reserve-clause-left
 returns-in_err-reserve-clause-left c = if_err c.from_residual.result (record {
@@ -27,4 +31,5 @@ returns-in_err-reserve-clause-left c = if_err c.from_residual.result (record {
   sent = c.reserve.ensures.sent;
   page_size = c.reserve.ensures.page_size;
   few = λ few. let most = c.reserve.ensures.most in omega (arith, few, most);
+  room = λ little. let most = c.reserve.ensures.most_room in let asks = c.messages_to_settle.ensures.messages in let clients = c.clients.ensures.in_range.clients in let value = c.clients.ensures.value in omega (arith, little, most, asks, clients, value);
 })

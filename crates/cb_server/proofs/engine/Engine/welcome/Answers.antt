@@ -12,6 +12,7 @@ returns-clause-ok c = record {
   stays = stays_same c.args.self.now.callbacks.state;
   page_size = ap (λ (x : OutboxState). x.page_size) c.say.ensures ∙ c.in_ok-reserve.ensures.page_size;
   few = λ few. let same = ap (λ (x : OutboxState). x.spare) c.say.ensures in let most = c.in_ok-reserve.ensures.most in omega (arith, few, same, most);
+  room = λ little. let same = ap (λ (x : OutboxState). x.room) c.say.ensures in let most = c.in_ok-reserve.ensures.most_room in omega (arith, little, same, most);
 }
 
 pub returns-in_err-reserve-clause-left : goal.returns-in_err-reserve-clause-left
@@ -21,4 +22,5 @@ returns-in_err-reserve-clause-left c = if_err c.from_residual.result (record {
   sent = c.reserve.ensures.sent;
   page_size = c.reserve.ensures.page_size;
   few = λ few. let most = c.reserve.ensures.most in omega (arith, few, most);
+  room = λ little. let most = c.reserve.ensures.most_room in omega (arith, little, most);
 })

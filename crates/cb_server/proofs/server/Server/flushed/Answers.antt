@@ -1,13 +1,15 @@
 -- Goals of `Server::flushed`.
-use Rattle.std.proofs.Common.{◌≡◌, true, refl, sym, subst}
+use Rattle.std.proofs.Common.{◌≡◌, true, refl, sym, ap, arith, subst}
 use Rattle.std.specs.List.{AllByRecursion}
 use Rattle.cb_frame_types.specs.Grammar.{Fits}
 use Rattle.cb_outbox.specs.Messages.{messages_of}
 use Rattle.cb_protocol.specs.AnyMessages.{ReachesDisk}
 use Rattle.cb_protocol.specs.Flush.{can_flush}
-use Rattle.cb_server.specs.ServerValue.{ServerValue, server_of}
+use Rattle.cb_server.specs.Answering.{server_in}
+use Rattle.cb_server.specs.ServerValue.{ServerValue, most_frames, server_of}
 use Rattle.cb_server.specs.Taking.{Does}
 use Rattle.cb_server.proofs.Arising.{arises, said_fits}
+use Rattle.cb_server.proofs.Flushing.{flush_needs}
 use Rattle.cb_server.proofs.server.Server.flushed.Goals as goal
 
 pub flushed-requires : goal.flushed-requires
@@ -19,6 +21,8 @@ invariant_of-self-2 c = record {
       c.in_ok-dones.ensures.ok.stays c.in_ok-dones.ensures.ok.becomes;
   sent = c.self.invariant.sent;
   page_size = c.self.invariant.page_size;
+  room = let same = flush_needs (server_in c.self.inside.engine) c.args.number in let now = ap most_frames c.in_ok-dones.ensures.ok.becomes in
+      let room = c.self.invariant.room in omega (arith, same, now, room);
   spare = c.self.invariant.spare;
 }
 
