@@ -24,7 +24,8 @@ def played(programs, **refused):
         return None, 0
     said = done.stdout.splitlines()
     ended = [line.partition(ENDED)[2] for line in said if ENDED in line]
-    return ended[0] if ended and done.returncode == 0 else None, int(said[-1])
+    growths = said[-1] if said and said[-1].isdigit() else "0"
+    return ended[0] if ended and done.returncode == 0 else None, int(growths)
 
 
 def refused_in_turn(programs):
