@@ -11,7 +11,7 @@
 enum { PAGE = 5, SIZE = 64 };
 
 static const rughvadi_limits limits = {
-    .clients = 8, .pages = 16, .page_size = SIZE, .slots = 8, .kin = 2, .kout = 8};
+    .clients = 8, .pages = 16, .page_size = SIZE, .slots = 8, .kin = 2, .kout = 4};
 
 /* In a transaction that is open; it is called anew where that is aborted. */
 static uint32_t count(rughvadi_link *link, void *context) {

@@ -6,7 +6,7 @@ import time
 
 from rughvadi import Limits, Link
 
-LIMITS = Limits(clients=8, pages=16, page_size=64, slots=8, kin=2, kout=8)
+LIMITS = Limits(clients=8, pages=16, page_size=64, slots=8, kin=2, kout=4)
 
 
 def count(transaction) -> int:

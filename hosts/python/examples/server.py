@@ -7,7 +7,7 @@ import sys
 
 from rughvadi import Fault, FrameShort, Limits, Server, read_frame
 
-LIMITS = Limits(clients=8, pages=16, page_size=64, slots=8, kin=2, kout=8)
+LIMITS = Limits(clients=8, pages=16, page_size=64, slots=8, kin=2, kout=4)
 
 
 class Store:

@@ -11,7 +11,7 @@ const LIMITS: Limits = Limits {
     page_size: 64,
     slots: 8,
     kin: 2,
-    kout: 8,
+    kout: 4,
     keep_write: false,
 };
 
