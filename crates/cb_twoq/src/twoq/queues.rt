@@ -46,6 +46,8 @@ impl IndexedQueues {
         ensures queues { IfOk result (λ queues. queues_of queues ≡ empty slots kin kout) }
         ensures cap { IfOk result (λ queues. queues.am.cap ≡ slots + 1) }
         ensures places { IfOk result (λ queues. queues.places.items ≡ replicate 4096 Out) }
+        ensures a1in_room { IfOk result (λ queues. slots < spare queues.a1in) }
+        ensures a1out_room { IfOk result (λ queues. kout ≤ spare queues.a1out) }
     {
         let Some(cap) = slots.checked_add(1).and_then(NonZeroUsize::new) else {
             return Err(AllocError);
