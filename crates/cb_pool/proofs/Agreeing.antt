@@ -1,12 +1,17 @@
 -- What the chooser did, done to the pages.
-use Rattle.std.proofs.Common.{◌≡◌, ◌≢◌, ◌<◌, ◌≤◌, ◌+◌, ◌⊎◌, inl, inr, ℕ, Bool, true, false, nat_eq, List, length, Option, Some, None, refl, sym, ◌∙◌, ap, arith}
+use Rattle.std.proofs.Common.{◌≡◌, ◌≢◌, ◌<◌, ◌≤◌, ◌+◌, ◌⊎◌, inl, inr, ℕ, Bool, true, false, nat_eq, List, length, [], ◌∷◌, ◌++◌, Option, Some, None, Result, Ok, IfOk, IfSome, true≢false, refl, sym, subst, ◌∙◌, ap, arith}
 use Rattle.std.proofs.lemmas.Grind.{common_steps}
 use Rattle.std.specs.Option.{is_some}
 use Rattle.std.proofs.Math.ListN.{get_or, set, length-set}
 use Rattle.std.proofs.lemmas.List.{get_or-set_same, get_or-set_other}
 use Rattle.cb_twoq.specs.Pages.{has}
 use Rattle.cb_twoq.specs.Law.{Chooses, Forgets}
-use Rattle.cb_pool.specs.PoolState.{PoolState, held, let_go, AreSized}
+use Rattle.cb_twoq.specs.Calls.{Calls, IsLed}
+use Rattle.cb_twoq.specs.declared.chooser.Chooser as chooser
+use Rattle.cb_twoq.specs.declared.chooser.ChooseFault.{ChooseFault}
+use Rattle.cb_twoq.specs.declared.chooser.ChooserCall.TheVariants.{Reference}
+use Rattle.cb_twoq.proofs.Called.{led_on}
+use Rattle.cb_pool.specs.PoolState.{PoolState, copy_of, held, let_go, AreSized}
 use Rattle.cb_page.specs.Counting.{bit}
 use Rattle.cb_pool.specs.Agree.{Agrees}
 use Rattle.cb_pool.proofs.Counted.{Pages, here, held_set, within_pages}
@@ -132,3 +137,60 @@ module _ (s : PoolState) (old new : List ℕ) (slots slots_new : ℕ) (page : �
           let h : bit (here s.pages page) ≡ 1 = ap bit (sym (agrees.members_here page) ∙ w.0) in let c = agrees.count in let l = w.1 in omega arith
       by (inr w) e =
           let h : bit (here s.pages page) ≡ 0 = ap bit (sym (agrees.members_here page) ∙ w.0) in let c = agrees.count in let l = w.1 in omega arith
+
+-- the calls of the chooser are told beside
+pub recorded : (s : PoolState) (calls : Calls) (members : List ℕ) (slots : ℕ) → Agrees s members slots → Agrees (record s { calls = calls }) members slots
+recorded s calls members slots agrees = record {
+  is_pool = record {
+    within = agrees.is_pool.within;
+    flags = agrees.is_pool.flags;
+    sized = agrees.is_pool.sized;
+  };
+  members_here = agrees.members_here;
+  count = agrees.count;
+  same_slots = agrees.same_slots;
+}
+
+-- a page that goes is one of the store
+pub gone_within : (s : PoolState) (old new : List ℕ) (slots page : ℕ) → Agrees s old slots → (gone : Option ℕ) → Chooses slots s.fixed old page gone new → IfSome gone (λ g. g < length s.pages)
+gone_within s old new slots page agrees None chosen = tt
+gone_within s old new slots page agrees (Some g) chosen = within_pages s.pages g (sym (agrees.members_here g) ∙ chosen.goes.was_member)
+
+-- a page that is here was referred to, and the call told
+module _ {Q : Type 0} (choose : chooser.Ghosts Q) (s : PoolState) (before after : Q) (page : ℕ) (fixed : List Bool) (result : Result (Option ℕ) ChooseFault)
+    (agrees : Agrees s (choose.members before) (choose.slots before)) (led : IsLed choose s.slots s.calls before) (here_is : is_some (copy_of s page) ≡ true)
+    (ok : IfOk result (λ gone. Chooses (choose.slots before) fixed (choose.members before) page gone (choose.members after)))
+    (member : has (choose.members before) page ≡ true → result ≡ Ok None) (slots : choose.slots after ≡ choose.slots before)
+    (refers : IfOk result (λ gone. choose.refers before page fixed gone after)) where
+  there : has (choose.members before) page ≡ true
+  there = agrees.members_here page ∙ here_is
+
+  chosen : Chooses (choose.slots before) fixed (choose.members before) page None (choose.members after)
+  chosen = subst (λ (r : Result (Option ℕ) ChooseFault). IfOk r (λ gone. Chooses (choose.slots before) fixed (choose.members before) page gone (choose.members after))) (member there) ok
+
+  counted : ((has (choose.members before) page ≡ true) × (length (choose.members after) ≡ length (choose.members before)))
+      ⊎ ((has (choose.members before) page ≡ false) × (length (choose.members before) < choose.slots before) × (length (choose.members after) ≡ length (choose.members before) + 1))
+      → length (choose.members after) ≡ held s.pages
+  counted (inl w) = w.1 ∙ agrees.count
+  counted (inr w) = absurd (true≢false (sym there ∙ w.0))
+
+  pub referred_here : (calls : Calls) → calls ≡ s.calls ++ (Reference page, fixed) ∷ []
+      → Agrees (record s { calls = calls }) (choose.members after) (choose.slots after) × IsLed choose s.slots calls after
+  referred_here calls e = (
+    record {
+      is_pool = record {
+        within = agrees.is_pool.within;
+        flags = agrees.is_pool.flags;
+        sized = agrees.is_pool.sized;
+      };
+      members_here = λ p. elim (same_or_not p page) [
+        | inl same ↦ ap (has (choose.members after)) same ∙ chosen.member ∙ sym (ap (here s.pages) same ∙ here_is)
+        | inr other ↦ chosen.others p (λ e. other (sym (cc))) (λ e. absurd (cc)) ∙ agrees.members_here p
+      ];
+      count = counted chosen.goes;
+      same_slots = slots ∙ agrees.same_slots;
+    },
+    subst (λ (all : Calls). IsLed choose s.slots all after) (sym e)
+        (led_on choose s.slots s.calls before after (Reference page, fixed) led
+        (None, subst (λ (r : Result (Option ℕ) ChooseFault). IfOk r (λ gone. choose.refers before page fixed gone after)) (member there) refers)),
+  )

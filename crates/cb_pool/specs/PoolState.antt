@@ -1,15 +1,20 @@
 -- A pool of pages, as its callers see it.
-use Rattle.std.specs.Prelude.{◌≡◌, ◌≢◌, ℕ, ◌<◌, ◌≤◌, nat_lt, ◌⊎◌, Bool, true, false, List, length}
+use Rattle.std.specs.Prelude.{◌≡◌, ◌≢◌, ℕ, ◌<◌, ◌≤◌, nat_lt, ◌⊎◌, Bool, true, false, List, [], ◌∷◌}
+use Rattle.std.specs.Prelude.{length, ◌++◌, if◌then◌else◌}
 use Rattle.std.specs.Prelude.{slice_set, slice_index_or, replicate, count_by, Option, Some, None}
 use Rattle.std.specs.Option.{is_some}
 use Rattle.cb_page.specs.Flags as flags
+use Rattle.cb_twoq.specs.Calls.{Calls}
+use Rattle.cb_twoq.specs.declared.chooser.ChooserCall.TheVariants.{Reference, Forget}
 
--- how many pages it has slots for, which pages are fixed, and the bytes of each page that is here
+-- How many pages it has slots for, which pages are fixed, the bytes of each page that is here, and
+-- the calls that its chooser had.
 pub record PoolState : Type 0 where
   pub slots : ℕ
   pub page_size : ℕ
   pub fixed : List Bool
   pub pages : List (Option (List ℕ))
+  pub calls : Calls
 
 -- a pool with nothing in it
 abbrev pub empty_pool : ℕ → ℕ → ℕ → PoolState
@@ -18,11 +23,25 @@ empty_pool slots pages size = record {
   page_size = size;
   fixed = replicate pages false;
   pages = replicate pages None;
+  calls = [];
 }
 
 -- the bytes of a page, if it is here
 abbrev pub copy_of : PoolState → ℕ → Option (List ℕ)
 copy_of pool page = slice_index_or pool.pages page None
+
+-- the calls of its chooser, with a reference to a page, or its removal, as the last one
+abbrev pub with_reference : PoolState → ℕ → Calls
+with_reference pool page = pool.calls ++ (Reference page, pool.fixed) ∷ []
+
+abbrev pub with_removal : PoolState → ℕ → Calls
+with_removal pool page = pool.calls ++ (Forget page, pool.fixed) ∷ []
+
+-- the pool once a page was referred to, if it is here
+abbrev pub referred : PoolState → ℕ → PoolState
+referred pool page = record pool {
+  calls = if is_some (copy_of pool page) then with_reference pool page else pool.calls;
+}
 
 -- how many pages are here
 abbrev pub held : List (Option (List ℕ)) → ℕ

@@ -6,11 +6,14 @@ ghost use Rattle.cb_twoq.specs.Pages.{has};
 ghost use Rattle.cb_pool.specs.Lending.{pool_ends_as};
 ghost use Rattle.cb_pool.specs.PoolState.{PoolState, empty_pool, copy_of, HasRoom, let_go, MayGo};
 ghost use Rattle.cb_pool.specs.PoolState.{HasNoneBut, IsPool, has_free_slot};
+ghost use Rattle.cb_pool.specs.PoolState.{referred, with_removal, with_reference};
+ghost use Rattle.cb_twoq.specs.Calls.{IsLed};
 ghost use Rattle.cb_pool.specs.Refusals.{fault_of};
 
 use crate::copies::Copies;
 use cb_page::{Limits, Page, PageNo, PageSet};
-use cb_twoq::{ChooseFault, Chooser};
+use cb_twoq::{ChooseFault, Chooser, ChooserCall};
+use http_server::Log;
 use std::alloc::{AllocError, Global};
 use std::marker::Model;
 use thiserror::Error;
@@ -40,10 +43,14 @@ impl From<ChooseFault> for PoolFault {
 /// A client's copies of pages, of which a chooser picks the one to let go.
 ///
 /// In contracts a pool is its count of slots, the page size, a flag for each page of the store that
-/// is fixed, and the bytes of each page that is here. It doesn't show the chooser. A page's bytes
-/// are moved in and lent out, and never copied save by `write`, which overwrites them.
+/// is fixed, the bytes of each page that is here, and the calls that its chooser had since the pool
+/// or its client's incarnation began: its references, and the pages taken out. It doesn't show the
+/// chooser, which came by these calls from one with no members. A page's bytes are moved in and
+/// lent out, and never copied save by `write`, which overwrites them.
 pub struct Pool<Q: Chooser> {
     chooser: Q,
+    /// The calls that the chooser had, with the pages that were fixed then, for proofs alone.
+    calls: Log<ChooserCall, PageSet>,
     slots: usize,
     page_size: usize,
     copies: Copies,
@@ -54,6 +61,7 @@ impl<Q: Chooser> Drop for Pool<Q> {
     fn drop(self) {
         let Pool {
             chooser: _,
+            calls: _,
             slots: _,
             page_size: _,
             copies: _,
@@ -64,6 +72,7 @@ impl<Q: Chooser> Drop for Pool<Q> {
 impl<Q: Chooser> Model for Pool<Q> {
     ghost use Rattle.cb_pool.specs.PoolState.{PoolState};
     ghost use Rattle.cb_pool.specs.Agree.{Agrees};
+    ghost use Rattle.cb_twoq.specs.Calls.{IsLed};
 
     ghost Value = { PoolState };
 
@@ -72,6 +81,7 @@ impl<Q: Chooser> Model for Pool<Q> {
       page_size = pool.page_size;
       fixed = pool.copies.fixed;
       pages = pool.copies.pages;
+      calls = pool.calls.items;
     } };
 
     ghost invariant = { λ pool. Agrees (record {
@@ -79,7 +89,9 @@ impl<Q: Chooser> Model for Pool<Q> {
       page_size = pool.page_size;
       fixed = pool.copies.fixed;
       pages = pool.copies.pages;
-    }) (Q.members pool.chooser) (Q.slots pool.chooser) };
+      calls = pool.calls.items;
+    }) (Q.members pool.chooser) (Q.slots pool.chooser)
+        × IsLed Q.Chooser pool.slots pool.calls.items pool.chooser };
 }
 
 impl<Q: Chooser> Pool<Q> {
@@ -93,17 +105,20 @@ impl<Q: Chooser> Pool<Q> {
     {
         Ok(Pool {
             chooser,
+            calls: Log::new(),
             slots: limits.slots(),
             page_size: limits.page_size(),
             copies: Copies::new(alloc, limits.pages() as usize)?,
         })
     }
 
-    /// Lends the chooser, whose members are the pages that are here.
+    /// Lends the chooser, whose members are the pages that are here. The calls in the pool's history
+    /// made it of one with no members.
     pub fn chooser(&self) -> &Q
         ensures members { (page : ℕ) →
             has (Q.members result.now) page ≡ is_some (copy_of self.now page) }
         ensures slots { Q.slots result.now ≡ self.now.slots }
+        ensures led { IsLed Q.Chooser self.now.slots self.now.calls result.now }
     {
         &self.chooser
     }
@@ -126,29 +141,42 @@ impl<Q: Chooser> Pool<Q> {
 
     /// Lends the bytes of a page, if it is here, and counts as a reference to it.
     ///
-    /// The pool is the same once the loan is over, save that the chooser may let another page go
-    /// later.
+    /// The pool is the same once the loan is over, save for that reference.
     pub fn hit(&mut self, page: PageNo) -> Option<&[u8]>
-        ensures* ends { sem 𝓛 (pool_ends_as Q.row Q.Chooser self.entry self.old) }
+        ensures* ends { sem 𝓛 (pool_ends_as Q.row Q.Chooser self.entry (referred self.old page)) }
         ensures bytes { option_copied result ≡ copy_of self.old page }
     {
         let bytes = self.copies.get(page)?;
         let _gone = self.chooser.reference(page, self.copies.fixed());
+        self.calls = self
+            .calls
+            .and(&ChooserCall::Reference(page), self.copies.fixed());
         Some(bytes)
     }
 
     /// Refers to a page, if it is here, and says whether it is.
     ///
-    /// The pool is the same, save that the chooser may let another page go later.
+    /// The pool is the same, save for that reference.
     pub fn touch(&mut self, page: PageNo) -> bool
         ensures here { result ≡ is_some (copy_of self.old page) }
-        ensures same { self.new ≡ self.old }
+        ensures same { self.new ≡ referred self.old page }
+        ensures away { result ≡ false → self.new ≡ self.old }
     {
         let here = self.copies.has(page);
         if here {
-            let _gone = self.chooser.reference(page, self.copies.fixed());
+            self.refer(page);
         }
         here
+    }
+
+    /// Refers to a page that is here.
+    fn refer(&mut self, page: PageNo)
+        requires { IsTrue (is_some (copy_of self.old page)) }
+        ensures { self.new ≡ record self.old { calls = with_reference self.old page } }
+    {
+        let fixed = self.copies.fixed();
+        let _gone = self.chooser.reference(page, fixed);
+        self.calls = self.calls.and(&ChooserCall::Reference(page), fixed);
     }
 
     /// Takes in a page's bytes, which counts as a reference to it, and answers the page let go for
@@ -162,6 +190,7 @@ impl<Q: Chooser> Pool<Q> {
         requires size { length bytes ≡ self.old.page_size }
         ensures pages { IfOk result (λ gone. self.new ≡ record self.old {
           pages = slice_set (let_go gone self.old.pages) page (Some bytes);
+          calls = with_reference self.old page;
         }) }
         ensures gone { IfOk result (MayGo self.old page) }
         ensures full { (result ≡ Err PoolFault.Full)
@@ -185,6 +214,7 @@ impl<Q: Chooser> Pool<Q> {
         requires size { length bytes ≡ self.old.page_size }
         ensures pages { IfOk result (λ gone. self.new ≡ record self.old {
           pages = slice_set (let_go gone self.old.pages) page (Some bytes);
+          calls = with_reference self.old page;
         }) }
         ensures gone { IfOk result (MayGo self.old page) }
         ensures full { (result ≡ Err (PoolFault.Full, bytes))
@@ -195,6 +225,9 @@ impl<Q: Chooser> Pool<Q> {
     {
         match self.chooser.reference(page, self.copies.fixed()) {
             Ok(gone) => {
+                self.calls = self
+                    .calls
+                    .and(&ChooserCall::Reference(page), self.copies.fixed());
                 self.copies.place(page, &gone, bytes);
                 Ok(gone)
             }
@@ -247,14 +280,20 @@ impl<Q: Chooser> Pool<Q> {
     /// Takes a page out, here or not, fixed or not; it stays fixed. The chooser forgets it.
     pub fn remove(&mut self, page: PageNo)
         requires { page < length self.old.fixed }
-        ensures { self.new ≡ record self.old { pages = slice_set self.old.pages page None } }
+        ensures { self.new ≡ record self.old {
+          pages = slice_set self.old.pages page None;
+          calls = with_removal self.old page;
+        } }
     {
         self.chooser.forget(page);
+        self.calls = self
+            .calls
+            .and(&ChooserCall::Forget(page), self.copies.fixed());
         self.copies.put(page, None);
     }
 
     /// Begins the client's next incarnation, with an empty chooser of as many slots in place of the
-    /// one before. The pages handed in are those that may be here.
+    /// one before, and no calls of it. The pages handed in are those that may be here.
     ///
     /// It takes no memory, and costs these pages and what [`PageSet`] says of a walk, beside the
     /// drop of the chooser before, which isn't told of the pages that go.
@@ -269,5 +308,6 @@ impl<Q: Chooser> Pool<Q> {
         self.unfix_all();
         self.copies.clear(pages);
         self.chooser = chooser;
+        self.calls = Log::new();
     }
 }

@@ -11,6 +11,7 @@
 -- Indexing: a reference to queues that are kept by a cache and two sets.
 -- Running: many references in turn keep the law of a chooser.
 -- Placing: the list that has a page, as the queues change.
+-- Called: histories of calls, one call longer, and what they make of 2Q.
 pub mod PageLists
 pub mod Counts
 pub mod Chosen
@@ -23,3 +24,4 @@ pub mod Placed
 pub mod Indexing
 pub mod Running
 pub mod Placing
+pub mod Called

@@ -5,4 +5,5 @@ pub mod Queues
 pub mod Indexed
 pub mod Places
 pub mod Runs
+pub mod Calls
 pub mod PageHash

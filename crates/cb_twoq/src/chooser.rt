@@ -1,4 +1,5 @@
-ghost use Rattle.std.specs.Prelude.{◌≡◌, ◌≤◌, ◌↔◌, ℕ, List, [], length, true, None, IfOk, OnErr};
+ghost use Rattle.std.specs.Prelude.{◌≡◌, ◌≤◌, ◌↔◌, ℕ, Bool, List, [], length, Option, true, None};
+ghost use Rattle.std.specs.Prelude.{IfOk, OnErr};
 ghost use Rattle.cb_twoq.specs.Pages.{has};
 ghost use Rattle.cb_twoq.specs.Law.{Chooses, IsFull, Forgets};
 
@@ -27,6 +28,15 @@ impl From<AllocError> for ChooseFault {
     }
 }
 
+/// A call that changes a chooser, as a history has it. A reference that was refused is none.
+#[derive(Clone, Copy)]
+pub enum ChooserCall {
+    /// The page was referred to.
+    Reference(PageNo),
+    /// It was taken out.
+    Forget(PageNo),
+}
+
 /// Chooses which page leaves a pool for the page that comes in.
 ///
 /// The clauses are the whole law of a chooser: a pool, and all that stands on pools, holds for
@@ -37,6 +47,13 @@ pub trait Chooser: Drop {
 
     /// How many slots there are, which no call changes.
     ghost slots: { Self → ℕ };
+
+    /// What a reference to a page makes of it, with these pages fixed, where this one is let go or
+    /// none: as much of that as the type says.
+    ghost refers: { Self → ℕ → List Bool → Option ℕ → Self → Type 0 };
+
+    /// What it is once a page was taken out: as much of that as the type says.
+    ghost takes_out: { Self → ℕ → Self → Type 0 };
 
     /// A chooser with no members and as many slots as the limits say, or the refusal of a growth.
     fn make(alloc: Global, limits: &Limits) -> Result<Self, AllocError>
@@ -56,10 +73,13 @@ pub trait Chooser: Drop {
             ↔ IsFull (slots self.old) fixed.now (members self.old) page }
         ensures err { OnErr result (self.new ≡ self.old) }
         ensures within { length (members self.new) ≤ slots self.new }
-        ensures slots { slots self.new ≡ slots self.old };
+        ensures slots { slots self.new ≡ slots self.old }
+        ensures refers { IfOk result (λ gone.
+            refers self.old page fixed.now gone self.new) };
 
     /// Takes a page out, where it is a member. No growth is needed.
     fn forget(&mut self, page: PageNo)
         ensures forgets { Forgets (members self.old) page (members self.new) }
-        ensures slots { slots self.new ≡ slots self.old };
+        ensures slots { slots self.new ≡ slots self.old }
+        ensures takes_out { takes_out self.old page self.new };
 }

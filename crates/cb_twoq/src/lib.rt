@@ -2,6 +2,7 @@
 #![tactic(auto)]
 
 mod chooser;
+mod laws;
 mod lists;
 mod page_hash;
 mod plain;
@@ -9,7 +10,8 @@ mod runs;
 mod slot;
 mod twoq;
 
-pub use chooser::{ChooseFault, Chooser};
+pub use chooser::{ChooseFault, Chooser, ChooserCall};
+pub use laws::calls_make_the_lists;
 pub use lists::Lists;
 pub use page_hash::{PageCache, PageHash, PageHasher};
 pub use plain::{PlainTwoQ, is_on, oldest_unfixed, take_off};

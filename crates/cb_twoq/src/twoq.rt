@@ -109,6 +109,10 @@ impl Chooser for TwoQ {
 
     ghost slots = { λ two_q. two_q.slots };
 
+    ghost refers = { λ old page fixed gone new. reference page fixed old ≡ Some (gone, new) };
+
+    ghost takes_out = { λ old page new. new ≡ forget page old };
+
     fn make(alloc: Global, limits: &Limits) -> Result<TwoQ, AllocError>
         ensures two_q { IfOk result (λ two_q.
             two_q ≡ empty limits.now.slots limits.now.kin limits.now.kout) }

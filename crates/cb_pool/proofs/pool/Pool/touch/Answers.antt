@@ -2,8 +2,5 @@
 use Rattle.std.proofs.Common.{rules}
 use Rattle.cb_pool.proofs.pool.Pool.touch.Goals as goal
 
-pub invariant_of-self : goal.invariant_of-self
-invariant_of-self g c = search rules
-
 pub returns-then-here : goal.returns-then-here
 returns-then-here g c = search rules

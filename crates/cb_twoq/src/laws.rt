@@ -1,0 +1,17 @@
+//! What a history of calls says of 2Q, as a law.
+ghost use Rattle.std.specs.Prelude.{◌≡◌};
+ghost use Rattle.cb_twoq.specs.Calls.{Calls, Leads, lists_after};
+ghost use Rattle.cb_twoq.specs.Queues.{TwoQState};
+
+use crate::chooser::Chooser;
+use crate::plain::PlainTwoQ;
+use crate::twoq::TwoQ;
+
+/// Calls that lead from one 2Q to another, in either form, make of its three lists what the
+/// published rules make of them, call by call.
+pub fn calls_make_the_lists()
+    ensures indexed { (first now : TwoQState) (calls : Calls)
+        → Leads ⟦<TwoQ as Chooser>⟧ first calls now → now ≡ lists_after calls first }
+    ensures plain { (first now : TwoQState) (calls : Calls)
+        → Leads ⟦<PlainTwoQ as Chooser>⟧ first calls now → now ≡ lists_after calls first }
+{}
