@@ -152,6 +152,7 @@ commits v w u l m outcome number before frames done walked empty says gone = rw 
   says = says ∙ ap (λ (x : List Frame). messages_of x ++ all_sent_by l (bodies_said (pages_steps w l false w.limits.pages))) empty ∙ ap (λ (s : List ClientStep). all_sent_by l (bodies_said s)) same;
   unlocked = refl;
   limits = (does_then v w u _ _ done walked).limits;
+  references = walked.references ∙ done.references;
 })
   where
     same : pages_steps w l false w.limits.pages ≡ pages_steps v l false v.limits.pages
@@ -174,4 +175,5 @@ drops v w u l m outcome said before frames walked abandoned first client incarna
   says = says ∙ ap (λ (s : List Message). s ++ all_sent_by l (bodies_said (pages_steps v l true v.limits.pages))) (first ∙ (λ i. record { client = client i; incarnation = incarnation i; body = short_of said.body } ∷ []));
   unlocked = refl;
   limits = (does_then v w u (pages_steps v l true v.limits.pages) (dropping outcome) walked abandoned).limits;
+  references = abandoned.references ∙ walked.references;
 })

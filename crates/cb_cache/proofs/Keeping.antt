@@ -6,6 +6,7 @@ use Rattle.std.proofs.lemmas.Grind.{common_steps}
 use Rattle.std.specs.Option.{is_some}
 use Rattle.cb_page.specs.Flags as flags
 use Rattle.cb_pool.specs.PoolState.{let_go, MayGo}
+use Rattle.cb_twoq.specs.Calls.{Calls}
 use Rattle.cb_protocol.specs.Basics.{Bytes}
 use Rattle.cb_cache.specs.declared.table.PageCopy.{PageCopy}
 use Rattle.cb_cache.specs.Rows.{no_copy, row_at}
@@ -39,12 +40,12 @@ module _ (pages : List (Option Bytes)) (page : ℕ) (bytes : Bytes) (below : pag
       let n : p ≢ g = λ same. stays (ap Some (sym same)) in
       ap is_some (get_or-set_other (slice_set pages g None) page p (Some bytes) None other) ∙ ap is_some (get_or-set_other pages g p None None n) ∙ e
 
-pub keeps_installed : (v : CacheState) (page grant version : ℕ) (bytes : Bytes) (gone : Option ℕ) → page < v.limits.pages → AreCopies v → MayGo v.pool page gone
+pub keeps_installed : (v : CacheState) (page grant version : ℕ) (bytes : Bytes) (gone : Option ℕ) (calls : Calls) → page < v.limits.pages → AreCopies v → MayGo v.pool page gone
     → AreCopies (record v {
       rows = slice_set v.rows page (record (copy_at v page) { seen = Some grant; held = Some grant; version = version });
-      pool = record v.pool { pages = slice_set (let_go gone v.pool.pages) page (Some bytes) };
+      pool = record v.pool { pages = slice_set (let_go gone v.pool.pages) page (Some bytes); calls = calls };
     })
-keeps_installed v page grant version bytes gone lt are may = record {
+keeps_installed v page grant version bytes gone calls lt are may = record {
   limits = are.limits;
   sizes = record {
     rows = length-set v.rows page new ∙ are.sizes.rows;
@@ -97,3 +98,23 @@ keeps_installed v page grant version bytes gone lt are may = record {
     here_at p there false e =
         let other : p ≢ page = grind (arith, common_steps) in
         stays_here v.pool.pages page bytes pages gone p other (stays p gone there may) (are.wrote_here p there)
+
+-- what holds of copies holds once a call of the pool's chooser is told
+pub keeps_called : (v : CacheState) (calls : Calls) → AreCopies v → AreCopies (record v { pool = record v.pool { calls = calls } })
+keeps_called v calls are = record {
+  limits = are.limits;
+  sizes = record {
+    rows = are.sizes.rows;
+    may_write = are.sizes.may_write;
+    wrote = are.sizes.wrote;
+    wanted = are.sizes.wanted;
+    pages = are.sizes.pages;
+    fixed = are.sizes.fixed;
+    slots = are.sizes.slots;
+    page_size = are.sizes.page_size;
+  };
+  here_held = are.here_held;
+  permitted_held = are.permitted_held;
+  wrote_here = are.wrote_here;
+  fixed = are.fixed;
+}

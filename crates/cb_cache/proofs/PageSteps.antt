@@ -116,10 +116,10 @@ pub gives_back : (v w : CacheState) (l : LocksState) (d : Bool) (p g : ℕ) (u :
     → Does v (if u then [] else ChangeCache (LetGo p) ∷ []) w → Does v (page_steps v l d p) w
 gives_back v w l d p g true h u r does =
     let e : page_steps v l d p ≡ Say (GiveBack p g) ∷ [] = rw (h, ← u) refl in
-    does_same v w _ _ e (record { becomes = does.becomes; limits = does.limits })
+    does_same v w _ _ e (record { becomes = does.becomes; limits = does.limits; references = does.references })
 gives_back v w l d p g false h u r does =
     let e : page_steps v l d p ≡ ChangeCache (LetGo p) ∷ Say (GiveBack p g) ∷ [] = rw (h, ← u, r refl) refl in
-    does_same v w _ _ e (record { becomes = does.becomes; limits = does.limits })
+    does_same v w _ _ e (record { becomes = does.becomes; limits = does.limits; references = does.references })
 
 or_true : (b : Bool) → (b || true) ≡ true
 or_true true = refl
@@ -153,4 +153,4 @@ answers_down v w l p goes alone due owes f a t does = by due.tag refl owes.permi
     by (Some n) e x =
         let h : is_none (content_at v p) ≡ false = here (content_at v p) (grind arith) in
         let s : page_steps v l false p ≡ ChangeCache (YieldPermission p) ∷ Say (Downgraded p due.grant n) ∷ [] = rw (owes.held, x.0, h, x.1) refl in
-        does_same v w _ _ s (record { becomes = does.becomes; limits = does.limits })
+        does_same v w _ _ s (record { becomes = does.becomes; limits = does.limits; references = does.references })

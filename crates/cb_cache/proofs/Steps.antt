@@ -1,13 +1,14 @@
 -- What the protocol's steps make of copies.
 use Rattle.std.proofs.Common.{◌≡◌, ◌≢◌, ◌<◌, ℕ, Bool, true, false, max, List, [], ◌∷◌, ◌++◌, length, replicate, slice_set, Option, Some, None, unwrap_or, IfSome, Result, Ok, Err, IfOk, refl, sym, ◌∙◌, ap, arith}
-use Rattle.cb_pool.specs.PoolState.{PoolState, let_go, MayGo}
+use Rattle.cb_pool.specs.PoolState.{PoolState, let_go, MayGo, with_reference, with_removal}
+use Rattle.cb_twoq.proofs.Called.{refers_more, refers_none}
 use Rattle.cb_protocol.specs.Basics.{Bytes, update}
 use Rattle.cb_protocol.specs.Cache.{Abandon, Fill, Install, LetGo, MakeBare, RefuseGrant, TakePermission, WriteBytes}
 use Rattle.cb_protocol.specs.Client.{ChangeCache, Client, ClientStep, EndTransaction, LastOutcome, client_after}
 use Rattle.cb_cache.specs.declared.table.PageCopy.{PageCopy}
 use Rattle.cb_cache.specs.Rows.{Dropped, row_at}
 use Rattle.cb_cache.specs.CacheState.{AreCopies, CacheState, Emptied, HaveSizes, client_with, copy_at}
-use Rattle.cb_cache.specs.ByTable.{Brings, BringsIn, Does, DoesInTxn, Filled, Installed, lose_bytes}
+use Rattle.cb_cache.specs.ByTable.{Brings, BringsIn, Does, DoesInTxn, DoesReferring, Filled, Installed, lose_bytes}
 use Rattle.cb_cache.proofs.Changing.{go_first, go_last, none_in, pool_brings, put_entry, put_field, put_same}
 use Rattle.cb_cache.proofs.PoolRoom.{may_let_go, within_pool}
 
@@ -27,6 +28,7 @@ refuses v page grant lt sizes =
         };
       };
       limits = refl;
+      references = refl;
     }
 
 pub lets_go : (v : CacheState) (page : ℕ) → page < v.limits.pages → HaveSizes v
@@ -34,7 +36,7 @@ pub lets_go : (v : CacheState) (page : ℕ) → page < v.limits.pages → HaveSi
     (record v {
       rows = slice_set v.rows page (record (copy_at v page) { held = None });
       may_write = slice_set v.may_write page false;
-      pool = record v.pool { pages = slice_set v.pool.pages page None };
+      pool = record v.pool { pages = slice_set v.pool.pages page None; calls = with_removal v.pool page };
     })
 lets_go v page lt sizes =
     let below : page < length v.rows = let r = sizes.rows in omega arith in
@@ -53,6 +55,7 @@ lets_go v page lt sizes =
         };
       };
       limits = refl;
+      references = refers_none v.pool.calls page v.pool.fixed;
     }
 
 pub takes_permission : (v : CacheState) (page txn grant : ℕ) → page < v.limits.pages → HaveSizes v
@@ -79,6 +82,7 @@ takes_permission v page txn grant lt sizes =
         };
       };
       limits = refl;
+      references = refl;
     }
 
 pub writes : (v : CacheState) (page : ℕ) (bytes : Bytes) (fixed : List Bool) → page < length v.pool.pages → HaveSizes v
@@ -97,6 +101,7 @@ writes v page bytes fixed lt sizes =
         };
       };
       limits = refl;
+      references = refl;
     }
 
 -- a page let go was in the pool
@@ -106,13 +111,13 @@ goes_within v page (Some g) may = within_pool v.pool.pages g may.2
 
 pub fills : (v : CacheState) (page grant : ℕ) (bytes : Bytes) (gone : Option ℕ) → page < v.limits.pages → AreCopies v → MayGo v.pool page gone
     → BringsIn v page (ChangeCache (Fill page grant bytes)) gone
-    (record v { pool = record v.pool { pages = slice_set (let_go gone v.pool.pages) page (Some bytes) } })
+    (record v { pool = record v.pool { pages = slice_set (let_go gone v.pool.pages) page (Some bytes); calls = with_reference v.pool page } })
 fills v page grant bytes gone lt are may =
     let pages : page < length v.pool.pages = let r = are.sizes.pages in omega arith in
     record { does = by gone (goes_within v page gone may); by_law = λ out. may_let_go v are page out gone may }
   where
     by : (g : Option ℕ) → IfSome g (λ n. n < length v.pool.pages)
-        → Does v (lose_bytes g ++ ChangeCache (Fill page grant bytes) ∷ []) (record v { pool = record v.pool { pages = slice_set (let_go g v.pool.pages) page (Some bytes) } })
+        → DoesReferring v page (lose_bytes g ++ ChangeCache (Fill page grant bytes) ∷ []) (record v { pool = record v.pool { pages = slice_set (let_go g v.pool.pages) page (Some bytes); calls = with_reference v.pool page } })
     by None within = record {
       becomes = λ client i. record (client_with v client) {
         cache = record (client_with v client).cache {
@@ -120,6 +125,7 @@ fills v page grant bytes gone lt are may =
         };
       };
       limits = refl;
+      references = refers_more v.pool.calls page v.pool.fixed;
     }
     by (Some n) within = record {
       becomes = λ client i. record (client_with v client) {
@@ -128,10 +134,11 @@ fills v page grant bytes gone lt are may =
         };
       };
       limits = refl;
+      references = refers_more v.pool.calls page v.pool.fixed;
     }
 
 pub fill_result : (v w : CacheState) (page : ℕ) (bytes : Bytes) {F : Type 0} (result : Result (Option ℕ) F) (new : PoolState) → page < v.limits.pages → AreCopies v
-    → IfOk result (λ gone. new ≡ record v.pool { pages = slice_set (let_go gone v.pool.pages) page (Some bytes) }) → IfOk result (MayGo v.pool page)
+    → IfOk result (λ gone. new ≡ record v.pool { pages = slice_set (let_go gone v.pool.pages) page (Some bytes); calls = with_reference v.pool page }) → IfOk result (MayGo v.pool page)
     → w ≡ record v { pool = new }
     → IfOk result (λ gone. (grant : ℕ) → BringsIn v page (ChangeCache (Fill page grant bytes)) gone w)
 fill_result v w page bytes (Ok gone) new lt are pages may e = λ grant. rw (e, pages) (fills v page grant bytes gone lt are may)
@@ -141,7 +148,7 @@ pub installs : (v : CacheState) (page grant version : ℕ) (bytes : Bytes) (gone
     → BringsIn v page (ChangeCache (Install page grant version bytes)) gone
     (record v {
       rows = slice_set v.rows page (record (copy_at v page) { seen = Some grant; held = Some grant; version = version });
-      pool = record v.pool { pages = slice_set (let_go gone v.pool.pages) page (Some bytes) };
+      pool = record v.pool { pages = slice_set (let_go gone v.pool.pages) page (Some bytes); calls = with_reference v.pool page };
     })
 installs v page grant version bytes gone lt are may =
     record { does = by gone (goes_within v page gone may); by_law = λ out. may_let_go v are page out gone may }
@@ -156,8 +163,8 @@ installs v page grant version bytes gone lt are may =
     pages = let r = are.sizes.pages in omega arith
 
     by : (g : Option ℕ) → IfSome g (λ n. n < length v.pool.pages)
-        → Does v (lose_bytes g ++ ChangeCache (Install page grant version bytes) ∷ [])
-        (record v { rows = slice_set v.rows page new; pool = record v.pool { pages = slice_set (let_go g v.pool.pages) page (Some bytes) } })
+        → DoesReferring v page (lose_bytes g ++ ChangeCache (Install page grant version bytes) ∷ [])
+        (record v { rows = slice_set v.rows page new; pool = record v.pool { pages = slice_set (let_go g v.pool.pages) page (Some bytes); calls = with_reference v.pool page } })
     by None within = record {
       becomes = λ client i. record (client_with v client) {
         cache = record (client_with v client).cache {
@@ -169,6 +176,7 @@ installs v page grant version bytes gone lt are may =
         };
       };
       limits = refl;
+      references = refers_more v.pool.calls page v.pool.fixed;
     }
     by (Some n) within = record {
       becomes = λ client i. record (client_with v client) {
@@ -181,6 +189,7 @@ installs v page grant version bytes gone lt are may =
         };
       };
       limits = refl;
+      references = refers_more v.pool.calls page v.pool.fixed;
     }
 
 pub abandons : (v : CacheState) (outcome : LastOutcome) (rows : List PageCopy) (pool : PoolState) (a b c n : ℕ) → Dropped v.rows v.wrote rows → Emptied v.pool v.wrote pool
@@ -200,6 +209,7 @@ abandons v outcome rows pool a b c n dropped emptied = record {
     wanted = λ q. none_in c q i;
   };
   limits = refl;
+  references = emptied.references;
 }
 
 -- A page goes from the pool for one that comes in, and then its grant goes too: the client is what

@@ -14,7 +14,7 @@ use Rattle.cb_protocol.specs.Cache.{Abandon, LetGo, TakeDone, YieldPermission}
 use Rattle.cb_protocol.specs.Client.{ChangeCache, Client, ClientStep, DueDowngrade, EndTransaction, LastOutcome, Say, bodies_said, client_after, new_client}
 use Rattle.cb_protocol.specs.ClientEnd.{end_page, end_pages, give_down}
 use Rattle.cb_protocol.specs.Messages.{Body, Downgraded, GiveBack, Message}
-use Rattle.cb_cache.specs.ByTable.{Does}
+use Rattle.cb_cache.specs.ByTable.{Does, DoesReferring}
 use Rattle.cb_cache.specs.CacheState.{CacheState, client_with, content_at, copy_at}
 use Rattle.cb_locks.specs.Dues.{called_by, is_due, nothing_due}
 use Rattle.cb_locks.specs.Locks.{LocksState, due_at, ended, unlocked}
@@ -34,6 +34,19 @@ does_then a b c xs ys first next = record {
       ∙ subst (λ (l : Bounds). client_after l.keep_write (client_with b (client_after a.limits.keep_write client xs)) ys ≡ client_with c (client_after l.keep_write (client_after a.limits.keep_write client xs) ys)) first.limits (next.becomes (client_after a.limits.keep_write client xs))
       ∙ ap (client_with c) (sym (client_after_append a.limits.keep_write client xs ys));
   limits = next.limits ∙ first.limits;
+  references = next.references ∙ first.references;
+}
+
+-- the same, where the first steps refer to a page
+pub refers_then : (a b c : CacheState) (page : ℕ) (xs ys : List ClientStep) → DoesReferring a page xs b → Does b ys c → DoesReferring a page (xs ++ ys) c
+refers_then a b c page xs ys first next = record {
+  becomes = λ client.
+      client_after_append a.limits.keep_write (client_with a client) xs ys
+      ∙ ap (λ (k : Client). client_after a.limits.keep_write k ys) (first.becomes client)
+      ∙ subst (λ (l : Bounds). client_after l.keep_write (client_with b (client_after a.limits.keep_write client xs)) ys ≡ client_with c (client_after l.keep_write (client_after a.limits.keep_write client xs) ys)) first.limits (next.becomes (client_after a.limits.keep_write client xs))
+      ∙ ap (client_with c) (sym (client_after_append a.limits.keep_write client xs ys));
+  limits = next.limits ∙ first.limits;
+  references = next.references ∙ first.references;
 }
 
 -- the steps of a page by what the table sees of it
@@ -191,7 +204,7 @@ pub record Walks (v : CacheState) (l : LocksState) (d : Bool) (before : List Mes
 
 pub walk_begins : (v : CacheState) (l : LocksState) (d : Bool) (frames : List Frame) → Walks v l d (messages_of frames) 0 v l frames
 walk_begins v l d frames = record {
-  does = record { becomes = λ client. refl; limits = refl };
+  does = record { becomes = λ client. refl; limits = refl; references = refl };
   says = sym (append-nil (messages_of frames));
   client = refl;
   incarnation = refl;

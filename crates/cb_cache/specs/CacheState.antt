@@ -4,7 +4,8 @@ use Rattle.std.specs.Prelude.{replicate, unwrap_or, Option, None}
 use Rattle.std.specs.Option.{is_some}
 use Rattle.cb_page.specs.Bounds.{Bounds, AreInRange}
 use Rattle.cb_page.specs.Flags as flags
-use Rattle.cb_pool.specs.PoolState.{PoolState, copy_of, empty_pool}
+use Rattle.cb_pool.specs.PoolState.{PoolState, copy_of, empty_pool, referred}
+use Rattle.cb_twoq.specs.Calls.{references_in}
 use Rattle.cb_protocol.specs.Basics.{Bytes}
 use Rattle.cb_protocol.specs.Client.{Client, has_room}
 use Rattle.cb_cache.specs.declared.table.PageCopy.{PageCopy}
@@ -29,6 +30,14 @@ copy_at copies page = row_at copies.rows page
 -- the bytes of the page's copy, if they are in the pool
 abbrev pub content_at : CacheState → (page : ℕ) → Option Bytes
 content_at copies page = copy_of copies.pool page
+
+-- the pages that were referred to, in their order
+abbrev pub referred_pages : CacheState → List ℕ
+referred_pages copies = references_in copies.pool.calls
+
+-- the copies once a page was referred to, if its bytes are in the pool
+abbrev pub referred_to : CacheState → (page : ℕ) → CacheState
+referred_to copies page = record copies { pool = referred copies.pool page }
 
 -- no grant ever came
 abbrev pub no_copies : Bounds → CacheState
@@ -83,7 +92,7 @@ client_with copies client = record client {
   wanted = λ page. flags.has copies.wanted page;
 }
 
--- the bytes of these pages are out of the pool
+-- the bytes of these pages are out of the pool, and no page was referred to
 pub record Emptied (old : PoolState) (pages : List Bool) (new : PoolState) : Type 0 where
   pub slots : new.slots ≡ old.slots
   pub page_size : new.page_size ≡ old.page_size
@@ -91,6 +100,7 @@ pub record Emptied (old : PoolState) (pages : List Bool) (new : PoolState) : Typ
   pub count : length new.pages ≡ length old.pages
   pub content : (page : ℕ) → copy_of new page
       ≡ (if flags.has pages page then None else copy_of old page)
+  pub references : references_in new.calls ≡ references_in old.calls
 
 -- the pool can't take in one more page
 abbrev pub IsFull : CacheState → Type 0

@@ -9,8 +9,9 @@ ghost use Rattle.cb_protocol.specs.Cache.{TakePermission, WriteBytes, YieldPermi
 ghost use Rattle.cb_protocol.specs.Client.{ChangeCache, Client, EndTransaction, LastOutcome};
 ghost use Rattle.cb_protocol.specs.Client.{MarkWanted, has_room, pages_in_pool};
 ghost use Rattle.cb_cache.specs.CacheState.{AreCopies, IsFull, client_with, content_at, copy_at};
-ghost use Rattle.cb_cache.specs.CacheState.{limits_of, no_copies};
+ghost use Rattle.cb_cache.specs.CacheState.{limits_of, no_copies, referred_to};
 ghost use Rattle.cb_pool.specs.PoolState.{has_free_slot};
+ghost use Rattle.cb_twoq.specs.Calls.{IsLed};
 ghost use Rattle.cb_cache.specs.ByTable.{BringsIn, Does, DoesInTxn};
 
 use crate::table::{CopyTable, PageCopy, greatest_grant};
@@ -100,10 +101,12 @@ impl<Q: Chooser> Cache<Q> {
         &self.limits
     }
 
-    /// Lends the pool's chooser, whose members are the pages with bytes in the pool.
+    /// Lends the pool's chooser, whose members are the pages with bytes in the pool. The calls in
+    /// the pool's history made it of one with no members.
     pub fn chooser(&self) -> &Q
-        ensures { (page : ℕ)
+        ensures members { (page : ℕ)
             → on (Q.members result.now) page ≡ is_some (content_at self.now page) }
+        ensures led { IsLed Q.Chooser self.now.pool.slots self.now.pool.calls result.now }
     {
         self.pool.chooser()
     }
@@ -166,10 +169,11 @@ impl<Q: Chooser> Cache<Q> {
 
     /// Refers to a page, if its bytes are in the pool, and says whether they are.
     ///
-    /// The copies are the same, save that the pool may let another page go later.
+    /// The copies are the same, save for that reference.
     pub fn refer(&mut self, page: PageNo) -> bool
         ensures here { result ≡ is_some (content_at self.old page) }
-        ensures same { self.new ≡ self.old }
+        ensures same { self.new ≡ referred_to self.old page }
+        ensures away { result ≡ false → self.new ≡ self.old }
         ensures sound { AreCopies self.new }
     {
         self.pool.touch(page)

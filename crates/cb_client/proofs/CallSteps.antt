@@ -17,7 +17,7 @@ use Rattle.cb_client_core.specs.declared.stage.Stage.TheVariants as stages
 use Rattle.cb_client_core.proofs.Reaching.{calls_reach}
 use Rattle.cb_client_core.proofs.Keeping.{keeps}
 use Rattle.cb_protocol.proofs.ClientInvariant.{tidy}
-use Rattle.cb_client.specs.ByTable.{Calls, IsRefusal, IsRefused, as_before, limits_at, messages_from, refusal}
+use Rattle.cb_client.specs.ByTable.{Calls, IsRefusal, IsRefused, as_before, limits_at, messages_from, references_of, refusal, with_read}
 use Rattle.cb_client.specs.declared.client_fault.ClientFault.{ClientFault}
 
 -- What an accepted call makes, where its reply is known.
@@ -30,6 +30,7 @@ pub record Accepted (v : ClientState) (call : Call) (answered : table.AnswerWord
   pub limits : w.copies.limits ≡ v.copies.limits
   pub same_no : w.no ≡ v.no
   pub same_incarnation : w.incarnation ≡ v.incarnation
+  pub references : references_of w ≡ with_read answered call (references_of v)
 
 pub accepted : (v w : ClientState) (call : Call) (answered : table.AnswerWord) (steps : List Operation → List ClientStep) (messages : List Message) (history : List Operation → List Operation)
     → Accepted v call answered steps messages history w → Calls v call answered messages history w
@@ -42,6 +43,7 @@ accepted v w call answered steps messages history a = record {
     no = a.same_no;
     incarnation = a.same_incarnation;
   };
+  references = a.references;
 }
   where
     reply : (ops : List Operation) → client_call (limits_at v) (client_of v ops) call ≡ reply_with answered (steps ops)
@@ -83,7 +85,12 @@ greets v = accepted v v CallHello table.AnsweredOk (λ ops. Say Hello ∷ []) _ 
   limits = refl;
   same_no = refl;
   same_incarnation = refl;
+  references = refl;
 })
+
+peek_refers : (page : ℕ) (bytes : Option Bytes) (pages : List ℕ) → pages ≡ with_read (peek_word bytes) (CallPeek page) pages
+peek_refers page None pages = refl
+peek_refers page (Some bytes) pages = refl
 
 pub peeks : (v : ClientState) (page : ℕ) (bytes : Option Bytes) → bytes ≡ content_at v.copies page → Calls v (CallPeek page) (peek_word bytes) [] as_before v
 peeks v page bytes e = accepted v v (CallPeek page) (peek_word bytes) (λ ops. []) [] as_before (record {
@@ -94,6 +101,7 @@ peeks v page bytes e = accepted v v (CallPeek page) (peek_word bytes) (λ ops. [
   limits = refl;
   same_no = refl;
   same_incarnation = refl;
+  references = peek_refers page bytes (references_of v);
 })
 
 -- the transaction that has begun has a number
@@ -120,6 +128,7 @@ begins v txn h e = rw e (accepted v (record v { txn = Some (unwrap_or v.txn 0 + 
       limits = refl;
       same_no = refl;
       same_incarnation = refl;
+      references = refl;
     }))
 
 pub begin_keeps : (v : ClientState) (txn : ℕ) → FindsNone v CallBegin → txn ≡ unwrap_or v.txn 0 + 1 → IsClient v

@@ -23,6 +23,7 @@ use Rattle.cb_client.specs.declared.client_fault.ClientFault.TheVariants as faul
 use Rattle.cb_client.proofs.CallSteps.{FindsNone, accepted, accepts, refused}
 use Rattle.cb_client.proofs.Refusals.{FirstIs, FreeIs, fetch_full, fetch_here, fetch_is, fetch_room, fetch_shut, of_page, page_within}
 use Rattle.cb_client_core.proofs.Keeping.{keeps}
+use Rattle.cb_twoq.proofs.Called.{refers_more}
 use Rattle.cb_client_core.proofs.Reaching.{calls_reach}
 
 -- a refused call answers so, and changes nothing
@@ -39,6 +40,7 @@ refuses v call reason r =
         no = refl;
         incarnation = refl;
       };
+      references = refl;
     }
 
 some_bytes : (o : Option Bytes) → is_some o ≡ true → o ≡ Some (unwrap_or o [])
@@ -64,6 +66,7 @@ reads v page h lt here = accepted v (page_read v page) (CallRead page) (table.An
   limits = refl;
   same_no = refl;
   same_incarnation = refl;
+  references = rw here (refers_more v.copies.pool.calls page v.copies.pool.fixed);
 })
 
 -- a read where they are not
@@ -77,6 +80,7 @@ asks_read v page h out = accepted v (page_asked v page) (CallRead page) table.As
   limits = refl;
   same_no = refl;
   same_incarnation = refl;
+  references = refl;
 })
 
 -- where the table accepts a read, what the client is after it
@@ -203,6 +207,7 @@ module _ (v : ClientState) (page : ℕ) (copies : CacheState) (does : Does v.cop
     limits = does.limits;
     same_no = refl;
     same_incarnation = refl;
+    references = does.references;
   })
 
   -- wanted, and asked for
@@ -217,6 +222,7 @@ module _ (v : ClientState) (page : ℕ) (copies : CacheState) (does : Does v.cop
         limits = does.limits;
         same_no = refl;
         same_incarnation = refl;
+        references = does.references;
       })
 
   held_same : (q : ℕ) → (copy_at copies q).held ≡ (copy_at v.copies q).held
@@ -247,6 +253,7 @@ module _ (v : ClientState) (page : ℕ) (bytes : Bytes) (copies : CacheState) (d
     limits = does.limits;
     same_no = refl;
     same_incarnation = refl;
+    references = does.references;
   })
 
   write_held : (q : ℕ) → (copy_at copies q).held ≡ (copy_at v.copies q).held

@@ -44,6 +44,7 @@ drops v txn frames copies locks is h begun ends = accepted v (after_drop v txn o
   limits = ends.limits;
   same_no = refl;
   same_incarnation = refl;
+  references = ends.references;
 })
   where
     number : unwrap_or v.txn 0 ≡ txn

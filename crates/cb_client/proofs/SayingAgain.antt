@@ -54,6 +54,7 @@ says_again v messages said = accepted v v CallAgain table.AnsweredOk (λ ops. cl
   limits = refl;
   same_no = refl;
   same_incarnation = refl;
+  references = refl;
 })
 
 -- before the Welcome came

@@ -47,6 +47,7 @@ finishes v said h commit = accepted v (record v { stage = stages.Committing }) C
   limits = refl;
   same_no = refl;
   same_incarnation = refl;
+  references = refl;
 })
 
 pub finish_keeps : (v : ClientState) (said : Message) → FindsNone v CallFinish

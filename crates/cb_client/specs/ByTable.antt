@@ -11,6 +11,7 @@ use Rattle.cb_client_core.specs.ClientState.{ClientState, client_of}
 -- what a client does for calls and messages
 pub use Rattle.cb_client_core.specs.ByTable.{Called, Calls, Makes, Takes}
 pub use Rattle.cb_client_core.specs.ByTable.{as_before, limits_at, messages_from, over}
+pub use Rattle.cb_client_core.specs.ByTable.{references_of, with_brought, with_read}
 
 -- the protocol's refusal that a fault is; the protocol has no want of memory
 abbrev pub refusal : ClientFault → Option table.ClientFault

@@ -2,7 +2,7 @@
 use Rattle.std.specs.Prelude.{if◌then◌else◌, ◌≡◌, ◌&&◌, ℕ, Bool, List, [], ◌∷◌, Option, Some, None}
 use Rattle.std.specs.Prelude.{Result, Ok, Err, ⊤, true, slice_set, unwrap_or}
 use Rattle.std.specs.Option.{is_some}
-use Rattle.cb_cache.specs.CacheState.{content_at, copy_at}
+use Rattle.cb_cache.specs.CacheState.{content_at, copy_at, referred_to}
 use Rattle.cb_frame_types.specs.Grammar.{Fits}
 use Rattle.cb_frame_types.specs.declared.frame.Body.TheVariants.{Short}
 use Rattle.cb_frame_types.specs.declared.frame.Frame.{Frame}
@@ -101,9 +101,10 @@ AnswersRead old page (Ok read.Asked) =
     Answers old (CallRead page) table.Asked (read_ask old page ∷ [])
 AnswersRead old page (Err refused) = IsRefused old (CallRead page) refused
 
--- the client once it has read the page, and once it has asked for it
+-- the client once it has read the page, which is a reference, and once it has asked for it
 abbrev pub page_read : ClientState → (page : ℕ) → ClientState
 page_read client page = record client {
+  copies = referred_to client.copies page;
   locks = record client.locks { locked = slice_set client.locks.locked page true };
 }
 

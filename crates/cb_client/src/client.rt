@@ -7,6 +7,7 @@ ghost use Rattle.cb_protocol.specs.Client.{client_status, new_client};
 ghost use Rattle.cb_cache.specs.CacheState.{content_at, copy_at};
 ghost use Rattle.cb_client.specs.CallAnswers.{held_copy};
 ghost use Rattle.cb_twoq.specs.Pages.{has as on};
+ghost use Rattle.cb_twoq.specs.Calls.{IsLed};
 ghost use Rattle.cb_protocol.specs.Serial.{Operation};
 ghost use Rattle.cb_client_core.specs.ClientState.{IsClient, client_of, new_state, outcome_of};
 ghost use Rattle.cb_client_core.specs.ClientState.{status_of};
@@ -127,10 +128,13 @@ impl<Q: Chooser> Client<Q> {
         self.core.copies.limits()
     }
 
-    /// Lends the pool's chooser, whose members are the pages of which `peek` has the bytes.
+    /// Lends the pool's chooser, whose members are the pages of which `peek` has the bytes. The calls
+    /// in the pool's history made it of one with no members: its references are those of the client.
     pub fn chooser(&self) -> &Q
-        ensures { (page : ℕ) → on (Q.members result.now) page
+        ensures members { (page : ℕ) → on (Q.members result.now) page
             ≡ is_some (content_at self.now.copies page) }
+        ensures led { IsLed Q.Chooser self.now.copies.pool.slots self.now.copies.pool.calls
+            result.now }
     {
         self.core.copies.chooser()
     }

@@ -168,6 +168,7 @@ done_ignored v txn number welcomed other = record {
     no = refl;
     incarnation = refl;
   };
+  references = refl;
 }
   where
     table : (ops : List Operation) → client_take (limits_at v) (client_of v ops) (Done txn number) None ≡ []
@@ -192,6 +193,7 @@ done_takes v txn number frames copies locks is welcomed right ends = record {
     no = refl;
     incarnation = refl;
   };
+  references = ends.references;
 }
   where
     table : (ops : List Operation) → client_take (limits_at v) (client_of v ops) (Done txn number) None ≡ done_steps number ++ pages_steps v.copies v.locks false v.copies.limits.pages
@@ -226,6 +228,7 @@ abort_ignored v txn welcomed other = record {
     no = refl;
     incarnation = refl;
   };
+  references = refl;
 }
   where
     table : (ops : List Operation) → client_take (limits_at v) (client_of v ops) (AbortNow txn) None ≡ []
@@ -266,6 +269,7 @@ abort_takes v txn frames copies locks is welcomed right ends = record {
     no = refl;
     incarnation = refl;
   };
+  references = ends.references;
 }
   where
     number : unwrap_or v.txn 0 ≡ txn

@@ -9,11 +9,11 @@ use Rattle.cb_protocol.specs.ClientMessages.{ChoiceAllowed, brings_page, client_
 use Rattle.cb_protocol.specs.Messages.{AbortNow, Body, Callback, Commit, Done, Downgrade, Granted, MayWrite, PageWrite, Welcome, to_server}
 use Rattle.cb_protocol.specs.Serial.{Operation}
 use Rattle.cb_client_core.specs.ClientState.{ClientState, client_of}
-use Rattle.cb_client_core.specs.ByTable.{Takes, as_before, limits_at, messages_from}
+use Rattle.cb_client_core.specs.ByTable.{Takes, as_before, limits_at, messages_from, references_of, with_brought}
 
 -- nothing is done at a message
-pub nothing : (v : ClientState) (b : Body) → ((ops : List Operation) → client_take (limits_at v) (client_of v ops) b None ≡ []) → Takes v b [] v
-nothing v b table = record {
+pub nothing : (v : ClientState) (b : Body) → references_of v ≡ with_brought v b (references_of v) → ((ops : List Operation) → client_take (limits_at v) (client_of v ops) b None ≡ []) → Takes v b [] v
+nothing v b refers_none table = record {
   let_go = None;
   allowed = λ ops. allowed b ops (table ops);
   history = as_before;
@@ -24,6 +24,7 @@ nothing v b table = record {
     no = refl;
     incarnation = refl;
   };
+  references = refers_none;
 }
   where
     allowed : (m : Body) (ops : List Operation) → client_take (limits_at v) (client_of v ops) m None ≡ [] → ChoiceAllowed (limits_at v) (client_of v ops) m None
@@ -32,10 +33,14 @@ nothing v b table = record {
 
 -- of one that isn't welcomed; one that is for the server
 pub unwelcomed : (v : ClientState) (b : Body) → v.welcomed ≡ false → b ≢ Welcome → Takes v b [] v
-unwelcomed v b e n = nothing v b (λ ops. takes_nothing_unwelcomed (limits_at v) (client_of v ops) b None e n)
+unwelcomed v b e n = nothing v b (brings_none b) (λ ops. takes_nothing_unwelcomed (limits_at v) (client_of v ops) b None e n)
+  where
+    brings_none : (m : Body) → references_of v ≡ with_brought v m (references_of v)
+    brings_none (Granted p g x bytes) = rw e refl
+    brings_none _ = refl
 
 pub for_the_server : (v : ClientState) (b : Body) → v.welcomed ≡ true → to_server b ≡ true → Takes v b [] v
-for_the_server v b e s = nothing v b (λ ops. takes_welcomed (limits_at v) (client_of v ops) b None e (λ z. absurd (let w : to_server b ≡ false = ap to_server z in cc)) ∙ table b ops s)
+for_the_server v b e s = nothing v b (brings_none b s) (λ ops. takes_welcomed (limits_at v) (client_of v ops) b None e (λ z. absurd (let w : to_server b ≡ false = ap to_server z in cc)) ∙ table b ops s)
   where
     table : (m : Body) (ops : List Operation) → to_server m ≡ true → take_welcomed (limits_at v) (client_of v ops) m None ≡ []
     table (Granted p g x bytes) ops t = absurd cc
@@ -45,6 +50,10 @@ for_the_server v b e s = nothing v b (λ ops. takes_welcomed (limits_at v) (clie
     table (AbortNow t) ops s = absurd cc
     table (Downgrade p g t) ops s = absurd cc
     table _ ops s = refl
+
+    brings_none : (m : Body) → to_server m ≡ true → references_of v ≡ with_brought v m (references_of v)
+    brings_none (Granted p g x bytes) t = absurd cc
+    brings_none _ t = refl
 
 -- bodies without page bytes, by their kinds
 pub unwelcomed_short : (v : ClientState) (s : ShortBody) → v.welcomed ≡ false → (s ≡ short.Welcome → ⊥) → Takes v (short_of s) [] v

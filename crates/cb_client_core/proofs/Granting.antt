@@ -19,19 +19,19 @@ use Rattle.cb_protocol.specs.ClientMessages.{MayLetGo, brings_page, client_take,
 use Rattle.cb_protocol.specs.Messages.{Body, Granted, GiveBack, Message}
 use Rattle.cb_protocol.specs.Ranges.{BodyFits}
 use Rattle.cb_protocol.specs.Serial.{Operation}
-use Rattle.cb_cache.specs.ByTable.{Brings, BringsIn, Does, Filled, Installed, lose_bytes}
-use Rattle.cb_cache.specs.CacheState.{CacheState, IsFull, client_with, content_at, copy_at}
+use Rattle.cb_cache.specs.ByTable.{Brings, BringsIn, Does, DoesReferring, Filled, Installed, lose_bytes}
+use Rattle.cb_cache.specs.CacheState.{CacheState, IsFull, client_with, content_at, copy_at, referred_pages}
 use Rattle.cb_cache.proofs.Changing.{put_entry}
 use Rattle.cb_cache.proofs.Steps.{goes_before}
 use Rattle.cb_locks.specs.Dues.{called_by}
 use Rattle.cb_locks.specs.Locks.{due_at}
 use Rattle.cb_cache.specs.Ending.{all_sent_by}
-use Rattle.cb_cache.proofs.Walk.{does_then}
+use Rattle.cb_cache.proofs.Walk.{refers_then}
 use Rattle.cb_client_core.specs.ClientState.{ClientState, IsClient, ask_of, base_of, client_of, locks_with}
 use Rattle.cb_client_core.specs.GrantCases.{after_gone, case_at, case_held, gone_steps, said_of_gone}
 use Rattle.cb_client_core.specs.declared.client_core.granted.GrantCase.TheVariants as cases
 use Rattle.cb_client_core.specs.declared.stage.PendingAsk.TheVariants as asks
-use Rattle.cb_client_core.specs.ByTable.{Takes, as_before, limits_at, messages_from}
+use Rattle.cb_client_core.specs.ByTable.{Takes, as_before, limits_at, messages_from, references_of, with_brought}
 use Rattle.cb_client_core.proofs.Keeping.{keeps}
 use Rattle.cb_client_core.proofs.Ending.{same_sender}
 use Rattle.cb_client_core.proofs.Reaching.{takes_reach}
@@ -42,8 +42,8 @@ use Rattle.cb_client_core.proofs.Taking.{by_locks, bytes_seen, from_locks, kept,
 takes_granted : (v w : ClientState) (p g x : ℕ) (b : Bytes) (gone : Option ℕ) (steps : List ClientStep) (messages : List Message) → v.welcomed ≡ true
     → ((ops : List Operation) → take_granted (client_of v ops) p g x b gone (copy_at v.copies p).held ≡ steps) → ((ops : List Operation) → brings_page steps ≡ true → MayLetGo (limits_at v) (client_of v ops) p gone)
     → messages_from v (bodies_said steps) ≡ messages → ((ops : List Operation) → client_after v.copies.limits.keep_write (client_of v ops) steps ≡ client_of w ops)
-    → w.copies.limits ≡ v.copies.limits → w.no ≡ v.no → w.incarnation ≡ v.incarnation → Takes v (Granted p g x b) messages w
-takes_granted v w p g x b gone steps messages welcomed table law said after limits number own = record {
+    → w.copies.limits ≡ v.copies.limits → w.no ≡ v.no → w.incarnation ≡ v.incarnation → references_of w ≡ with_brought v (Granted p g x b) (references_of v) → Takes v (Granted p g x b) messages w
+takes_granted v w p g x b gone steps messages welcomed table law said after limits number own refers = record {
   let_go = gone;
   allowed = λ ops e. law ops (sym (ap brings_page (all ops)) ∙ e);
   history = as_before;
@@ -54,6 +54,7 @@ takes_granted v w p g x b gone steps messages welcomed table law said after limi
     no = number;
     incarnation = own;
   };
+  references = refers;
 }
   where
     all : (ops : List Operation) → client_take (limits_at v) (client_of v ops) (Granted p g x b) gone ≡ steps
@@ -123,7 +124,7 @@ installed_of v is p g x e = is_installed v p g x e
 
 -- a grant that is ignored, and one that is given back
 pub ignores : (v : ClientState) (p g x : ℕ) (b : Bytes) → v.welcomed ≡ true → case_at v p g x ≡ cases.Ignored → Takes v (Granted p g x b) [] v
-ignores v p g x b welcomed e = takes_granted v v p g x b None [] [] welcomed (λ ops. table ops) (λ ops z. absurd (true≢false (sym z))) refl (λ ops. refl) refl refl refl
+ignores v p g x b welcomed e = takes_granted v v p g x b None [] [] welcomed (λ ops. table ops) (λ ops z. absurd (true≢false (sym z))) refl (λ ops. refl) refl refl refl (rw (welcomed, e) refl)
   where
     table : (ops : List Operation) → take_granted (client_of v ops) p g x b None (copy_at v.copies p).held ≡ []
     table ops = by (copy_at v.copies p).held e
@@ -162,7 +163,7 @@ refused_table v p g x b e ops = by (copy_at v.copies p).held e
 pub refuses : (v : ClientState) (p g x : ℕ) (b : Bytes) (copies : CacheState) → IsClient v → v.welcomed ≡ true → case_at v p g x ≡ cases.Refused → Does v.copies (ChangeCache (RefuseGrant p g) ∷ []) copies
     → Takes v (Granted p g x b) (by_locks v (GiveBack p g) ∷ []) (record v { copies = copies })
 refuses v p g x b copies is welcomed e d = takes_granted v (record v { copies = copies }) p g x b None (refuse_grant p g) _ welcomed (refused_table v p g x b e) (λ ops z. absurd (true≢false (sym z))) (from_locks v is (GiveBack p g))
-    (λ ops. d.becomes (locks_with v.locks (base_of v ops))) d.limits refl refl
+    (λ ops. d.becomes (locks_with v.locks (base_of v ops))) d.limits refl refl (rw (welcomed, e) d.references)
 
 pub refuses_keeps : (v : ClientState) (p g x : ℕ) (b : Bytes) (copies : CacheState) → IsClient v → v.welcomed ≡ true → BodyFits (limits_at v) (Granted p g x b) → case_at v p g x ≡ cases.Refused → Does v.copies (ChangeCache (RefuseGrant p g) ∷ []) copies
     → IsClient (record v { copies = copies })
@@ -228,6 +229,7 @@ record Brought (v : ClientState) (p : ℕ) (gone : Option ℕ) (st : ClientStep)
       → client_after v.copies.limits.keep_write (client_with v.copies other) (first ++ SetAsk NoAsk ∷ st ∷ more) ≡ client_after v.copies.limits.keep_write (client_with c2 (record other { ask = NoAsk })) more
   says : (more : List ClientStep) → bodies_said (first ++ SetAsk NoAsk ∷ st ∷ more) ≡ said_of_gone c1 v.locks gone ++ bodies_said more
   limits : c2.limits ≡ v.copies.limits
+  references : referred_pages c2 ≡ referred_pages v.copies ++ p ∷ []
   held : (r : ℕ) → r ≢ p → has v.locks.locked r ≡ true → (copy_at c2 r).held ≡ (copy_at v.copies r).held
   bare : (r : ℕ) → r ≢ p → is_some (copy_at c2 r).held ≡ true → content_at c2 r ≡ None → has v.locks.locked r ≡ true
 
@@ -236,15 +238,16 @@ overwritten : (keep_write : Bool) (c : CacheState) (p : ℕ) (st : ClientStep) �
 overwritten keep_write c p _ (Filled g b) k = refl
 overwritten keep_write c p _ (Installed g x b) k = refl
 
-brought_none : (v : ClientState) (p : ℕ) (st : ClientStep) (c1 c2 : CacheState) → IsClient v → Brings p st → Does v.copies (st ∷ []) c1 → Does c1 [] c2 → Brought v p None st c1 c2
+brought_none : (v : ClientState) (p : ℕ) (st : ClientStep) (c1 c2 : CacheState) → IsClient v → Brings p st → DoesReferring v.copies p (st ∷ []) c1 → Does c1 [] c2 → Brought v p None st c1 c2
 brought_none v p st c1 c2 is brings does next =
-    let all : Does v.copies (st ∷ []) c2 = does_then v.copies c1 c2 (st ∷ []) [] does next in
+    let all : DoesReferring v.copies p (st ∷ []) c2 = refers_then v.copies c1 c2 p (st ∷ []) [] does next in
     record {
       first = [];
       goes = λ ops. refl;
       after = λ other more. ap (λ (k : Client). client_after v.copies.limits.keep_write k more) (all.becomes (record other { ask = NoAsk }) ∙ overwritten v.copies.limits.keep_write c2 p st brings (record other { ask = NoAsk }));
       says = λ more. quiet p st brings more;
       limits = all.limits;
+      references = all.references;
       held = λ r n l. sym (ap (λ (k : Client). k.cache.held r) (all.becomes new_client)) ∙ (elsewhere v.copies.limits.keep_write p st brings (client_with v.copies new_client) r n).0;
       bare = λ r n e z.
           let held : (copy_at c2 r).held ≡ (copy_at v.copies r).held = sym (ap (λ (k : Client). k.cache.held r) (all.becomes new_client)) ∙ (elsewhere v.copies.limits.keep_write p st brings (client_with v.copies new_client) r n).0 in
@@ -252,10 +255,10 @@ brought_none v p st c1 c2 is brings does next =
           is.bare_locked r (sym (ap is_some held) ∙ e) (sym bytes ∙ z);
     }
 
-brought_bare : (v : ClientState) (p q : ℕ) (st : ClientStep) (c1 c2 : CacheState) → IsClient v → Brings p st → has v.locks.locked q ≡ true → Does v.copies (ChangeCache (MakeBare q) ∷ st ∷ []) c1 → Does c1 [] c2
+brought_bare : (v : ClientState) (p q : ℕ) (st : ClientStep) (c1 c2 : CacheState) → IsClient v → Brings p st → has v.locks.locked q ≡ true → DoesReferring v.copies p (ChangeCache (MakeBare q) ∷ st ∷ []) c1 → Does c1 [] c2
     → Brought v p (Some q) st c1 c2
 brought_bare v p q st c1 c2 is brings locked does next =
-    let all : Does v.copies (ChangeCache (MakeBare q) ∷ st ∷ []) c2 = does_then v.copies c1 c2 (ChangeCache (MakeBare q) ∷ st ∷ []) [] does next in
+    let all : DoesReferring v.copies p (ChangeCache (MakeBare q) ∷ st ∷ []) c2 = refers_then v.copies c1 c2 p (ChangeCache (MakeBare q) ∷ st ∷ []) [] does next in
     record {
       first = ChangeCache (MakeBare q) ∷ [];
       goes = λ ops. rw locked refl;
@@ -263,12 +266,13 @@ brought_bare v p q st c1 c2 is brings locked does next =
           (all.becomes (record other { ask = NoAsk }) ∙ overwritten v.copies.limits.keep_write c2 p st brings (client_after v.copies.limits.keep_write (record other { ask = NoAsk }) (ChangeCache (MakeBare q) ∷ [])));
       says = λ more. quiet p st brings more ∙ rw locked refl;
       limits = all.limits;
+      references = all.references;
       held = λ r n l. sym (ap (λ (k : Client). k.cache.held r) (all.becomes new_client)) ∙ (elsewhere v.copies.limits.keep_write p st brings (client_after v.copies.limits.keep_write (client_with v.copies new_client) (ChangeCache (MakeBare q) ∷ [])) r n).0;
       bare = λ r n e z. go r n e z (r == q) refl;
     }
   where
-    all : Does v.copies (ChangeCache (MakeBare q) ∷ st ∷ []) c2
-    all = does_then v.copies c1 c2 (ChangeCache (MakeBare q) ∷ st ∷ []) [] does next
+    all : DoesReferring v.copies p (ChangeCache (MakeBare q) ∷ st ∷ []) c2
+    all = refers_then v.copies c1 c2 p (ChangeCache (MakeBare q) ∷ st ∷ []) [] does next
 
     go : (r : ℕ) → r ≢ p → is_some (copy_at c2 r).held ≡ true → content_at c2 r ≡ None → (b : Bool) → (r == q) ≡ b → has v.locks.locked r ≡ true
     go r n e z true t = let same : r ≡ q = grind (arith, nat_tests) in rw same locked
@@ -279,7 +283,7 @@ brought_bare v p q st c1 c2 is brings locked does next =
         is.bare_locked r (sym (ap is_some held) ∙ e) (sym (bytes ∙ kept_bytes) ∙ z)
 
 brought_back : (v : ClientState) (p q h : ℕ) (st : ClientStep) (c1 c2 : CacheState) → IsClient v → Brings p st → q ≢ p → has v.locks.locked q ≡ false → (copy_at v.copies q).held ≡ Some h
-    → Does v.copies (ChangeCache (MakeBare q) ∷ st ∷ []) c1 → Does c1 (after_gone c1 v.locks (Some q)) c2 → Brought v p (Some q) st c1 c2
+    → DoesReferring v.copies p (ChangeCache (MakeBare q) ∷ st ∷ []) c1 → Does c1 (after_gone c1 v.locks (Some q)) c2 → Brought v p (Some q) st c1 c2
 brought_back v p q h st c1 c2 is brings other unlocked held does next = record {
   first = ChangeCache (LetGo q) ∷ Say (GiveBack q h) ∷ [];
   goes = λ ops. rw (unlocked, held) refl;
@@ -287,6 +291,7 @@ brought_back v p q h st c1 c2 is brings other unlocked held does next = record {
       (becomes (record k { ask = NoAsk }) ∙ overwritten v.copies.limits.keep_write c2 p st brings (client_after v.copies.limits.keep_write (record k { ask = NoAsk }) (ChangeCache (LetGo q) ∷ [])));
   says = λ more. ap (λ (s : List Body). GiveBack q h ∷ s) (quiet p st brings more) ∙ rw (unlocked, still) refl;
   limits = all.limits;
+  references = all.references;
   held = λ r n l. held_at r n ∙ kept_at r (apart r l);
   bare = λ r n e z. go r n e z (r == q) refl;
 }
@@ -297,8 +302,8 @@ brought_back v p q h st c1 c2 is brings other unlocked held does next = record {
     last : Does c1 (ChangeCache (LetGo q) ∷ []) c2
     last = subst (λ (r : Option ℕ). Does c1 (gone_steps false q r) c2) still (subst (λ (b : Bool). Does c1 (gone_steps b q (copy_at c1 q).held) c2) unlocked next)
 
-    all : Does v.copies (ChangeCache (MakeBare q) ∷ st ∷ ChangeCache (LetGo q) ∷ []) c2
-    all = does_then v.copies c1 c2 (ChangeCache (MakeBare q) ∷ st ∷ []) (ChangeCache (LetGo q) ∷ []) does last
+    all : DoesReferring v.copies p (ChangeCache (MakeBare q) ∷ st ∷ ChangeCache (LetGo q) ∷ []) c2
+    all = refers_then v.copies c1 c2 p (ChangeCache (MakeBare q) ∷ st ∷ []) (ChangeCache (LetGo q) ∷ []) does last
 
     becomes : (k : Client) → client_after v.copies.limits.keep_write (client_with v.copies k) (ChangeCache (LetGo q) ∷ st ∷ []) ≡ client_with c2 (client_after v.copies.limits.keep_write k (ChangeCache (LetGo q) ∷ st ∷ []))
     becomes k = sym (goes_before v.copies.limits.keep_write (client_with v.copies k) q p st other brings) ∙ all.becomes k ∙ ap (client_with c2) (goes_before v.copies.limits.keep_write k q p st other brings)
@@ -325,7 +330,7 @@ brought_back v p q h st c1 c2 is brings other unlocked held does next = record {
         let kept_bytes : update (λ (x : ℕ). content_at v.copies x) q None r ≡ content_at v.copies r = rw t refl in
         is.bare_locked r (sym (ap is_some (held_at r n ∙ kept_at r t)) ∙ e) (sym (bytes_at r n ∙ kept_bytes) ∙ z)
 
-brought : (v : ClientState) (p : ℕ) (gone : Option ℕ) (st : ClientStep) (c1 c2 : CacheState) → IsClient v → Brings p st → IfSome gone (IsGone v p) → Does v.copies (lose_bytes gone ++ st ∷ []) c1 → Does c1 (after_gone c1 v.locks gone) c2
+brought : (v : ClientState) (p : ℕ) (gone : Option ℕ) (st : ClientStep) (c1 c2 : CacheState) → IsClient v → Brings p st → IfSome gone (IsGone v p) → DoesReferring v.copies p (lose_bytes gone ++ st ∷ []) c1 → Does c1 (after_gone c1 v.locks gone) c2
     → Brought v p gone st c1 c2
 brought v p None st c1 c2 is brings facts does next = brought_none v p st c1 c2 is brings does next
 brought v p (Some q) st c1 c2 is brings facts does next = by (has v.locks.locked q) refl (copy_at v.copies q).held refl
@@ -393,6 +398,13 @@ filled_held v p g b gone is facts first e = subst (λ (s : List ClientStep). (cl
         go false None = refl
         go false (Some h) = rw apart refl
 
+-- the case that each is
+filled_case : (v : ClientState) (p g x : ℕ) → IsFilled v p g x → case_at v p g x ≡ cases.Filled
+filled_case v p g x f = rw (f.held, self_eq g, f.bare, f.version, f.asked) refl
+
+installed_case : (v : ClientState) (p g x : ℕ) → IsInstalled v p g → case_at v p g x ≡ cases.Installed
+installed_case v p g x f = rw (f.none_held, f.new, f.asked) refl
+
 -- the copies once bytes came for a bare grant
 pub fills : (v : ClientState) (p g x : ℕ) (b : Bytes) (gone : Option ℕ) (c1 c2 : CacheState) (frame : Option Frame) → IsClient v → v.welcomed ≡ true → IsFilled v p g x → BringsIn v.copies p (ChangeCache (Fill p g b)) gone c1
     → Does c1 (after_gone c1 v.locks gone) c2 → messages_of (option_to_list frame) ≡ all_sent_by v.locks (said_of_gone c1 v.locks gone)
@@ -403,7 +415,7 @@ fills v p g x b gone c1 c2 frame is welcomed f br next says =
     (λ ops. filled_table v p g x b gone f ops ∙ ap (λ (s : List ClientStep). s ++ SetAsk NoAsk ∷ ChangeCache (Fill p g b) ∷ []) (t.goes ops))
     (λ ops e. br.by_law f.bare (locks_with v.locks (base_of v ops)))
     (ap (messages_from v) (t.says [] ∙ append-nil (said_of_gone c1 v.locks gone)) ∙ same_sender v is (said_of_gone c1 v.locks gone) ∙ sym says)
-    (λ ops. t.after (locks_with v.locks (base_of v ops)) []) t.limits refl refl
+    (λ ops. t.after (locks_with v.locks (base_of v ops)) []) t.limits refl refl (rw (welcomed, filled_case v p g x f) t.references)
 
 pub fills_keeps : (v : ClientState) (p g x : ℕ) (b : Bytes) (gone : Option ℕ) (c1 c2 : CacheState) (frame : Option Frame) → IsClient v → v.welcomed ≡ true → BodyFits (limits_at v) (Granted p g x b) → IsFilled v p g x → BringsIn v.copies p (ChangeCache (Fill p g b)) gone c1
     → Does c1 (after_gone c1 v.locks gone) c2 → messages_of (option_to_list frame) ≡ all_sent_by v.locks (said_of_gone c1 v.locks gone) → IsClient (record v { copies = c2; ask = asks.Nothing })
@@ -465,7 +477,7 @@ installs v p g x b gone c1 c2 frame is welcomed fits f br next says =
     (λ ops. installed_table v p g x b gone f ops ∙ ap (λ (s : List ClientStep). s ++ SetAsk NoAsk ∷ ChangeCache (Install p g x b) ∷ ChangeCache (Lock p) ∷ []) (t.goes ops))
     (λ ops e. br.by_law none (locks_with v.locks (base_of v ops)))
     (ap (messages_from v) (t.says (ChangeCache (Lock p) ∷ []) ∙ append-nil (said_of_gone c1 v.locks gone)) ∙ same_sender v is (said_of_gone c1 v.locks gone) ∙ sym says)
-    (λ ops. t.after (locks_with v.locks (base_of v ops)) (ChangeCache (Lock p) ∷ []) ∙ locks_page v c2 p (let l = is.locked in let w = fits.0 in omega arith) ops) t.limits refl refl
+    (λ ops. t.after (locks_with v.locks (base_of v ops)) (ChangeCache (Lock p) ∷ []) ∙ locks_page v c2 p (let l = is.locked in let w = fits.0 in omega arith) ops) t.limits refl refl (rw (welcomed, installed_case v p g x f) t.references)
 
 pub installs_keeps : (v : ClientState) (p g x : ℕ) (b : Bytes) (gone : Option ℕ) (c1 c2 : CacheState) (frame : Option Frame) → IsClient v → v.welcomed ≡ true → BodyFits (limits_at v) (Granted p g x b) → IsInstalled v p g → BringsIn v.copies p (ChangeCache (Install p g x b)) gone c1
     → Does c1 (after_gone c1 v.locks gone) c2 → messages_of (option_to_list frame) ≡ all_sent_by v.locks (said_of_gone c1 v.locks gone)

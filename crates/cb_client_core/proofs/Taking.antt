@@ -29,7 +29,7 @@ use Rattle.cb_locks.specs.declared.dues.DueDowngrade as locks
 use Rattle.cb_locks.specs.declared.dues.PageDue.{PageDue}
 use Rattle.cb_client_core.specs.ClientState.{ClientState, HasRoomLeft, IsClient, IsReached, ask_of, base_of, client_of, downgrade_of, locks_with}
 use Rattle.cb_client_core.specs.declared.stage.PendingAsk.TheVariants as asks
-use Rattle.cb_client_core.specs.ByTable.{Takes, as_before, limits_at, messages_from}
+use Rattle.cb_client_core.specs.ByTable.{Takes, as_before, limits_at, messages_from, references_of, with_brought}
 use Rattle.cb_client_core.proofs.Keeping.{HasRoomToRead, keeps}
 use Rattle.cb_client_core.proofs.Reaching.{takes_reach}
 use Rattle.cb_client_core.proofs.RoomLeft.{room_same, room_without}
@@ -42,6 +42,7 @@ pub record Branch (v : ClientState) (message : Body) (steps : List ClientStep) (
   pub limits : w.copies.limits ≡ v.copies.limits
   pub same_no : w.no ≡ v.no
   pub same_incarnation : w.incarnation ≡ v.incarnation
+  pub references : references_of w ≡ with_brought v message (references_of v)
 
 pub takes : (v w : ClientState) (message : Body) (steps : List ClientStep) (messages : List Message) → v.welcomed ≡ true → message ≢ Welcome
     → ((ops : List Operation) → ChoiceAllowed (limits_at v) (client_of v ops) message None) → Branch v message steps messages w → Takes v message messages w
@@ -56,6 +57,7 @@ takes v w message steps messages welcomed other allowed b = record {
     no = b.same_no;
     incarnation = b.same_incarnation;
   };
+  references = b.references;
 }
   where
     table : (ops : List Operation) → client_take (limits_at v) (client_of v ops) message None ≡ steps
@@ -73,6 +75,7 @@ welcomes v = record {
     no = refl;
     incarnation = refl;
   };
+  references = refl;
 }
 
 pub welcome_keeps : (v : ClientState) → IsClient v → IsClient (record v { welcomed = true })
@@ -127,6 +130,7 @@ callback_refused v p g copies is welcomed other d = takes v (record v { copies =
   limits = d.limits;
   same_no = refl;
   same_incarnation = refl;
+  references = d.references;
 })
 
 -- the bytes of a page are where they were, where a step leaves them
@@ -186,6 +190,7 @@ callback_in_use v p g txn is welcomed lt held locked begun = takes v (record v {
   limits = refl;
   same_no = refl;
   same_incarnation = refl;
+  references = refl;
 })
 
 -- what holds of a client of which one thing more is due
@@ -234,6 +239,7 @@ callback_gives v p g copies is welcomed held locked d = takes v (record v { copi
   limits = d.limits;
   same_no = refl;
   same_incarnation = refl;
+  references = d.references;
 })
 
 -- what a copy that goes leaves
@@ -324,6 +330,7 @@ downgrade_ignored v p g t welcomed keeps_none = takes v v (Downgrade p g t) [] [
   limits = refl;
   same_no = refl;
   same_incarnation = refl;
+  references = refl;
 })
 
 pub downgrade_refused : (v : ClientState) (p g t : ℕ) (copies : CacheState) → IsClient v → v.welcomed ≡ true → v.copies.limits.keep_write ≡ true → is_exactly (copy_at v.copies p).held g ≡ false
@@ -335,6 +342,7 @@ downgrade_refused v p g t copies is welcomed kept_ones other d = takes v (record
   limits = d.limits;
   same_no = refl;
   same_incarnation = refl;
+  references = d.references;
 })
 
 pub downgrade_refused_keeps : (v : ClientState) (p g t : ℕ) (copies : CacheState) → IsClient v → v.welcomed ≡ true → BodyFits (limits_at v) (Downgrade p g t) → v.copies.limits.keep_write ≡ true → is_exactly (copy_at v.copies p).held g ≡ false
@@ -357,6 +365,7 @@ downgrade_answered v p g t is welcomed kept_ones held other = takes v v (Downgra
   limits = refl;
   same_no = refl;
   same_incarnation = refl;
+  references = refl;
 })
 
 pub downgrade_in_use : (v : ClientState) (p g t txn : ℕ) → IsClient v → v.welcomed ≡ true → p < v.copies.limits.pages → v.copies.limits.keep_write ≡ true → is_exactly (copy_at v.copies p).held g ≡ true
@@ -373,6 +382,7 @@ downgrade_in_use v p g t txn is welcomed lt kept_ones held may fixed begun = tak
       limits = refl;
       same_no = refl;
       same_incarnation = refl;
+      references = refl;
     })
 
 pub downgrade_in_use_keeps : (v : ClientState) (p g t : ℕ) → IsClient v → v.welcomed ≡ true → BodyFits (limits_at v) (Downgrade p g t) → v.copies.limits.keep_write ≡ true → is_exactly (copy_at v.copies p).held g ≡ true
@@ -401,6 +411,7 @@ downgrade_yields v p g t copies is welcomed kept_ones held may fixed d = takes v
   limits = d.limits;
   same_no = refl;
   same_incarnation = refl;
+  references = d.references;
 })
 
 pub downgrade_yields_keeps : (v : ClientState) (p g t : ℕ) (copies : CacheState) → IsClient v → v.welcomed ≡ true → BodyFits (limits_at v) (Downgrade p g t) → v.copies.limits.keep_write ≡ true → is_exactly (copy_at v.copies p).held g ≡ true
@@ -423,6 +434,7 @@ may_write_ignored v txn p g welcomed other = takes v v (MayWrite txn p g) [] [] 
   limits = refl;
   same_no = refl;
   same_incarnation = refl;
+  references = refl;
 })
 
 pub may_write_taken : (v : ClientState) (txn p g : ℕ) (copies : CacheState) → v.welcomed ≡ true → answers_ask v txn p g ≡ true
@@ -434,6 +446,7 @@ may_write_taken v txn p g copies welcomed answers d = takes v (record v { copies
   limits = d.limits;
   same_no = refl;
   same_incarnation = refl;
+  references = d.references;
 })
   where
     same : unwrap_or v.txn 0 ≡ txn

@@ -1,14 +1,15 @@
 -- What a client does, by the protocol's tables.
-use Rattle.std.specs.Prelude.{◌≡◌, ℕ, List, [], map, Option}
-use Rattle.cb_cache.specs.CacheState.{limits_of}
+use Rattle.std.specs.Prelude.{◌≡◌, ℕ, List, [], ◌∷◌, ◌++◌, map, Option, if◌then◌else◌}
+use Rattle.cb_cache.specs.CacheState.{limits_of, referred_pages}
 use Rattle.cb_protocol.specs.Answers as table
 use Rattle.cb_protocol.specs.Basics.{Limits}
 use Rattle.cb_protocol.specs.Client.{Client, ClientStep, bodies_said, client_after}
-use Rattle.cb_protocol.specs.ClientCalls.{Call, client_call}
+use Rattle.cb_protocol.specs.ClientCalls.{Call, CallRead, client_call}
 use Rattle.cb_protocol.specs.ClientMessages.{ChoiceAllowed, client_take}
-use Rattle.cb_protocol.specs.Messages.{Body, Message}
+use Rattle.cb_protocol.specs.Messages.{Body, Granted, Message}
 use Rattle.cb_protocol.specs.Serial.{Operation}
 use Rattle.cb_client_core.specs.ClientState.{ClientState, client_of}
+use Rattle.cb_client_core.specs.Room.{brings_in}
 
 -- the protocol's limits of the client
 abbrev pub limits_at : ClientState → Limits
@@ -27,6 +28,21 @@ as_before operations = operations
 abbrev pub over : List Operation → List Operation
 over operations = []
 
+-- the pages that the client referred to since its incarnation began, in their order
+abbrev pub references_of : ClientState → List ℕ
+references_of client = referred_pages client.copies
+
+-- the references once a call was answered so: a page that was read is one more
+abbrev pub with_read : table.AnswerWord → Call → List ℕ → List ℕ
+with_read (table.AnsweredBytes bytes) (CallRead page) pages = pages ++ page ∷ []
+with_read answered call pages = pages
+
+-- the references once a message was taken: a page that it brings into the pool is one more
+abbrev pub with_brought : ClientState → Body → List ℕ → List ℕ
+with_brought client (Granted page grant version bytes) pages =
+    if brings_in client (Granted page grant version bytes) then pages ++ page ∷ [] else pages
+with_brought client message pages = pages
+
 -- The client makes these steps, which say those messages, and becomes the new one, whatever
 -- operations its transaction did; `history` is what becomes of these.
 pub record Makes (old : ClientState) (steps : Client → List ClientStep) (messages : List Message)
@@ -41,7 +57,8 @@ pub record Makes (old : ClientState) (steps : Client → List ClientStep) (messa
   pub no : new.no ≡ old.no
   pub incarnation : new.incarnation ≡ old.incarnation
 
--- To this call the client answers that word and does what the protocol's table of calls says.
+-- To this call the client answers that word and does what the protocol's table of calls says. Only
+-- a read that is answered with the page's bytes is a reference, to that page.
 pub record Calls (old : ClientState) (call : Call) (answered : table.AnswerWord)
     (messages : List Message) (history : List Operation → List Operation) (new : ClientState)
     : Type 0 where
@@ -49,9 +66,10 @@ pub record Calls (old : ClientState) (call : Call) (answered : table.AnswerWord)
       → (client_call (limits_at old) (client_of old operations) call).word ≡ answered
   pub makes : Makes old (λ client. (client_call (limits_at old) client call).steps) messages history
       new
+  pub references : references_of new ≡ with_read answered call (references_of old)
 
 -- This message is taken as the protocol's table of messages says, at some page that its pool may
--- let go.
+-- let go. Only one that brings a page into the pool is a reference, to that page.
 pub record Takes (old : ClientState) (message : Body) (messages : List Message)
     (new : ClientState) : Type 0 where
   pub let_go : Option ℕ
@@ -60,6 +78,7 @@ pub record Takes (old : ClientState) (message : Body) (messages : List Message)
   pub history : List Operation → List Operation
   pub makes : Makes old (λ client. client_take (limits_at old) client message let_go) messages
       history new
+  pub references : references_of new ≡ with_brought old message (references_of old)
 
 -- The call was answered, as `Calls` says; the answer, the messages and the history are those of the
 -- table.

@@ -43,6 +43,10 @@ impl<Q: Chooser> Chooser for Noting<Q> {
 
     ghost slots = { Q.slots };
 
+    ghost refers = { Q.refers };
+
+    ghost takes_out = { Q.takes_out };
+
     fn make(alloc: Global, limits: &Limits) -> Result<Noting<Q>, AllocError> {
         Noting::new(alloc, Q::make(alloc, limits)?, 0)
     }

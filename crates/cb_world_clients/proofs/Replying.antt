@@ -4,7 +4,7 @@ use Rattle.std.specs.Prelude.{IfOk, OnErr}
 use Rattle.std.specs.Option.{is_some, option_map}
 use Rattle.std.specs.List.{AllByRecursion}
 use Rattle.std.proofs.lemmas.Result.{IfOk-weaker, on_err_weaker}
-use Rattle.cb_client.specs.ByTable.{Called, Calls, IsRefusal, IsRefused, RefusesOrLacks, as_before, limits_at, messages_from, refusal}
+use Rattle.cb_client.specs.ByTable.{Called, Calls, IsRefusal, IsRefused, RefusesOrLacks, as_before, limits_at, messages_from, references_of, refusal, with_read}
 use Rattle.cb_client.specs.CallAnswers.{Answers, ShortFrameFits, after_read, page_asked, page_read, read_ask, short_message}
 use Rattle.cb_client.specs.ClientState.{ClientState, ask_of, client_of}
 use Rattle.cb_client.specs.declared.client_fault.ClientFault.{ClientFault}
@@ -74,6 +74,7 @@ table_refuses old call reason is = record {
     no = refl;
     incarnation = refl;
   };
+  references = refl;
 }
   where
     at : (operations : List Operation) → client_call (limits_at old) (client_of old operations) call ≡ reply_with (table.Refused reason) []
@@ -212,6 +213,7 @@ called_so old new call word messages called answers = record {
     no = called.calls.makes.no;
     incarnation = called.calls.makes.incarnation;
   };
+  references = called.calls.references ∙ ap (λ (a : table.AnswerWord). with_read a call (references_of old)) (sym (called.calls.word []) ∙ answers.word []);
 }
 
 -- a read that found the page's bytes

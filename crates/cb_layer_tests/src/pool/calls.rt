@@ -1,8 +1,8 @@
-//! What no clause of the pool says: which calls are references, and that each call succeeds; and a
-//! caller that hits and peeks.
+//! What no clause of the pool says: that each call succeeds, and that the chooser in it is the one
+//! that was handed in; and a caller that hits and peeks.
 
 ghost use Rattle.std.specs.Prelude.{◌≡◌, ◌<◌, ◌≤◌, length, true, IfOk, []};
-ghost use Rattle.cb_pool.specs.PoolState.{empty_pool};
+ghost use Rattle.cb_pool.specs.PoolState.{empty_pool, referred};
 
 use crate::pool::{Called, Recorder};
 use cb_page::{Limits, Page, PageNo, PageSet};
@@ -16,7 +16,7 @@ use std::test::Fail;
 /// A caller of the pool. It hits a page and, once that loan is over, peeks at it: it still knows
 /// all that it knew of the pool, so that both loans are known to be as long.
 fn hit_then_peek<Q: Chooser>(pool: &mut Pool<Q>, page: PageNo) -> bool
-    ensures kept { pool.new ≡ pool.old }
+    ensures kept { pool.new ≡ referred pool.old page }
     ensures same { result ≡ true }
 {
     let hit = match pool.hit(page) {

@@ -1,6 +1,8 @@
 //! A chooser that isn't 2Q, and promises the law alone: the unfixed page that came in first is let
 //! go.
 
+ghost use Rattle.std.specs.Prelude.{⊤};
+
 use cb_page::{Limits, PageNo, PageSet};
 use cb_twoq::{ChooseFault, Chooser, is_on, oldest_unfixed, take_off};
 use std::alloc::{AllocError, Global};
@@ -29,6 +31,10 @@ impl Chooser for Fifo {
     ghost members = { λ fifo. fifo.1 };
 
     ghost slots = { λ fifo. fifo.0 };
+
+    ghost refers = { λ _ _ _ _ _. ⊤ };
+
+    ghost takes_out = { λ _ _ _. ⊤ };
 
     fn make(alloc: Global, limits: &Limits) -> Result<Fifo, AllocError> {
         Ok(Fifo {

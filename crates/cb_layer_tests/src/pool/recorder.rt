@@ -56,6 +56,10 @@ impl<Q: Chooser> Chooser for Recorder<Q> {
 
     ghost slots = { Q.slots };
 
+    ghost refers = { Q.refers };
+
+    ghost takes_out = { Q.takes_out };
+
     fn make(alloc: Global, limits: &Limits) -> Result<Recorder<Q>, AllocError> {
         Ok(Recorder::new(alloc, Q::make(alloc, limits)?))
     }

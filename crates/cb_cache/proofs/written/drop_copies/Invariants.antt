@@ -2,6 +2,7 @@
 use Rattle.std.proofs.Common.{◌≡◌, ◌<◌, ◌≤◌, ◌+◌, ◌-◌, ℕ, length, None, if◌then◌else◌}
 use Rattle.cb_page.specs.Flags.{has}
 use Rattle.cb_pool.specs.PoolState.{copy_of}
+use Rattle.cb_twoq.specs.Calls.{references_in}
 use Rattle.cb_cache.specs.Rows.{row_at}
 use Rattle.cb_cache.proofs.written.drop_copies.Given as goal
 
@@ -20,6 +21,7 @@ invariant-loop-page g l = record {
   pool_count : length l.pool.pages ≡ length l.initial.pool.pages;
   below : (p : ℕ) → p < l.from → copy_of l.pool p ≡ (if has l.pages p then None else copy_of l.initial.pool p);
   above : (p : ℕ) → l.from ≤ p → copy_of l.pool p ≡ copy_of l.initial.pool p;
+  references : references_in l.pool.calls ≡ references_in l.initial.pool.calls;
 }
 
 abbrev pub decreases-loop-page : goal.decreases-loop-page

@@ -15,7 +15,7 @@ returns-clause-full g c = rw (← c.self.view_is) (full_by _ c.self.invariant c.
 
 pub invariant_of-self-2 : goal.invariant_of-self-2
 invariant_of-self-2 g c = rw (c.put.ensures, c.at-copy.ensures, c.in_ok-gone.ensures.pages)
-    (keeps_installed _ c.args.page c.args.grant c.args.version c.args.bytes c.in_ok-gone.gone (rw (← c.self.view_is) at c.requires.page) c.self.invariant c.in_ok-gone.ensures.gone)
+    (keeps_installed _ c.args.page c.args.grant c.args.version c.args.bytes c.in_ok-gone.gone _ (rw (← c.self.view_is) at c.requires.page) c.self.invariant c.in_ok-gone.ensures.gone)
 
 pub returns-clause-ok : goal.returns-clause-ok
 returns-clause-ok g c = rw (c.put.ensures, c.at-copy.ensures, c.in_ok-gone.ensures.pages, ← c.self.view_is)
