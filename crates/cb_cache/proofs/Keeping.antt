@@ -1,11 +1,11 @@
 -- What holds of copies holds once a new copy came.
-use Rattle.std.proofs.Common.{◌≡◌, ◌≢◌, ◌<◌, ℕ, Bool, true, false, nat_eq, List, length, slice_set, slice_index_or, Option, Some, None, refl, sym, subst, ◌∙◌, ap, arith}
+use Rattle.std.proofs.Common.{◌≡◌, ◌≢◌, ◌<◌, ℕ, Bool, true, false, nat_eq, List, length, slice_set, slice_index_or, Option, Some, None, Result, Ok, Err, IfOk, OnErr, refl, sym, subst, ◌∙◌, ap, arith}
 use Rattle.std.proofs.Math.ListN.{length-set}
 use Rattle.std.proofs.lemmas.List.{get_or-set_same, get_or-set_other}
 use Rattle.std.proofs.lemmas.Grind.{common_steps}
 use Rattle.std.specs.Option.{is_some}
 use Rattle.cb_page.specs.Flags as flags
-use Rattle.cb_pool.specs.PoolState.{let_go, MayGo}
+use Rattle.cb_pool.specs.PoolState.{PoolState, let_go, MayGo, with_reference}
 use Rattle.cb_twoq.specs.Calls.{Calls}
 use Rattle.cb_protocol.specs.Basics.{Bytes}
 use Rattle.cb_cache.specs.declared.table.PageCopy.{PageCopy}
@@ -40,6 +40,27 @@ module _ (pages : List (Option Bytes)) (page : ℕ) (bytes : Bytes) (below : pag
       let n : p ≢ g = λ same. stays (ap Some (sym same)) in
       ap is_some (get_or-set_other (slice_set pages g None) page p (Some bytes) None other) ∙ ap is_some (get_or-set_other pages g p None None n) ∙ e
 
+-- what goes is fixed neither by a write nor otherwise
+goes_unwritten : (v : CacheState) (page p : ℕ) (g : Option ℕ) → AreCopies v → flags.has v.wrote p ≡ true → MayGo v.pool page g → g ≢ Some p
+goes_unwritten v page p None are there m e = absurd (cc)
+goes_unwritten v page p (Some g) are there m e =
+    let same : g ≡ p = cc in
+    let free : flags.has v.pool.fixed p ≡ false = subst (λ q. flags.has v.pool.fixed q ≡ false) same m.3 in
+    absurd (let f = are.fixed p in grind (arith, common_steps))
+
+-- what the transaction wrote is in the pool still
+wrote_stays : (v : CacheState) (page : ℕ) (bytes : Bytes) (gone : Option ℕ) → page < length v.pool.pages → AreCopies v → MayGo v.pool page gone
+    → (p : ℕ) → flags.has v.wrote p ≡ true → is_some (slice_index_or (slice_set (let_go gone v.pool.pages) page (Some bytes)) p None) ≡ true
+wrote_stays v page bytes gone pages are may p there = by (nat_eq p page) refl
+  where
+    by : (b : Bool) → nat_eq p page ≡ b → is_some (slice_index_or (slice_set (let_go gone v.pool.pages) page (Some bytes)) p None) ≡ true
+    by true e =
+        let same : p ≡ page = grind (arith, common_steps) in
+        subst (λ q. is_some (slice_index_or (slice_set (let_go gone v.pool.pages) page (Some bytes)) q None) ≡ true) (sym same) (here_put v.pool.pages page bytes pages gone)
+    by false e =
+        let other : p ≢ page = grind (arith, common_steps) in
+        stays_here v.pool.pages page bytes pages gone p other (goes_unwritten v page p gone are there may) (are.wrote_here p there)
+
 pub keeps_installed : (v : CacheState) (page grant version : ℕ) (bytes : Bytes) (gone : Option ℕ) (calls : Calls) → page < v.limits.pages → AreCopies v → MayGo v.pool page gone
     → AreCopies (record v {
       rows = slice_set v.rows page (record (copy_at v page) { seen = Some grant; held = Some grant; version = version });
@@ -59,7 +80,7 @@ keeps_installed v page grant version bytes gone calls lt are may = record {
   };
   here_held = λ p here. held_at p (λ other. are.here_held p (was_here v.pool.pages page bytes pages gone p other here));
   permitted_held = λ p there. held_at p (λ other. are.permitted_held p there);
-  wrote_here = λ p there. here_at p there (nat_eq p page) refl;
+  wrote_here = λ p there. wrote_stays v page bytes gone pages are may p there;
   fixed = are.fixed;
 }
   where
@@ -83,22 +104,6 @@ keeps_installed v page grant version bytes gone calls lt are may = record {
             let other : p ≢ page = grind (arith, common_steps) in
             ap (λ (c : PageCopy). is_some c.held) (get_or-set_other v.rows page p new no_copy other) ∙ was other
 
-    -- what goes is fixed neither by a write nor otherwise
-    stays : (p : ℕ) (g : Option ℕ) → flags.has v.wrote p ≡ true → MayGo v.pool page g → g ≢ Some p
-    stays p None there m e = absurd (cc)
-    stays p (Some g) there m e =
-        let same : g ≡ p = cc in
-        let free : flags.has v.pool.fixed p ≡ false = subst (λ q. flags.has v.pool.fixed q ≡ false) same m.3 in
-        absurd (let f = are.fixed p in grind (arith, common_steps))
-
-    here_at : (p : ℕ) → flags.has v.wrote p ≡ true → (b : Bool) → nat_eq p page ≡ b → is_some (slice_index_or (slice_set (let_go gone v.pool.pages) page (Some bytes)) p None) ≡ true
-    here_at p there true e =
-        let same : p ≡ page = grind (arith, common_steps) in
-        subst (λ q. is_some (slice_index_or (slice_set (let_go gone v.pool.pages) page (Some bytes)) q None) ≡ true) (sym same) (here_put v.pool.pages page bytes pages gone)
-    here_at p there false e =
-        let other : p ≢ page = grind (arith, common_steps) in
-        stays_here v.pool.pages page bytes pages gone p other (stays p gone there may) (are.wrote_here p there)
-
 -- what holds of copies holds once a call of the pool's chooser is told
 pub keeps_called : (v : CacheState) (calls : Calls) → AreCopies v → AreCopies (record v { pool = record v.pool { calls = calls } })
 keeps_called v calls are = record {
@@ -118,3 +123,37 @@ keeps_called v calls are = record {
   wrote_here = are.wrote_here;
   fixed = are.fixed;
 }
+
+-- once bytes came for a copy that is held
+pub keeps_filled : (v : CacheState) (page : ℕ) (bytes : Bytes) (gone : Option ℕ) (calls : Calls) → page < v.limits.pages → is_some (copy_at v page).held ≡ true → AreCopies v → MayGo v.pool page gone
+    → AreCopies (record v { pool = record v.pool { pages = slice_set (let_go gone v.pool.pages) page (Some bytes); calls = calls } })
+keeps_filled v page bytes gone calls lt held are may = record {
+  limits = are.limits;
+  sizes = record {
+    rows = are.sizes.rows;
+    may_write = are.sizes.may_write;
+    wrote = are.sizes.wrote;
+    wanted = are.sizes.wanted;
+    pages = length-set (let_go gone v.pool.pages) page (Some bytes) ∙ length_let_go gone v.pool.pages ∙ are.sizes.pages;
+    fixed = are.sizes.fixed;
+    slots = are.sizes.slots;
+    page_size = are.sizes.page_size;
+  };
+  here_held = λ p here. held_at p here (nat_eq p page) refl;
+  permitted_held = are.permitted_held;
+  wrote_here = λ p there. wrote_stays v page bytes gone pages are may p there;
+  fixed = are.fixed;
+}
+  where
+    pages : page < length v.pool.pages
+    pages = let r = are.sizes.pages in omega arith
+
+    held_at : (p : ℕ) → is_some (slice_index_or (slice_set (let_go gone v.pool.pages) page (Some bytes)) p None) ≡ true → (b : Bool) → nat_eq p page ≡ b → is_some (copy_at v p).held ≡ true
+    held_at p here true e = let same : p ≡ page = grind (arith, common_steps) in subst (λ q. is_some (copy_at v q).held ≡ true) (sym same) held
+    held_at p here false e = let other : p ≢ page = grind (arith, common_steps) in are.here_held p (was_here v.pool.pages page bytes pages gone p other here)
+
+pub keeps_fill : (v : CacheState) (page : ℕ) (bytes : Bytes) {F : Type 0} (result : Result (Option ℕ) F) (new : PoolState) → page < v.limits.pages → is_some (copy_at v page).held ≡ true → AreCopies v
+    → IfOk result (λ gone. new ≡ record v.pool { pages = slice_set (let_go gone v.pool.pages) page (Some bytes); calls = with_reference v.pool page }) → IfOk result (MayGo v.pool page)
+    → OnErr result (new ≡ v.pool) → AreCopies (record v { pool = new })
+keeps_fill v page bytes (Ok gone) new lt held are pages may same = rw pages (keeps_filled v page bytes gone (with_reference v.pool page) lt held are may)
+keeps_fill v page bytes (Err fault) new lt held are pages may same = rw same are

@@ -3,8 +3,8 @@ use Rattle.std.proofs.Common.{◌≡◌, ◌≢◌, ◌<◌, ℕ, Bool, true, fa
 use Rattle.cb_pool.specs.PoolState.{PoolState, let_go, MayGo, with_reference, with_removal}
 use Rattle.cb_twoq.proofs.Called.{refers_more, refers_none}
 use Rattle.cb_protocol.specs.Basics.{Bytes, update}
-use Rattle.cb_protocol.specs.Cache.{Abandon, Fill, Install, LetGo, MakeBare, RefuseGrant, TakePermission, WriteBytes}
-use Rattle.cb_protocol.specs.Client.{ChangeCache, Client, ClientStep, EndTransaction, LastOutcome, client_after}
+use Rattle.cb_protocol.specs.Cache.{Abandon, Fill, Install, LetGo, MakeBare, RefuseGrant, TakePermission, WriteBytes, YieldPermission}
+use Rattle.cb_protocol.specs.Client.{ChangeCache, Client, ClientStep, EndTransaction, LastOutcome, MarkWanted, client_after}
 use Rattle.cb_cache.specs.declared.table.PageCopy.{PageCopy}
 use Rattle.cb_cache.specs.Rows.{Dropped, row_at}
 use Rattle.cb_cache.specs.CacheState.{AreCopies, CacheState, Emptied, HaveSizes, client_with, copy_at}
@@ -100,6 +100,28 @@ writes v page bytes fixed lt sizes =
           wrote = λ q. put_entry false v.wrote page q true marked i;
         };
       };
+      limits = refl;
+      references = refl;
+    }
+
+pub yields : (v : CacheState) (page : ℕ) → page < v.limits.pages → HaveSizes v
+    → Does v (ChangeCache (YieldPermission page) ∷ []) (record v { may_write = slice_set v.may_write page false })
+yields v page lt sizes =
+    let permitted : page < length v.may_write = let r = sizes.may_write in omega arith in
+    record {
+      becomes = λ client i. record (client_with v client) {
+        cache = record (client_with v client).cache { may_write = λ q. put_entry false v.may_write page q false permitted i };
+      };
+      limits = refl;
+      references = refl;
+    }
+
+pub wants : (v : CacheState) (page : ℕ) (fixed : List Bool) → page < v.limits.pages → HaveSizes v
+    → Does v (MarkWanted page ∷ []) (record v { wanted = slice_set v.wanted page true; pool = record v.pool { fixed = fixed } })
+wants v page fixed lt sizes =
+    let marked : page < length v.wanted = let r = sizes.wanted in omega arith in
+    record {
+      becomes = λ client i. record (client_with v client) { wanted = λ q. put_entry false v.wanted page q true marked i };
       limits = refl;
       references = refl;
     }

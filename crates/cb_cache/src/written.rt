@@ -9,7 +9,6 @@ use cb_pool::Pool;
 use cb_twoq::Chooser;
 
 /// Drops the copies of these pages.
-#[tactic(auto, using(cb_twoq::proofs::Called::refers_none))]
 pub(crate) fn drop_copies<Q: Chooser>(table: &mut CopyTable, pool: &mut Pool<Q>, pages: &PageSet)
     requires rows { length pages.now ≤ length table.old }
     requires fixed { length pages.now ≤ length pool.old.fixed }

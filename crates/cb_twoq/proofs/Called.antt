@@ -1,5 +1,5 @@
 -- Histories of calls, one call longer, and what they make of 2Q.
-use Rattle.std.proofs.Common.{◌≡◌, ℕ, Bool, List, [], ◌∷◌, ◌++◌, Option, Some, refl, sym, subst, ap, ◌∙◌}
+use Rattle.std.proofs.Common.{◌≡◌, ℕ, Bool, List, [], ◌∷◌, ◌++◌, Some, refl, sym, subst, ap, ◌∙◌}
 use Rattle.cb_twoq.specs.declared.chooser.Chooser as chooser
 use Rattle.cb_twoq.specs.declared.chooser.ChooserCall.{ChooserCall}
 use Rattle.cb_twoq.specs.Calls.{Calls, IsLed, Leads, Makes, lists_after, or_these, references_in}

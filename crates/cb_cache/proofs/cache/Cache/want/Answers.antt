@@ -1,7 +1,6 @@
 -- Goals of `Cache::want`.
-use Rattle.std.proofs.Common.{arith}
-use Rattle.std.proofs.lemmas.Grind.{common_steps}
+use Rattle.cb_cache.proofs.Steps.{wants}
 use Rattle.cb_cache.proofs.cache.Cache.want.Goals as goal
 
 pub returns : goal.returns
-returns g c = grind (arith, common_steps)
+returns g c = rw (c.fix.ensures, c.insert.ensures, ← c.self.view_is) (wants _ c.args.page _ (rw (← c.self.view_is) at c.requires) c.self.invariant.sizes)

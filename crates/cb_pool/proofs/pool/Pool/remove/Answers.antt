@@ -1,5 +1,5 @@
 -- Goals of `Pool::remove`.
-use Rattle.std.proofs.Common.{◌≡◌, ◌<◌, length, rules, ap}
+use Rattle.std.proofs.Common.{◌<◌, length, rules, ap}
 use Rattle.cb_pool.specs.PoolState.{PoolState}
 use Rattle.cb_twoq.proofs.Called.{led_on}
 use Rattle.cb_pool.proofs.Agreeing.{recorded, removed}
