@@ -1,5 +1,5 @@
 -- What the table says of reading, wanting and writing a page.
-use Rattle.std.proofs.Common.{if◌then◌else◌, ◌≡◌, ◌<◌, ◌==◌, ◌&&◌, ℕ, Bool, true, false, List, [], ◌∷◌, length, slice_set, Option, Some, None, unwrap_or, refl, sym, ◌∙◌, ap, subst}
+use Rattle.std.proofs.Common.{if◌then◌else◌, ◌≡◌, ◌<◌, ◌==◌, ◌&&◌, ℕ, Bool, true, false, List, [], ◌∷◌, ◌++◌, length, slice_set, Option, Some, None, unwrap_or, refl, sym, ◌∙◌, ap, subst}
 use Rattle.std.proofs.Math.ListN.{length-set}
 use Rattle.std.specs.Option.{is_some}
 use Rattle.cb_page.specs.Flags.{has}
@@ -24,6 +24,8 @@ use Rattle.cb_client.proofs.CallSteps.{FindsNone, accepted, accepts, refused}
 use Rattle.cb_client.proofs.Refusals.{FirstIs, FreeIs, fetch_full, fetch_here, fetch_is, fetch_room, fetch_shut, of_page, page_within}
 use Rattle.cb_client_core.proofs.Keeping.{keeps}
 use Rattle.cb_twoq.proofs.Called.{refers_more}
+use Rattle.cb_twoq.specs.Calls.{references_in}
+use Rattle.cb_twoq.specs.declared.chooser.ChooserCall.TheVariants.{Reference}
 use Rattle.cb_client_core.proofs.Reaching.{calls_reach}
 
 -- a refused call answers so, and changes nothing
@@ -66,7 +68,8 @@ reads v page h lt here = accepted v (page_read v page) (CallRead page) (table.An
   limits = refl;
   same_no = refl;
   same_incarnation = refl;
-  references = rw here (refers_more v.copies.pool.calls page v.copies.pool.fixed);
+  references = ap (λ (b : Bool). references_in (if b then v.copies.pool.calls ++ (Reference page, v.copies.pool.fixed) ∷ [] else v.copies.pool.calls)) here
+      ∙ refers_more v.copies.pool.calls page v.copies.pool.fixed;
 })
 
 -- a read where they are not

@@ -35,13 +35,13 @@ references_of client = referred_pages client.copies
 -- the references once a call was answered so: a page that was read is one more
 abbrev pub with_read : table.AnswerWord → Call → List ℕ → List ℕ
 with_read (table.AnsweredBytes bytes) (CallRead page) pages = pages ++ page ∷ []
-with_read answered call pages = pages
+with_read _ _ pages = pages
 
 -- the references once a message was taken: a page that it brings into the pool is one more
 abbrev pub with_brought : ClientState → Body → List ℕ → List ℕ
 with_brought client (Granted page grant version bytes) pages =
     if brings_in client (Granted page grant version bytes) then pages ++ page ∷ [] else pages
-with_brought client message pages = pages
+with_brought _ _ pages = pages
 
 -- The client makes these steps, which say those messages, and becomes the new one, whatever
 -- operations its transaction did; `history` is what becomes of these.
