@@ -1,10 +1,10 @@
 -- Goals of `read`.
 use Rattle.cb_protocol.specs.Answers.{AnsweredBytes, Asked}
 use Rattle.cb_protocol.specs.ClientCalls.{CallRead}
-use Rattle.std.proofs.Common.{Ok, ◌∙◌, subst}
+use Rattle.std.proofs.Common.{rules, ◌≡◌, Ok, ◌∙◌, subst}
 use Rattle.cb_client.specs.CallAnswers.{AnswersRead}
 use Rattle.cb_client.specs.declared.answers.ReadAnswer.{ReadAnswer}
-use Rattle.cb_world_clients.proofs.Replying.{ask_is_out, asked_reply, read_refused, refusal_reply, refusal_told, said_nothing}
+use Rattle.cb_world_clients.proofs.Replying.{ask_is_out, asked_reply, read_refused, read_reply, refusal_reply, refusal_told, said_nothing}
 use Rattle.cb_world_clients.proofs.calling.read.Goals as goal
 
 pub returns-in-Err-clause-ok : goal.returns-in-Err-clause-ok
@@ -35,3 +35,10 @@ pub returns-in_err-copy-in-Ok-Bytes-clause-fails : goal.returns-in_err-copy-in-O
 returns-in_err-copy-in-Ok-Bytes-clause-fails g c =
     said_nothing c.args.client.now (CallRead c.args.page) (AnsweredBytes c.in-Ok-Bytes.bytes.now) c.from_residual.result
     (subst (λ (x : ReadAnswer). AnswersRead c.args.client.now c.args.page (Ok x)) c.in-Ok-Bytes.field-0-is c.in-Ok-Bytes.ensures.answer).word (λ reason e. cc)
+
+pub returns-in-Ok-Bytes-clause-ok : goal.returns-in-Ok-Bytes-clause-ok
+returns-in-Ok-Bytes-clause-ok g c =
+    let copied : c.in_ok-copy-in-Ok-Bytes.copy ≡ c.in-Ok-Bytes.bytes.now = search rules in
+    let answers = subst (λ (x : ReadAnswer). AnswersRead c.args.client.now c.args.page (Ok x)) c.in-Ok-Bytes.field-0-is c.in-Ok-Bytes.ensures.answer in
+    read_reply c.args.client.now c.read.follows.lender-at-none c.args.page c.in-Ok-Bytes.bytes.now c.in_ok-copy-in-Ok-Bytes.copy c.silent.result c.in-Ok-Bytes.ensures.by_table answers
+    c.read.follows.holds-at-none copied c.silent.ensures.word c.silent.ensures.said
