@@ -5,6 +5,7 @@ ghost use Rattle.cb_handle.specs.Faults.{fault_text};
 ghost use Rattle.rughvadi.specs.Heads.{Heads, IsHeadOf, head_cause};
 ghost use Rattle.rughvadi.specs.Limits.{bounds_of};
 
+use crate::answers::answer;
 use crate::limits::{StoreLimits, limits_of};
 use cb_frame::{Frame, decode};
 use cb_handle::{Refusal, fault_text};
@@ -75,10 +76,7 @@ pub extern "C" fn rughvadi_frame_read(
         result }
     ensures kept { result ≢ 0 → head.new ≡ head.old }
 {
-    match read(alloc, limits, bytes, head) {
-        Ok(()) => 0,
-        Err(refusal) => refusal.number(),
-    }
+    answer(read(alloc, limits, bytes, head))
 }
 
 /// The version of these calls. It changes where a call changes what it takes or does.

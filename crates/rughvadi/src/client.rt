@@ -8,6 +8,7 @@ ghost use Rattle.cb_handle.specs.Objects.{Reads, ShowsOutcome, ShowsPermission, 
 ghost use Rattle.cb_handle.specs.Objects.{Wants, Writes};
 ghost use Rattle.rughvadi.specs.Limits.{bounds_of};
 
+use crate::answers::answer;
 use crate::held::Handle;
 use crate::limits::{StoreLimits, boxed, limits_of};
 use cb_handle::{Object, Refusal};
@@ -125,10 +126,7 @@ pub extern "C" fn rughvadi_client_hello(alloc: Global, h: &mut Handle) -> u32
     };
     let done = b.hello();
     *h = Handle::of(b);
-    match done {
-        Ok(()) => 0,
-        Err(refusal) => refusal.number(),
-    }
+    answer(done)
 }
 
 /// Begins a transaction; its number.
@@ -147,10 +145,7 @@ pub extern "C" fn rughvadi_client_begin(alloc: Global, h: &mut Handle, txn: &mut
     };
     let done = b.begin(txn);
     *h = Handle::of(b);
-    match done {
-        Ok(()) => 0,
-        Err(refusal) => refusal.number(),
-    }
+    answer(done)
 }
 
 /// Reads a page: its bytes are in the room where `here` is true, else it is asked for.
@@ -178,10 +173,7 @@ pub extern "C" fn rughvadi_client_read(
     };
     let done = b.read(page, room, here);
     *h = Handle::of(b);
-    match done {
-        Ok(()) => 0,
-        Err(refusal) => refusal.number(),
-    }
+    answer(done)
 }
 
 /// Wants to write a page: it may at once where `may` is true, else that is asked for.
@@ -205,10 +197,7 @@ pub extern "C" fn rughvadi_client_want(
     };
     let done = b.want(page, may);
     *h = Handle::of(b);
-    match done {
-        Ok(()) => 0,
-        Err(refusal) => refusal.number(),
-    }
+    answer(done)
 }
 
 /// Writes a page.
@@ -231,10 +220,7 @@ pub extern "C" fn rughvadi_client_write(
     };
     let done = b.write(page, bytes);
     *h = Handle::of(b);
-    match done {
-        Ok(()) => 0,
-        Err(refusal) => refusal.number(),
-    }
+    answer(done)
 }
 
 /// Commits the transaction.
@@ -253,10 +239,7 @@ pub extern "C" fn rughvadi_client_finish(alloc: Global, h: &mut Handle) -> u32
     };
     let done = b.finish(alloc);
     *h = Handle::of(b);
-    match done {
-        Ok(()) => 0,
-        Err(refusal) => refusal.number(),
-    }
+    answer(done)
 }
 
 /// Ends the transaction without a commit.
@@ -274,10 +257,7 @@ pub extern "C" fn rughvadi_client_drop(alloc: Global, h: &mut Handle) -> u32
     };
     let done = b.drop_txn(alloc);
     *h = Handle::of(b);
-    match done {
-        Ok(()) => 0,
-        Err(refusal) => refusal.number(),
-    }
+    answer(done)
 }
 
 /// The bytes of the client's copy of a page, which is no reference to it.
@@ -302,8 +282,5 @@ pub extern "C" fn rughvadi_client_peek(
     };
     let done = b.peek(page, room);
     *h = Handle::of(b);
-    match done {
-        Ok(()) => 0,
-        Err(refusal) => refusal.number(),
-    }
+    answer(done)
 }

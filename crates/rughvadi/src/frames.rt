@@ -4,6 +4,7 @@ ghost use Rattle.cb_handle.specs.Causes.{IsAnswer, again_cause, again_may, fetch
 ghost use Rattle.cb_handle.specs.Causes.{take_cause, take_may};
 ghost use Rattle.cb_handle.specs.Objects.{FetchesOne, IsLeft, SaysAgain, Takes};
 
+use crate::answers::answer;
 use crate::held::Handle;
 use cb_handle::Refusal;
 use std::alloc::Global;
@@ -30,10 +31,7 @@ pub extern "C" fn rughvadi_take(
     };
     let done = b.take(alloc, bytes, used);
     *h = Handle::of(b);
-    match done {
-        Ok(()) => 0,
-        Err(refusal) => refusal.number(),
-    }
+    answer(done)
 }
 
 /// Fetches the oldest frame that was said, to the beginning of the room: how many bytes it has,
@@ -63,10 +61,7 @@ pub extern "C" fn rughvadi_next(
     };
     let done = b.fetch(alloc, room, size, client);
     *h = Handle::of(b);
-    match done {
-        Ok(()) => 0,
-        Err(refusal) => refusal.number(),
-    }
+    answer(done)
 }
 
 /// What may be lost is said again.
@@ -85,10 +80,7 @@ pub extern "C" fn rughvadi_again(alloc: Global, h: &mut Handle) -> u32
     };
     let done = b.again(alloc);
     *h = Handle::of(b);
-    match done {
-        Ok(()) => 0,
-        Err(refusal) => refusal.number(),
-    }
+    answer(done)
 }
 
 /// Lets the object go; nothing is held then.

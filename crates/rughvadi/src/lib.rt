@@ -11,6 +11,7 @@
 #![tactic(auto)]
 
 mod alone;
+mod answers;
 mod client;
 mod crossing;
 mod frames;

@@ -5,6 +5,7 @@ ghost use Rattle.cb_handle.specs.Causes.{serve_cause};
 ghost use Rattle.cb_handle.specs.Objects.{AddsRow, IsLeft, Opens, Serves};
 ghost use Rattle.rughvadi.specs.Limits.{bounds_of};
 
+use crate::answers::answer;
 use crate::held::Handle;
 use crate::limits::{StoreLimits, boxed, limits_of};
 use cb_handle::{Object, Refusal};
@@ -69,10 +70,7 @@ pub extern "C" fn rughvadi_open_row(
     };
     let done = b.row(alloc, version, bytes);
     *h = Handle::of(b);
-    match done {
-        Ok(()) => 0,
-        Err(refusal) => refusal.number(),
-    }
+    answer(done)
 }
 
 /// The server over the rows. Where memory is refused the rows are gone, and the handle is empty.

@@ -8,6 +8,7 @@ ghost use Rattle.cb_handle.specs.Objects.{IsNextIncarnation, Leaves, MakesBatch,
 ghost use Rattle.cb_handle.specs.Objects.{ShowsPage};
 ghost use Rattle.rughvadi.specs.Limits.{bounds_of};
 
+use crate::answers::answer;
 use crate::held::Handle;
 use crate::limits::{StoreLimits, boxed, limits_of};
 use cb_handle::{Object, Refusal};
@@ -114,10 +115,7 @@ pub extern "C" fn rughvadi_server_batch(
     };
     let done = b.batch(alloc, number, pages);
     *h = Handle::of(b);
-    match done {
-        Ok(()) => 0,
-        Err(refusal) => refusal.number(),
-    }
+    answer(done)
 }
 
 /// A page of the batch, by its place: its number, its version and its bytes.
@@ -146,10 +144,7 @@ pub extern "C" fn rughvadi_server_page(
     };
     let done = b.batch_page(at, room, page, version);
     *h = Handle::of(b);
-    match done {
-        Ok(()) => 0,
-        Err(refusal) => refusal.number(),
-    }
+    answer(done)
 }
 
 /// The commits up to this number are on disk now: Done is said for each that wasn't before.
@@ -167,10 +162,7 @@ pub extern "C" fn rughvadi_server_flushed(alloc: Global, h: &mut Handle, number:
     };
     let done = b.flushed(alloc, number);
     *h = Handle::of(b);
-    match done {
-        Ok(()) => 0,
-        Err(refusal) => refusal.number(),
-    }
+    answer(done)
 }
 
 /// The commits up to this number, which is on disk, leave memory.
@@ -188,10 +180,7 @@ pub extern "C" fn rughvadi_server_forget(alloc: Global, h: &mut Handle, number: 
     };
     let done = b.forget(number);
     *h = Handle::of(b);
-    match done {
-        Ok(()) => 0,
-        Err(refusal) => refusal.number(),
-    }
+    answer(done)
 }
 
 /// A client went away: at the server its next incarnation begins, which nobody is.
@@ -209,8 +198,5 @@ pub extern "C" fn rughvadi_server_leave(alloc: Global, h: &mut Handle, client: u
     };
     let done = b.leave(alloc, client);
     *h = Handle::of(b);
-    match done {
-        Ok(()) => 0,
-        Err(refusal) => refusal.number(),
-    }
+    answer(done)
 }

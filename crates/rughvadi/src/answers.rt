@@ -1,0 +1,16 @@
+//! What C is answered.
+ghost use Rattle.std.specs.Prelude.{◌≡◌, ◌≤◌, MatchResult};
+ghost use Rattle.cb_handle.specs.Faults.{number_of};
+
+use cb_handle::Refusal;
+
+/// The number of what came of a call: 0 where it is done, else the refusal's, which is never 0.
+pub(crate) fn answer(done: Result<(), Refusal>) -> u32
+    ensures { MatchResult done (λ _. result ≡ 0)
+        (λ refusal. (result ≡ number_of refusal) × (1 ≤ result)) }
+{
+    match done {
+        Ok(()) => 0,
+        Err(refusal) => refusal.number(),
+    }
+}
