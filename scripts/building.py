@@ -86,15 +86,15 @@ def stands_on(names: Iterable[str]) -> list[str]:
     return found
 
 
-def copy_of(names: Iterable[str], room: Path, keeps: bool = True) -> Path:
-    """The crates and those below in a repository of its own, with what checks kept, or not."""
-    lines, below = listed(), stands_on(names)
+def copy_of(names: Iterable[str], room: Path, *but: str) -> Path:
+    """The crates and those below in a repository of its own, but for folders of these names."""
+    lines, below, left_out = listed(), stands_on(names), shutil.ignore_patterns(*but)
     subprocess.run(["git", "init", "-q", room], check=True)
     shutil.copy(TOP / "HANDLES", room)
     (room / "crates.txt").write_text("".join(f"{lines[it]}\n" for it in below))
     for each in below:
-        kept = None if keeps else shutil.ignore_patterns("out")
-        shutil.copytree(TOP / "crates" / each, room / "crates" / each, symlinks=True, ignore=kept)
+        to = room / "crates" / each
+        shutil.copytree(TOP / "crates" / each, to, symlinks=True, ignore=left_out)
     return room
 
 
@@ -153,6 +153,45 @@ def shelf_files(room: Path) -> Path:
     return built(crate / "out/shelf_files", ran_by_rt(crate, ["none", "none"]))
 
 
+def toolchain() -> Path:
+    """The folder of the toolchain, in which `rt doc` has its first page."""
+    said = subprocess.run([*RT, "doc"], stdout=subprocess.PIPE, text=True, check=True).stdout
+    return Path(said.strip()).parent
+
+
+def over(crate: str, below: Path, kit: Path) -> list[str]:
+    """The words by which the prover reads a crate over the libraries that were built below it."""
+    named = ["std", *listed()[crate].partition(":")[2].split()]
+    rlib = {it: below / f"crates/{it}/out/rlib/{it}.rlib" for it in stands_on(named)}
+    words = [f"{it}={rlib.get(it, kit / f'rlibs/{it}.rlib')}" for it in named]
+    folders = [kit / "rlibs", *(it.parent for it in rlib.values())]
+    logic = [f"--antt-project={kit}/rattle/logic/antt-project.json"]
+    return [
+        *(part for it in words for part in ("--extern", it)),
+        *(part for it in folders for part in ("-L", f"dependency={it}")),
+        *logic, f"--logic-built={kit}/logic_built",
+    ]
+
+
+def library(room: Path) -> Path:
+    """The archive of `rughvadi`, in its folder. `rt lib` doesn't take over what `rt ci` proved, so
+    `rt ci` builds the crates below, in a repository without edits, and the crate is built over
+    them, which proves it."""
+    name, kit = "rughvadi", toolchain()
+    crate = TOP / "crates" / name
+    archive = crate / f"out/lib{name}.a"
+    below = copy_of(listed()[name].partition(":")[2].split(), room / "below", "out", "must-fail")
+    if subprocess.run([*RT, "ci"], cwd=below, stdout=sys.stderr, check=False).returncode:
+        raise NotBuilt(f"what stands below {name} isn't proved")
+    archive.parent.mkdir(exist_ok=True)
+    words = [kit / "bin/rattle", "build", "--crate-name", name, "src/lib.rt"]
+    words += ["--crate-type", "staticlib", "--links", f"{name}=", *over(name, below, kit)]
+    words += ["--toolchain", kit / "toolchain", "--backend", "llvm", "-o", archive]
+    if subprocess.run(words, cwd=crate, stdout=sys.stderr, check=False).returncode:
+        raise NotBuilt(f"{name} isn't built")
+    return archive
+
+
 def in_c(name: str, room: Path, *flags: str) -> Path:
     """A program of scripts/programs/c, compiled."""
     made = room / name
@@ -176,9 +215,10 @@ def compiled(name: str, made: Path, *flags: str) -> None:
 
 
 def main(words: list[str]) -> int:
-    """For checks in shell: `building.py (play|shelf_files) ROOM` prints where the program is."""
+    """For shells: `building.py (play|shelf_files|library) ROOM` prints where what it built is."""
+    known = {"play": lambda _: play(), "shelf_files": shelf_files, "library": library}
     try:
-        print({"play": lambda _: play(), "shelf_files": shelf_files}[words[0]](Path(words[1])))
+        print(known[words[0]](Path(words[1])))
     except NotBuilt as why:
         print(why, file=sys.stderr)
         return 2

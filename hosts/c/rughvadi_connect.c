@@ -4,6 +4,7 @@
 #include <netdb.h>
 #include <netinet/in.h>
 #include <netinet/tcp.h>
+#include <poll.h>
 #include <stdio.h>
 #include <stdlib.h>
 #include <string.h>
@@ -14,6 +15,8 @@
 /* The greeting, but for the store's name: 8 letters, the version, the name's length and a token. */
 enum { LETTERS = 8, VERSION = 1, TOKEN_AT = 10, NAME_AT = TOKEN_AT + RUGHVADI_TOKEN, NAME = 63 };
 enum { ANSWER = 40, ANSWERS = 6 };
+/* For so long each part of the answer is awaited. */
+enum { WAIT_MS = 30000 };
 
 static uint64_t number_at(const uint8_t *at, size_t count) {
   uint64_t number = 0;
@@ -25,14 +28,19 @@ static uint64_t number_at(const uint8_t *at, size_t count) {
 
 /* ---- tokens ---- */
 
-static bool token_of(uint8_t token[RUGHVADI_TOKEN], const char *text) {
-  for (size_t place = 0; place < RUGHVADI_TOKEN; place++) {
-    unsigned byte;
-    if (text[0] == 0 || text[1] == 0 || sscanf(text, "%2x", &byte) != 1) {
+/* A token from its digits, which are hexadecimal and no more than it has. */
+static bool token_of(uint8_t token[RUGHVADI_TOKEN], const char *digits) {
+  static const char known[] = "0123456789abcdef0123456789ABCDEF";
+  if (strlen(digits) != 2 * RUGHVADI_TOKEN) {
+    return false;
+  }
+  memset(token, 0, RUGHVADI_TOKEN);
+  for (size_t place = 0; place < 2 * RUGHVADI_TOKEN; place++) {
+    const char *digit = strchr(known, digits[place]);
+    if (digit == NULL) {
       return false;
     }
-    token[place] = (uint8_t)byte;
-    text += 2;
+    token[place / 2] = (uint8_t)(token[place / 2] << 4 | (digit - known) % 16);
   }
   return true;
 }
@@ -42,11 +50,11 @@ uint32_t rughvadi_token_read(const char *path, uint32_t client, uint8_t token[RU
   if (file == NULL) {
     return RUGHVADI_CONNECT_SYSTEM;
   }
-  char line[256], digits[2 * RUGHVADI_TOKEN + 1];
+  char line[256], digits[2 * RUGHVADI_TOKEN + 2];
   unsigned number;
   bool found = false;
   while (!found && fgets(line, sizeof line, file) != NULL) {
-    found = sscanf(line, "%u %64s", &number, digits) == 2 && number == client
+    found = sscanf(line, "%u %65s", &number, digits) == 2 && number == client
             && token_of(token, digits);
   }
   fclose(file);
@@ -116,28 +124,42 @@ uint32_t rughvadi_dial(const char *address, int *socket) {
 
 /* ---- the greeting ---- */
 
-static bool send_all(int socket, const uint8_t *bytes, size_t count) {
+/* The fault after a system call that failed. */
+static uint32_t failed(void) {
+  return errno == EPIPE || errno == ECONNRESET ? RUGHVADI_CONNECT_CLOSED : RUGHVADI_CONNECT_SYSTEM;
+}
+
+static uint32_t send_all(int socket, const uint8_t *bytes, size_t count) {
   while (count > 0) {
     ssize_t sent = send(socket, bytes, count, MSG_NOSIGNAL);
     if (sent < 0 && errno != EINTR) {
-      return false;
+      return failed();
     }
     bytes += sent > 0 ? sent : 0;
     count -= sent > 0 ? (size_t)sent : 0;
   }
-  return true;
+  return RUGHVADI_DONE;
 }
 
-static bool receive_all(int socket, uint8_t *bytes, size_t count) {
+static uint32_t receive_all(int socket, uint8_t *bytes, size_t count) {
+  struct pollfd watched = {.fd = socket, .events = POLLIN};
   while (count > 0) {
-    ssize_t got = recv(socket, bytes, count, 0);
-    if (got == 0 || (got < 0 && errno != EINTR)) {
-      return false;
+    int ready = poll(&watched, 1, WAIT_MS);
+    if (ready == 0) {
+      errno = ETIMEDOUT;
+      return RUGHVADI_CONNECT_SYSTEM;
+    }
+    ssize_t got = ready < 0 ? -1 : recv(socket, bytes, count, 0);
+    if (got == 0) {
+      return RUGHVADI_CONNECT_CLOSED;
+    }
+    if (got < 0 && errno != EINTR) {
+      return failed();
     }
     bytes += got > 0 ? got : 0;
     count -= got > 0 ? (size_t)got : 0;
   }
-  return true;
+  return RUGHVADI_DONE;
 }
 
 static rughvadi_seat seat_of(const uint8_t *answer) {
@@ -164,8 +186,12 @@ uint32_t rughvadi_greet(int socket, const uint8_t token[RUGHVADI_TOKEN], const c
   greeting[LETTERS + 1] = (uint8_t)size;
   memcpy(greeting + TOKEN_AT, token, RUGHVADI_TOKEN);
   memcpy(greeting + NAME_AT, store, size);
-  if (!send_all(socket, greeting, NAME_AT + size) || !receive_all(socket, answer, ANSWER)) {
-    return RUGHVADI_CONNECT_CLOSED;
+  uint32_t fault = send_all(socket, greeting, NAME_AT + size);
+  if (fault == RUGHVADI_DONE) {
+    fault = receive_all(socket, answer, ANSWER);
+  }
+  if (fault != RUGHVADI_DONE) {
+    return fault;
   }
   if (answer[0] != VERSION || answer[1] >= ANSWERS) {
     return RUGHVADI_CONNECT_GREETING;

@@ -40,7 +40,7 @@ uint32_t rughvadi_token_read(const char *path, uint32_t client, uint8_t token[RU
 uint32_t rughvadi_dial(const char *address, int *socket);
 
 /* Greets a gateway. Where it is refused the socket is of no use any more.
- * CONNECT_.. */
+ * CONNECT_..; CONNECT_SYSTEM with ETIMEDOUT where no answer came for half a minute. */
 uint32_t rughvadi_greet(int socket, const uint8_t token[RUGHVADI_TOKEN], const char *store,
                         rughvadi_seat *seat);
 

@@ -5,6 +5,7 @@
 #include <stdlib.h>
 #include <string.h>
 #include <sys/socket.h>
+#include <time.h>
 
 /* Makes a buffer at least so large; false where memory was refused. */
 static bool make_room(uint8_t **buffer, size_t *size, size_t needed) {
@@ -41,6 +42,12 @@ static bool is_last(uint32_t fault) {
          || (fault >= RUGHVADI_FRAME_VERSION && fault <= RUGHVADI_FRAME_ORDER);
 }
 
+/* The fault, after which the link is gone, if it is the last. */
+static uint32_t noted(rughvadi_link *link, uint32_t fault) {
+  link->gone = link->gone || is_last(fault);
+  return fault;
+}
+
 /* Fetches and sends all that the client said. */
 static uint32_t send_said(rughvadi_link *link) {
   for (;;) {
@@ -61,8 +68,7 @@ static uint32_t send_said(rughvadi_link *link) {
     }
     fault = send_bytes(link->socket, link->out, size);
     if (fault != RUGHVADI_DONE) {
-      link->gone = true;
-      return fault;
+      return noted(link, fault);
     }
   }
 }
@@ -85,10 +91,18 @@ static uint32_t take_frames(rughvadi_link *link) {
   }
   memmove(link->in, link->in + at, link->in_len - at);
   link->in_len -= at;
-  return fault == RUGHVADI_FRAME_SHORT ? RUGHVADI_DONE : fault;
+  return fault == RUGHVADI_FRAME_SHORT ? RUGHVADI_DONE : noted(link, fault);
 }
 
-/* Whether there is something to receive within so many milliseconds; below 0: an error. */
+/* The milliseconds of a clock that nobody sets. */
+static int64_t now_ms(void) {
+  struct timespec now;
+  clock_gettime(CLOCK_MONOTONIC, &now);
+  return (int64_t)now.tv_sec * 1000 + now.tv_nsec / 1000000;
+}
+
+/* Whether there is something to receive within so many milliseconds, or until a signal comes; below
+ * 0: an error. */
 static int comes(int socket, int wait_ms) {
   struct pollfd watched = {.fd = socket, .events = POLLIN};
   int ready = poll(&watched, 1, wait_ms);
@@ -96,7 +110,7 @@ static int comes(int socket, int wait_ms) {
 }
 
 /* Receives what is there and takes it. */
-static uint32_t receive_once(rughvadi_link *link) {
+static uint32_t receive(rughvadi_link *link) {
   if (!make_room(&link->in, &link->in_size, link->in_len + 65536)) {
     return RUGHVADI_MEMORY;
   }
@@ -105,19 +119,13 @@ static uint32_t receive_once(rughvadi_link *link) {
     return RUGHVADI_DONE;
   }
   if (got < 0 && errno != ECONNRESET) {
-    return RUGHVADI_LINK_SYSTEM;
+    return noted(link, RUGHVADI_LINK_SYSTEM);
   }
   if (got <= 0) {
-    return RUGHVADI_LINK_CLOSED;
+    return noted(link, RUGHVADI_LINK_CLOSED);
   }
   link->in_len += (size_t)got;
   return take_frames(link);
-}
-
-static uint32_t receive(rughvadi_link *link) {
-  uint32_t fault = receive_once(link);
-  link->gone = link->gone || is_last(fault);
-  return fault;
 }
 
 uint32_t rughvadi_link_serve(rughvadi_link *link, int wait_ms) {
@@ -141,26 +149,34 @@ uint32_t rughvadi_link_serve(rughvadi_link *link, int wait_ms) {
     }
     ready = comes(link->socket, 0);
   }
-  return ready < 0 ? RUGHVADI_LINK_SYSTEM : RUGHVADI_DONE;
+  return ready < 0 ? noted(link, RUGHVADI_LINK_SYSTEM) : RUGHVADI_DONE;
+}
+
+/* Receives once until that time; *came says whether something came. A signal ends no wait. */
+static uint32_t receive_until(rughvadi_link *link, int64_t until, bool *came) {
+  int ready;
+  int64_t left = until - now_ms();
+  do {
+    ready = comes(link->socket, left > 0 ? (int)left : 0);
+    left = until - now_ms();
+  } while (ready == 0 && left > 0);
+  *came = ready > 0;
+  if (ready < 0) {
+    return noted(link, RUGHVADI_LINK_SYSTEM);
+  }
+  return *came ? receive(link) : RUGHVADI_DONE;
 }
 
 /* Waits while the client has that status, and says again what may be lost. */
 static uint32_t wait_while(rughvadi_link *link, uint32_t status) {
   for (int silent = 0; rughvadi_client_status(&link->client) == status;) {
+    bool came = false;
     uint32_t fault = send_said(link);
-    if (fault != RUGHVADI_DONE) {
-      return fault;
+    if (fault == RUGHVADI_DONE) {
+      fault = receive_until(link, now_ms() + link->wait_ms, &came);
     }
-    int ready = comes(link->socket, link->wait_ms);
-    if (ready < 0) {
-      return RUGHVADI_LINK_SYSTEM;
-    }
-    if (ready > 0) {
-      fault = receive(link);
-    } else if (silent++ == link->tries) {
-      fault = RUGHVADI_LINK_SILENT;
-    } else {
-      fault = rughvadi_again(&link->client);
+    if (fault == RUGHVADI_DONE && !came) {
+      fault = silent++ == link->tries ? RUGHVADI_LINK_SILENT : rughvadi_again(&link->client);
     }
     if (fault != RUGHVADI_DONE) {
       return fault;

@@ -34,7 +34,9 @@ import building
 from building import RT, TOP
 
 FOLDER = TOP / "scripts/wrong_bodies"
-HEAD = re.compile(r"^\s*(?:pub(?:\([a-z]+\))? )?(?:const |final |unsafe )*fn (\w+)")
+HEAD = re.compile(
+    r"^\s*(?:pub(?:\([a-z]+\))? )?(?:const |final |unsafe |extern \"C\" )*fn (\w+)"
+)
 
 
 class Edit:

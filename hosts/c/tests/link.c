@@ -1,8 +1,12 @@
 /* link: a link at a gateway and at a server, each a process: the greeting and its refusals, tokens,
- * and what is left of a client whose connection ended, also of a page that it holds. */
+ * signals, and what is left of a client whose connection ended, also of a page that it holds. */
 #include "parties.h"
 #include "rughvadi_connect.h"
 
+#include <limits.h>
+#include <sched.h>
+#include <signal.h>
+#include <sys/resource.h>
 #include <sys/socket.h>
 #include <sys/wait.h>
 #include <unistd.h>
@@ -11,14 +15,32 @@ enum { SIZE = 64, GREETING = 8 + 1 + 1 + RUGHVADI_TOKEN + 4, ANSWER = 40 };
 
 static const rughvadi_limits limits = {2, 4, SIZE, 4, 1, 4, 0};
 static int ours, theirs;
+static bool disturbs;
+static volatile sig_atomic_t signals;
+
+static void count_signal(int signal) {
+  (void)signal;
+  signals = signals + 1;
+}
 
 /* ---- the other end ---- */
+
+/* Signals to the parent, which waits, or soon does. */
+static void disturb(void) {
+  for (int times = 0; times < 20; times++) {
+    HOLD(kill(getppid(), SIGUSR1) == 0);
+    sched_yield();
+  }
+}
 
 /* Sends what the server says. */
 static void send_said(rughvadi_handle *server) {
   uint8_t room[1024];
   size_t size;
   uint32_t client;
+  if (disturbs) {
+    disturb();
+  }
   while (rughvadi_next(server, room, sizeof room, &size, &client) == RUGHVADI_DONE) {
     HOLD(send(theirs, room, size, MSG_NOSIGNAL) == (ssize_t)size);
   }
@@ -109,27 +131,36 @@ static void greetings(void) {
   greet(1, 0, ANSWER - 1, RUGHVADI_CONNECT_CLOSED);
 }
 
+static void put_digits(FILE *file, const char *two, int count) {
+  for (int place = 0; place < count; place++) {
+    fputs(two, file);
+  }
+}
+
 static void tokens(void) {
   char path[] = "/tmp/rughvadi_tokens_XXXXXX";
   uint8_t token[RUGHVADI_TOKEN];
   FILE *file = fdopen(mkstemp(path), "w");
   HOLD(file != NULL);
-  fputs("# of two clients\n\n0 00\n1 ", file);
-  for (int place = 0; place < RUGHVADI_TOKEN; place++) {
-    fputs("aB", file);
-  }
+  fputs("# of some clients\n\n0 00\n1 ", file);
+  put_digits(file, "aB", RUGHVADI_TOKEN);
+  fputs("\n3 ", file);
+  put_digits(file, "-1", RUGHVADI_TOKEN);
+  fputs("\n4 ", file);
+  put_digits(file, "aB", RUGHVADI_TOKEN + 1);
   fputs("\n", file);
   HOLD(fclose(file) == 0);
   WANT(rughvadi_token_read(path, 1, token));
   HOLD(token[0] == 0xab && token[RUGHVADI_TOKEN - 1] == 0xab);
-  HOLD(rughvadi_token_read(path, 0, token) == RUGHVADI_CONNECT_TOKEN);
-  HOLD(rughvadi_token_read(path, 2, token) == RUGHVADI_CONNECT_TOKEN);
+  for (uint32_t client = 0; client < 5; client += client == 0 ? 2 : 1) {
+    HOLD(rughvadi_token_read(path, client, token) == RUGHVADI_CONNECT_TOKEN);
+  }
   unlink(path);
   HOLD(rughvadi_token_read(path, 1, token) == RUGHVADI_CONNECT_SYSTEM);
 }
 
-/* The connection ends amid a transaction that holds a page. */
-static void gone(void) {
+/* The connection ends, or a call of the system fails, amid a transaction that holds a page. */
+static void gone(bool fails) {
   pid_t child = forked();
   if (child == 0) {
     serve();
@@ -143,8 +174,19 @@ static void gone(void) {
   WANT(rughvadi_link_fetch(&link, 2, page, SIZE));
   WANT(rughvadi_link_put(&link, 2, page, SIZE));
   WANT(rughvadi_link_serve(&link, 0));
-  shutdown(theirs, SHUT_RDWR);
-  HOLD(rughvadi_link_serve(&link, 1000) == RUGHVADI_LINK_CLOSED);
+  if (fails) {
+    /* No call may watch a file any more. */
+    struct rlimit files, none;
+    HOLD(getrlimit(RLIMIT_NOFILE, &files) == 0);
+    none = (struct rlimit){0, files.rlim_max};
+    HOLD(setrlimit(RLIMIT_NOFILE, &none) == 0);
+    HOLD(rughvadi_link_serve(&link, 0) == RUGHVADI_LINK_SYSTEM);
+    HOLD(setrlimit(RLIMIT_NOFILE, &files) == 0);
+    shutdown(theirs, SHUT_RDWR);
+  } else {
+    shutdown(theirs, SHUT_RDWR);
+    HOLD(rughvadi_link_serve(&link, 1000) == RUGHVADI_LINK_CLOSED);
+  }
   HOLD(rughvadi_link_fetch(&link, 2, page, SIZE) == RUGHVADI_LINK_CLOSED);
   HOLD(rughvadi_link_want(&link, 2) == RUGHVADI_LINK_CLOSED);
   HOLD(rughvadi_link_put(&link, 2, page, SIZE) == RUGHVADI_LINK_CLOSED);
@@ -156,10 +198,35 @@ static void gone(void) {
   ended(child);
 }
 
+/* Signals come while an answer is awaited, and no wait ends by them. */
+static void disturbed(void) {
+  struct sigaction told = {.sa_handler = count_signal};
+  HOLD(sigaction(SIGUSR1, &told, NULL) == 0);
+  pid_t child = forked();
+  if (child == 0) {
+    disturbs = true;
+    serve();
+    exit(0);
+  }
+  rughvadi_link link;
+  uint8_t page[SIZE];
+  WANT(rughvadi_link_open(&link, &limits, 1, 9, ours));
+  link.wait_ms = INT_MAX;
+  link.tries = 0;
+  WANT(rughvadi_link_begin(&link));
+  WANT(rughvadi_link_fetch(&link, 2, page, SIZE));
+  HOLD(signals > 0);
+  rughvadi_link_close(&link);
+  shutdown(ours, SHUT_RDWR);
+  ended(child);
+}
+
 int main(void) {
   greetings();
   tokens();
-  gone();
-  puts("nine greetings, tokens, and a held page that is gone with its connection");
+  gone(false);
+  gone(true);
+  disturbed();
+  puts("nine greetings, tokens, signals, and a held page that is gone with its connection");
   return 0;
 }

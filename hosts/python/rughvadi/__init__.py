@@ -20,6 +20,7 @@ from ._objects import Batch, BatchPage, Client, Ended, Frame, Server, Status, re
 from ._library import (
     Aborted,
     Closed,
+    Error,
     Fault,
     FrameHead,
     FrameShort,
@@ -36,6 +37,7 @@ __all__ = [
     "Client",
     "Closed",
     "Ended",
+    "Error",
     "Fault",
     "Frame",
     "FrameHead",

@@ -7,7 +7,7 @@ import struct
 from pathlib import Path
 from typing import Union
 
-from ._library import Limits
+from ._library import Error, Limits
 from ._link import Link
 
 _VERSION = 1
@@ -20,7 +20,7 @@ _REFUSALS = {
 }
 
 
-class Refused(Exception):
+class Refused(Error):
     """The gateway refused a greeting. `is_down`: the store isn't served at the moment."""
 
     def __init__(self, answer: int) -> None:

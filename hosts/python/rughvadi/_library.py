@@ -3,12 +3,12 @@
 from __future__ import annotations
 
 import ctypes
-import ctypes.util
 import os
 from dataclasses import dataclass
 from pathlib import Path
 from typing import Any
 
+VERSION = 1
 NO_TRANSACTION = 2
 NOT_HERE = 8
 MEMORY = 13
@@ -101,9 +101,15 @@ def call(name: str, *arguments: Any) -> Any:
 for _name, (_answer, _takes) in _CALLS.items():
     _call = getattr(library, f"rughvadi_{_name}")
     _call.restype, _call.argtypes = _answer, _takes
+if call("version") != VERSION:
+    raise ImportError(f"librughvadi.so has version {call('version')}, and not {VERSION}")
 
 
-class Fault(Exception):
+class Error(Exception):
+    """What this package raises of its own."""
+
+
+class Fault(Error):
     """A call was refused; all is as it was before then. `number` is that of rughvadi.h."""
 
     def __init__(self, number: int) -> None:
@@ -127,11 +133,11 @@ class FrameShort(Fault):
     """The frame isn't whole yet."""
 
 
-class Aborted(Exception):
+class Aborted(Error):
     """The transaction was the victim of a deadlock, and is undone: begin again."""
 
 
-class Closed(ConnectionError):
+class Closed(Error, ConnectionError):
     """The server closed the connection."""
 
 

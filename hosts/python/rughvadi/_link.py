@@ -2,6 +2,7 @@
 
 from __future__ import annotations
 
+import select
 import socket
 from types import TracebackType
 from typing import Callable, Optional, TypeVar
@@ -120,6 +121,13 @@ class Link:
             self._send_said()
         return True
 
+    def _take_what_came(self) -> None:
+        """Takes what came meanwhile, and waits for nothing."""
+        watched = select.poll()
+        watched.register(self._socket, select.POLLIN)
+        while watched.poll(0) and self._receive():
+            pass
+
     def _wait_while(self, status: Status) -> None:
         silent = 0
         while self.client.status is status:
@@ -179,7 +187,9 @@ class Transaction:
         """The number of its commit, once it has committed."""
 
     def __enter__(self) -> Transaction:
+        # Else a program that only reads what it holds, and drops, would keep others waiting.
         self._link._check()
+        self._link._take_what_came()
         self._link.client.begin()
         return self
 

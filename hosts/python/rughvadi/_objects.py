@@ -5,7 +5,7 @@ from __future__ import annotations
 import ctypes
 from dataclasses import dataclass
 from enum import Enum
-from typing import Iterable, Iterator, Optional
+from typing import Iterable, Iterator, Optional, TypeVar
 
 from ._library import (
     NOTHING,
@@ -18,6 +18,9 @@ from ._library import (
     check,
     in_range,
 )
+
+
+O = TypeVar("O", bound="_Object")
 
 
 class Status(Enum):
@@ -86,6 +89,12 @@ class _Object:
     def close(self) -> None:
         """Lets the object go; every later call is refused."""
         call("free", self._at)
+
+    def __enter__(self: O) -> O:
+        return self
+
+    def __exit__(self, *_: object) -> None:
+        self.close()
 
     def __del__(self) -> None:
         if hasattr(self, "_at"):
@@ -162,6 +171,10 @@ class Server(_Object):
             )
         )
         return BatchPage(page.value, of.value, room.raw)
+
+    def can_flush(self, number: int) -> bool:
+        """Whether that commit was made and isn't on disk yet: then `flushed` takes it."""
+        return bool(call("server_can_flush", self._at, in_range(number, 64)))
 
     def flushed(self, number: int) -> None:
         """The commits up to this number are on disk now, synced: their clients are told."""

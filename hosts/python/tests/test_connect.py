@@ -9,7 +9,7 @@ import threading
 import unittest
 from pathlib import Path
 
-from rughvadi import Closed, Limits, Link, Refused, Server, connect, read_token
+from rughvadi import Closed, Error, Limits, Link, Refused, Server, connect, read_token
 
 LIMITS = Limits(clients=2, pages=4, page_size=64, slots=4, kin=1, kout=4)
 NUMBERS = (2, 4, 64, 4, 1, 4, 0)
@@ -100,6 +100,7 @@ class Gone(unittest.TestCase):
             with self.assertRaises(Closed):
                 link.transaction().__enter__()
             self.assertRaises(Closed, link.serve)
+            self.assertRaises(Error, link.serve)
             link.close()
             thread.join()
 

@@ -1,6 +1,7 @@
 """A server and clients in one process: the clients' sockets hand their frames to the server at
 once, and what it says is read from them. So no test rests on time or on a schedule."""
 
+import os
 import threading
 import unittest
 
@@ -40,6 +41,7 @@ class Host:
             for page in batch.pages:
                 self.disk[page.page] = (page.version, page.data)
             self.last_commit = batch.number
+            assert self.server.can_flush(batch.number)
             self.server.flushed(batch.number)
             self.server.forget(batch.number)
             self.deliver()
@@ -48,11 +50,22 @@ class Host:
         return Link(LIMITS, client, 1, Socket(self, client))  # type: ignore[arg-type]
 
 
+# What a client's socket is watched by: there is something to receive once it was told.
+WATCHED, TOLD = os.pipe()
+
+
 class Socket:
     """A client's end of the connection."""
 
     def __init__(self, host: Host, client: int) -> None:
-        self.host, self.client = host, client
+        self.host, self.client, self.told = host, client, False
+
+    def fileno(self) -> int:
+        return WATCHED
+
+    def tell(self) -> None:
+        self.told = True
+        os.write(TOLD, b".")
 
     def send(self, data: memoryview) -> int:
         assert self.host.server.take(bytes(data)) == len(data)
@@ -60,6 +73,9 @@ class Socket:
         return len(data)
 
     def recv(self, most: int) -> bytes:
+        if self.told:
+            os.read(WATCHED, 1)
+            self.told = False
         self.host.flush()
         got = self.host.to_clients[self.client][:most]
         self.host.to_clients[self.client] = self.host.to_clients[self.client][most:]
@@ -80,6 +96,7 @@ class OneProcess(unittest.TestCase):
         link = host.link(0)
         self.assertEqual([link.run(counted) for _ in range(5)], [0, 1, 2, 3, 4])
         self.assertEqual(host.disk[2][1][0], 5)
+        self.assertFalse(host.server.can_flush(5))
         self.assertEqual(link.client.last, (Ended.COMMITTED, 5))
         self.assertEqual(link.client.peek(2)[0], 5)
         self.assertIsNone(link.client.peek(3))
@@ -99,6 +116,22 @@ class OneProcess(unittest.TestCase):
         self.assertEqual(transaction.number, 2)
         with one.transaction() as transaction:
             self.assertEqual(transaction[2][0], 2)
+
+    def test_a_transaction_first_takes_what_came(self) -> None:
+        host = Host()
+        one, other = host.link(0), host.link(1)
+        one.run(counted)
+        with other.transaction() as transaction:
+            transaction.read(2)
+            self.assertFalse(other.client.want(2))
+            other._send_said()
+            self.assertIsNotNone(one.client.peek(2))
+            one._socket.tell()  # type: ignore[attr-defined]
+            with one.transaction() as looking:
+                self.assertIsNone(one.client.peek(2))
+                looking.drop()
+            counted(transaction)
+        self.assertEqual(transaction.number, 2)
 
     def test_an_exception_undoes_the_transaction(self) -> None:
         link = Host().link(0)
@@ -172,6 +205,13 @@ class Refusals(unittest.TestCase):
             client.peek(-1)
         client.close()
         self.assertIsNone(client.status)
+
+    def test_a_handle_is_let_go_at_the_end_of_a_with(self) -> None:
+        with Server(LIMITS) as server:
+            self.assertEqual(server.next_incarnation(0), 1)
+        with self.assertRaises(Fault) as raised:
+            server.again()
+        self.assertEqual(raised.exception.number, 0x301)
 
     def test_a_call_outside_of_a_transaction(self) -> None:
         link = Host().link(0)

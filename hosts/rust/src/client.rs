@@ -2,6 +2,7 @@
 use crate::error::{done, Error, Result, NOTHING};
 use crate::object::Object;
 use crate::{ffi, Limits};
+use std::fmt;
 
 /// What a client says of itself.
 #[derive(Clone, Copy, Debug, PartialEq, Eq)]
@@ -170,5 +171,14 @@ impl Client {
     pub fn may_write(&self, page: u32) -> bool {
         // SAFETY: the handle is the object's own.
         unsafe { ffi::rughvadi_client_may_write(self.object.at(), page) }
+    }
+}
+
+impl fmt::Debug for Client {
+    fn fmt(&self, f: &mut fmt::Formatter<'_>) -> fmt::Result {
+        f.debug_struct("Client")
+            .field("status", &self.status())
+            .field("last", &self.last())
+            .finish_non_exhaustive()
     }
 }

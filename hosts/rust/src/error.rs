@@ -143,7 +143,8 @@ impl fmt::Display for Error {
 impl error::Error for Error {
     fn source(&self) -> Option<&(dyn error::Error + 'static)> {
         match self {
-            Error::Io(error) => Some(error),
+            // Its own text is the one that is shown.
+            Error::Io(error) => error.source(),
             _ => None,
         }
     }

@@ -73,6 +73,7 @@ extern "C" {
         page: *mut u32,
         version: *mut u64,
     ) -> u32;
+    pub fn rughvadi_server_can_flush(h: *mut Handle, number: u64) -> bool;
     pub fn rughvadi_server_flushed(h: *mut Handle, number: u64) -> u32;
     pub fn rughvadi_server_forget(h: *mut Handle, number: u64) -> u32;
     pub fn rughvadi_server_leave(h: *mut Handle, client: u32) -> u32;

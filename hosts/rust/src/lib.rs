@@ -20,6 +20,8 @@
 //! fn may_be_shared<T: Sync>() {}
 //! may_be_shared::<rughvadi::Client>();
 //! ```
+#![warn(missing_docs, missing_debug_implementations, unsafe_op_in_unsafe_fn)]
+
 mod client;
 mod connect;
 mod error;

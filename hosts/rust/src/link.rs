@@ -2,12 +2,15 @@
 use crate::client::{Client, Ended, Status};
 use crate::error::{Error, Result};
 use crate::Limits;
+use std::fmt;
 use std::io::{ErrorKind, Read, Write};
 
 /// How often it says again what may be lost, before it gives up.
 const TRIES: u32 = 30;
+/// How many bytes are received at once.
+const ROOM: usize = 65536;
 
-/// A client over a connected stream. Where the stream has a time-out for reads, what may be lost is
+/// A client over a connected stream, which blocks. Where the stream has a time-out for reads, what may be lost is
 /// said again after each. Once the stream failed or ended, or gave what can't be taken, the client
 /// is gone: each later call answers [`Error::Closed`], also of a page that it holds.
 pub struct Link<S> {
@@ -16,6 +19,7 @@ pub struct Link<S> {
     gone: bool,
     /// What came and isn't taken yet.
     came: Vec<u8>,
+    room: Box<[u8]>,
 }
 
 impl<S: Read + Write> Link<S> {
@@ -26,6 +30,7 @@ impl<S: Read + Write> Link<S> {
             stream,
             gone: false,
             came: Vec::new(),
+            room: vec![0; ROOM].into_boxed_slice(),
         };
         link.client.hello()?;
         link.wait_while(Status::NotWelcome)?;
@@ -42,7 +47,9 @@ impl<S: Read + Write> Link<S> {
         &self.stream
     }
 
-    /// Begins a transaction, which is dropped where it isn't committed.
+    /// Begins a transaction, which is dropped where it isn't committed. A program whose
+    /// transactions read held pages alone, and are dropped, receives nothing by them: it calls
+    /// [`Link::serve`] in between, since others may wait for these pages.
     pub fn transaction(&mut self) -> Result<Transaction<'_, S>> {
         self.check()?;
         self.client.begin()?;
@@ -100,8 +107,7 @@ impl<S: Read + Write> Link<S> {
 
     /// Receives once, and takes each whole frame; `false` where nothing came in time.
     fn receive(&mut self) -> Result<bool> {
-        let mut room = [0u8; 65536];
-        let got = match self.stream.read(&mut room) {
+        let got = match self.stream.read(&mut self.room) {
             Ok(got) => got,
             Err(error) => match error.kind() {
                 ErrorKind::WouldBlock | ErrorKind::TimedOut => return Ok(false),
@@ -111,7 +117,7 @@ impl<S: Read + Write> Link<S> {
         };
         self.gone = got == 0;
         self.check()?;
-        self.came.extend_from_slice(&room[..got]);
+        self.came.extend_from_slice(&self.room[..got]);
         let mut at = 0;
         while at < self.came.len() {
             match self.client.take(&self.came[at..]) {
@@ -194,7 +200,16 @@ impl<S: Read + Write> Link<S> {
     }
 }
 
-/// A transaction that is open. It is dropped, and what it wrote undone, where it isn't committed.
+impl<S> fmt::Debug for Link<S> {
+    fn fmt(&self, f: &mut fmt::Formatter<'_>) -> fmt::Result {
+        f.debug_struct("Link")
+            .field("client", &self.client)
+            .field("gone", &self.gone)
+            .finish_non_exhaustive()
+    }
+}
+
+/// A transaction that is open. It is dropped, without an answer being awaited, and what it wrote undone, where it isn't committed.
 pub struct Transaction<'l, S: Read + Write> {
     link: &'l mut Link<S>,
 }
@@ -216,6 +231,7 @@ impl<'l, S: Read + Write> Transaction<'l, S> {
     /// Asks to write a page that the transaction has read, and doesn't wait for the answer; whether
     /// it may already.
     pub fn ask_to_write(&mut self, page: u32) -> Result<bool> {
+        self.link.check()?;
         match self.link.client.want(page) {
             Ok(may) => self.link.send_said().map(|()| may),
             Err(error) => Err(self.link.aborted_or(error)),
@@ -247,5 +263,13 @@ impl<S: Read + Write> Drop for Transaction<'_, S> {
             // Where the stream fails, the next call says so.
             let _ = self.link.send_said();
         }
+    }
+}
+
+impl<S: Read + Write> fmt::Debug for Transaction<'_, S> {
+    fn fmt(&self, f: &mut fmt::Formatter<'_>) -> fmt::Result {
+        f.debug_struct("Transaction")
+            .field("link", &self.link)
+            .finish()
     }
 }

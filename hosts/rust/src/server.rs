@@ -2,6 +2,7 @@
 use crate::error::{done, Error, Result, NOTHING};
 use crate::object::Object;
 use crate::{ffi, Limits};
+use std::fmt;
 
 /// A page of a batch.
 #[derive(Clone, Debug, PartialEq, Eq)]
@@ -121,6 +122,12 @@ impl Server {
         })
     }
 
+    /// Whether that commit was made and isn't on disk yet: then [`Server::flushed`] takes it.
+    pub fn can_flush(&self, number: u64) -> bool {
+        // SAFETY: the handle is the object's own.
+        unsafe { ffi::rughvadi_server_can_flush(self.object.at(), number) }
+    }
+
     /// The commits up to this number are on disk now, synced: their clients are told.
     pub fn flushed(&mut self, number: u64) -> Result<()> {
         // SAFETY: the handle is the object's own.
@@ -147,5 +154,13 @@ impl Server {
             ffi::rughvadi_server_incarnation(self.object.at(), client, &mut incarnation)
         })?;
         Ok(incarnation)
+    }
+}
+
+impl fmt::Debug for Server {
+    fn fmt(&self, f: &mut fmt::Formatter<'_>) -> fmt::Result {
+        f.debug_struct("Server")
+            .field("page_size", &self.page_size)
+            .finish_non_exhaustive()
     }
 }

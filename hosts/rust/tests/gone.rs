@@ -3,7 +3,7 @@ use rughvadi::{Error, Limits, Link, Server};
 use std::io::{Read, Write};
 use std::net::Shutdown;
 use std::os::unix::net::UnixStream;
-use std::thread;
+use std::thread::{self, JoinHandle};
 
 const LIMITS: Limits = Limits {
     clients: 2,
@@ -37,12 +37,21 @@ fn is_closed<T>(answer: Result<T, Error>) -> bool {
     matches!(answer, Err(Error::Closed))
 }
 
-#[test]
-fn a_held_page_is_gone_with_the_stream() {
+/// A link to a server, a stream that ends both, and the server's thread.
+fn served() -> (Link<UnixStream>, UnixStream, JoinHandle<()>) {
     let (ours, theirs) = UnixStream::pair().expect("a pair");
     let end = theirs.try_clone().expect("a clone");
     let server = thread::spawn(move || serve(theirs));
-    let mut link = Link::open(&LIMITS, 0, 1, ours).expect("a link");
+    (
+        Link::open(&LIMITS, 0, 1, ours).expect("a link"),
+        end,
+        server,
+    )
+}
+
+#[test]
+fn a_held_page_is_gone_with_the_stream() {
+    let (mut link, end, server) = served();
     let answer = link.run(|transaction| {
         let mut page = transaction.read(2)?;
         page[0] += 1;
@@ -54,5 +63,24 @@ fn a_held_page_is_gone_with_the_stream() {
     assert!(matches!(answer, Err(Error::Closed | Error::Io(_))));
     assert!(is_closed(link.serve()));
     assert!(is_closed(link.run(|transaction| transaction.read(2))));
+    server.join().expect("the server's thread");
+}
+
+#[test]
+fn an_open_transaction_is_gone_with_the_stream() {
+    let (mut link, end, server) = served();
+    let mut transaction = link.transaction().expect("a transaction");
+    let page = transaction.read(2).expect("a page");
+    transaction.write(2, &page).expect("it may write");
+    end.shutdown(Shutdown::Both).expect("the end");
+    // The ask for a page that isn't here finds the stream's end.
+    assert!(matches!(
+        transaction.read(3),
+        Err(Error::Closed | Error::Io(_))
+    ));
+    assert!(is_closed(transaction.read(2)));
+    assert!(is_closed(transaction.ask_to_write(2)));
+    assert!(is_closed(transaction.write(2, &page)));
+    assert!(is_closed(transaction.commit()));
     server.join().expect("the server's thread");
 }

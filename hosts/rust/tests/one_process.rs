@@ -46,6 +46,7 @@ impl Host {
                 self.disk[page.page as usize] = (page.version, page.bytes);
             }
             self.last_commit = batch.number;
+            assert!(self.server.can_flush(batch.number));
             self.server.flushed(batch.number).unwrap();
             self.server.forget(batch.number).unwrap();
             self.deliver();
@@ -120,6 +121,7 @@ fn a_client_counts_and_the_disk_has_it() {
     }
     assert_eq!(host.borrow().disk[2].1[0], 5);
     assert_eq!(host.borrow().last_commit, 5);
+    assert!(!host.borrow().server.can_flush(5));
     assert_eq!(link.client().last(), Some(Ended::Committed(5)));
     assert_eq!(link.client().peek(2).unwrap().unwrap()[0], 5);
     assert_eq!(link.client().peek(3).unwrap(), None);
@@ -195,10 +197,19 @@ fn faults_have_names_and_texts() {
     assert!(matches!(client.take(&[2]), Err(Error::Unfetched)));
     let frame = client.next_frame().unwrap().unwrap();
     let head = read_frame(&LIMITS, &frame).unwrap();
-    assert_eq!((head.length, head.client, head.kind, head.incarnation), (16, 0, 1, 1));
-    assert!(matches!(read_frame(&LIMITS, &frame[..15]), Err(Error::FrameShort)));
+    assert_eq!(
+        (head.length, head.client, head.kind, head.incarnation),
+        (16, 0, 1, 1)
+    );
+    assert!(matches!(
+        read_frame(&LIMITS, &frame[..15]),
+        Err(Error::FrameShort)
+    ));
     assert!(matches!(client.take(&[0; 16]), Err(Error::Frame(0x102))));
-    assert!(matches!(Client::new(&LIMITS, 2, 1).err(), Some(Error::Range)));
+    assert!(matches!(
+        Client::new(&LIMITS, 2, 1).err(),
+        Some(Error::Range)
+    ));
     assert_eq!(rughvadi::version(), 1);
 }
 
