@@ -1,7 +1,7 @@
 //! The head of a picture, the lanes and their names.
 
 use crate::layout::{Layout, ROW, SERVER, TOP, small};
-use crate::style::{LEGEND, POINTS, STYLE};
+use crate::style::{FAMILIES, LEGEND, STYLE};
 use cb_chart::Chart;
 use cb_page::ClientNo;
 use std::io;
@@ -17,9 +17,24 @@ pub(crate) fn put_head<O: Write>(out: &mut O, chart: &Chart, layout: &Layout) ->
         viewBox=\"0 0 {width} {height}\">\n"
     )?;
     out.write_all(STYLE.as_bytes())?;
-    out.write_all(POINTS.as_bytes())?;
+    put_points(out)?;
     put_title(out, chart)?;
     out.write_all(LEGEND.as_bytes())
+}
+
+/// Prints the heads of arrows.
+fn put_points<O: Write>(out: &mut O) -> io::Result<()> {
+    out.write_all(b"<defs>\n")?;
+    for family in FAMILIES {
+        write!(
+            out,
+            "<marker id=\"{family}\" viewBox=\"0 0 8 8\" refX=\"8\" refY=\"4\" \
+            markerWidth=\"8\" markerHeight=\"8\"\n  \
+            markerUnits=\"userSpaceOnUse\" orient=\"auto\">\
+            <path class=\"point {family}\" d=\"M0 0.5L8 4L0 7.5z\"/></marker>\n"
+        )?;
+    }
+    out.write_all(b"</defs>\n")
 }
 
 fn put_title<O: Write>(out: &mut O, chart: &Chart) -> io::Result<()> {

@@ -85,12 +85,7 @@ fn put_shape<O: Write>(
     let x = layout.client(client);
     let y = layout.row(event);
     match (call, word) {
-        (_, AnswerWord::Refused(_)) => {
-            write!(
-                out,
-                "<circle class=\"hollow\" cx=\"{x}\" cy=\"{y}\" r=\"2.5\"/>"
-            )
-        }
+        (_, AnswerWord::Refused(_)) => put_ring(out, x, y, "2.5"),
         (Call::Write { .. }, _) => {
             let left = x - 4;
             let top = y - 4;
@@ -99,23 +94,24 @@ fn put_shape<O: Write>(
                 "<rect class=\"dot\" x=\"{left}\" y=\"{top}\" width=\"8\" height=\"8\"/>"
             )
         }
-        (_, AnswerWord::Bytes(_)) => {
-            write!(
-                out,
-                "<circle class=\"hollow\" cx=\"{x}\" cy=\"{y}\" r=\"4\"/>"
-            )
-        }
-        _ => write!(out, "<circle class=\"dot\" cx=\"{x}\" cy=\"{y}\" r=\"3\"/>"),
+        (_, AnswerWord::Bytes(_)) => put_ring(out, x, y, "4"),
+        _ => put_dot(out, x, y),
     }
+}
+
+fn put_ring<O: Write>(out: &mut O, x: u32, y: u32, radius: &str) -> io::Result<()> {
+    write!(
+        out,
+        "<circle class=\"hollow\" cx=\"{x}\" cy=\"{y}\" r=\"{radius}\"/>"
+    )
 }
 
 fn put_page<O: Write>(out: &mut O, call: &Call) -> io::Result<()> {
     match call {
-        Call::Read { page } | Call::Want { page } | Call::Peek { page } => {
-            let page = page.get();
-            write!(out, " {page}")
-        }
-        Call::Write { page, .. } => {
+        Call::Read { page }
+        | Call::Want { page }
+        | Call::Peek { page }
+        | Call::Write { page, .. } => {
             let page = page.get();
             write!(out, " {page}")
         }
@@ -160,14 +156,20 @@ fn put_restart<O: Write>(
 
 /// What the server does without a packet.
 fn put_server<O: Write>(out: &mut O, layout: &Layout, what: &str, event: u16) -> io::Result<()> {
-    let y = layout.row(event);
+    put_dot(out, SERVER, layout.row(event))?;
+    begin_label(out, layout, event)?;
+    write!(out, "{what}</text>\n")
+}
+
+fn put_dot<O: Write>(out: &mut O, x: u32, y: u32) -> io::Result<()> {
+    write!(out, "<circle class=\"dot\" cx=\"{x}\" cy=\"{y}\" r=\"3\"/>")
+}
+
+/// How a label of the server begins, in that event's row.
+fn begin_label<O: Write>(out: &mut O, layout: &Layout, event: u16) -> io::Result<()> {
     let x = SERVER - 9;
-    let base = y + 4;
-    write!(
-        out,
-        "<circle class=\"dot\" cx=\"{SERVER}\" cy=\"{y}\" r=\"3\"/>\
-        <text class=\"label left\" x=\"{x}\" y=\"{base}\">{what}</text>\n"
-    )
+    let y = layout.row(event) + 4;
+    write!(out, "<text class=\"label left\" x=\"{x}\" y=\"{y}\">")
 }
 
 fn put_flush<O: Write>(
@@ -179,14 +181,9 @@ fn put_flush<O: Write>(
     match word {
         AnswerWord::Flushed(number) => {
             let number = number.get();
-            let y = layout.row(event);
-            let x = SERVER - 9;
-            let base = y + 4;
-            write!(
-                out,
-                "<circle class=\"dot\" cx=\"{SERVER}\" cy=\"{y}\" r=\"3\"/>\
-                <text class=\"label left\" x=\"{x}\" y=\"{base}\">on disk {number}</text>\n"
-            )
+            put_dot(out, SERVER, layout.row(event))?;
+            begin_label(out, layout, event)?;
+            write!(out, "on disk {number}</text>\n")
         }
         _ => put_server(out, layout, "flush", event),
     }
@@ -210,13 +207,9 @@ fn put_mark<O: Write>(
 }
 
 fn put_commit<O: Write>(out: &mut O, layout: &Layout, number: usize, event: u16) -> io::Result<()> {
-    let x = SERVER - 9;
-    let y = layout.row(event) + 4;
     put_diamond(out, SERVER, layout.row(event))?;
-    write!(
-        out,
-        "<text class=\"label left\" x=\"{x}\" y=\"{y}\">commit {number}</text>\n"
-    )
+    begin_label(out, layout, event)?;
+    write!(out, "commit {number}</text>\n")
 }
 
 fn put_diamond<O: Write>(out: &mut O, x: u32, y: u32) -> io::Result<()> {

@@ -53,25 +53,8 @@ text { font: 10.5px ui-monospace, Menlo, Consolas, 'DejaVu Sans Mono', monospace
 </style>
 ";
 
-/// The heads of arrows.
-pub(crate) const POINTS: &str = "\
-<defs>
-<marker id=\"hello\" viewBox=\"0 0 8 8\" refX=\"8\" refY=\"4\" markerWidth=\"8\" markerHeight=\"8\"
-  markerUnits=\"userSpaceOnUse\" orient=\"auto\"><path class=\"point hello\" d=\"M0 0.5L8 4L0 7.5z\"/></marker>
-<marker id=\"ask\" viewBox=\"0 0 8 8\" refX=\"8\" refY=\"4\" markerWidth=\"8\" markerHeight=\"8\"
-  markerUnits=\"userSpaceOnUse\" orient=\"auto\"><path class=\"point ask\" d=\"M0 0.5L8 4L0 7.5z\"/></marker>
-<marker id=\"grant\" viewBox=\"0 0 8 8\" refX=\"8\" refY=\"4\" markerWidth=\"8\" markerHeight=\"8\"
-  markerUnits=\"userSpaceOnUse\" orient=\"auto\"><path class=\"point grant\" d=\"M0 0.5L8 4L0 7.5z\"/></marker>
-<marker id=\"call\" viewBox=\"0 0 8 8\" refX=\"8\" refY=\"4\" markerWidth=\"8\" markerHeight=\"8\"
-  markerUnits=\"userSpaceOnUse\" orient=\"auto\"><path class=\"point call\" d=\"M0 0.5L8 4L0 7.5z\"/></marker>
-<marker id=\"back\" viewBox=\"0 0 8 8\" refX=\"8\" refY=\"4\" markerWidth=\"8\" markerHeight=\"8\"
-  markerUnits=\"userSpaceOnUse\" orient=\"auto\"><path class=\"point back\" d=\"M0 0.5L8 4L0 7.5z\"/></marker>
-<marker id=\"commit\" viewBox=\"0 0 8 8\" refX=\"8\" refY=\"4\" markerWidth=\"8\" markerHeight=\"8\"
-  markerUnits=\"userSpaceOnUse\" orient=\"auto\"><path class=\"point commit\" d=\"M0 0.5L8 4L0 7.5z\"/></marker>
-<marker id=\"abort\" viewBox=\"0 0 8 8\" refX=\"8\" refY=\"4\" markerWidth=\"8\" markerHeight=\"8\"
-  markerUnits=\"userSpaceOnUse\" orient=\"auto\"><path class=\"point abort\" d=\"M0 0.5L8 4L0 7.5z\"/></marker>
-</defs>
-";
+/// The families of packets: the classes of their arrows, and the names of these arrows' heads.
+pub(crate) const FAMILIES: [&str; 7] = ["hello", "ask", "grant", "call", "back", "commit", "abort"];
 
 /// What colours and shapes mean.
 pub(crate) const LEGEND: &str = "\
