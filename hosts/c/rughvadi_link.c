@@ -1,6 +1,7 @@
 #include "rughvadi_link.h"
 
 #include <errno.h>
+#include <limits.h>
 #include <poll.h>
 #include <stdlib.h>
 #include <string.h>
@@ -157,7 +158,7 @@ static uint32_t receive_until(rughvadi_link *link, int64_t until, bool *came) {
   int ready;
   int64_t left = until - now_ms();
   do {
-    ready = comes(link->socket, left > 0 ? (int)left : 0);
+    ready = comes(link->socket, left <= 0 ? 0 : left < INT_MAX ? (int)left : INT_MAX);
     left = until - now_ms();
   } while (ready == 0 && left > 0);
   *came = ready > 0;
@@ -170,10 +171,11 @@ static uint32_t receive_until(rughvadi_link *link, int64_t until, bool *came) {
 /* Waits while the client has that status, and says again what may be lost. */
 static uint32_t wait_while(rughvadi_link *link, uint32_t status) {
   for (int silent = 0; rughvadi_client_status(&link->client) == status;) {
+    int64_t until = link->wait_ms < 0 ? INT64_MAX : now_ms() + link->wait_ms;
     bool came = false;
     uint32_t fault = send_said(link);
     if (fault == RUGHVADI_DONE) {
-      fault = receive_until(link, now_ms() + link->wait_ms, &came);
+      fault = receive_until(link, until, &came);
     }
     if (fault == RUGHVADI_DONE && !came) {
       fault = silent++ == link->tries ? RUGHVADI_LINK_SILENT : rughvadi_again(&link->client);

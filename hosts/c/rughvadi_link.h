@@ -26,7 +26,8 @@ typedef struct {
   rughvadi_handle client;
   int socket;
   bool gone;   /* the connection is of no use any more */
-  int wait_ms; /* for so long it waits for an answer before it says again what may be lost */
+  int wait_ms; /* for so long it waits for an answer before it says again what may be lost; below 0
+                  forever */
   int tries;   /* and so often, before it answers RUGHVADI_LINK_SILENT */
   size_t page_size;
   uint8_t *out; /* the frame that is being sent */

@@ -7,7 +7,8 @@ It installs the library in a folder of its own, by `scripts/library`, and runs, 
 - the sweep of refused growths, from the first to the last
 - a million random calls, with damaged frames, by a program that is built with ASan and UBSan; after
   each that is refused all is as it was
-- a link in C: greetings that are answered and refused, and that it is gone with its connection
+- a link in C: greetings that are answered and refused, signals, and that it is gone with its
+  connection
 - a server and two clients in one process, over frames of which a tenth is lost, repeated or late,
   for so many seeds (10 if not said; an odd one keeps write permissions): each transaction checks
   a sum over all pages
@@ -18,9 +19,9 @@ It installs the library in a folder of its own, by `scripts/library`, and runs, 
 A line for each, with the last line that it wrote; of one that failed, its last lines. It needs a C
 compiler with the sanitizers, `cargo` and Python; CC, CARGO, RUSTC and RUSTDOC name others. Debian's
 cargo, /usr/bin/cargo, is taken where it is there: the crate is written for its rustc, 1.63. Which
-one was tried has a line of its own. The library is proved first; with --built the archive that
-stands in crates/rughvadi/out is taken. Once that is there it takes some minutes. The status is 1
-where one failed.
+one was tried has a line of its own. The library is proved first, over what `rt ci` proved on this
+machine; with --built the archive that stands in crates/rughvadi/out is taken. Once that is there it
+takes some minutes. The status is 1 where one failed.
 """
 import os
 import sqlite3

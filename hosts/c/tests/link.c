@@ -3,7 +3,6 @@
 #include "parties.h"
 #include "rughvadi_connect.h"
 
-#include <limits.h>
 #include <sched.h>
 #include <signal.h>
 #include <sys/resource.h>
@@ -211,7 +210,7 @@ static void disturbed(void) {
   rughvadi_link link;
   uint8_t page[SIZE];
   WANT(rughvadi_link_open(&link, &limits, 1, 9, ours));
-  link.wait_ms = INT_MAX;
+  link.wait_ms = -1;
   link.tries = 0;
   WANT(rughvadi_link_begin(&link));
   WANT(rughvadi_link_fetch(&link, 2, page, SIZE));
