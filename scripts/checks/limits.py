@@ -8,14 +8,14 @@ Each of these is played or called once, and what comes is compared with what is 
 - pages, slots and the bounds of 2Q at and beside each power of two, each page and slot used
 - each page size, 16 to 65,536: a play, and the frames of a client and of a server in both versions
 - a hundred incarnations of a client
-- 120,000 commits, and 240,000 packets of them; 120,000 events that were drawn; 120,000 commits of
-  one stream of `serve`
+- 120,000 commits, which are 960,000 events and 240,000 packets
+- a run of 100,000 jobs, and then as many commits of one stream of `serve`
 - a run, and then `serve` over its store, at each number of clients, and of pages, page sizes and
   slots at and beside powers of two
 
 So want of memory that is answered where none was refused, at one number alone, is found, and each
 other fault that has no cause there. It needs `cb_play`, which is built first unless PROGRAM names a
-built one. The files lie in ROOM, if that is set. It takes a minute or two on four processors. It
+built one. The files lie in ROOM, if that is set. It takes some ninety seconds of processor time. It
 ends with how many were right; the status is 1 where one isn't.
 """
 import itertools
@@ -212,43 +212,65 @@ def frame(kind, body=b"", client=0, version=2):
     return (struct.pack(">BBHQI", version, kind, client, 1, len(body)) + body).hex()
 
 
-def sides(given, version):
-    """A list of a client and of a server, as it is to be printed."""
-    page, size = given["pages"] - 1, given["page_size"]
-    client, width = given["clients"] - 1, "H" if version == 1 else "I"
-    old, new = bytes(size), bytes([7]) * size
-    ask, want = struct.pack(">QI", 1, page), struct.pack(">QIQ", 1, page, 1)
-    done = struct.pack(">QQ", 1, 1)
+class Bodies:
+    """The bodies of frames of one transaction, which writes the last page."""
 
-    def granted(form):
-        return struct.pack(f">IQQ{form}", page, 1, 0, size) + old
+    def __init__(self, given):
+        self.page, size = given["pages"] - 1, given["page_size"]
+        self.size, self.old, self.new = size, bytes(size), bytes([7]) * size
+        self.ask = struct.pack(">QI", 1, self.page)
+        self.want = struct.pack(">QIQ", 1, self.page, 1)
+        self.done = struct.pack(">QQ", 1, 1)
 
-    def commit(form):
-        return struct.pack(f">QHIQ{form}", 1, 1, page, 1, size) + new
+    def granted(self, version):
+        size = struct.pack(">H" if version == 1 else ">I", self.size)
+        return struct.pack(">IQQ", self.page, 1, 0) + size + self.old
 
-    head = " ".join(f"{name} {given[name]}" for name in NAMES)
+    def commit(self, version):
+        size = struct.pack(">H" if version == 1 else ">I", self.size)
+        return struct.pack(">QHIQ", 1, 1, self.page, 1) + size + self.new
+
+
+def of_client(given, version):
+    """A list of a client, as it is to be printed; what comes is of that version."""
+    its = Bodies(given)
+    page, old, new = its.page, its.old.hex(), its.new.hex()
     return [
-        f"client {head}",
+        "client " + " ".join(f"{name} {given[name]}" for name in NAMES),
         f"> {frame(WELCOME, version=version)}",
         "begin = 1",
-        f"read {page} asked", f"< {frame(ASK_READ, ask)}",
-        f"> {frame(GRANTED, granted(width), version=version)}",
-        f"read {page} = {old.hex()}",
-        f"want {page} asked", f"< {frame(ASK_WRITE, want)}",
-        f"> {frame(MAY_WRITE, want, version=version)}",
-        f"write {page} {new.hex()} = ok",
-        "finish = ok", f"< {frame(COMMIT, commit('I'))}",
-        f"> {frame(DONE, done, version=version)}",
+        f"read {page} asked",
+        f"< {frame(ASK_READ, its.ask)}",
+        f"> {frame(GRANTED, its.granted(version), version=version)}",
+        f"read {page} = {old}",
+        f"want {page} asked",
+        f"< {frame(ASK_WRITE, its.want)}",
+        f"> {frame(MAY_WRITE, its.want, version=version)}",
+        f"write {page} {new} = ok",
+        "finish = ok",
+        f"< {frame(COMMIT, its.commit(2))}",
+        f"> {frame(DONE, its.done, version=version)}",
         "last = Committed 1",
-        f"peek {page} = {new.hex()}",
+        f"peek {page} = {new}",
         "references 2",
-        f"server {head}",
-        f"> {frame(HELLO, b'', client, version)}", f"< {frame(WELCOME, b'', client)}",
-        f"> {frame(ASK_READ, ask, client, version)}", f"< {frame(GRANTED, granted('I'), client)}",
-        f"> {frame(ASK_WRITE, want, client, version)}", f"< {frame(MAY_WRITE, want, client)}",
-        f"> {frame(COMMIT, commit(width), client, version)}",
-        f"batch 1 {page}:1:{new.hex()}",
-        "flushed 1", f"< {frame(DONE, done, client)}",
+    ]
+
+
+def of_server(given, version):
+    """A list of a server, to which the last client speaks."""
+    its, client = Bodies(given), given["clients"] - 1
+    return [
+        "server " + " ".join(f"{name} {given[name]}" for name in NAMES),
+        f"> {frame(HELLO, b'', client, version)}",
+        f"< {frame(WELCOME, b'', client)}",
+        f"> {frame(ASK_READ, its.ask, client, version)}",
+        f"< {frame(GRANTED, its.granted(2), client)}",
+        f"> {frame(ASK_WRITE, its.want, client, version)}",
+        f"< {frame(MAY_WRITE, its.want, client)}",
+        f"> {frame(COMMIT, its.commit(version), client, version)}",
+        f"batch 1 {its.page}:1:{its.new.hex()}",
+        "flushed 1",
+        f"< {frame(DONE, its.done, client)}",
         "batch none",
         f"commit {client} 1 1",
     ]
@@ -270,6 +292,7 @@ def listed():
 
 def runs():
     """The limits of runs and of served streams, with the jobs or commits of each client."""
+    yield limits(clients=1), 100_000
     for clients in range(1, 33):
         yield limits(clients=clients), 2
     for pages in beside_powers(2, 4096):
@@ -311,7 +334,7 @@ class Calls:
 
     def one_side(self, which):
         given, version = which
-        lines = sides(given, version)
+        lines = of_client(given, version) + of_server(given, version)
         with tempfile.TemporaryDirectory(dir=self.room) as folder:
             file = self.file(Path(folder), "list", "".join(f"{it}\n" for it in lines))
             wanted = "".join(f"{it}\n" for it in lines).encode()
@@ -329,13 +352,6 @@ class Calls:
             return self.is_right(f"run {name}", ["run", *words], wanted) and self.is_right(
                 f"serve {name}", ["serve", *words], *served(given["clients"], jobs, count)
             )
-
-    def stream(self):
-        """Many commits of one stream."""
-        with tempfile.TemporaryDirectory(dir=self.room) as folder:
-            config = "".join(f"{name} = {it}\n" for name, it in limits().items())
-            words = [self.file(Path(folder), "config", config), Path(folder) / "store"]
-            return self.is_right("serve", ["serve", *words], *served(1, COMMITS))
 
 
 def served(clients, commits, past=0):
@@ -358,7 +374,6 @@ def main(_):
             *several.map(calls.played, schedules()),
             *several.map(calls.one_side, listed()),
             *several.map(calls.ran, runs()),
-            calls.stream(),
         ]
     print(f"{sum(right)} of {len(right)} were as they are to be")
     return 0 if all(right) else 1
