@@ -6,11 +6,13 @@
   each line is one of src/example.rt, the test that compiles and runs it, in the same order.
 - README's example in Rattle, by the test of `cb_office` in the same way.
 - Each program of docs/EMBEDDING.md is the file that is named above it, byte for byte.
-- README's map: the floors of crates.txt, each with its crates, in the same order; and each crate
-  stands only on crates above it.
+- README's map: the floors of crates.txt, each with its crates, in the same order; each file that it
+  names of a crate is one of its sources; and each crate stands only on crates above it.
 - docs/CONTRACTS.md is as scripts/contracts makes it.
+- The pictures of docs/charts are what the stored run of `cb_play` prints, byte for byte.
 - Links: each link of README and of docs leads to a file of the repository.
-- README names no folder or file of the repository that isn't there.
+- README names no folder or file of the repository that isn't there, and no page names a word of
+  scripts/check or scripts/bench that there isn't.
 
 It needs nothing, and takes less than a second. The status is 1 where something doesn't hold.
 """
@@ -71,16 +73,39 @@ def floors() -> list[tuple[str, dict[str, list[str]]]]:
     return found
 
 
-def mapped() -> list[tuple[str, list[str]]]:
-    """Each floor of README's map, with its crates."""
+def mapped() -> list[tuple[str, dict[str, str]]]:
+    """Each floor of README's map, with its crates and what is said of each."""
     text = (TOP / "README.md").read_text().partition("\n## Map\n")[2].partition("\n## ")[0]
     found = []
     for line in text.splitlines():
-        if floor := re.match(r"\*\*(\w+)\*\*", line):
-            found.append((floor[1], []))
-        elif crate := re.match(r"(?:- |\| )`(\w+)`", line):
-            found[-1][1].append(crate[1])
+        if row := re.match(r"\| (?:(\w+) )?\| `(\w+)` \| (.*)", line):
+            if row[1]:
+                found.append((row[1], {}))
+            found[-1][1][row[2]] = row[3]
     return found
+
+
+def lost_sources() -> list[str]:
+    """Files that README's map names of a crate which hasn't got them."""
+    wrong = []
+    for crate, said in [it for _, crates in mapped() for it in crates.items()]:
+        sources = {path.name for path in (TOP / "crates" / crate / "src").rglob("*.rt")}
+        named = re.findall(r"`(?:\w+/)*(\w+\.rt)`", said)
+        wrong += [f"README.md: no {it} in {crate}" for it in named if it not in sources]
+    return wrong
+
+
+def other_pictures() -> list[str]:
+    """Pictures of docs/charts that aren't what the stored run of cb_play prints."""
+    printed = (TOP / "crates/cb_play/stdout").read_text()
+    begins = [it.end() for it in re.finditer(r"^chart .*\n", printed, re.MULTILINE)]
+    pictures = sorted((TOP / "docs/charts").glob("*.svg"))
+    wrong = []
+    for picture in pictures:
+        text = picture.read_text()
+        if not any(printed.startswith(text, at) for at in begins):
+            wrong.append(f"docs/charts: {picture.name} is another")
+    return wrong
 
 
 def misplaced() -> list[str]:
@@ -96,12 +121,16 @@ def misplaced() -> list[str]:
 
 
 def lost_links() -> list[str]:
-    """Links that lead nowhere, and paths in README that aren't there."""
+    """Links that lead nowhere, paths in README and words of the two tools that aren't there."""
     wrong = []
     for page in [TOP / "README.md", *sorted(TOP.glob("docs/*.md"))]:
         links = re.findall(r"\]\(([^)#\s]+)(?:#[^)]*)?\)", page.read_text())
         lost = [it for it in links if "://" not in it and not (page.parent / it).exists()]
         wrong += [f"{page.name}: no {it}" for it in lost]
+        for tool, folder in [("check", "checks"), ("bench", "benches")]:
+            words = set(re.findall(rf"scripts/{tool}\s+([a-z]+)", page.read_text()))
+            there = {path.stem for path in (TOP / "scripts" / folder).glob("*.*")}
+            wrong += [f"{page.name}: no scripts/{tool} {it}" for it in sorted(words - there)]
     named = re.findall(r"`((?:crates|docs|scripts)/[\w./]*)", (TOP / "README.md").read_text())
     wrong += [f"README.md: no {it}" for it in named if "NAME" not in it and not (TOP / it).exists()]
     return wrong
@@ -118,8 +147,9 @@ def main(_words: list[str]) -> int:
     made = [TOP / "scripts/contracts", "--check"]
     if subprocess.run(made, stdout=subprocess.DEVNULL, check=False).returncode:
         wrong.append("docs/CONTRACTS.md is to be made again: scripts/contracts")
-    wrong += other_programs() + misplaced() + lost_links()
-    if mapped() != [(floor, list(crates)) for floor, crates in floors()]:
+    wrong += other_programs() + misplaced() + lost_links() + lost_sources() + other_pictures()
+    drawn = [(floor, list(crates)) for floor, crates in mapped()]
+    if drawn != [(floor, list(crates)) for floor, crates in floors()]:
         wrong.append("README's map isn't that of crates.txt")
     for what in wrong:
         print(what)
