@@ -20,7 +20,7 @@ from ._library import (
 )
 
 
-O = TypeVar("O", bound="_Object")
+Made = TypeVar("Made", bound="_Object")
 
 
 class Status(Enum):
@@ -90,7 +90,7 @@ class _Object:
         """Lets the object go; every later call is refused."""
         call("free", self._at)
 
-    def __enter__(self: O) -> O:
+    def __enter__(self: Made) -> Made:
         return self
 
     def __exit__(self, *_: object) -> None:
