@@ -100,6 +100,28 @@ impl Dispatcher {
         Ok(())
     }
 
+    /// As `take`, of a frame that is handed over: a commit's pages are moved, and the frame comes
+    /// back with the fault.
+    pub fn take_owned(&mut self, alloc: Global, frame: Frame) -> Result<(), (ServerFault, Frame)>
+        requires { Fits self.old.server.limits frame }
+        ensures ok { OnOk result
+            (Posts self.old (input_of frame) (mailbox_of self.old) Everybody self.new) }
+        ensures taken { OnOk result (lacks_number_for self.old.server frame ≡ false) }
+        ensures arose { OnOk result (IsServer self.new.server) }
+        ensures err { IfErr result (λ refused. Refuses self.old.server frame refused.0) }
+        ensures back { IfErr result (λ refused. refused.1 ≡ frame) }
+        ensures unchanged { OnErr result (IsUnchanged self.old self.new) }
+    {
+        let Ok(()) = self.make_ready() else {
+            return Err((self.refusal(&frame), frame));
+        };
+        let said = self.server.take_owned(alloc, frame)?;
+        self.mailboxes.put(said);
+        // The server still arises by the protocol's steps.
+        let _known = self.server.limits();
+        Ok(())
+    }
+
     /// Makes ready for what the server says next.
     fn make_ready(&mut self) -> Result<(), AllocError>
         ensures ready { OnOk result (self.new.mailboxes.late ≡ []) }

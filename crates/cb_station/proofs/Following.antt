@@ -2,12 +2,10 @@
 use Rattle.std.proofs.Common.{◌≡◌, ◌<◌, ℕ, suc, ◌+◌, List, ◌∷◌, length, drop, drop-cons, sym, ◌∙◌, ap, arith, Option, Some, None, inl, inr, slice_set, get_or}
 use Rattle.std.proofs.lemmas.Bool.{cases_lt}
 use Rattle.std.proofs.lemmas.List.{get_or_past, get_or-set_same, length-set, set-get_or, set-set}
-use Rattle.cb_hands.specs.OwnHand.{all_restamped, pages_written}
-use Rattle.cb_frame_types.specs.declared.writes.Write.{Write}
+use Rattle.cb_hands.specs.OwnHand.{all_restamped}
 use Rattle.cb_hands.specs.Hands.{HandState, held_at, restamped}
 use Rattle.cb_hands.specs.declared.grant.Held.{Held}
 use Rattle.cb_hands.specs.Joined.{Follow, IsHeld, stored_at}
-use Rattle.cb_outbox.specs.Messages.{page_writes}
 
 -- who is stored has a place
 pub has_place : (hands : List (Option HandState)) (client : ℕ) (hand : HandState) → stored_at hands client ≡ Some hand → client < length hands
@@ -55,15 +53,14 @@ held_place held page copy e = elim (cases_lt page (length held)) [
   | inr le ↦ absurd (let z : None ≡ Some copy = sym (get_or_past held page None le) ∙ e in cc)
 ]
 
--- one write more is restamped
-pub restamp_left : (before after all : HandState) (writes : List Write) (i version : ℕ) (write : Write) → i < length writes → write ≡ get_or writes i write → after ≡ restamped before write.page version
-    → all_restamped before (pages_written (page_writes (drop i writes))) version ≡ all → all_restamped after (pages_written (page_writes (drop (i + 1) writes))) version ≡ all
-restamp_left before after all writes i version write lt is e left =
-    ap (λ (h : HandState). all_restamped h (pages_written (page_writes (drop (i + 1) writes))) version) e
-    ∙ ap (λ (ws : List Write). all_restamped before (pages_written (page_writes ws)) version) (sym first) ∙ left
+-- one page more is restamped
+pub restamp_left : (before after all : HandState) (pages : List ℕ) (i version page : ℕ) → i < length pages → page ≡ get_or pages i page → after ≡ restamped before page version
+    → all_restamped before (drop i pages) version ≡ all → all_restamped after (drop (i + 1) pages) version ≡ all
+restamp_left before after all pages i version page lt is e left =
+    ap (λ (h : HandState). all_restamped h (drop (i + 1) pages) version) e ∙ ap (λ (ps : List ℕ). all_restamped before ps version) (sym first) ∙ left
   where
     next : suc i ≡ i + 1
     next = omega arith
 
-    first : drop i writes ≡ write ∷ drop (i + 1) writes
-    first = drop-cons writes i write lt ∙ ap (λ (w : Write). w ∷ drop (suc i) writes) (sym is) ∙ ap (λ (k : ℕ). write ∷ drop k writes) next
+    first : drop i pages ≡ page ∷ drop (i + 1) pages
+    first = drop-cons pages i page lt ∙ ap (λ (p : ℕ). p ∷ drop (suc i) pages) (sym is) ∙ ap (λ (k : ℕ). page ∷ drop k pages) next

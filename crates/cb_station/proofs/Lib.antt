@@ -10,6 +10,7 @@
 -- Calls: what holds of every station holds after each call, by what the call did.
 -- Admitting: what a commit is answered, by why it is refused or that it is allowed.
 -- Telling: a station stays one whoever is told, and whatever threads tell each other.
+-- Committed: what a commit that was taken, and noted, leaves.
 pub mod Onward
 pub mod Reached
 pub mod Keeping
@@ -21,3 +22,4 @@ pub mod Stations
 pub mod Calls
 pub mod Admitting
 pub mod Telling
+pub mod Committed

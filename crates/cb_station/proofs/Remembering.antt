@@ -1,8 +1,7 @@
 -- As many entries of the history are forgotten as commits.
-use Rattle.std.proofs.Common.{◌≡◌, ◌+◌, ◌-◌, ◌≤◌, ℕ, List, length, reverse, map, sym, ◌∙◌, ap, arith}
+use Rattle.std.proofs.Common.{◌≡◌, ◌+◌, ◌-◌, ◌≤◌, ℕ, length, reverse, map, sym, ◌∙◌, ap, arith}
 use Rattle.std.proofs.lemmas.List.{length-drop, length-map, length-reverse}
 use Rattle.cb_commit.specs.History.{AreCommits, CommitsState, remembered}
-use Rattle.cb_commit.specs.declared.commit.Commit.{Commit}
 use Rattle.cb_hands.specs.Running.{noted, noted_commit}
 use Rattle.cb_hands.specs.declared.entry.Entry.{Entry}
 use Rattle.cb_mailboxes.specs.Dispatching as dispatching

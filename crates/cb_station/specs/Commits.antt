@@ -1,6 +1,6 @@
 -- Which commits a station takes.
 use Rattle.std.specs.Prelude.{◌≡◌, ◌⊎◌, ◌+◌, ◌<◌, ◌≤◌, ◌&&◌, ◌||◌, ℕ, Bool, true, not, nat_lt}
-use Rattle.std.specs.Prelude.{List, []}
+use Rattle.std.specs.Prelude.{List, [], Result, Ok, Err}
 use Rattle.cb_frame_types.specs.declared.frame.Body.{Body}
 use Rattle.cb_frame_types.specs.declared.frame.Body.TheVariants as body
 use Rattle.cb_frame_types.specs.declared.frame.Frame.{Frame}
@@ -65,3 +65,8 @@ RefusesCommit station frame hand reads fault =
     × (IsLive (server_of station) frame → ⊥))
     ⊎ ((fault ≡ office.Exhausted) × IsOwnCommit station frame hand × IsPermitted hand reads frame
     × IsLive (server_of station) frame × (max_number ≤ (server_of station).store.last_commit))
+
+-- what a commit is answered, without the frame that comes back with a fault
+abbrev pub answer_of : Result ℕ (OfficeFault × Frame) → Result ℕ OfficeFault
+answer_of (Ok number) = Ok number
+answer_of (Err refused) = Err refused.0

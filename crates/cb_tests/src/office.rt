@@ -3,5 +3,6 @@
 mod case;
 mod drawn;
 mod frames;
+mod handed;
 mod limits;
 mod stations;

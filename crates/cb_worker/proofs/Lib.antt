@@ -7,6 +7,7 @@
 -- Chain: from the read of a page to its commit.
 -- Kept: the frames that are kept to be handed in.
 -- Saying: how a transaction's commit is said, and said again.
+-- Owning: what a station answers to a commit whose frame is handed over.
 -- Turning: what a turn leaves.
 -- Standing: what the client's words of its transaction mean.
 -- Staying: a worker stays the one that it is.
@@ -25,6 +26,7 @@ pub mod Written
 pub mod Chain
 pub mod Kept
 pub mod Saying
+pub mod Owning
 pub mod Turning
 pub mod Standing
 pub mod Staying

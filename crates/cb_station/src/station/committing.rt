@@ -2,13 +2,14 @@
 ghost use Rattle.std.specs.Prelude.{◌≡◌, ◌↔◌, ◌⊎◌, ◌+◌, ◌<◌, ◌≤◌, ◌++◌, ◌∷◌, [], true};
 ghost use Rattle.std.specs.Prelude.{false, Err, IfErr, IfOk, OnErr, OnOk, length};
 ghost use Rattle.std.specs.List.{All};
-ghost use Rattle.cb_hands.specs.OwnHand.{all_restamped, pages_written};
+ghost use Rattle.cb_hands.specs.Hands.{without_permissions};
+ghost use Rattle.cb_hands.specs.OwnHand.{all_restamped};
 ghost use Rattle.cb_mailboxes.specs.Dispatching.{Everybody, Posts};
 ghost use Rattle.cb_hands.specs.declared.entry.Entry.{Entry as Noted};
 ghost use Rattle.cb_hands.specs.Joined.{Follow, IsHeld};
 ghost use Rattle.cb_station.specs.Commits.{AllowsCommit, IsLive, IsOwnCommit, IsPermitted};
-ghost use Rattle.cb_station.specs.Commits.{RefusesCommit, is_live, txn_of, writes_of};
-ghost use Rattle.cb_station.specs.Moves.{IsEntryOf, committed};
+ghost use Rattle.cb_station.specs.Commits.{RefusesCommit, answer_of, is_live, txn_of, writes_of};
+ghost use Rattle.cb_station.specs.Moves.{IsEntryOf, committed, is_commit};
 ghost use Rattle.cb_station.specs.Stations.{IsUnchanged, mailbox_of, server_of};
 ghost use Rattle.cb_station.specs.declared.office_fault.OfficeFault.TheVariants as office;
 ghost use Rattle.cb_outbox.specs.Messages.{page_writes};
@@ -19,10 +20,10 @@ ghost use Rattle.cb_server.specs.Taking.{input_of};
 use crate::office_fault::OfficeFault;
 use crate::reading::{holds_all, may_write_all, pages_of, reads_of};
 use crate::station::Station;
-use cb_frame::{Body, Frame, Write};
+use cb_frame::{Body, Frame};
 use cb_hands::{Entry, Hand, JoinedHands};
 use cb_links::Standing;
-use cb_page::{ClientNo, CommitNo, PageSet, TxnNo, Version};
+use cb_page::{ClientNo, CommitNo, PageNo, PageSet, TxnNo, Version};
 use cb_past::Past;
 use std::alloc::{AllocError, Global};
 
@@ -77,27 +78,75 @@ impl Station {
             (self.new.flags ≡ record self.old.flags { news = true }) }
     {
         let number = self.number_for(frame, reads, hand)?;
-        let Body::Commit { txn, writes } = &frame.body else {
-            unreachable!()
-        };
-        let entry = entry_of(
-            alloc,
-            &mut self.history,
-            hand,
-            *txn,
-            reads,
-            writes.as_slice(),
-        )?;
+        let entry = entry_of(alloc, &mut self.history, hand, frame, reads)?;
         // A number is left: it is refused only where memory is.
         if self.dispatcher.take(alloc, frame).is_err() {
             return Err(OfficeFault::Memory);
         }
-        let version = Version::new(number.get());
-        restamp(&mut self.hands, hand, writes.as_slice(), version);
-        self.hands.end_permissions(hand);
-        self.history.push_reserved(entry);
+        note(&mut self.history, &mut self.hands, hand, number, entry);
         self.flags.news = true;
         Ok(number)
+    }
+
+    /// As `commit`, of a frame that is handed over: the pages of a commit that is taken are moved
+    /// and not copied. The very frame comes back with each fault.
+    pub fn commit_owned(
+        &mut self,
+        alloc: Global,
+        frame: Frame,
+        reads: &PageSet,
+        hand: &mut Hand,
+    ) -> Result<CommitNo, (OfficeFault, Frame)>
+        ensures foreign { (answer_of result ≡ Err office.Foreign)
+            ↔ (IsOwnCommit self.old frame hand.old → ⊥) }
+        ensures not_held { (answer_of result ≡ Err office.NotHeld)
+            ↔ (IsOwnCommit self.old frame hand.old
+            × (IsPermitted hand.old reads.now frame → ⊥)) }
+        ensures not_live { (answer_of result ≡ Err office.NotLive)
+            ↔ (IsOwnCommit self.old frame hand.old × IsPermitted hand.old reads.now frame
+            × (IsLive (server_of self.old) frame → ⊥)) }
+        ensures exhausted { (answer_of result ≡ Err office.Exhausted)
+            ↔ (IsOwnCommit self.old frame hand.old × IsPermitted hand.old reads.now frame
+            × IsLive (server_of self.old) frame
+            × (max_number ≤ (server_of self.old).store.last_commit)) }
+        ensures faults { IfErr result (λ refused. (refused.0 ≡ office.Foreign)
+            ⊎ (refused.0 ≡ office.NotHeld) ⊎ (refused.0 ≡ office.NotLive)
+            ⊎ (refused.0 ≡ office.Exhausted) ⊎ (refused.0 ≡ office.Memory)) }
+        ensures back { IfErr result (λ refused. refused.1 ≡ frame) }
+        ensures err { OnErr result (IsUnchanged self.old self.new × (hand.new ≡ hand.old)) }
+        ensures number { IfOk result (λ number.
+            number ≡ (server_of self.old).store.last_commit + 1) }
+        ensures entry { OnOk result ((entry : Noted)
+            × (self.new.history ≡ self.old.history ++ entry ∷ [])
+            × IsEntryOf hand.old (txn_of frame) (writes_of frame) reads.now entry) }
+        ensures posts { OnOk result (Posts self.old.dispatcher (input_of frame)
+            (mailbox_of self.old) Everybody self.new.dispatcher) }
+        ensures applied { OnOk result (IsApplied (server_of self.old) (server_of self.new)
+            hand.old.client hand.old.incarnation (txn_of frame)
+            (page_writes (writes_of frame))) }
+        ensures hand { IfOk result (λ number.
+            hand.new ≡ committed hand.old (writes_of frame) number) }
+        ensures stored { OnOk result (Follow self.old.hands self.new.hands hand.old hand.new) }
+        ensures flags { OnOk result
+            (self.new.flags ≡ record self.old.flags { news = true }) }
+    {
+        let number = match self.number_for(&frame, reads, hand) {
+            Ok(number) => number,
+            Err(fault) => return Err((fault, frame)),
+        };
+        let Ok(entry) = entry_of(alloc, &mut self.history, hand, &frame, reads) else {
+            return Err((OfficeFault::Memory, frame));
+        };
+        let (_, frame) = match self.dispatcher.take_owned(alloc, frame) {
+            Ok(()) => {
+                note(&mut self.history, &mut self.hands, hand, number, entry);
+                self.flags.news = true;
+                return Ok(number);
+            }
+            Err(refused) => refused,
+        };
+        // A number is left: it is refused only where memory is.
+        Err((OfficeFault::Memory, frame))
     }
 
     /// The number that the commit gets, or why there is none: the first reason that stands.
@@ -140,40 +189,65 @@ impl Station {
     }
 }
 
-/// The entry of a transaction that read these pages and writes those, with room for it behind the
-/// history.
+/// The entry of a commit whose transaction read these pages, with room for it behind the history.
 fn entry_of(
     alloc: Global,
     history: &mut Past<Entry>,
     hand: &Hand,
-    txn: TxnNo,
+    frame: &Frame,
     reads: &PageSet,
-    writes: &[Write],
 ) -> Result<Entry, AllocError>
-    ensures entry { IfOk result (IsEntryOf hand.now txn writes.now reads.now) }
+    requires { is_commit frame.now.body ≡ true }
+    ensures entry { IfOk result
+        (IsEntryOf hand.now (txn_of frame.now) (writes_of frame.now) reads.now) }
     ensures same { history.new.items ≡ history.old.items }
     ensures forgotten { history.new.forgotten ≡ history.old.forgotten }
     ensures room { OnOk result (0 < history.new.room) }
 {
+    let Body::Commit { txn, writes } = &frame.body else {
+        unreachable!()
+    };
     history.reserve_one()?;
     Ok(Entry {
         client: hand.client(),
         incarnation: hand.incarnation(),
-        txn,
+        txn: *txn,
         reads: reads_of(alloc, hand, reads)?,
-        writes: pages_of(alloc, writes)?,
+        writes: pages_of(alloc, writes.as_slice())?,
     })
 }
 
-/// What the hand holds of the written pages is of that version.
-fn restamp(hands: &mut JoinedHands, hand: &mut Hand, writes: &[Write], version: Version)
+/// A commit that was taken is noted: its entry is put behind the history, what the hand holds of
+/// the pages that it wrote is of its version, and the hand's permissions to write end.
+fn note(
+    history: &mut Past<Entry>,
+    hands: &mut JoinedHands,
+    hand: &mut Hand,
+    number: CommitNo,
+    entry: Entry,
+)
+    requires room { 0 < history.old.room }
     requires held { IsHeld hands.old hand.old }
-    requires pages { All (λ write. write.page < length hand.old.held) writes.now }
+    requires pages { All (λ page. page < length hand.old.held) entry.writes.items }
+    ensures history { history.new.items ≡ history.old.items ++ entry ∷ [] }
+    ensures forgotten { history.new.forgotten ≡ history.old.forgotten }
     ensures hand { hand.new
-        ≡ all_restamped hand.old (pages_written (page_writes writes.now)) version }
+        ≡ without_permissions (all_restamped hand.old entry.writes.items number) }
     ensures stored { Follow hands.old hands.new hand.old hand.new }
 {
-    for write in writes {
-        hands.restamp(hand, write.page, version);
+    restamp(hands, hand, entry.writes.as_slice(), number.version());
+    hands.end_permissions(hand);
+    history.push_reserved(entry);
+}
+
+/// What the hand holds of these pages is of that version.
+fn restamp(hands: &mut JoinedHands, hand: &mut Hand, pages: &[PageNo], version: Version)
+    requires held { IsHeld hands.old hand.old }
+    requires pages { All (λ page. page < length hand.old.held) pages.now }
+    ensures hand { hand.new ≡ all_restamped hand.old pages.now version }
+    ensures stored { Follow hands.old hands.new hand.old hand.new }
+{
+    for page in pages {
+        hands.restamp(hand, *page, version);
     }
 }

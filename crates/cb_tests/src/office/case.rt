@@ -10,7 +10,7 @@ use cb_station::{OfficeFault, Station};
 use std::alloc::{AllocError, Global};
 
 /// The first client reads page 0 and may write it.
-fn prepare(alloc: Global, station: &mut Station, one: &mut Hand) -> bool {
+pub(crate) fn prepare(alloc: Global, station: &mut Station, one: &mut Hand) -> bool {
     let page = PageNo::new(0);
     let txn = TxnNo::new(1);
     let grant = GrantNo::new(1);

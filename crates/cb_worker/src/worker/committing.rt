@@ -9,7 +9,7 @@ use crate::worker_fault::WorkerFault;
 use cb_client::ClientFault;
 use cb_frame::Frame;
 use cb_page::CommitNo;
-use cb_station::Station;
+use cb_station::{OfficeFault, Station};
 use cb_twoq::Chooser;
 use std::alloc::Global;
 
@@ -27,10 +27,12 @@ impl<Q: Chooser> Worker<Q> {
         let frame = self.commit_frame(alloc)?;
         // What holds of every client, its limits say.
         let _known = self.client.limits();
-        match station.commit(alloc, &frame, self.client.locked(), &mut self.hand) {
-            Ok(number) => Ok(number),
-            Err(fault) => Err(WorkerFault::Office(fault)),
-        }
+        let reads = self.client.locked();
+        let refused = match station.commit_owned(alloc, frame, reads, &mut self.hand) {
+            Ok(number) => return Ok(number),
+            Err(refused) => refused,
+        };
+        Err(fault_of(refused))
     }
 
     /// The commit of the open transaction, which is committing then, or of the one that is.
@@ -48,4 +50,11 @@ impl<Q: Chooser> Worker<Q> {
         };
         Ok(frame)
     }
+}
+
+/// The fault of a refused commit. Its frame goes, since the client can say it again.
+fn fault_of(refused: (OfficeFault, Frame)) -> WorkerFault
+    ensures { result ≡ WorkerFault.Office refused.0 }
+{
+    WorkerFault::Office(refused.0)
 }

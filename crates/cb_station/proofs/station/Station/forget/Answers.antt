@@ -1,5 +1,5 @@
 -- Goals of `Station::forget`.
-use Rattle.std.proofs.Common.{◌≡◌, ◌+◌, ◌-◌, ◌≤◌, ◌∙◌, ℕ, ap, arith, length, refl, sym, subst}
+use Rattle.std.proofs.Common.{◌≡◌, ◌+◌, ◌-◌, ◌≤◌, ◌∙◌, ap, arith, length, refl, sym, subst}
 use Rattle.cb_commit.specs.History as commits
 use Rattle.cb_commit.specs.History.{AreCommits, CommitsState}
 use Rattle.cb_mailboxes.specs.Dispatching.{DispatcherState}
