@@ -40,6 +40,8 @@ impl Told {
 }
 
 impl Watch for Told {
+    ghost tells = { λ watch number after. Unit {0} };
+
     fn begins(&mut self, _jobs: u64, _number: u64) {}
 
     fn flushed(&mut self, number: CommitNo) {
@@ -61,6 +63,8 @@ struct Waited<'a> {
 }
 
 impl Watch for Waited<'_> {
+    ghost tells = { λ watch number after. Unit {0} };
+
     fn begins(&mut self, _jobs: u64, _number: u64) {}
 
     fn flushed(&mut self, number: CommitNo) {
