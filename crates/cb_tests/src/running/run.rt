@@ -254,6 +254,7 @@ pub(crate) fn came_over<R: Threads + Wait + Clock + Sync>(
         db: calls.1,
         left: Some(&counts.left),
         frees: is_full(plan.act),
+        clock: None,
     };
     let works = [running(text, &counts), opening(Deed::Begin(&counts))];
     match both(rt, alloc, (plan.clients, 16), faults, works) {
