@@ -3,6 +3,7 @@ ghost use Rattle.std.specs.Prelude.{◌≡◌, Some, None};
 ghost use Rattle.cb_jobs.specs.Outcomes.{line_of, lower, status_of};
 
 use std::fmt;
+use std::marker::Model;
 
 /// Why a run ended before all was done. The text is its line on the standard error.
 #[derive(Clone, Copy, Debug, PartialEq, Eq)]
@@ -52,6 +53,38 @@ pub struct ClientEnding {
     pub ending: Ending,
 }
 
+/// Says that a client's ending was noted: nobody but [`FirstEnding::note`] makes one, and nobody
+/// copies it. In contracts it is that ending.
+#[derive(Drop)]
+pub struct Noted {
+    told: ClientEnding,
+}
+
+impl Model for Noted {
+    ghost use Rattle.cb_jobs.specs.declared.ending.ClientEnding.{ClientEnding};
+
+    ghost Value = { ClientEnding };
+
+    ghost view = { λ noted. noted.told };
+}
+
+impl Noted {
+    /// That ending was noted.
+    fn of(client: u16, ending: Ending) -> Noted
+        ensures { result ≡ record { client = client; ending = ending } }
+    {
+        let told = ClientEnding { client, ending };
+        Noted { told }
+    }
+
+    /// Which ending it was.
+    pub fn told(&self) -> ClientEnding
+        ensures { result ≡ self.now }
+    {
+        self.told
+    }
+}
+
 /// The ending of the lowest client that has one.
 #[derive(Drop)]
 pub struct FirstEnding {
@@ -67,15 +100,17 @@ impl FirstEnding {
     }
 
     /// Notes how a client's part ended, unless a lower client's is noted.
-    pub fn note(&mut self, client: u16, ending: Ending)
-        ensures { self.new.told
+    pub fn note(&mut self, client: u16, ending: Ending) -> Noted
+        ensures lowest { self.new.told
             ≡ lower self.old.told (record { client = client; ending = ending }) }
+        ensures noted { result ≡ record { client = client; ending = ending } }
     {
         if let Some(told) = self.told {
             if told.client <= client {
-                return;
+                return Noted::of(client, ending);
             }
         }
         self.told = Some(ClientEnding { client, ending });
+        Noted::of(client, ending)
     }
 }

@@ -16,7 +16,7 @@ mod tally;
 mod watch;
 
 pub use counters::{count_up, counter, counter_sum};
-pub use ending::{ClientEnding, Ending, FirstEnding};
+pub use ending::{ClientEnding, Ending, FirstEnding, Noted};
 pub use gate::{Gate, Turn};
 pub use printing::{Counted, print_run};
 pub use progress::Progress;

@@ -86,6 +86,8 @@ impl<'a, C: Clock, W: Write> Progress<'a, C, W> {
 }
 
 impl<C: Clock, W: Write> Watch for Progress<'_, C, W> {
+    ghost tells = { λ watch number after. Unit {0} };
+
     fn begins(&mut self, jobs: u64, number: u64) {
         self.shown = None;
         self.jobs = jobs;

@@ -2,7 +2,7 @@
 ghost use Rattle.std.specs.Prelude.{◌≡◌, ◌*◌, false, IfOk};
 ghost use Rattle.cb_jobs.specs.Outcomes.{PrintsCounted};
 ghost use Rattle.cb_run.specs.Runs.{IsCounted};
-ghost use Rattle.cb_play.specs.StoreRuns.{HasFew, IsStoreRun, all_jobs};
+ghost use Rattle.cb_play.specs.StoreRuns.{HasAll, IsStoreRun, all_jobs};
 
 use cb_console::{Config, print_refusal, run_settings};
 use cb_jobs::{Ending, Gate, Turn, Watch, print_run};
@@ -79,7 +79,7 @@ where
     O: Write,
     E: Write,
     requires { config.now.limits.keep_write ≡ false }
-    ensures { IfOk result (λ status. PrintsCounted (HasFew config.now) status
+    ensures { IfOk result (λ status. PrintsCounted (HasAll config.now) status
         (O.contents out.old) (O.contents out.new) (E.contents err.old) (E.contents err.new)) }
 {
     let conn = match Connection::open(rt, store) {

@@ -37,6 +37,10 @@ ending_of_worker (worker.Office office.Memory) = Some ending.Memory
 ending_of_worker (worker.Office office.Exhausted) = Some ending.Exhausted
 ending_of_worker (worker.Office _) = Some ending.Worker
 
+-- that is how the client's part ended
+abbrev pub of_client : (client : ℕ) → Ending → ClientEnding
+of_client client told = record { client = client; ending = told }
+
 -- by the flusher's fault, else by that of the lowest client that told of one
 abbrev pub ending_of_run : Result ⊤ ShelfFault → Option ClientEnding → Result ⊤ Ending
 ending_of_run (Err fault) told = Err (ending_of_shelf fault)

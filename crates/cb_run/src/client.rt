@@ -1,10 +1,14 @@
 //! One client's part of a run.
+ghost use Rattle.std.specs.Prelude.{◌≡◌};
+ghost use Rattle.std.specs.Option.{option_map};
+ghost use Rattle.cb_run.specs.Runs.{ending_of_worker, of_client};
+
 use crate::faults::of_worker;
 use crate::results::Results;
 use crate::run::Run;
 use crate::working::work;
 use cb_client::ClientFault;
-use cb_jobs::{Ending, FirstEnding, Gate};
+use cb_jobs::{Ending, FirstEnding, Gate, Noted};
 use cb_page::{ClientNo, Limits};
 use cb_station::{Office, OfficeFault};
 use cb_twoq::Chooser;
@@ -37,13 +41,31 @@ pub(crate) fn give_up<R: Wait>(
     faults: &Mutex<FirstEnding>,
     client: u16,
     ending: Ending,
-) {
-    faults.lock(rt).note(client, ending);
+) -> Noted
+    ensures { result ≡ of_client client ending }
+{
+    let noted = faults.lock(rt).note(client, ending);
     office.halt(rt);
+    noted
 }
 
-/// A client joins and works; where it can't go on the office is halted. A client that was halted
-/// says nothing of why.
+/// Notes a worker's fault, and halts the office; a client that was halted says nothing of why.
+fn give_up_by<R: Wait>(
+    rt: &R,
+    office: &Office,
+    faults: &Mutex<FirstEnding>,
+    client: u16,
+    fault: WorkerFault,
+) -> Option<Noted>
+    ensures { result ≡ option_map (of_client client) (ending_of_worker fault) }
+{
+    match of_worker(fault) {
+        Some(ending) => Some(give_up(rt, office, faults, client, ending)),
+        None => None,
+    }
+}
+
+/// A client joins and works; where it can't go on the office is halted.
 pub(crate) fn run_client<Q: Chooser, R: Wait + Clock, G: Gate>(
     run: Run<'_, R, G>,
     limits: &Limits,
@@ -52,11 +74,8 @@ pub(crate) fn run_client<Q: Chooser, R: Wait + Clock, G: Gate>(
     results: &Results,
     faults: &Mutex<FirstEnding>,
 ) {
-    let Err(fault) = join_and_work::<Q, R, G>(run, limits, client, jobs, results) else {
-        return;
-    };
-    if let Some(ending) = of_worker(fault) {
-        give_up(run.rt, run.office, faults, client, ending);
+    if let Err(fault) = join_and_work::<Q, R, G>(run, limits, client, jobs, results) {
+        let _noted = give_up_by(run.rt, run.office, faults, client, fault);
     }
 }
 

@@ -49,35 +49,37 @@ impl<'a, R: Wait, W: Watch> Counting<'a, R, W> {
         }
     }
 
-    /// Counts the results that are there.
-    fn count(&mut self) {
-        for done in self.results.so_far(self.rt) {
-            if !count(&mut self.tally, done.told()) {
-                self.odd = true;
-            }
-        }
-    }
-
     /// How many jobs were done, once all that did them have ended. A double or a stranger is a
     /// worker's fault.
     pub(crate) fn committed(&mut self) -> Result<u64, Ending> {
-        self.count();
+        count_results(self.rt, self.results, &mut self.tally, &mut self.odd);
         committed(&self.tally, self.odd)
     }
 }
 
 impl<R: Wait, W: Watch> Watch for Counting<'_, R, W> {
+    ghost tells = { λ counting number after. W.tells counting.watch.now number after.watch.now };
+
     fn begins(&mut self, jobs: u64, number: u64) {
         self.watch.begins(jobs, number);
     }
 
     fn flushed(&mut self, number: CommitNo) {
-        self.count();
+        count_results(self.rt, self.results, &mut self.tally, &mut self.odd);
         self.watch.flushed(number);
     }
 
     fn waits(&mut self) {
         self.watch.waits();
+    }
+}
+
+/// Counts the results that are there. Whether one was odd is told besides.
+fn count_results<R: Wait>(rt: &R, results: &Results, tally: &mut Tally, odd: &mut bool) {
+    for done in results.so_far(rt) {
+        if !count(tally, done.told()) {
+            *odd = true;
+        }
     }
 }
 

@@ -2,6 +2,7 @@
 ghost use Rattle.std.specs.Prelude.{◌≡◌, ◌↔◌, ◌<◌, ◌≤◌, ℕ, true, false, Err, IfErr, IfOk, IfSome};
 ghost use Rattle.std.specs.Prelude.{None, Ok, OnErr, OnOk, Some};
 ghost use Rattle.std.specs.Option.{option_map};
+ghost use Rattle.std.specs.Sync.Mutex.{mutex_guard_value};
 ghost use Rattle.sqlite.specs.Held.{state};
 ghost use Rattle.sqlite.specs.State.{Survives};
 ghost use Rattle.cb_server_state.specs.Commits.{batch_of};
@@ -56,6 +57,21 @@ fn await_others<'a, R: Wait + Clock>(
     }
 }
 
+/// Waits for more to be committed, which the watch is told: where nothing is left to write, and some
+/// call of `work` may still commit.
+fn wait_for_more<'a, R: Wait, W: Watch>(
+    rt: &R,
+    office: &'a Office,
+    station: MutexGuard<'a, Station>,
+    watch: &mut W,
+) -> MutexGuard<'a, Station>
+    requires written { IsWritten (mutex_guard_value station) }
+    requires goes_on { is_over (mutex_guard_value station).flags ≡ false }
+{
+    watch.waits();
+    office.wait(rt, station)
+}
+
 /// The next batch; `None` once nothing is left and no call of `work` commits any more. The watch is
 /// told each time that it is waited for. Who is about to commit is waited for as the pace says.
 pub(crate) fn next_batch<R: Wait + Clock, W: Watch>(
@@ -73,8 +89,7 @@ pub(crate) fn next_batch<R: Wait + Clock, W: Watch>(
         if let Some(next) = batch_at(alloc, &station) {
             return next;
         }
-        watch.waits();
-        station = office.wait(rt, station);
+        station = wait_for_more(rt, office, station, watch);
     }
     unreachable!()
 }
@@ -132,6 +147,9 @@ pub(crate) fn flush_batch<R: Wait + Clock, S: Alter, W: Watch>(
     pace: &mut Pace,
     batch: &Batch,
 ) -> Result<(), ShelfFault>
+    ensures told { OnOk result (W.tells watch.old batch.now.number watch.new) }
+    ensures untold { OnErr result (watch.new ≡ watch.old) }
+    ensures paced { OnOk result (pace.new.reported ≡ Some batch.now.number) }
     ensures limits { shelf.new.limits ≡ shelf.old.limits }
     ensures fits { OnOk result (Fits shelf.old.limits batch.now) }
     ensures shape { (result ≡ Err ShelfFault.Shape) ↔ ¬ Fits shelf.old.limits batch.now }

@@ -18,7 +18,7 @@ const PART: u32 = 10;
 #[derive(Clone, Copy)]
 pub(crate) struct Pace {
     /// The number of the last commit that was reported; `None` before the first report.
-    reported: Option<CommitNo>,
+    pub(crate) reported: Option<CommitNo>,
     /// The commit that is waited for.
     awaited: Option<CommitNo>,
     /// It is waited for no longer than so long.

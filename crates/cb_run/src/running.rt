@@ -156,7 +156,7 @@ where
                     Err(_) => false,
                 };
                 if !started {
-                    give_up(run.rt, run.office, faults, client, Ending::Memory);
+                    let _noted = give_up(run.rt, run.office, faults, client, Ending::Memory);
                 }
             }
             let flushed = flush_in_tries(run.rt, run.alloc, run.office, shelf, watch);

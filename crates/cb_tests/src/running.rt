@@ -3,6 +3,7 @@
 
 mod alone;
 mod balky;
+mod clocks;
 mod commits;
 mod contention;
 mod counting;
@@ -15,6 +16,7 @@ mod giving_up;
 mod hurried;
 mod late;
 mod lines;
+mod pacing;
 mod refusals;
 mod run;
 mod shapes;

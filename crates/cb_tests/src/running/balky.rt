@@ -3,6 +3,7 @@ ghost use Rattle.std.specs.Prelude.{◌≡◌, ◌+◌, false};
 ghost use Rattle.sqlite_disk.specs.Disk.{CountsFault};
 ghost use Rattle.sqlite_disk.specs.Refusal.{finds_no_room};
 
+use crate::running::clocks::OwnClock;
 use sqlite_disk::{Crash, Disk, Tally};
 use std::io;
 use std::sync::atomic::{AtomicU64, Ordering};
@@ -13,15 +14,22 @@ pub(crate) struct Balky<'a, D: Disk> {
     inner: D,
     /// How many writes are left to be refused; where nobody says so, none is.
     left: Option<&'a AtomicU64>,
+    /// A clock that goes on by writes.
+    clock: Option<&'a OwnClock>,
     refused: u64,
 }
 
 impl<'a, D: Disk> Balky<'a, D> {
-    /// Refuses as many writes as are left to be.
-    pub(crate) fn new(inner: D, left: Option<&'a AtomicU64>) -> Balky<'a, D> {
+    /// Refuses as many writes as are left to be; the clock goes on by each write.
+    pub(crate) fn new(
+        inner: D,
+        left: Option<&'a AtomicU64>,
+        clock: Option<&'a OwnClock>,
+    ) -> Balky<'a, D> {
         Balky {
             inner,
             left,
+            clock,
             refused: 0,
         }
     }
@@ -29,6 +37,13 @@ impl<'a, D: Disk> Balky<'a, D> {
     /// The disk below.
     pub(crate) fn inner(&self) -> &D {
         &self.inner
+    }
+}
+
+/// Tells the clock, if there is one, of a write.
+fn tell(clock: Option<&OwnClock>) {
+    if let Some(clock) = clock {
+        clock.write();
     }
 }
 
@@ -103,6 +118,7 @@ impl<D: Disk> Disk for Balky<'_, D> {
     }
 
     fn write_at(&mut self, at: usize, bytes: &[u8]) -> io::Result<()> {
+        tell(self.clock);
         refuse(self.left, &mut self.refused)?;
         self.inner.write_at(at, bytes)
     }

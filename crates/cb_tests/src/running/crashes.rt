@@ -81,6 +81,7 @@ fn survives_each_stop<R: Threads + Wait + Clock + Sync>(
             db: u64::MAX,
             left: None,
             frees: false,
+            clock: None,
         };
         match both(rt, alloc, (1, 16), faults, [work, opening(Deed::Find(old))]) {
             (Outcome::Well(true), left) => return left == Outcome::Found(Found::Written),

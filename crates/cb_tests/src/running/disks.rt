@@ -5,6 +5,7 @@
 ghost use Rattle.std.specs.Prelude.{◌≡◌, false};
 
 use crate::running::balky::Balky;
+use crate::running::clocks::OwnClock;
 use crate::running::hurried::Hurried;
 use crate::running::work::{Deed, Outcome, Work, opening, work_on};
 use cb_page::Limits;
@@ -25,6 +26,8 @@ pub(crate) struct Faults<'a> {
     pub(crate) left: Option<&'a AtomicU64>,
     /// Whether none is refused any more once a second was slept.
     pub(crate) frees: bool,
+    /// What shows the time, where that isn't the runtime's; it goes on as the log is written.
+    pub(crate) clock: Option<&'a OwnClock>,
 }
 
 /// Disks that don't stop, and refuse nothing.
@@ -33,6 +36,7 @@ pub(crate) const NONE: Faults<'static> = Faults {
     db: u64::MAX,
     left: None,
     frees: false,
+    clock: None,
 };
 
 /// Opens the database, or gives the files back.
@@ -97,11 +101,16 @@ pub(crate) fn both<R: Threads + Wait + Clock + Sync>(
         return (Outcome::Nothing, Outcome::Nothing);
     };
     let files = Files {
-        log: Balky::new(Fuse::new(Memory::new(alloc), faults.log), faults.left),
-        db: Balky::new(Fuse::new(Memory::new(alloc), faults.db), None),
+        log: Balky::new(
+            Fuse::new(Memory::new(alloc), faults.log),
+            faults.left,
+            faults.clock,
+        ),
+        db: Balky::new(Fuse::new(Memory::new(alloc), faults.db), None, None),
     };
     let room = if faults.frees { faults.left } else { None };
-    both_over(&Hurried::new(rt, room), alloc, &limits, files, works)
+    let hurried = Hurried::new(rt, room, faults.clock);
+    both_over(&hurried, alloc, &limits, files, works)
 }
 
 /// What comes of a shelf that is opened after these texts over new disks, of four clients and two

@@ -1,4 +1,5 @@
 //! A runtime on which nobody sleeps, so that tests don't last as long as pauses do.
+use crate::running::clocks::OwnClock;
 use std::io;
 use std::sync::Wait;
 use std::sync::atomic::{AtomicU64, Ordering};
@@ -12,12 +13,19 @@ pub(crate) struct Hurried<'a, R> {
     inner: &'a R,
     /// How many writes are left to be refused.
     left: Option<&'a AtomicU64>,
+    /// What the time is, where that isn't the other's.
+    clock: Option<&'a OwnClock>,
 }
 
 impl<'a, R> Hurried<'a, R> {
-    /// A runtime over another; where these writes are named, none is refused after a second.
-    pub(crate) fn new(inner: &'a R, left: Option<&'a AtomicU64>) -> Hurried<'a, R> {
-        Hurried { inner, left }
+    /// A runtime over another; where these writes are named, none is refused after a second; where
+    /// a clock is, that one shows the time.
+    pub(crate) fn new(
+        inner: &'a R,
+        left: Option<&'a AtomicU64>,
+        clock: Option<&'a OwnClock>,
+    ) -> Hurried<'a, R> {
+        Hurried { inner, left, clock }
     }
 }
 
@@ -27,7 +35,10 @@ impl<R: Threads> Threads for Hurried<'_, R> {}
 
 impl<R: Clock> Clock for Hurried<'_, R> {
     fn monotonic(&self) -> io::Result<Duration> {
-        self.inner.monotonic()
+        match self.clock {
+            Some(clock) => Ok(clock.look()),
+            None => self.inner.monotonic(),
+        }
     }
 
     fn since_1970(&self) -> io::Result<Duration> {

@@ -40,6 +40,8 @@ impl Told {
 }
 
 impl Watch for Told {
+    ghost tells = { λ watch number after. Unit {0} };
+
     fn begins(&mut self, _jobs: u64, _number: u64) {}
 
     fn flushed(&mut self, number: CommitNo) {
@@ -61,6 +63,8 @@ struct Waited<'a> {
 }
 
 impl Watch for Waited<'_> {
+    ghost tells = { λ watch number after. Unit {0} };
+
     fn begins(&mut self, _jobs: u64, _number: u64) {}
 
     fn flushed(&mut self, number: CommitNo) {
@@ -250,6 +254,7 @@ pub(crate) fn came_over<R: Threads + Wait + Clock + Sync>(
         db: calls.1,
         left: Some(&counts.left),
         frees: is_full(plan.act),
+        clock: None,
     };
     let works = [running(text, &counts), opening(Deed::Begin(&counts))];
     match both(rt, alloc, (plan.clients, 16), faults, works) {

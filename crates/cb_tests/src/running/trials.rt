@@ -2,11 +2,13 @@
 ghost use Rattle.std.specs.Prelude.{◌≡◌, false};
 
 use crate::running::alone::commits_and_leaves;
+use crate::running::clocks::OwnClock;
 use crate::running::disks::opened;
 use crate::running::flags::{Flags, Moment, follows, wakes};
 use crate::running::gates::Counts;
 use crate::running::giving_up::drops_and_gives_up;
 use crate::running::late::comes_too_late;
+use crate::running::pacing::keeps_pace;
 use crate::running::refusals::{Refusal, is_refused_at_first};
 use crate::running::run::came_in;
 use crate::running::sharing::are_shared;
@@ -44,6 +46,8 @@ pub(crate) enum Trial<'a> {
     Refused(Refusal),
     /// A try waits to be let in until this ends its wait.
     Entered(Wake),
+    /// The flusher waits for those whom it told, by this clock.
+    Paced(&'a OwnClock),
     /// Workers of four clients run, and nobody looks on.
     Unwatched,
     /// Workers run.
@@ -96,6 +100,7 @@ fn comes_with<R: Wait + Threads + Clock + Sync, S: Alter>(
         Trial::Late => comes_too_late::<TwoQ, R>(rt, alloc, limits, office),
         Trial::Refused(refusal) => is_refused_at_first(rt, alloc, limits, office, shelf, refusal),
         Trial::Entered(wake) => ends_its_wait(rt, alloc, limits, office, wake),
+        Trial::Paced(clock) => keeps_pace(rt, alloc, office, shelf, clock),
         Trial::Unwatched => is_counted(rt, alloc, limits, office, shelf),
         Trial::Run(counts) => {
             return Outcome::Ran(came_in(rt, alloc, limits, office, shelf, counts));
