@@ -158,7 +158,9 @@ static sqlite3_int64 one_number(struct store *store, const char *text) {
  * isn't, so that others may read and copy it by SQLite's means. */
 static void lock(const char *path) {
   char beside[4096];
-  snprintf(beside, sizeof beside, "%s.lock", path);
+  if (snprintf(beside, sizeof beside, "%s.lock", path) >= (int)sizeof beside) {
+    die("%s is too long", path);
+  }
   int fd = open(beside, O_RDWR | O_CREAT | O_CLOEXEC, 0600);
   if (fd < 0 || flock(fd, LOCK_EX | LOCK_NB) != 0) {
     die("%s: %s", beside, fd < 0 ? strerror(errno) : "another server has it");
@@ -416,14 +418,21 @@ static void stop(int signal) {
   is_stopping = 1;
 }
 
-/* Takes a socket away that a killed server left, and nobody listens to. */
+/* Takes a socket away that a killed server left, and nobody listens to. A file of another kind
+ * refuses a connection too, and stays. */
 static void remove_left(const struct sockaddr_un *address) {
-  int probe = socket(AF_UNIX, SOCK_STREAM, 0);
+  struct stat state;
+  if (lstat(address->sun_path, &state) != 0 || !S_ISSOCK(state.st_mode)) {
+    return;
+  }
+  int probe = socket(AF_UNIX, SOCK_STREAM | SOCK_CLOEXEC, 0);
   if (probe >= 0 && connect(probe, (const struct sockaddr *)address, sizeof *address) != 0
       && errno == ECONNREFUSED) {
     unlink(address->sun_path);
   }
-  close(probe);
+  if (probe >= 0) {
+    close(probe);
+  }
 }
 
 static void listen_on(struct host *host, const char *path) {

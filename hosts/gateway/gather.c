@@ -5,10 +5,11 @@
 #include <sys/timerfd.h>
 #include <unistd.h>
 
-enum {
-  WAIT_MOST = 1000000, /* nanoseconds for others, at most */
-  SKIPS = 16           /* so often nobody is waited for after one wait was in vain */
-};
+/* After waits in vain, one after another, nobody is waited for: for 0, 2, 6 and 14 batches. */
+enum { SKIPS_MOST = 15 };
+
+/* Nanoseconds. For so long others are waited for at most, however long a batch takes. */
+static const uint64_t WAIT_MOST = 10000000;
 
 /* For so long commits that are out may stay without an answer before the next go: one that the
  * server ignores is never answered. */
@@ -18,18 +19,30 @@ static void arm(struct gather *gather, uint64_t nanoseconds) {
   struct itimerspec time = {.it_value = {.tv_sec = (time_t)(nanoseconds / 1000000000),
                                          .tv_nsec = (long)(nanoseconds % 1000000000)}};
   gather->is_armed = timerfd_settime(gather->clock, 0, &time, NULL) == 0;
-  gather->at_arming = gather->count;
 }
 
-/* The bytes of those that go together: the first ones, as many as are read at once. */
-static size_t first_ones(const struct gather *gather, unsigned *count) {
+static uint32_t bit_of(const uint8_t *frame) {
+  return UINT32_C(1) << header_at(frame).client % MOST_CLIENTS;
+}
+
+/* The bytes of those that go together: the first ones, as many as are read at once. Whose they are,
+ * and how many, is told; and whose the others are. */
+static size_t first_ones(const struct gather *gather, unsigned *count, uint32_t *whose,
+                         uint32_t *others) {
   size_t size = 0;
-  for (*count = 0; *count < gather->count; ++*count) {
-    size_t next = size + HEADER + (size_t)header_at(gather->held.at + size).body;
-    if (size > 0 && next > ROUND) {
-      break;
+  *count = 0;
+  *whose = *others = 0;
+  for (size_t at = 0; at < gather->held.size;) {
+    const uint8_t *frame = gather->held.at + at;
+    size_t length = HEADER + (size_t)header_at(frame).body;
+    if (size == at && (at == 0 || at + length <= ROUND)) {
+      size += length;
+      *whose |= bit_of(frame);
+      ++*count;
+    } else {
+      *others |= bit_of(frame);
     }
-    size = next;
+    at += length;
   }
   return size;
 }
@@ -37,13 +50,16 @@ static size_t first_ones(const struct gather *gather, unsigned *count) {
 /* Sends the first ones; false where none wait, or memory was refused. */
 static bool send_first(struct gather *gather) {
   unsigned count;
-  size_t size = first_ones(gather, &count);
+  uint32_t whose, others;
+  size_t size = first_ones(gather, &count, &whose, &others);
   if (count == 0 || !gather->send(gather->owner, gather->held.at, size)) {
     return false;
   }
   bytes_cut(&gather->held, size);
-  gather->out = count;
   gather->count -= count;
+  gather->waiting = others;
+  gather->former = gather->newest;
+  gather->newest = whose;
   gather->is_out = true;
   gather->sent = uv_hrtime();
   arm(gather, UNANSWERED + 4 * gather->took);
@@ -55,18 +71,45 @@ void gather_send_all(struct gather *gather) {
   }
 }
 
-/* Sends them, or waits for others. */
+/* How long others may be waited for from now on: until the next has to come, if it is to cost less
+ * than those that wait; 0 where the time is over. */
+static uint64_t patience(const struct gather *gather) {
+  uint64_t most = gather->took / 2 < WAIT_MOST ? gather->took / 2 : WAIT_MOST;
+  uint64_t waited = uv_hrtime() - gather->answered;
+  if (waited >= most) {
+    return 0;
+  }
+  uint64_t each = (gather->took + waited) / gather->count;
+  return each < most - waited ? each : most - waited;
+}
+
+/* The wait for others is over. */
+static void end_wait(struct gather *gather) {
+  bool in_vain = gather->count == gather->before;
+  unsigned more = 2 * gather->pause + 1;
+  gather->pause = !in_vain ? 0 : more < SKIPS_MOST ? more : SKIPS_MOST;
+  gather->skips = gather->pause;
+  gather->is_armed = false;
+}
+
+/* Sends those that wait, or waits for others. */
 static void look(struct gather *gather) {
   if (gather->count == 0 || gather->is_out) {
     return;
   }
+  uint32_t missing = (gather->newest | gather->former) & ~gather->waiting;
   bool is_full = gather->held.size + gather->last > ROUND;
-  if (gather->clock < 0 || gather->skips > 0 || gather->count >= gather->wanted || is_full) {
-    send_first(gather);
-  } else if (!gather->is_armed) {
-    uint64_t half = gather->took / 2;
-    arm(gather, half > 0 && half < WAIT_MOST ? half : WAIT_MOST);
+  bool waits = missing != 0 && !is_full && gather->skips == 0 && gather->clock >= 0;
+  uint64_t time = waits ? patience(gather) : 0;
+  if (time > 0) {
+    gather->before = gather->is_armed ? gather->before : gather->count;
+    arm(gather, time);
+    return;
   }
+  if (gather->is_armed) {
+    end_wait(gather);
+  }
+  send_first(gather);
 }
 
 bool gather_put(struct gather *gather, const uint8_t *frame, size_t size) {
@@ -74,6 +117,7 @@ bool gather_put(struct gather *gather, const uint8_t *frame, size_t size) {
     return false;
   }
   gather->count++;
+  gather->waiting |= bit_of(frame);
   gather->last = size;
   look(gather);
   return true;
@@ -85,9 +129,16 @@ void gather_answered(struct gather *gather) {
   }
   gather->is_out = false;
   gather->is_armed = false;
-  gather->took = uv_hrtime() - gather->sent;
-  gather->wanted = gather->out + gather->count;
+  gather->answered = uv_hrtime();
+  gather->took = gather->answered - gather->sent;
   gather->skips -= gather->skips > 0;
+  look(gather);
+}
+
+void gather_leave(struct gather *gather, uint16_t client) {
+  uint32_t others = ~(UINT32_C(1) << client % MOST_CLIENTS);
+  gather->newest &= others;
+  gather->former &= others;
   look(gather);
 }
 
@@ -100,11 +151,12 @@ static void is_time(uv_poll_t *poll, int status, int events) {
   if (read(gather->clock, &times, sizeof times) != sizeof times || !gather->is_armed) {
     return;
   }
-  gather->is_armed = false;
-  if (!gather->is_out && gather->count == gather->at_arming) {
-    gather->skips = SKIPS;
+  if (gather->is_out) {
+    gather->is_out = false;
+    gather->is_armed = false;
+  } else {
+    end_wait(gather);
   }
-  gather->is_out = false;
   send_first(gather);
 }
 
@@ -122,7 +174,8 @@ void gather_begin(struct gather *gather, uv_loop_t *loop) {
 
 void gather_clear(struct gather *gather) {
   bytes_free(&gather->held);
-  gather->count = gather->out = gather->wanted = gather->skips = 0;
+  gather->count = gather->skips = gather->pause = 0;
+  gather->waiting = gather->newest = gather->former = 0;
   gather->is_out = gather->is_armed = false;
   gather->took = 0;
 }

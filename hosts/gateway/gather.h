@@ -2,8 +2,10 @@
  * reads at once. So no more go together than it reads, but for one that is longer.
  *
  * While some are out the others wait. Once those are answered their clients will commit again in a
- * moment, and it pays to wait for them: for at most half as long as the last ones took, and not for
- * a while where nobody came. Other frames don't pass through here. */
+ * moment, and it pays to wait for them; but the server is idle meanwhile. So all who were in the
+ * last two batches are waited for, as long as the next one comes sooner than those that wait cost
+ * each, for at most half as long as the last batch took, and not for a while where nobody came.
+ * Other frames don't pass through here. */
 #ifndef GATEWAY_GATHER_H
 #define GATEWAY_GATHER_H
 
@@ -15,17 +17,19 @@ enum { ROUND = 1048576 }; /* bytes that `cb_play serve` reads at once */
 
 struct gather {
   uv_poll_t poll;
-  int clock;          /* a timer that counts nanoseconds; -1: none could be had */
-  struct bytes held;  /* the commits that wait, */
-  size_t last;        /* the bytes of the last that came, */
-  unsigned count;     /* how many wait, */
-  unsigned at_arming; /* and how many there were as the timer was set */
-  unsigned wanted;    /* with so many they go at once */
-  unsigned out;       /* how many went together last */
-  bool is_out;        /* those aren't answered */
+  int clock;               /* a timer that counts nanoseconds; -1: none could be had */
+  struct bytes held;       /* the commits that wait, */
+  size_t last;             /* the bytes of the last that came, */
+  unsigned count;          /* how many wait, */
+  unsigned before;         /* and how many did as the wait for others began */
+  uint32_t waiting;        /* whose commits wait, a bit for each client, */
+  uint32_t newest, former; /* and whose were in the last batch, and in the one before */
+  bool is_out;             /* the last batch isn't answered */
   bool is_armed;
-  unsigned skips;      /* so often nobody is waited for */
-  uint64_t sent, took; /* nanoseconds: when they went, and how long the last ones took */
+  unsigned skips;          /* for so many batches nobody is waited for, */
+  unsigned pause;          /* and for so many it was after the last wait that was in vain */
+  uint64_t sent, answered; /* nanoseconds: when the last batch went, and when it was answered, */
+  uint64_t took;           /* and how long the last that was answered took */
   bool (*send)(void *owner, const uint8_t *commits, size_t size);
   void *owner;
 };
@@ -37,6 +41,9 @@ bool gather_put(struct gather *gather, const uint8_t *frame, size_t size);
 
 /* The server answered commits: it is done with those that are out. */
 void gather_answered(struct gather *gather);
+
+/* That client won't commit again. */
+void gather_leave(struct gather *gather, uint16_t client);
 
 /* All that wait go now. */
 void gather_send_all(struct gather *gather);

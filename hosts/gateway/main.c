@@ -104,30 +104,31 @@ static void tick(uv_timer_t *timer) {
 
 /* ---- its beginning ---- */
 
-/* Whether somebody listens on a socket of that path already. */
-static bool is_listened_to(const char *path) {
+/* Takes a socket away that an ended gateway left, and nobody listens to. A file of another kind
+ * refuses a connection too, and stays. */
+static void remove_left(const char *path) {
+  struct stat state;
   struct sockaddr_un address = {.sun_family = AF_UNIX};
+  if (lstat(path, &state) != 0 || !S_ISSOCK(state.st_mode)) {
+    return;
+  }
   memcpy(address.sun_path, path, strlen(path));
-  int fd = socket(AF_UNIX, SOCK_STREAM | SOCK_CLOEXEC, 0);
-  bool answers = fd >= 0 && connect(fd, (const struct sockaddr *)&address, sizeof address) == 0;
+  int fd = socket(AF_UNIX, SOCK_STREAM | SOCK_CLOEXEC | SOCK_NONBLOCK, 0);
+  if (fd >= 0 && connect(fd, (const struct sockaddr *)&address, sizeof address) != 0
+      && errno == ECONNREFUSED) {
+    unlink(path);
+  }
   if (fd >= 0) {
     close(fd);
   }
-  return answers;
 }
 
-/* Listens on a Unix socket; one that nobody listens to any more is taken away first. */
+/* Listens on a Unix socket. */
 static int listen_local(struct gateway *gateway) {
-  struct stat state;
   if (strlen(gateway->socket) >= sizeof((struct sockaddr_un *)0)->sun_path) {
     return UV_ENAMETOOLONG; /* libuv would cut it */
   }
-  if (stat(gateway->socket, &state) == 0 && S_ISSOCK(state.st_mode)) {
-    if (is_listened_to(gateway->socket)) {
-      return UV_EADDRINUSE;
-    }
-    unlink(gateway->socket);
-  }
+  remove_left(gateway->socket);
   mode_t before = umask(0177);
   int fault = uv_pipe_bind(&gateway->local, gateway->socket);
   umask(before);

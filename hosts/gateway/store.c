@@ -141,6 +141,7 @@ void store_leave(struct store *store, struct connection *connection) {
   if (store->is_up) {
     store->leaving[client] = store_incarnation(store, client);
     say_leaving(store);
+    gather_leave(&store->commits, client);
   }
 }
 

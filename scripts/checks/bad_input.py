@@ -424,10 +424,12 @@ def wrong_files(gateway: Gateway) -> bool:
     for port in ("0", "70000", "x"):
         ended.append(refused(gateway, "--tokens", gateway.tokens, "--tcp", port))
     right_ones = all(status == 2 and said for status, said in ended)
-    for path in (gateway.socket, gateway.room / ("long" * 40), gateway.room / "no" / "folder"):
+    # The last is a file of another kind, which stays.
+    places = [gateway.socket, gateway.room / ("long" * 40), gateway.room / "no" / "folder"]
+    for path in (*places, gateway.tokens):
         status, said = refused(gateway, "--tokens", gateway.tokens, "--unix", path)
         right_ones = right_ones and status == 1 and "cannot listen" in said
-    return right_ones
+    return right_ones and gateway.tokens.read_text() == right
 
 
 SCENES = [

@@ -9,6 +9,7 @@
   others, frames that are none, half a frame and then silence, floods, clients that don't read or
   don't answer, a server that dies, files that others may read. Each ends in a closed connection, a
   line or a status, while another client goes on.
+- How many commits go together, by the gateway's own code over a clock that is no machine's.
 - A client of a wrapper that holds a page as the server becomes another: it is gone.
 - The host in C, `hosts/served.c`: copies of its store by sqlite3 while it serves, a kill, and
   frames that are none.
@@ -329,7 +330,7 @@ def run_copies(tries: Tries, it: Built) -> None:
             }
             came, found = copied_by(it, ways[name], copy)
             count, wrong = count + came, wrong + found
-        goes_on = wait_for(lambda: work.total() > before + 20)
+        goes_on = wait_for(lambda: work.total() > before + 20, 300)
         said = f"{count} copies and {5 - count} refused; {work.total() - before} commits meanwhile"
         right = not wrong and goes_on and (count == 5 or name != "a client")
         tries.told(f"copies by {name}", right, "\n".join([*wrong, said]))
@@ -337,6 +338,28 @@ def run_copies(tries: Tries, it: Built) -> None:
     status = gateway.stop()
     wrong = table_faults(work)
     tries.told("copies: the store itself", not wrong and status == 0, "\n".join(wrong) or "right")
+
+
+# ---- commits that go together ----
+
+# Clients, microseconds of a sync, of each commit at the server, between two that come and of a
+# drawn delay; and how many commits a second there are at least. Where a sync takes 3 ms the server
+# waits for all; where it takes 0.15 ms, for few.
+GATHERED = {
+    (1, 3150, 25, 30, 20): 300, (4, 3150, 25, 30, 20): 1170, (16, 3150, 25, 30, 20): 3900,
+    (32, 3150, 25, 30, 20): 6400, (32, 3150, 25, 60, 20): 5300, (32, 3150, 25, 60, 300): 4800,
+    (2, 3150, 25, 30, 3000): 260, (16, 150, 25, 30, 20): 18000, (32, 150, 25, 30, 20): 27500,
+}
+
+
+def run_gather(tries: Tries, it: Built) -> None:
+    """How the gateway gathers commits, by its own code over a clock that is no machine's."""
+    flags = ["-D_GNU_SOURCE", f"-I{building.TOP}/hosts/gateway", "-lm"]
+    model = building.in_c("gather_model", it.room, *flags)
+    for words, least in GATHERED.items():
+        done = subprocess.run([model, *map(str, words)], capture_output=True, text=True, check=True)
+        name = f"commits of {words[0]} go together, syncs of {words[1]} us"
+        tries.told(name, int(done.stdout.split()[0]) >= least, done.stdout.strip())
 
 
 def main(words: list[str]) -> int:
@@ -349,6 +372,7 @@ def main(words: list[str]) -> int:
     tries = Tries()
     with building.a_room() as room:
         it = build(room, built)
+        run_gather(tries, it)
         serve_input.tried(tries, it)
         bad_input.tried(tries, it)
         run_gone(tries, it)

@@ -132,12 +132,23 @@ def wrong_frames(it: Host) -> str:
     return "" if right and all(closed) and status == 0 else f"{closed}, {status}: {it.log()}"
 
 
+def no_socket(it: Host) -> str:
+    """Where its socket would be is a file of another kind: it doesn't begin, and the file stays."""
+    other = it.room / "other"
+    other.write_text("kept")
+    words = [it.program, other, it.store, CLIENTS, PAGES, SIZE, 0]
+    done = subprocess.run(list(map(str, words)), capture_output=True, text=True, timeout=60,
+                          check=False)
+    right = done.returncode == 1 and "cannot listen" in done.stderr
+    return "" if right and other.read_text() == "kept" else f"{done.returncode}, {done.stderr}"
+
+
 def tried(tries, it) -> None:
     """Tries the host."""
     room = it.room / "serve_host"
     room.mkdir()
     host = Host(room, it.library)
-    for scene in (copies, killed, wrong_frames):
+    for scene in (copies, killed, wrong_frames, no_socket):
         try:
             why = scene(host)
         except (OSError, EOFError, sqlite3.Error, subprocess.SubprocessError) as fault:

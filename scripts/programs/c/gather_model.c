@@ -1,0 +1,122 @@
+/* gather_model CLIENTS SYNC EACH BETWEEN THINK: how many commits go together, by the gateway's own
+ * code (gather.c) over a clock of its own. A batch takes the server SYNC microseconds, and EACH
+ * more for each commit. After its answer its clients' next commits come BETWEEN apart, each later
+ * by a drawn time whose mean is THINK. It prints how many commits there were a second, and how many
+ * in a batch. Nothing in it rests on how busy the machine is. */
+#include <stdint.h>
+
+static uint64_t clock_now, timer_at;
+static uint64_t model_hrtime(void);
+static int model_settime(uint64_t nanoseconds);
+
+#include <sys/timerfd.h>
+#include <unistd.h>
+#include <uv.h>
+#define uv_hrtime model_hrtime
+#define timerfd_create(clock, flags) 3
+#define timerfd_settime(fd, flags, time, old)                                                   \
+  model_settime((uint64_t)(time)->it_value.tv_sec * 1000000000 + (uint64_t)(time)->it_value.tv_nsec)
+#define uv_poll_init(loop, poll, fd) 0
+#define uv_poll_start(poll, events, call) (is_due = (call))
+#define read(fd, at, size) ((ssize_t)(*(at) = 1, sizeof *(at)))
+#define close(fd) ((void)(fd))
+static uv_poll_cb is_due;
+#include "bytes.c"
+#include "frame.c"
+#include "gather.c"
+#undef read
+
+#include <math.h>
+#include <stdio.h>
+
+enum { BODY = 4122 };
+static const uint64_t NEVER = UINT64_MAX;
+static uint64_t next_of[MOST_CLIENTS], answer_at, sync_time, each_time;
+static unsigned out[MOST_CLIENTS], out_count;
+static uint64_t batches, commits;
+
+static uint64_t model_hrtime(void) { return clock_now; }
+
+static int model_settime(uint64_t nanoseconds) {
+  timer_at = clock_now + nanoseconds;
+  return 0;
+}
+
+static bool taken(void *owner, const uint8_t *bytes, size_t size) {
+  (void)owner;
+  for (size_t at = 0; at < size; at += HEADER + BODY) {
+    out[out_count++] = header_at(bytes + at).client;
+  }
+  batches++;
+  commits += out_count;
+  answer_at = clock_now + sync_time + each_time * out_count;
+  return true;
+}
+
+/* A drawn time whose mean this is. */
+static uint64_t drawn(uint64_t mean) {
+  static uint64_t state = 1;
+  state = state * 6364136223846793005 + 1442695040888963407;
+  return (uint64_t)(-log(((double)(state >> 11) + 1) / 9007199254740993.0) * (double)mean);
+}
+
+static void answer(struct gather *gather, uint64_t between, uint64_t think) {
+  for (unsigned at = 0; at < out_count; at++) {
+    next_of[out[at]] = clock_now + between * (at + 1) + drawn(think);
+  }
+  out_count = 0;
+  answer_at = NEVER;
+  gather_answered(gather);
+}
+
+static void commit(struct gather *gather, unsigned client) {
+  static uint8_t frame[HEADER + BODY];
+  header_to(frame, &(struct header){2, KIND_COMMIT, (uint16_t)client, 1, BODY});
+  next_of[client] = NEVER;
+  gather_put(gather, frame, sizeof frame);
+}
+
+/* What comes next: the time that the gateway set, the server's answer, or a commit. */
+static void step(struct gather *gather, unsigned clients, uint64_t between, uint64_t think) {
+  unsigned first = 0;
+  for (unsigned client = 1; client < clients; client++) {
+    first = next_of[client] < next_of[first] ? client : first;
+  }
+  if (timer_at <= next_of[first] && timer_at <= answer_at) {
+    clock_now = timer_at;
+    timer_at = NEVER;
+    is_due(&gather->poll, 0, UV_READABLE);
+  } else if (answer_at <= next_of[first]) {
+    clock_now = answer_at;
+    answer(gather, between, think);
+  } else {
+    clock_now = next_of[first];
+    commit(gather, first);
+  }
+}
+
+int main(int count, char **words) {
+  struct gather gather = {.send = taken};
+  uint64_t numbers[5];
+  if (count != 6) {
+    return 2;
+  }
+  for (int at = 0; at < 5; at++) {
+    numbers[at] = strtoul(words[1 + at], NULL, 10) * (at == 0 ? 1 : 1000);
+  }
+  unsigned clients = numbers[0] < MOST_CLIENTS ? (unsigned)numbers[0] : MOST_CLIENTS;
+  sync_time = numbers[1];
+  each_time = numbers[2];
+  gather_begin(&gather, NULL);
+  answer_at = timer_at = NEVER;
+  for (unsigned client = 0; client < MOST_CLIENTS; client++) {
+    next_of[client] = client < clients ? drawn(sync_time) : NEVER;
+  }
+  while (commits < 20000) {
+    step(&gather, clients, numbers[3], numbers[4]);
+  }
+  printf("%.0f commits a second, %.1f a batch\n", (double)commits * 1e9 / (double)clock_now,
+         (double)commits / (double)batches);
+  gather_clear(&gather);
+  return 0;
+}
