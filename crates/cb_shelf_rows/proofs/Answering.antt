@@ -1,5 +1,5 @@
 -- The store that tables answer is the one that their rows are.
-use Rattle.std.proofs.Common.{◌≡◌, ℕ, zero, suc, ◌+◌, ◌*◌, ◌-◌, ◌/◌, ◌%◌, ◌<◌, ◌==◌, min, pos, cond, List, [], ◌∷◌, length, drop, get_or, refl, sym, ap, ◌∙◌, subst, arith}
+use Rattle.std.proofs.Common.{◌≡◌, Bool, ℕ, zero, suc, ◌+◌, ◌*◌, ◌-◌, ◌/◌, ◌%◌, ◌<◌, ◌==◌, min, pos, cond, List, [], ◌∷◌, length, drop, get_or, refl, sym, ap, ◌∙◌, subst, arith}
 use Rattle.std.proofs.Math.Dec.{eqb-suc-zero}
 use Rattle.std.proofs.lemmas.List.{ext_get_or, get_or-take, get_or-drop}
 use Rattle.sqlite_value.specs.declared.value.Value.TheVariants.{Int, Blob}
@@ -35,38 +35,39 @@ same_bytes size first second long also same = ext_get_or 0 first second (long �
     ∙ ap (λ (part : List ℕ). get_or part (byte % 4096) 0) (same (byte / 4096) (part_of_byte size byte (omega (arith, low, long))))
     ∙ byte_in_part second byte (omega (arith, low, long, also)))
 
--- ---- what the rows of the tables say, they say of one value
+module _ (older : Bool) where
+  -- ---- what the rows of the tables say, they say of one value
 
-same_mark : (db : Database) (first second : StoreState) → HasStore db first → HasStore db second → (first.number ≡ second.number) × (first.page_size ≡ second.page_size) × (length first.pages ≡ length second.pages)
-same_mark db first second has also =
-    let same : mark_values first.number first.page_size (length first.pages) ∷ [] ≡ mark_values second.number second.page_size (length second.pages) ∷ [] = sym has.mark ∙ also.mark in (cc, cc, cc)
+  same_mark : (db : Database) (first second : StoreState) → HasStore older db first → HasStore older db second → (first.number ≡ second.number) × (first.page_size ≡ second.page_size) × (length first.pages ≡ length second.pages)
+  same_mark db first second has also =
+      let same : mark_values first.number first.page_size (length first.pages) ∷ [] ≡ mark_values second.number second.page_size (length second.pages) ∷ [] = sym has.mark ∙ also.mark in (cc, cc, cc)
 
-same_version : (db : Database) (page first second : ℕ) → HasVersion db page first → HasVersion db page second → first ≡ second
-same_version db page first second has also = let same : (Int (pos first) ∷ []) ≡ (Int (pos second) ∷ []) = sym has ∙ also in cc
+  same_version : (db : Database) (page first second : ℕ) → HasVersion older db page first → HasVersion older db page second → first ≡ second
+  same_version db page first second has also = let same : (Int (pos first) ∷ []) ≡ (Int (pos second) ∷ []) = sym has ∙ also in cc
 
-same_part : (db : Database) (page place : ℕ) (first second : List ℕ) → HasPart db page place first → HasPart db page place second → first ≡ second
-same_part db page place first second has also = let same : (Blob first ∷ []) ≡ (Blob second ∷ []) = sym has ∙ also in cc
+  same_part : (db : Database) (page place : ℕ) (first second : List ℕ) → HasPart older db page place first → HasPart older db page place second → first ≡ second
+  same_part db page place first second has also = let same : (Blob first ∷ []) ≡ (Blob second ∷ []) = sym has ∙ also in cc
 
--- ---- the store
+  -- ---- the store
 
--- a page that two stores have
-same_page : (db : Database) (first second : StoreState) (page : ℕ) → page < length first.pages → HasFullPages first → HasFullPages second → HasStore db first → HasStore db second
-    → get_or first.pages page no_page ≡ get_or second.pages page no_page
-same_page db first second page low full also_full has also =
-    let mark = same_mark db first second has also in
-    let there : page < length second.pages = omega (arith, low, mark.2) in
-    let version = same_version db page (version_at first page) (version_at second page) (has.versions page low) (also.versions page there) in
-    let bytes = same_bytes first.page_size (bytes_at first page) (bytes_at second page) (full page no_page low) (also_full page no_page there ∙ sym mark.1) (λ place within.
-    same_part db page place (part_at (bytes_at first page) place) (part_at (bytes_at second page) place) (has.parts page place low within) (also.parts page place there (subst (λ size. place < part_count size) mark.1 within))) in
-    λ i. record { version = version i; bytes = bytes i }
+  -- a page that two stores have
+  same_page : (db : Database) (first second : StoreState) (page : ℕ) → page < length first.pages → HasFullPages first → HasFullPages second → HasStore older db first → HasStore older db second
+      → get_or first.pages page no_page ≡ get_or second.pages page no_page
+  same_page db first second page low full also_full has also =
+      let mark = same_mark db first second has also in
+      let there : page < length second.pages = omega (arith, low, mark.2) in
+      let version = same_version db page (version_at first page) (version_at second page) (has.versions page low) (also.versions page there) in
+      let bytes = same_bytes first.page_size (bytes_at first page) (bytes_at second page) (full page no_page low) (also_full page no_page there ∙ sym mark.1) (λ place within.
+      same_part db page place (part_at (bytes_at first page) place) (part_at (bytes_at second page) place) (has.parts page place low within) (also.parts page place there (subst (λ size. place < part_count size) mark.1 within))) in
+      λ i. record { version = version i; bytes = bytes i }
 
--- tables have the rows of one store
-same_store : (db : Database) (first second : StoreState) → HasFullPages first → HasFullPages second → HasStore db first → HasStore db second → first ≡ second
-same_store db first second full also_full has also =
-    let mark = same_mark db first second has also in
-    let pages = ext_get_or no_page first.pages second.pages mark.2 (λ page low. same_page db first second page low full also_full has also) in
-    λ i. record { page_size = mark.1 i; pages = pages i; number = mark.0 i }
+  -- tables have the rows of one store
+  same_store : (db : Database) (first second : StoreState) → HasFullPages first → HasFullPages second → HasStore older db first → HasStore older db second → first ≡ second
+  same_store db first second full also_full has also =
+      let mark = same_mark db first second has also in
+      let pages = ext_get_or no_page first.pages second.pages mark.2 (λ page low. same_page db first second page low full also_full has also) in
+      λ i. record { page_size = mark.1 i; pages = pages i; number = mark.0 i }
 
--- the store that they answer is the one that their rows are
-pub answered_rows : (store answered : StoreState) (db : Database) → HasFullPages store → HasFullPages answered → HasStore db store → HoldsNewer db answered → answered ≡ store
-answered_rows store answered db full also_full has holds = same_store db answered store also_full full (holds_rows db answered has.shelf holds) has
+  -- the store that they answer is the one that their rows are
+  pub answered_rows : (store answered : StoreState) (db : Database) → HasFullPages store → HasFullPages answered → HasStore older db store → HoldsNewer db answered → answered ≡ store
+  answered_rows store answered db full also_full has holds = same_store db answered store also_full full (holds_rows older db answered has.shelf holds) has

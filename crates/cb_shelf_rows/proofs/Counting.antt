@@ -12,6 +12,7 @@ use Rattle.sqlite_sql.specs.Group.{IsSummary, value_over}
 use Rattle.sqlite_sql.specs.Term.{Env, col, lit, eval, eval_all, holds}
 use Rattle.sqlite_sql.specs.Program.{overlay}
 use Rattle.sqlite_sql.specs.Query.{Query, Output, output, matches_as, inner, end}
+use Rattle.sqlite_schema.specs.declared.schema.Schema.{Schema}
 use Rattle.sqlite_schema.specs.declared.command.Command.TheVariants.{Select}
 use Rattle.sqlite_typing.specs.Types.{accepts_program}
 use Rattle.sqlite.specs.Effect.{Database, Answers}
@@ -19,7 +20,6 @@ use Rattle.sqlite.specs.Listing.{understood, reads_listing}
 use Rattle.sqlite.proofs.Callers.{command_of, one_permutation}
 use Rattle.cb_sql.specs.Statements.{Statement}
 use Rattle.cb_sql.specs.Asking.{RepliesRow}
-use Rattle.cb_shelf_rows.specs.Tables.{schema}
 use Rattle.cb_shelf_rows.proofs.Selecting.{program, asked, replied, staged_are}
 use Rattle.cb_shelf_rows.proofs.Texts.{count_query, counting}
 
@@ -94,15 +94,15 @@ module _ (tree : ℕ) (params : Row) where
 
 -- ---- a question for a count
 
-module _ (text : List ℕ) (tree : ℕ) (names : List (List ℕ)) (is : command_of (understood schema text) ≡ Select (program (count_query tree)) names) (unlisted : reads_listing schema text ≡ false) (params : Row) where
+module _ (schema : Schema) (text : List ℕ) (tree : ℕ) (names : List (List ℕ)) (is : command_of (understood schema text) ≡ Select (program (count_query tree)) names) (unlisted : reads_listing schema text ≡ false) (params : Row) where
   abbrev asks : Statement
   asks = record { text = text; params = params }
 
   -- a database with as many rows gives the same answer
   pub tells_count : (db after : Database) (values : Row) → db.schema ≡ schema → after.schema ≡ schema → length (after.trees tree) ≡ length (db.trees tree) → RepliesRow db asks values → RepliesRow after asks values
   tells_count db after values has still many h =
-      let answers = asked text (count_query tree) names is unlisted params db h.0 has h.1 in
+      let answers = asked schema text (count_query tree) names is unlisted params db h.0 has h.1 in
       let accepted = subst (λ s. accepts_program s [] (count_query tree) params ≡ true) (has ∙ sym still) answers.typed in
       let same : h.0 ≡ (count (length (after.trees tree)) ∷ []) ∷ [] = counts tree params db h.0 answers ∙ ap (λ n. (count n ∷ []) ∷ []) (sym many) in
       let others = (count (length (after.trees tree)) ∷ []) ∷ [] in
-      (others, replied text (count_query tree) names is unlisted params db after h.0 others has still h.1 (answers_count tree params after accepted), (h.2.0, sym same ∙ h.2.1, h.2.2))
+      (others, replied schema text (count_query tree) names is unlisted params db after h.0 others has still h.1 (answers_count tree params after accepted), (h.2.0, sym same ∙ h.2.1, h.2.2))

@@ -1,6 +1,7 @@
 -- The statements that create the tables.
-use Rattle.std.proofs.Common.{◌≡◌, ℕ, List, [], false, None, Ok, refl, sym, ap, ◌∙◌, subst, subst₂}
+use Rattle.std.proofs.Common.{◌≡◌, ℕ, Bool, true, List, [], false, None, Ok, refl, sym, ap, ◌∙◌, subst, subst₂}
 use Rattle.sqlite_tied.specs.Compute.{everything}
+use Rattle.sqlite_trees.specs.Tree.{Trees}
 use Rattle.sqlite_trees.specs.declared.store.Store.{Ghosts}
 use Rattle.sqlite_trees.specs.declared.store.Shape.TheVariants.{Table as shape}
 use Rattle.sqlite_trees.specs.View.{IsShaped}
@@ -19,15 +20,18 @@ use Rattle.sqlite.proofs.Callers.{command_of, statement_of, runs_as}
 use Rattle.cb_sql.specs.Statements.{Makes, MakesAll}
 use Rattle.cb_shelf.specs.Opening as text
 use Rattle.cb_shelf.specs.Opening.{plain, table_statements}
-use Rattle.cb_shelf_rows.specs.Tables.{no_schema, mark_table, page_table, part_table, mark_tree, page_tree}
+use Rattle.cb_shelf_rows.specs.Tables.{no_schema, old_schema, found_schema, schema, old_page_text, old_mark_text, old_page_table, old_mark_table, old_statements, mark_table, page_table, part_table, mark_tree, page_tree, part_tree}
 use Rattle.cb_shelf_rows.specs.Rows.{IsShelf, HasNoRows}
 use Rattle.cb_shelf_rows.proofs.Replacing.{went, same_value}
 
-abbrev one : Schema
-one = created no_schema mark_table
+-- the schema once mark2 is made, and once page2 is
+abbrev one : Bool → Schema
+one true = created old_schema mark_table
+one false = created no_schema mark_table
 
-abbrev two : Schema
-two = created one page_table
+abbrev two : Bool → Schema
+two true = created (one true) page_table
+two false = created (one false) page_table
 
 -- a text creates a table under a schema
 record Creates (schema : Schema) (sql : List ℕ) (table : Table) : Type 0 where
@@ -37,17 +41,28 @@ record Creates (schema : Schema) (sql : List ℕ) (table : Table) : Type 0 where
   defined : table_defined_by sql ≡ Ok table
   uncounted : lacks_sequence (created schema table) ≡ false
 
-mark_creates : Creates no_schema text.mark_table mark_table
+mark_creates : (older : Bool) → Creates (found_schema older) text.mark_table mark_table
 unfolding understood everything
-mark_creates = record { command = refl; plain = (refl, refl); whole = refl; defined = refl; uncounted = refl }
+mark_creates true = record { command = refl; plain = (refl, refl); whole = refl; defined = refl; uncounted = refl }
+mark_creates false = record { command = refl; plain = (refl, refl); whole = refl; defined = refl; uncounted = refl }
 
-page_creates : Creates one text.page_table page_table
+page_creates : (older : Bool) → Creates (one older) text.page_table page_table
 unfolding understood everything
-page_creates = record { command = refl; plain = (refl, refl); whole = refl; defined = refl; uncounted = refl }
+page_creates true = record { command = refl; plain = (refl, refl); whole = refl; defined = refl; uncounted = refl }
+page_creates false = record { command = refl; plain = (refl, refl); whole = refl; defined = refl; uncounted = refl }
 
-part_creates : Creates two text.part_table part_table
+part_creates : (older : Bool) → Creates (two older) text.part_table part_table
 unfolding understood everything
-part_creates = record { command = refl; plain = (refl, refl); whole = refl; defined = refl; uncounted = refl }
+part_creates true = record { command = refl; plain = (refl, refl); whole = refl; defined = refl; uncounted = refl }
+part_creates false = record { command = refl; plain = (refl, refl); whole = refl; defined = refl; uncounted = refl }
+
+old_page_creates : Creates no_schema old_page_text old_page_table
+unfolding understood everything
+old_page_creates = record { command = refl; plain = (refl, refl); whole = refl; defined = refl; uncounted = refl }
+
+old_mark_creates : Creates (created no_schema old_page_table) old_mark_text old_mark_table
+unfolding understood everything
+old_mark_creates = record { command = refl; plain = (refl, refl); whole = refl; defined = refl; uncounted = refl }
 
 record IsCreated (schema : Schema) (table : Table) (before after : Database) : Type 0 where
   is : after.schema ≡ created schema table
@@ -75,21 +90,64 @@ makes : {S : Type 0} (g : Ghosts S) (schema : Schema) (sql : List ℕ) (table : 
 makes g schema sql table before after c has m =
     subst₂ (IsCreated schema table) m.starts m.ends (creates schema sql table (state g m.from) (state g m.to) m.count c (ap (λ (d : Database). d.schema) m.starts ∙ has) m.runs)
 
+-- the tables of an older generation are there
+pub old_made : {S : Type 0} (g : Ghosts S) (before after : Database) → before.schema ≡ no_schema → MakesAll g old_statements before after → after.schema ≡ old_schema
+old_made g before after has m =
+    let first = makes g no_schema old_page_text old_page_table before m.0 old_page_creates has m.1 in
+    let second = makes g (created no_schema old_page_table) old_mark_text old_mark_table m.0 m.2.0 old_mark_creates first.is m.2.1 in
+    ap (λ (d : Database). d.schema) (sym m.2.2) ∙ second.is
+
+-- ---- the three tables
+
+first_is : (older : Bool) → created (found_schema older) mark_table ≡ one older
+first_is true = refl
+first_is false = refl
+
+second_is : (older : Bool) → created (one older) page_table ≡ two older
+second_is true = refl
+second_is false = refl
+
+third_is : (older : Bool) → created (two older) part_table ≡ schema older
+third_is true = refl
+third_is false = refl
+
+mark_next : (older : Bool) → next_tree (found_schema older) ≡ mark_tree older
+mark_next true = refl
+mark_next false = refl
+
+page_next : (older : Bool) → next_tree (one older) ≡ page_tree older
+page_next true = refl
+page_next false = refl
+
+part_next : (older : Bool) → next_tree (two older) ≡ part_tree older
+part_next true = refl
+part_next false = refl
+
+keeps_one : (older : Bool) (a b : Trees) → KeepsRows (one older).tables a b → b (mark_tree older) ≡ a (mark_tree older)
+keeps_one true a b h = h.1.1.0
+keeps_one false a b h = h.0
+
+keeps_two : (older : Bool) (a b : Trees) → KeepsRows (two older).tables a b → (b (mark_tree older) ≡ a (mark_tree older)) × (b (page_tree older) ≡ a (page_tree older))
+keeps_two true a b h = (h.1.1.0, h.1.1.1.0)
+keeps_two false a b h = (h.0, h.1.0)
+
 -- the three tables are there, with no row
-pub tables_made : {S : Type 0} (g : Ghosts S) (before after : Database) → before.schema ≡ no_schema → MakesAll g table_statements before after → IsShelf after × HasNoRows after
-tables_made g before after has m =
-    let first = makes g no_schema text.mark_table mark_table before m.0 mark_creates has m.1 in
-    let second = makes g one text.page_table page_table m.0 m.2.0 page_creates first.is m.2.1 in
-    let third = makes g two text.part_table part_table m.2.0 m.2.2.0 part_creates second.is m.2.2.1 in
+pub tables_made : {S : Type 0} (g : Ghosts S) (older : Bool) (before after : Database) → before.schema ≡ found_schema older → MakesAll g table_statements before after → IsShelf older after × HasNoRows older after
+tables_made g older before after has m =
+    let first = makes g (found_schema older) text.mark_table mark_table before m.0 (mark_creates older) has m.1 in
+    let second = makes g (one older) text.page_table page_table m.0 m.2.0 (page_creates older) (first.is ∙ first_is older) m.2.1 in
+    let third = makes g (two older) text.part_table part_table m.2.0 m.2.2.0 (part_creates older) (second.is ∙ second_is older) m.2.2.1 in
     let last = m.2.2.2 in
-    let marks : m.2.2.0.trees mark_tree ≡ [] = third.others.0 ∙ second.others.0 ∙ first.empty in
-    let pages : m.2.2.0.trees page_tree ≡ [] = third.others.1.0 ∙ second.empty in
-    let none : HasNoRows m.2.2.0 = record { marks = marks; pages = pages; parts = third.empty } in (
-      subst IsShelf last (record {
-        schema = third.is;
+    let kept = keeps_two older m.2.0.trees m.2.2.0.trees third.others in
+    let marks : m.2.2.0.trees (mark_tree older) ≡ [] = kept.0 ∙ keeps_one older m.0.trees m.2.0.trees second.others ∙ subst (λ t. m.0.trees t ≡ []) (mark_next older) first.empty in
+    let pages : m.2.2.0.trees (page_tree older) ≡ [] = kept.1 ∙ subst (λ t. m.2.0.trees t ≡ []) (page_next older) second.empty in
+    let parts : m.2.2.0.trees (part_tree older) ≡ [] = subst (λ t. m.2.2.0.trees t ≡ []) (part_next older) third.empty in
+    let none : HasNoRows older m.2.2.0 = record { marks = marks; pages = pages; parts = parts } in (
+      subst (IsShelf older) last (record {
+        schema = third.is ∙ third_is older;
         marks = subst (IsShaped shape) (sym marks) (tt, tt);
         pages = subst (IsShaped shape) (sym pages) (tt, tt);
-        parts = subst (IsShaped shape) (sym third.empty) (tt, tt);
+        parts = subst (IsShaped shape) (sym parts) (tt, tt);
       }),
-      subst HasNoRows last none,
+      subst (HasNoRows older) last none,
     )

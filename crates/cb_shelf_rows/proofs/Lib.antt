@@ -1,6 +1,7 @@
 -- What is proved where.
 -- Lists: rows of a table that are picked by a test, as one row is put in and others are taken out.
 -- Texts: what each text is to the schema of the tables.
+-- Schemas: what the two schemas have in common.
 -- Replacing: what INSERT OR REPLACE of one row makes of a table.
 -- Equal: sQL's equality of a value and a number.
 -- Putting: what the statements that put a page in make of the tables.
@@ -16,6 +17,7 @@
 -- Following: what the tables answer after the open that made them, and the steps since.
 pub mod Lists
 pub mod Texts
+pub mod Schemas
 pub mod Replacing
 pub mod Equal
 pub mod Putting

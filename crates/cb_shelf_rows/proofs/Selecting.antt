@@ -10,6 +10,7 @@ use Rattle.sqlite_trees.specs.Tree.{Trees}
 use Rattle.sqlite_sql.specs.Term.{Term, eval_all, holds}
 use Rattle.sqlite_sql.specs.Program.{overlay}
 use Rattle.sqlite_sql.specs.Query.{Query, IsAnswerAs, Output, output, matches_as, inner, end}
+use Rattle.sqlite_schema.specs.declared.schema.Schema.{Schema}
 use Rattle.sqlite_schema.specs.declared.program.Program.{Program}
 use Rattle.sqlite_schema.specs.declared.command.Command.TheVariants.{Select}
 use Rattle.sqlite_typing.specs.Types.{accepts_program}
@@ -19,7 +20,6 @@ use Rattle.sqlite.specs.Listing.{understood, reads_listing, IsSourceOf}
 use Rattle.sqlite.proofs.Callers.{command_of, one_permutation}
 use Rattle.cb_sql.specs.Statements.{Statement}
 use Rattle.cb_sql.specs.Asking.{Replies, RepliesRow, HasFrom}
-use Rattle.cb_shelf_rows.specs.Tables.{schema}
 use Rattle.cb_shelf_rows.proofs.Texts.{select}
 
 abbrev pub program : Query → Program
@@ -27,7 +27,7 @@ program q = record { lets = []; body = q }
 
 -- ---- a question and its answers
 
-module _ (text : List ℕ) (q : Query) (names : List (List ℕ)) (is : command_of (understood schema text) ≡ Select (program q) names) (unlisted : reads_listing schema text ≡ false) (params : Row) where
+module _ (schema : Schema) (text : List ℕ) (q : Query) (names : List (List ℕ)) (is : command_of (understood schema text) ≡ Select (program q) names) (unlisted : reads_listing schema text ≡ false) (params : Row) where
   pub asked : (db : Database) (rows : List Row) → db.schema ≡ schema → Replies db (record { text = text; params = params }) rows → Answers db (program q) params rows
   asked db rows has r =
       let known = sym r.is ∙ ap (λ s. understood s text) has in
@@ -126,7 +126,7 @@ module _ (tree : ℕ) (tests project : List Term) (params : Row) where
 
 -- ---- a question that one row answers
 
-module _ (text : List ℕ) (tree : ℕ) (tests project : List Term) (names : List (List ℕ)) (is : command_of (understood schema text) ≡ Select (program (select tree tests project)) names) (unlisted : reads_listing schema text ≡ false)
+module _ (schema : Schema) (text : List ℕ) (tree : ℕ) (tests project : List Term) (names : List (List ℕ)) (is : command_of (understood schema text) ≡ Select (program (select tree tests project)) names) (unlisted : reads_listing schema text ≡ false)
     (params : Row) where
   abbrev asks : Statement
   asks = record { text = text; params = params }
@@ -135,7 +135,7 @@ module _ (text : List ℕ) (tree : ℕ) (tests project : List Term) (names : Lis
   pub told_row : (db : Database) (values : Row) → db.schema ≡ schema → RepliesRow db asks values
       → (r : Row) × (filter (passes tree tests project params) (db.trees tree) ≡ r ∷ []) × HasFrom (shown tree tests project params r) 0 values
   told_row db values has h =
-      let answers = asked text (select tree tests project) names is unlisted params db h.0 has h.1 in
+      let answers = asked schema text (select tree tests project) names is unlisted params db h.0 has h.1 in
       let one = told_one tree tests project params db h.2.0 (subst (Answers db (program (select tree tests project)) params) h.2.1 answers) in
       (one.0, one.1, subst (λ x. HasFrom x 0 values) (sym one.2) h.2.2)
 
@@ -143,7 +143,7 @@ module _ (text : List ℕ) (tree : ℕ) (tests project : List Term) (names : Lis
   pub tells_row : (db after : Database) (others values : Row) → db.schema ≡ schema → after.schema ≡ schema → RepliesRow db asks others
       → (r : Row) → filter (passes tree tests project params) (after.trees tree) ≡ r ∷ [] → HasFrom (shown tree tests project params r) 0 values → RepliesRow after asks values
   tells_row db after others values has still h r there shows =
-      let answers = asked text (select tree tests project) names is unlisted params db h.0 has h.1 in
+      let answers = asked schema text (select tree tests project) names is unlisted params db h.0 has h.1 in
       let accepted = subst (λ s. accepts_program s [] (select tree tests project) params ≡ true) (has ∙ sym still) answers.typed in
       let row = shown tree tests project params r in
-      (row ∷ [], replied text (select tree tests project) names is unlisted params db after h.0 (row ∷ []) has still h.1 (answers_one tree tests project params after r there accepted), (row, refl, shows))
+      (row ∷ [], replied schema text (select tree tests project) names is unlisted params db after h.0 (row ∷ []) has still h.1 (answers_one tree tests project params after r there accepted), (row, refl, shows))

@@ -15,12 +15,13 @@ use Rattle.cb_sql.specs.Statements.{part_at, part_count}
 use Rattle.cb_shelf.specs.Reading.{mark_values}
 use Rattle.cb_shelf_rows.specs.Tables.{schema, mark_tree, page_tree, part_tree}
 
--- The three tables, and no other. Their rows have whole numbers as rowids, which rise.
-pub record IsShelf (db : Database) : Type 0 where
-  pub schema : db.schema ≡ schema
-  pub marks : IsShaped table (db.trees mark_tree)
-  pub pages : IsShaped table (db.trees page_tree)
-  pub parts : IsShaped table (db.trees part_tree)
+-- The three tables, and no other but those of an older generation where `older` says so. Their rows
+-- have whole numbers as rowids, which rise.
+pub record IsShelf (older : Bool) (db : Database) : Type 0 where
+  pub schema : db.schema ≡ schema older
+  pub marks : IsShaped table (db.trees (mark_tree older))
+  pub pages : IsShaped table (db.trees (page_tree older))
+  pub parts : IsShaped table (db.trees (part_tree older))
 
 -- a row of page2 is of this page, as SQL compares numbers
 abbrev pub is_of_page : ℕ → Row → Bool
@@ -32,103 +33,108 @@ is_at page place row =
     equal Binary (column row 1) (Int (pos page)) && equal Binary (column row 2) (Int (pos place))
 
 -- the rows of page2 that are of a page
-abbrev pub page_rows : Database → ℕ → List Row
-page_rows db page = filter (is_of_page page) (db.trees page_tree)
+abbrev pub page_rows : Bool → Database → ℕ → List Row
+page_rows older db page = filter (is_of_page page) (db.trees (page_tree older))
 
 -- the rows of part that are of a page and a place
-abbrev pub part_rows : Database → ℕ → ℕ → List Row
-part_rows db page place = filter (is_at page place) (db.trees part_tree)
+abbrev pub part_rows : Bool → Database → ℕ → ℕ → List Row
+part_rows older db page place = filter (is_at page place) (db.trees (part_tree older))
 
 -- The page has one row, with the version. Each other page has the rows that it had, and so have the
 -- other tables; a row is more, or one for those that the page had.
-pub record PutsVersion (page version : ℕ) (before after : Database) : Type 0 where
-  pub shelf : IsShelf after
-  pub put : page_rows after page ≡ (Int (pos page) ∷ Null ∷ Int (pos version) ∷ []) ∷ []
-  pub others : (other : ℕ) → other ≢ page → page_rows after other ≡ page_rows before other
-  pub count : length (after.trees page_tree) + length (page_rows before page)
-      ≡ length (before.trees page_tree) + 1
-  pub marks : after.trees mark_tree ≡ before.trees mark_tree
-  pub parts : after.trees part_tree ≡ before.trees part_tree
+pub record PutsVersion (older : Bool) (page version : ℕ) (before after : Database) : Type 0 where
+  pub shelf : IsShelf older after
+  pub put : page_rows older after page ≡ (Int (pos page) ∷ Null ∷ Int (pos version) ∷ []) ∷ []
+  pub others : (other : ℕ) → other ≢ page
+      → page_rows older after other ≡ page_rows older before other
+  pub count : length (after.trees (page_tree older)) + length (page_rows older before page)
+      ≡ length (before.trees (page_tree older)) + 1
+  pub marks : after.trees (mark_tree older) ≡ before.trees (mark_tree older)
+  pub parts : after.trees (part_tree older) ≡ before.trees (part_tree older)
 
 -- The same of a part: the page and the place have one row, with the bytes.
-pub record PutsPart (page place : ℕ) (bytes : List ℕ) (before after : Database) : Type 0 where
-  pub shelf : IsShelf after
-  pub put : map (drop 1) (part_rows after page place)
+pub record PutsPart (older : Bool) (page place : ℕ) (bytes : List ℕ) (before after : Database) :
+    Type 0 where
+  pub shelf : IsShelf older after
+  pub put : map (drop 1) (part_rows older after page place)
       ≡ (Int (pos page) ∷ Int (pos place) ∷ Blob bytes ∷ []) ∷ []
   pub others : (other at : ℕ) → (other ≢ page) ⊎ (at ≢ place)
-      → part_rows after other at ≡ part_rows before other at
-  pub count : length (after.trees part_tree) + length (part_rows before page place)
-      ≡ length (before.trees part_tree) + 1
-  pub marks : after.trees mark_tree ≡ before.trees mark_tree
-  pub pages : after.trees page_tree ≡ before.trees page_tree
+      → part_rows older after other at ≡ part_rows older before other at
+  pub count : length (after.trees (part_tree older)) + length (part_rows older before page place)
+      ≡ length (before.trees (part_tree older)) + 1
+  pub marks : after.trees (mark_tree older) ≡ before.trees (mark_tree older)
+  pub pages : after.trees (page_tree older) ≡ before.trees (page_tree older)
 
 -- what a row of mark2 says: its identity, the last commit, the bytes of a page, the count of pages
 abbrev pub mark_columns : Row → Row
 mark_columns row = column row 0 ∷ column row 2 ∷ column row 3 ∷ column row 4 ∷ []
 
 -- mark2 has one row, with these
-abbrev pub IsMarked : Database → ℕ → ℕ → ℕ → Type 0
-IsMarked db number page_size pages =
-    map mark_columns (db.trees mark_tree) ≡ mark_values number page_size pages ∷ []
+abbrev pub IsMarked : Bool → Database → ℕ → ℕ → ℕ → Type 0
+IsMarked older db number page_size pages =
+    map mark_columns (db.trees (mark_tree older)) ≡ mark_values number page_size pages ∷ []
 
 -- The row of mark2 has the number, and else what it had; the other tables have the rows that they
 -- had.
-pub record SetsNumber (number page_size pages : ℕ) (before after : Database) : Type 0 where
-  pub shelf : IsShelf after
-  pub put : IsMarked after number page_size pages
-  pub versions : after.trees page_tree ≡ before.trees page_tree
-  pub parts : after.trees part_tree ≡ before.trees part_tree
+pub record SetsNumber (older : Bool) (number page_size pages : ℕ) (before after : Database) :
+    Type 0 where
+  pub shelf : IsShelf older after
+  pub put : IsMarked older after number page_size pages
+  pub versions : after.trees (page_tree older) ≡ before.trees (page_tree older)
+  pub parts : after.trees (part_tree older) ≡ before.trees (part_tree older)
 
 -- page2 has one row for the page, with the version
-abbrev pub HasVersion : Database → ℕ → ℕ → Type 0
-HasVersion db page version =
-    map (λ row. column row 2) (page_rows db page) ≡ Int (pos version) ∷ []
+abbrev pub HasVersion : Bool → Database → ℕ → ℕ → Type 0
+HasVersion older db page version =
+    map (λ row. column row 2) (page_rows older db page) ≡ Int (pos version) ∷ []
 
 -- part has one row for the page and the place, with the bytes
-abbrev pub HasPart : Database → ℕ → ℕ → List ℕ → Type 0
-HasPart db page place bytes =
-    map (λ row. column row 3) (part_rows db page place) ≡ Blob bytes ∷ []
+abbrev pub HasPart : Bool → Database → ℕ → ℕ → List ℕ → Type 0
+HasPart older db page place bytes =
+    map (λ row. column row 3) (part_rows older db page place) ≡ Blob bytes ∷ []
 
 -- The page has one row, with the version. Each other page has the rows that it had, and so have the
 -- other tables; there are as many rows as before.
-pub record SetsVersion (page version : ℕ) (before after : Database) : Type 0 where
-  pub shelf : IsShelf after
-  pub put : HasVersion after page version
-  pub others : (other : ℕ) → other ≢ page → page_rows after other ≡ page_rows before other
-  pub count : length (after.trees page_tree) ≡ length (before.trees page_tree)
-  pub marks : after.trees mark_tree ≡ before.trees mark_tree
-  pub parts : after.trees part_tree ≡ before.trees part_tree
+pub record SetsVersion (older : Bool) (page version : ℕ) (before after : Database) : Type 0 where
+  pub shelf : IsShelf older after
+  pub put : HasVersion older after page version
+  pub others : (other : ℕ) → other ≢ page
+      → page_rows older after other ≡ page_rows older before other
+  pub count : length (after.trees (page_tree older)) ≡ length (before.trees (page_tree older))
+  pub marks : after.trees (mark_tree older) ≡ before.trees (mark_tree older)
+  pub parts : after.trees (part_tree older) ≡ before.trees (part_tree older)
 
 -- The same of a part: the page and the place have one row, with the bytes.
-pub record SetsPart (page place : ℕ) (bytes : List ℕ) (before after : Database) : Type 0 where
-  pub shelf : IsShelf after
-  pub put : HasPart after page place bytes
+pub record SetsPart (older : Bool) (page place : ℕ) (bytes : List ℕ) (before after : Database) :
+    Type 0 where
+  pub shelf : IsShelf older after
+  pub put : HasPart older after page place bytes
   pub others : (other at : ℕ) → (other ≢ page) ⊎ (at ≢ place)
-      → part_rows after other at ≡ part_rows before other at
-  pub count : length (after.trees part_tree) ≡ length (before.trees part_tree)
-  pub marks : after.trees mark_tree ≡ before.trees mark_tree
-  pub pages : after.trees page_tree ≡ before.trees page_tree
+      → part_rows older after other at ≡ part_rows older before other at
+  pub count : length (after.trees (part_tree older)) ≡ length (before.trees (part_tree older))
+  pub marks : after.trees (mark_tree older) ≡ before.trees (mark_tree older)
+  pub pages : after.trees (page_tree older) ≡ before.trees (page_tree older)
 
 -- the rows of the tables are those of a store
-pub record HasStore (db : Database) (store : StoreState) : Type 0 where
-  pub shelf : IsShelf db
-  pub mark : IsMarked db store.number store.page_size (length store.pages)
+pub record HasStore (older : Bool) (db : Database) (store : StoreState) : Type 0 where
+  pub shelf : IsShelf older db
+  pub mark : IsMarked older db store.number store.page_size (length store.pages)
   pub versions : (page : ℕ) → page < length store.pages
-      → HasVersion db page (version_at store page)
+      → HasVersion older db page (version_at store page)
   pub parts : (page place : ℕ) → page < length store.pages → place < part_count store.page_size
-      → HasPart db page place (part_at (bytes_at store page) place)
+      → HasPart older db page place (part_at (bytes_at store page) place)
 
 -- each page of a store has the store's size
 abbrev pub HasFullPages : StoreState → Type 0
 HasFullPages store = All (λ page. length page.bytes ≡ store.page_size) store.pages
 
 -- page2 and part have as many rows as before
-pub record IsAsLarge (before after : Database) : Type 0 where
-  pub versions : length (after.trees page_tree) ≡ length (before.trees page_tree)
-  pub parts : length (after.trees part_tree) ≡ length (before.trees part_tree)
+pub record IsAsLarge (older : Bool) (before after : Database) : Type 0 where
+  pub versions : length (after.trees (page_tree older)) ≡ length (before.trees (page_tree older))
+  pub parts : length (after.trees (part_tree older)) ≡ length (before.trees (part_tree older))
 
 -- the tables have no row
-pub record HasNoRows (db : Database) : Type 0 where
-  pub marks : db.trees mark_tree ≡ []
-  pub pages : db.trees page_tree ≡ []
-  pub parts : db.trees part_tree ≡ []
+pub record HasNoRows (older : Bool) (db : Database) : Type 0 where
+  pub marks : db.trees (mark_tree older) ≡ []
+  pub pages : db.trees (page_tree older) ≡ []
+  pub parts : db.trees (part_tree older) ≡ []

@@ -1,5 +1,6 @@
 -- The tables that a shelf writes, as its schema has them.
-use Rattle.std.specs.Prelude.{ℕ, Bool, true, false, List, [], ◌∷◌, codes, Some, None}
+use Rattle.std.specs.Prelude.{ℕ, ◌+◌, Bool, true, false, List, [], ◌∷◌, ◌++◌}
+use Rattle.std.specs.Prelude.{codes, Some, None}
 use Rattle.sqlite_value.specs.declared.keys.Collation.TheVariants.{Binary}
 use Rattle.sqlite_value.specs.declared.value.Value.TheVariants.{Null}
 use Rattle.sqlite_schema.specs.declared.schema.Kind.{Kind}
@@ -8,6 +9,8 @@ use Rattle.sqlite_schema.specs.declared.schema.Column.{Column}
 use Rattle.sqlite_schema.specs.declared.schema.Table.{Table}
 use Rattle.sqlite_schema.specs.declared.schema.Schema.{Schema}
 use Rattle.sqlite_catalog.specs.Change.{created}
+use Rattle.cb_sql.specs.Statements.{Statement}
+use Rattle.cb_shelf.specs.Opening.{plain}
 
 -- a column of a strict table
 abbrev pub column : List ℕ → Kind → Bool → Column
@@ -63,20 +66,52 @@ part_table = record {
   is_counted = false;
 }
 
+-- the tables of an older generation, which a shelf copies and leaves empty
+abbrev pub old_page_table : Table
+old_page_table = keyed (codes "page") (column (codes "no") Integer false
+    ∷ column (codes "version") Integer true ∷ column (codes "body") Blob true ∷ [])
+
+abbrev pub old_mark_table : Table
+old_mark_table = keyed (codes "mark") (column (codes "id") Integer false
+    ∷ column (codes "commits") Integer true ∷ column (codes "page_size") Integer true ∷ [])
+
+abbrev pub old_page_text : List ℕ
+old_page_text = codes "CREATE TABLE page(no INTEGER PRIMARY KEY, "
+    ++ codes "version INTEGER NOT NULL, body BLOB NOT NULL) STRICT"
+
+abbrev pub old_mark_text : List ℕ
+old_mark_text = codes "CREATE TABLE mark(id INTEGER PRIMARY KEY, commits INTEGER NOT NULL, "
+    ++ codes "page_size INTEGER NOT NULL) STRICT"
+
+-- the statements that make them
+abbrev pub old_statements : List Statement
+old_statements = plain old_page_text ∷ plain old_mark_text ∷ []
+
 -- the schema with no table
 abbrev pub no_schema : Schema
 no_schema = record { tables = []; indexes = []; views = [] }
 
--- the schema that the three statements make which create the tables
-abbrev pub schema : Schema
-schema = created (created (created no_schema mark_table) page_table) part_table
+-- the schema that they make
+abbrev pub old_schema : Schema
+old_schema = created (created no_schema old_page_table) old_mark_table
 
--- the trees of the rows of mark2, page2 and part
-abbrev pub mark_tree : ℕ
-mark_tree = 0
+-- the schema that an open finds which makes the tables: the older ones, or none
+abbrev pub found_schema : Bool → Schema
+found_schema true = old_schema
+found_schema false = no_schema
 
-abbrev pub page_tree : ℕ
-page_tree = 1
+-- the schema that the three statements make of it which create the tables
+abbrev pub schema : Bool → Schema
+schema true = created (created (created old_schema mark_table) page_table) part_table
+schema false = created (created (created no_schema mark_table) page_table) part_table
 
-abbrev pub part_tree : ℕ
-part_tree = 2
+-- the trees of the rows of mark2, page2 and part: each table is at the place of its tree
+abbrev pub mark_tree : Bool → ℕ
+mark_tree true = 2
+mark_tree false = 0
+
+abbrev pub page_tree : Bool → ℕ
+page_tree older = mark_tree older + 1
+
+abbrev pub part_tree : Bool → ℕ
+part_tree older = mark_tree older + 2

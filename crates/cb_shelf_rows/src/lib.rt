@@ -2,8 +2,9 @@
 //!
 //! The crate has no code: each function carries one law in its contract, over the definitions of
 //! `cb_sql` and `cb_shelf`. The laws are about a database whose schema is that of the three
-//! tables `mark2`, `page2` and `part`, as they are made where no other was, and whose rows have
-//! whole numbers as rowids, which rise (`IsShelf`). Each statement keeps this.
+//! tables `mark2`, `page2` and `part`, as they are made where no other was or where the two of an
+//! older generation were, and whose rows have whole numbers as rowids, which rise (`IsShelf`). Each
+//! statement keeps this.
 //!
 //! A table is stated as a map from its key to its rows: `page_rows` and `part_rows`.
 //! `cb_shelf::Shelf::write` says that the statements of its batch ran (`MakesAll`), and
@@ -14,17 +15,25 @@ ghost use Rattle.cb_shelf_rows.specs.Laws.{StoresAreLaid, VersionsArePut, PartsA
 ghost use Rattle.cb_shelf_rows.specs.Laws.{VersionsAreSet, PartsAreSet, NumbersAreSet};
 ghost use Rattle.cb_shelf_rows.specs.Laws.{BatchesAreWritten, BatchesAreHeld, TablesAreMade};
 ghost use Rattle.cb_shelf_rows.specs.Laws.{AnswersAreTheRows, FirstLoadsAreZeros};
-ghost use Rattle.cb_shelf_rows.specs.Laws.{LoadsFollowBatches};
+ghost use Rattle.cb_shelf_rows.specs.Laws.{LoadsFollowBatches, OlderTablesAreMade};
+ghost use Rattle.cb_shelf_rows.specs.Laws.{LoadsFollowCopies, LoadsFollowFinds};
 
 use sqlite::Alter;
 
-/// Where there is no table, the statements that create the tables make a shelf's, with no row.
+/// Where there is no table, the statements of an older generation make its two.
+pub fn older_tables_are_made<S: Alter>()
+    ensures law { OlderTablesAreMade S.Store }
+{}
+
+/// Where there is no table, or only the two of an older generation, the statements that create the
+/// tables make a shelf's, with no row.
 pub fn tables_are_made<S: Alter>()
     ensures law { TablesAreMade S.Store }
 {}
 
 /// Where there is no table, the statements of an open that finds none make tables whose rows are
-/// those of the store.
+/// those of the store. So do those of an open that copies the store of older tables, where there
+/// are only these.
 pub fn stores_are_laid<S: Alter>()
     ensures law { StoresAreLaid S.Store }
 {}
@@ -86,4 +95,19 @@ pub fn first_loads_are_zeros<S: Alter>()
 /// limits, before, between or after the batches, change nothing.
 pub fn loads_follow_batches<S: Alter>()
     ensures law { LoadsFollowBatches S.Store }
+{}
+
+/// What the tables answer after an open that copied a store of older tables, and then batches that
+/// fit and opens of the same limits, in any order, is that store with the batches written over it
+/// in their order. The premises are that the older tables were the only ones, as their statements
+/// make them, and that each page of the store has its size.
+pub fn loads_follow_copies<S: Alter>()
+    ensures law { LoadsFollowCopies S.Store }
+{}
+
+/// The same of tables that were found with a store, by what they answer, whether older tables are
+/// beside them or not. That their schema and their rowids are as `IsShelf` says is a premise: no
+/// call tells it of a file.
+pub fn loads_follow_finds<S: Alter>()
+    ensures law { LoadsFollowFinds S.Store }
 {}

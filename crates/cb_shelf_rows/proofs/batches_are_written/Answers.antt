@@ -3,4 +3,4 @@ use Rattle.cb_shelf_rows.proofs.Paging.{writes_batch}
 use Rattle.cb_shelf_rows.proofs.batches_are_written.Goals as goal
 
 pub returns : goal.returns
-returns g c = record { law = writes_batch g.S.Store }
+returns g c = record { law = λ older. writes_batch older g.S.Store }

@@ -3,4 +3,4 @@ use Rattle.cb_shelf_rows.proofs.Putting.{page_puts}
 use Rattle.cb_shelf_rows.proofs.versions_are_put.Goals as goal
 
 pub returns : goal.returns
-returns g c = record { law = page_puts g.S.Store }
+returns g c = record { law = λ older. page_puts older g.S.Store }

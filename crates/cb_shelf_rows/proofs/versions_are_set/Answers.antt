@@ -3,4 +3,4 @@ use Rattle.cb_shelf_rows.proofs.Setting.{page_sets}
 use Rattle.cb_shelf_rows.proofs.versions_are_set.Goals as goal
 
 pub returns : goal.returns
-returns g c = record { law = page_sets g.S.Store }
+returns g c = record { law = λ older. page_sets older g.S.Store }
