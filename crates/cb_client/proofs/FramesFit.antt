@@ -71,7 +71,7 @@ pub frame_fits : (b : Bounds) (frame : Frame) → MessageFits (limits_of b) (mes
 frame_fits b frame h = record { client = h.0; incarnation = h.1; body = body_fits b frame.body h.2 }
 
 -- what a client says in answer to a call
-from_client : (v : ClientState) → IsClient v → (bodies : List protocol.Body) → AllBodiesFit (limits_at v) bodies → AllMessagesFit (limits_at v) (messages_from v bodies)
+pub from_client : (v : ClientState) → IsClient v → (bodies : List protocol.Body) → AllBodiesFit (limits_at v) bodies → AllMessagesFit (limits_at v) (messages_from v bodies)
 from_client v is [] h = tt
 from_client v is (x ∷ bodies) h = ((is.no, is.incarnation, h.0), from_client v is bodies h.1)
 

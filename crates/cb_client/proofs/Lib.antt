@@ -4,6 +4,7 @@
 -- Calling: what the table says of reading, wanting and writing a page.
 -- Writing: what the protocol's table says of a commit.
 -- FramesFit: every message that a client says fits the limits, and so does its frame.
+-- CommitFits: so does the commit of a transaction, also while the client waits.
 -- Answering: the protocol's laws of a client alone hold of this one.
 -- SayingAgain: what may be lost is said again by the table.
 -- Ending: what the protocol's table says of a drop.
@@ -14,6 +15,7 @@ pub mod CallSteps
 pub mod Calling
 pub mod Writing
 pub mod FramesFit
+pub mod CommitFits
 pub mod Answering
 pub mod SayingAgain
 pub mod Ending

@@ -1,12 +1,6 @@
 -- What may be lost is said again by the table.
-use Rattle.std.proofs.Common.{◌≡◌, ◌<◌, ◌++◌, ℕ, Bool, IfSome, option_to_list, true, false, List, [], ◌∷◌, Option, Some, None, unwrap_or, refl, subst, sym, ◌∙◌, ap, arith}
+use Rattle.std.proofs.Common.{◌≡◌, ◌<◌, ◌++◌, ℕ, true, false, List, [], ◌∷◌, Option, Some, None, unwrap_or, refl, subst, sym, ◌∙◌, ap, arith}
 use Rattle.std.proofs.lemmas.List.{append_assoc}
-use Rattle.std.specs.Option.{option_map}
-use Rattle.cb_frame_types.specs.Grammar.{Fits}
-use Rattle.cb_frame_types.specs.declared.frame.Frame.{Frame}
-use Rattle.cb_outbox.specs.Messages.{message_of}
-use Rattle.cb_protocol.specs.Basics.{Limits}
-use Rattle.cb_protocol.specs.Cache.{Idle}
 use Rattle.cb_protocol.proofs.Cases.{call_accepted, fault_of_again, fault_of_hello, said_append}
 use Rattle.cb_protocol.proofs.ClientInvariant as protocol
 use Rattle.cb_protocol.proofs.ClientInvariant.{ClientKeeps, only_again, says_same, tidy}
@@ -14,14 +8,13 @@ use Rattle.cb_protocol.specs.Answers as table
 use Rattle.cb_protocol.specs.Client.{bodies_said}
 use Rattle.cb_protocol.specs.ClientCalls.{CallAgain, CallHello, Reply, client_again, commit_again, say_ask, say_drop}
 use Rattle.cb_protocol.specs.Messages.{Body, Hello, Message}
-use Rattle.cb_protocol.specs.Ranges.{AllMessagesFit, InputFits, MessageFits}
+use Rattle.cb_protocol.specs.Ranges.{InputFits}
 use Rattle.cb_protocol.specs.Serial.{Operation}
-use Rattle.cb_client_core.specs.ClientState.{ClientState, IsClient, client_of, is_gone, outcome_of, stage_of}
+use Rattle.cb_client_core.specs.ClientState.{ClientState, IsClient, client_of, is_gone, outcome_of}
 use Rattle.cb_client_core.specs.declared.stage.Outcome.{Outcome}
 use Rattle.cb_client_core.specs.declared.stage.Outcome.TheVariants as outcomes
 use Rattle.cb_client.specs.ByTable.{Calls, as_before, limits_at, messages_from}
 use Rattle.cb_client.proofs.CallSteps.{accepted}
-use Rattle.cb_client.proofs.FramesFit.{calls_fit, frame_fits}
 
 -- the last transaction that was dropped or aborted has a number
 pub has_dropped : (v : ClientState) → IsClient v → is_gone v.last ≡ true → v.dropped ≡ None → ⊥
@@ -89,27 +82,3 @@ greets_again v messages e c = subst (λ (said : List Message). Calls v CallAgain
   where
     same : record { client = v.no; incarnation = v.incarnation; body = Hello } ∷ [] ≡ messages
     same = sym (ap (λ (r : Reply). messages_from v (bodies_said r.steps)) (call_accepted (limits_at v) (client_of v []) CallHello (fault_of_hello (limits_at v) (client_of v [])))) ∙ c.makes.said []
-
-last_fits : (L : Limits) (before : List Message) (message : Message) → AllMessagesFit L (before ++ message ∷ []) → MessageFits L message
-last_fits L [] message fit = fit.0
-last_fits L (first ∷ before) message fit = last_fits L before message fit.1
-
--- a Commit said again fits, as all that is said again does
-pub commit_again_fits : (v : ClientState) (commit : Option Frame) → IsClient v
-    → ((ops : List Operation) → messages_from v (bodies_said (commit_again (limits_at v) (client_of v ops))) ≡ option_to_list (option_map message_of commit))
-    → IfSome commit (Fits v.copies.limits)
-commit_again_fits v None is said = tt
-commit_again_fits v (Some frame) is said = by v.welcomed refl
-  where
-    keeps : ClientKeeps (limits_at v) (client_of v is.reached.operations)
-    keeps = tidy (limits_at v) (InputFits (limits_at v)) (client_of v is.reached.operations) is.reached.arises
-
-    by : (welcomed : Bool) → v.welcomed ≡ welcomed → Fits v.copies.limits frame
-    by false shut =
-        let idle : stage_of v.stage ≡ Idle = keeps.shut shut in
-        absurd (let none = rw idle at (said []) in cc)
-    by true welcomed =
-        let drop : List Message = messages_from v (bodies_said (say_drop (client_of v []) (client_of v []).last_outcome)) in
-        let ask : List Message = messages_from v (bodies_said (say_ask (client_of v []) (client_of v []).ask)) in
-        let calls = all_again v drop ask (message_of frame ∷ []) ((drop ++ ask) ++ message_of frame ∷ []) welcomed (λ ops. refl) (λ ops. refl) said refl in
-        frame_fits v.copies.limits frame (last_fits (limits_at v) (drop ++ ask) (message_of frame) (calls_fit v v CallAgain is calls))

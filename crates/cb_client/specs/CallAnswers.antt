@@ -13,7 +13,7 @@ use Rattle.cb_protocol.specs.Answers as table
 use Rattle.cb_protocol.specs.Basics.{Bytes, is_none}
 use Rattle.cb_protocol.specs.Client.{bodies_said}
 use Rattle.cb_protocol.specs.ClientCalls.{Call, CallBegin, CallFinish, CallRead, CallWant}
-use Rattle.cb_protocol.specs.ClientCalls.{CallWrite, call_fault, client_call}
+use Rattle.cb_protocol.specs.ClientCalls.{CallWrite, call_fault, client_call, say_commit}
 use Rattle.cb_protocol.specs.Messages.{AskRead, Message}
 use Rattle.cb_protocol.specs.Serial.{Operation, Put, Saw}
 use Rattle.cb_client_core.specs.ClientState.{ClientState, client_of}
@@ -150,3 +150,16 @@ abbrev pub Finishes : (old : ClientState) → Result Frame ClientFault → (new 
 Finishes old (Ok frame) new =
     Calls old CallFinish table.AnsweredOk (message_of frame ∷ []) as_before new
 Finishes old (Err refused) new = RefusesOrLacks old CallFinish refused new
+
+-- the frame says the commit of the client's transaction: the pages that it wrote, with their bytes
+abbrev pub SaysCommit : ClientState → Frame → Type 0
+SaysCommit client frame = (operations : List Operation)
+    → messages_from client
+    (bodies_said (say_commit (limits_at client) (client_of client operations)))
+    ≡ message_of frame ∷ []
+
+-- it commits, by that very frame, or the table refuses the call: never for want of memory
+abbrev pub FinishesWith : (old : ClientState) → Frame → Result ⊤ ClientFault → (new : ClientState)
+    → Type 0
+FinishesWith old frame (Ok done) new = Finishes old (Ok frame) new
+FinishesWith old frame (Err refused) new = Refuses old CallFinish refused new

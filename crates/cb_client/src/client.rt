@@ -28,8 +28,8 @@ use std::marker::Model;
 
 /// One incarnation of a client over any pool, which `restart` makes another.
 ///
-/// `new`, `finish`, `commit_again`, `drop_txn`, `take`, `take_owned`, `take_bytes` and `again` take
-/// memory; no other call does.
+/// `new`, `finish`, `commit_frame`, `commit_again`, `drop_txn`, `take`, `take_owned`, `take_bytes`
+/// and `again` take memory; no other call does.
 pub struct Client<Q: Chooser> {
     core: ClientCore<Q>,
 }

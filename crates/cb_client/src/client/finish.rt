@@ -1,17 +1,13 @@
 //! How a transaction commits.
-ghost use Rattle.std.specs.Prelude.{◌≡◌, ◌≢◌, ℕ, false, List, [], ◌∷◌, IfErr, IfOk, IsOk};
+ghost use Rattle.std.specs.Prelude.{◌≡◌, ◌≢◌, ℕ, false, IfErr, IfOk, IsOk};
 ghost use Rattle.cb_page.specs.Flags.{has};
-ghost use Rattle.cb_client.specs.ByTable.{IsDecided, limits_at, messages_from};
-ghost use Rattle.cb_client_core.specs.ClientState.{client_of};
-ghost use Rattle.cb_client.specs.CallAnswers.{Finishes};
+ghost use Rattle.cb_client.specs.ByTable.{IsDecided};
+ghost use Rattle.cb_client.specs.CallAnswers.{Finishes, FinishesWith, SaysCommit};
 ghost use Rattle.cb_client_core.specs.declared.stage.PendingAsk.TheVariants.{Nothing};
 ghost use Rattle.cb_client_core.specs.declared.stage.Stage.TheVariants.{Idle, Open};
 ghost use Rattle.cb_client.specs.declared.client_fault.ClientFault.TheVariants.{Memory};
 ghost use Rattle.cb_frame_types.specs.Grammar.{Fits};
-ghost use Rattle.cb_outbox.specs.Messages.{message_of};
-ghost use Rattle.cb_protocol.specs.Client.{bodies_said};
-ghost use Rattle.cb_protocol.specs.Serial.{Operation};
-ghost use Rattle.cb_protocol.specs.ClientCalls.{CallFinish, say_commit};
+ghost use Rattle.cb_protocol.specs.ClientCalls.{CallFinish};
 
 use crate::client::Client;
 use crate::client_fault::ClientFault;
@@ -47,19 +43,24 @@ impl<Q: Chooser> Client<Q> {
     {
         self.check_finish()?;
         let commit = self.commit_frame(alloc)?;
-        self.core.stage = Stage::Committing;
+        self.finish_with(&commit)?;
         Ok(commit)
     }
 
-    /// The frame of the transaction's commit, with the pages that it wrote. `AllocError` only where
-    /// memory for these was refused.
-    pub(super) fn commit_frame(&self, alloc: Global) -> Result<Frame, AllocError>
+    /// The frame of the transaction's commit, with the pages that it wrote so far: of the one that
+    /// is open, or committing. Nothing changes. `AllocError` only where memory for these pages was
+    /// refused.
+    ///
+    /// So a commit can be copied before a lock is taken, and said under it by
+    /// [`Client::finish_with`].
+    pub fn commit_frame(&self, alloc: Global) -> Result<Frame, AllocError>
         requires { self.now.stage ≢ Idle }
-        ensures said { IfOk result (λ frame. (operations : List Operation) → messages_from self.now
-            (bodies_said (say_commit (limits_at self.now) (client_of self.now operations)))
-            ≡ message_of frame ∷ []) }
+        ensures said { IfOk result (SaysCommit self.now) }
         ensures nothing { ((page : ℕ) → has self.now.copies.wrote page ≡ false) → IsOk result }
+        ensures fits { IfOk result (Fits self.now.copies.limits) }
     {
+        // A look at a field tells the prover what holds of every client.
+        let _known = &self.core.no;
         let txn = self.present_txn();
         let writes = written_so_far(alloc, &self.core.copies)?;
         Ok(Frame {
@@ -67,5 +68,17 @@ impl<Q: Chooser> Client<Q> {
             incarnation: self.core.incarnation,
             body: Body::Commit { txn, writes },
         })
+    }
+
+    /// Commits the open transaction by a frame that says its commit, if it is open: the one that
+    /// [`Client::commit_frame`] made, while nothing was written since. As `finish`, and it takes no
+    /// memory.
+    pub fn finish_with(&mut self, commit: &Frame) -> Result<(), ClientFault>
+        requires says { self.old.stage ≢ Idle → SaysCommit self.old commit.now }
+        ensures by_table { FinishesWith self.old commit.now result self.new }
+    {
+        self.check_finish()?;
+        self.core.stage = Stage::Committing;
+        Ok(())
     }
 }
