@@ -63,12 +63,6 @@ impl Office {
         self.sound(self.changed.wait(rt, station))
     }
 
-    /// How often those were told whom [`Office::wait`] lets sleep. It takes no lock: who looks for a
-    /// moment whether it has changed need not sleep.
-    pub fn times_told(&self) -> u64 {
-        self.changed.notifications()
-    }
-
     /// Lets the lock go until there may be a frame to that client, or the office is halted, and
     /// takes it again. It may return for no reason.
     pub fn wait_for_frame<'a, R: Wait>(
