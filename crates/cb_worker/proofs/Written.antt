@@ -2,6 +2,7 @@
 use Rattle.std.proofs.Common.{◌≡◌, ◌≢◌, ◌⊎◌, ◌||◌, ◌==◌, ◌++◌, ◌<◌, ◌≤◌, inl, inr, ℕ, zero, suc, Bool, true, false, if◌then◌else◌, List, [], ◌∷◌, Option, Some, None, Ok, refl, sym, ◌∙◌, ap, subst, arith}
 use Rattle.std.proofs.lemmas.Bool.{cases_lt}
 use Rattle.cb_client.specs.ByTable.{limits_at}
+use Rattle.cb_client.specs.CallAnswers.{SaysCommit}
 use Rattle.cb_client_core.specs.ClientState.{ClientState, IsClient, client_of}
 use Rattle.cb_frame_types.specs.declared.frame.Body.{Body}
 use Rattle.cb_frame_types.specs.declared.frame.Body.TheVariants as body
@@ -9,19 +10,23 @@ use Rattle.cb_frame_types.specs.declared.frame.Frame.{Frame}
 use Rattle.cb_frame_types.specs.declared.frame.ShortBody.TheVariants as short
 use Rattle.cb_outbox.specs.Messages.{body_of, page_writes}
 use Rattle.cb_protocol.proofs.Cases.{call_accepted, call_refused}
+use Rattle.cb_protocol.proofs.ClientInvariant.{ClientKeeps, tidy}
+use Rattle.cb_protocol.proofs.PagesStay.{fixed_pages_stay}
 use Rattle.cb_protocol.specs.Answers as table
 use Rattle.cb_protocol.specs.Basics.{Bytes}
 use Rattle.cb_protocol.specs.Cache.{Committing, Idle, Open, TransactionState, is_committing}
-use Rattle.cb_protocol.specs.Client.{Aborted, Client, Committed, client_after}
+use Rattle.cb_protocol.specs.Client.{Aborted, Client, Committed, client_after, is_fixed}
 use Rattle.cb_protocol.specs.ClientCalls.{CallFinish, Reply, call_fault, written_page, written_pages}
+use Rattle.cb_protocol.specs.ClientLaws.{IsHere}
 use Rattle.cb_protocol.specs.Messages.{Commit, Message, PageWrite, write_of_page}
+use Rattle.cb_protocol.specs.Ranges.{InputFits}
 use Rattle.cb_station.specs.Commits.{writes_in, writes_of}
 use Rattle.cb_station.specs.Stations.{StationState}
 use Rattle.cb_worker.proofs.Keeping.{fixed_alone}
 use Rattle.cb_worker.proofs.Standing.{is_then}
 use Rattle.cb_worker.proofs.Using.{finishes_used, within}
-use Rattle.cb_worker.specs.Committing.{FinishesOrAgain, HandedCommitIn, HandsCommitIn, HasCommitted, IsCommitting, SaysCommit}
-use Rattle.cb_worker.specs.Keeping.{AreWritten, HasWritten, KeepsFixed}
+use Rattle.cb_worker.specs.Committing.{FinishesOrAgain, HandedCommitIn, HandsCommitIn, HasCommitted, IsCommitting}
+use Rattle.cb_worker.specs.Keeping.{AreWritten, HasWritten, KeepsFixed, Uses}
 use Rattle.cb_worker.specs.Steps.{Begun}
 use Rattle.cb_worker.specs.Waiting.{ending_of}
 use Rattle.cb_worker.specs.Workers.{Ends, HasTransaction, IsStill, WorkerState, seen_by}
@@ -122,7 +127,7 @@ are_written v frame says is = subst (λ (ws : List PageWrite). AreWritten (clien
 })
 
 -- the client is committing then
-committing_busy : (s : TransactionState) → is_committing s ≡ true → s ≢ Idle
+pub committing_busy : (s : TransactionState) → is_committing s ≡ true → s ≢ Idle
 committing_busy Idle e = absurd cc
 committing_busy _ e = λ z. absurd cc
 
@@ -137,22 +142,86 @@ finishing old new frame (inl calls) = go (call_fault (limits_at old) (client_of 
         committing = ap (λ (k : Client). k.cache.status) (sym (calls.makes.after [])) ∙ ap (λ (r : Reply). (client_after old.copies.limits.keep_write (client_of old []) r.steps).cache.status) (call_accepted (limits_at old) (client_of old []) CallFinish e)
 finishing old new frame (inr again) = subst (λ (v : ClientState). (client_of v []).cache.status ≢ Idle) (sym again.2) (committing_busy _ (is_then old again.0))
 
+-- a page that was written is fixed
+wrote_fixed : (wanted wrote : Bool) → wrote ≡ true → (wanted || wrote) ≡ true
+wrote_fixed true wrote e = refl
+wrote_fixed false wrote e = e
+
 -- what was written stays written while the transaction isn't over
 pub stays_written : (old new : Client) → KeepsFixed old new → new.cache.status ≢ Idle → (page grant : ℕ) (bytes : Bytes) → HasWritten old page grant bytes → HasWritten new page grant bytes
 stays_written old new k n page grant bytes h = record {
-  uses = k.uses page grant bytes n (fixed (old.wanted page) h.wrote) h.uses;
+  uses = k.uses page grant bytes n (wrote_fixed (old.wanted page) (old.cache.wrote page) h.wrote) h.uses;
   wrote = k.stays.wrote page n ∙ h.wrote;
 }
-  where
-    fixed : (w : Bool) → old.cache.wrote page ≡ true → (w || old.cache.wrote page) ≡ true
-    fixed true e = refl
-    fixed false e = e
 
 written_before : (old new : Client) (ws : List PageWrite) → KeepsFixed old new → new.cache.status ≢ Idle → AreWritten new ws → AreWritten old ws
 written_before old new ws k n a = record {
   each = λ page grant bytes h. a.each page grant bytes (stays_written old new k n page grant bytes h);
   alone = λ page write e. sym (k.stays.wrote page n) ∙ a.alone page write e;
 }
+
+-- a page that the transaction wrote it uses
+uses_written : (v : ClientState) (page : ℕ) → IsClient v → (client_of v []).cache.wrote page ≡ true → (grant : ℕ) × (bytes : Bytes) × Uses (client_of v []) page grant bytes
+uses_written v page is wrote = by ((client_of v []).cache.held page) refl ((client_of v []).cache.content page) refl
+  where
+    fixed : is_fixed (client_of v []) page ≡ true
+    fixed = wrote_fixed ((client_of v []).wanted page) ((client_of v []).cache.wrote page) wrote
+
+    here : IsHere (client_of v is.reached.operations) page
+    here = (fixed_pages_stay (limits_at v) (InputFits (limits_at v)) (client_of v is.reached.operations) is.reached.arises).0 page fixed
+
+    tidied : ClientKeeps (limits_at v) (client_of v is.reached.operations)
+    tidied = tidy (limits_at v) (InputFits (limits_at v)) (client_of v is.reached.operations) is.reached.arises
+
+    by : (h : Option ℕ) → (client_of v []).cache.held page ≡ h → (o : Option Bytes) → (client_of v []).cache.content page ≡ o → (grant : ℕ) × (bytes : Bytes) × Uses (client_of v []) page grant bytes
+    by None e o f = absurd (tidied.locked_held page here.read e)
+    by (Some g) e None f = absurd (here.bytes f)
+    by (Some g) e (Some b) f = (g, b, record { reading = (e, here.read); content = f; safe = inl fixed })
+
+-- both clients say the same of the page: neither wrote it, or both did, by one grant and with the same bytes
+pub record SaysAlike (old new : Client) (page : ℕ) : Type 0 where
+  pub wrote : new.cache.wrote page ≡ old.cache.wrote page
+  pub held : old.cache.wrote page ≡ true → new.cache.held page ≡ old.cache.held page
+  pub content : old.cache.wrote page ≡ true → new.cache.content page ≡ old.cache.content page
+
+unwritten : (k : Client) (page : ℕ) (h : Option ℕ) (b : Option Bytes) → k.cache.wrote page ≡ false → written_page k page h b ≡ []
+unwritten k page None b e = refl
+unwritten k page (Some g) None e = refl
+unwritten k page (Some g) (Some b) e = rw e refl
+
+both_wrote : (old new : Client) (page : ℕ) (h : Option ℕ) (b : Option Bytes) → new.cache.wrote page ≡ old.cache.wrote page → written_page new page h b ≡ written_page old page h b
+both_wrote old new page None b e = refl
+both_wrote old new page (Some g) None e = refl
+both_wrote old new page (Some g) (Some b) e = rw e refl
+
+alike_page : (old new : Client) (page : ℕ) → SaysAlike old new page → written_page new page (new.cache.held page) (new.cache.content page) ≡ written_page old page (old.cache.held page) (old.cache.content page)
+alike_page old new page a = by (old.cache.wrote page) refl
+  where
+    by : (w : Bool) → old.cache.wrote page ≡ w → written_page new page (new.cache.held page) (new.cache.content page) ≡ written_page old page (old.cache.held page) (old.cache.content page)
+    by false e = unwritten new page _ _ (a.wrote ∙ e) ∙ sym (unwritten old page _ _ e)
+    by true e =
+        ap (λ (h : Option ℕ). written_page new page h (new.cache.content page)) (a.held e)
+        ∙ ap (λ (b : Option Bytes). written_page new page (old.cache.held page) b) (a.content e)
+        ∙ both_wrote old new page (old.cache.held page) (old.cache.content page) a.wrote
+
+pub alike_pages : (old new : Client) (n : ℕ) → ((page : ℕ) → SaysAlike old new page) → written_pages new n ≡ written_pages old n
+alike_pages old new zero a = refl
+alike_pages old new (suc n) a =
+    ap (λ (ws : List PageWrite). ws ++ written_page new n (new.cache.held n) (new.cache.content n)) (alike_pages old new n a)
+    ∙ ap (λ (ws : List PageWrite). written_pages old n ++ ws) (alike_page old new n (a n))
+
+-- so of each page, while the transaction isn't over
+pub says_alike : (v : ClientState) (new : Client) (page : ℕ) → IsClient v → KeepsFixed (client_of v []) new → new.cache.status ≢ Idle → SaysAlike (client_of v []) new page
+says_alike v new page is k n = record {
+  wrote = k.stays.wrote page n;
+  held = λ e. (kept e).reading.0 ∙ sym (uses_written v page is e).2.reading.0;
+  content = λ e. (kept e).content ∙ sym (uses_written v page is e).2.content;
+}
+  where
+    kept : (e : (client_of v []).cache.wrote page ≡ true) → Uses new page (uses_written v page is e).0 (uses_written v page is e).1
+    kept e =
+        let used = uses_written v page is e in
+        k.uses page used.0 used.1 n (wrote_fixed ((client_of v []).wanted page) ((client_of v []).cache.wrote page) e) used.2
 
 -- so the commit says what was written as its call began
 pub handed_written : (old served new : WorkerState) (before after : StationState) (number : ℕ) → IsStill old served → (h : HandsCommitIn served before (Ok number) new after)

@@ -1,7 +1,7 @@
 -- How a worker's transaction commits.
-use Rattle.std.specs.Prelude.{◌≡◌, ◌⊎◌, ℕ, Bool, List, [], ◌∷◌, Result, Ok, Err, ⊤}
-use Rattle.cb_client.specs.ByTable.{RefusesOrLacks, limits_at, messages_from}
-use Rattle.cb_client.specs.CallAnswers.{Finishes}
+use Rattle.std.specs.Prelude.{◌≡◌, ◌⊎◌, ℕ, Bool, List, [], Result, Ok, Err, ⊤}
+use Rattle.cb_client.specs.ByTable.{RefusesOrLacks}
+use Rattle.cb_client.specs.CallAnswers.{Finishes, SaysCommit}
 use Rattle.cb_client.specs.declared.client_fault.ClientFault.{ClientFault}
 use Rattle.cb_client.specs.declared.client_fault.ClientFault.TheVariants as client
 use Rattle.cb_client_core.specs.ClientState.{ClientState, client_of}
@@ -9,11 +9,11 @@ use Rattle.cb_frame_types.specs.declared.frame.Frame.{Frame}
 use Rattle.cb_station.specs.Commits.{writes_of}
 use Rattle.cb_station.specs.Stations.{IsStation, StationState}
 use Rattle.cb_station.specs.declared.office_fault.OfficeFault.{OfficeFault}
-use Rattle.cb_outbox.specs.Messages.{message_of, page_writes}
+use Rattle.cb_outbox.specs.Messages.{page_writes}
 use Rattle.cb_page.specs.Flags.{has}
 use Rattle.cb_protocol.specs.Cache.{Open}
-use Rattle.cb_protocol.specs.Client.{Aborted, StatusCommitting, bodies_said, client_status}
-use Rattle.cb_protocol.specs.ClientCalls.{CallFinish, say_commit}
+use Rattle.cb_protocol.specs.Client.{Aborted, StatusCommitting, client_status}
+use Rattle.cb_protocol.specs.ClientCalls.{CallFinish}
 use Rattle.cb_protocol.specs.Serial.{Operation}
 use Rattle.cb_worker.specs.Calls.{Committed}
 use Rattle.cb_worker.specs.Keeping.{AreWritten}
@@ -22,13 +22,6 @@ use Rattle.cb_worker.specs.declared.answers.Finished.{Finished}
 use Rattle.cb_worker.specs.declared.answers.Finished.TheVariants as finished
 use Rattle.cb_worker.specs.declared.worker_fault.WorkerFault.{WorkerFault}
 use Rattle.cb_worker.specs.declared.worker_fault.WorkerFault.TheVariants as worker
-
--- it says the commit of the client's transaction: the pages that it wrote, with their bytes
-abbrev pub SaysCommit : ClientState → Frame → Type 0
-SaysCommit client frame = (operations : List Operation)
-    → messages_from client
-    (bodies_said (say_commit (limits_at client) (client_of client operations)))
-    ≡ message_of frame ∷ []
 
 -- the client says that it is committing
 abbrev pub IsCommitting : ClientState → Type 0
@@ -49,6 +42,14 @@ AreLocked client reads = (operations : List Operation) (page : ℕ)
 abbrev pub RefusesFrame : (old : ClientState) → ClientFault → (new : ClientState) → Type 0
 RefusesFrame old fault new = ((IsCommitting old → ⊥) × RefusesOrLacks old CallFinish fault new)
     ⊎ (IsCommitting old × (fault ≡ client.Memory) × (new ≡ old))
+
+-- The frame is handed in, with exactly the pages as reads that the client's transaction has locked.
+pub record HandsFrameIn (old : WorkerState) (before : StationState) (frame : Frame)
+    (result : Result ℕ OfficeFault) (new : WorkerState) (after : StationState) : Type 0 where
+  pub reads : List Bool
+  pub locked : AreLocked old.client reads
+  pub committed : Committed before frame reads old.hand result after new.hand
+  pub rest : new ≡ record old { hand = new.hand }
 
 -- The commit of the worker's transaction is handed in, with exactly its locked pages as reads and
 -- the pages that it wrote, each by the client's grant and with the client's bytes.

@@ -7,6 +7,7 @@ use Rattle.cb_client.specs.declared.client_fault.ClientFault.TheVariants as clie
 use Rattle.cb_cache.specs.CacheState.{content_at}
 use Rattle.cb_hands.specs.Hands.{HandState}
 use Rattle.cb_page.specs.Bounds.{Bounds}
+use Rattle.cb_page.specs.Flags.{has}
 use Rattle.cb_station.specs.Stations.{IsStation, StationState}
 use Rattle.cb_station.specs.declared.office_fault.OfficeFault.TheVariants as office
 use Rattle.cb_protocol.specs.ClientCalls.{Call, CallDrop, CallRead, CallWant}
@@ -16,7 +17,7 @@ use Rattle.cb_worker.specs.Entering.{JoinsSome, LeavesSome, RestartsSome, TriesT
 use Rattle.cb_worker.specs.Serving.{HandsOne, Turning, TurnsThen}
 use Rattle.cb_worker.specs.Turns.{Turns}
 use Rattle.cb_worker.specs.Waiting.{LacksTransaction}
-use Rattle.cb_worker.specs.Workers.{IsStill, WorkerState, shows_copy}
+use Rattle.cb_worker.specs.Workers.{HasTransaction, IsStill, WorkerState, shows_copy}
 use Rattle.cb_worker.specs.declared.worker_fault.WorkerFault.{WorkerFault}
 use Rattle.cb_worker.specs.declared.worker_fault.WorkerFault.TheVariants as worker
 
@@ -99,9 +100,17 @@ pub record RefusesCommit (new : WorkerState) (fault : WorkerFault) : Type 0 wher
   pub after : StationState
   pub commits : CommitsAt old before (Err fault) new after
 
--- why one doesn't commit
+-- Memory for the frame of the commit was refused: of a transaction that is open or committing, and
+-- wrote a page.
+pub record LacksFrame (old : WorkerState) (fault : WorkerFault) : Type 0 where
+  pub memory : fault ≡ worker.Client client.Memory
+  pub had : HasTransaction old
+  pub wrote : ((page : ℕ) → has old.client.copies.wrote page ≡ false) → ⊥
+
+-- why one doesn't commit; where the frame isn't made nothing changes
 abbrev pub RefusesFinish : (old new : WorkerState) → WorkerFault → Type 0
 RefusesFinish old new fault = RefusesAny old new fault ⊎ RefusesCommit new fault
+    ⊎ (LacksFrame old fault × (new ≡ old))
 
 -- why a worker's client doesn't leave: the station refused it so
 abbrev pub RefusesLeave : WorkerState → WorkerFault → Type 0

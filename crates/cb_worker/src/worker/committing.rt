@@ -1,8 +1,12 @@
 //! A transaction commits.
-ghost use Rattle.std.specs.Prelude.{◌≡◌, IfErr, IfOk};
-ghost use Rattle.cb_worker.specs.Committing.{CommitsAt, FinishesOrAgain, RefusesFrame};
-ghost use Rattle.cb_worker.specs.Committing.{SaysCommit};
-ghost use Rattle.cb_worker.specs.Workers.{with_client};
+ghost use Rattle.std.specs.Prelude.{◌≡◌, ◌≢◌, IfErr, IfOk, OnOk};
+ghost use Rattle.cb_client.specs.CallAnswers.{SaysCommit};
+ghost use Rattle.cb_client_core.specs.ClientState.{IsClient};
+ghost use Rattle.cb_client_core.specs.declared.stage.Stage.TheVariants.{Idle};
+ghost use Rattle.cb_worker.specs.Committing.{CommitsAt, FinishesOrAgain, HandsFrameIn};
+ghost use Rattle.cb_worker.specs.Committing.{RefusesFrame};
+ghost use Rattle.cb_worker.specs.Refusals.{LacksFrame};
+ghost use Rattle.cb_worker.specs.Workers.{HasTransaction, with_client};
 
 use crate::worker::Worker;
 use crate::worker_fault::WorkerFault;
@@ -17,6 +21,8 @@ impl<Q: Chooser> Worker<Q> {
     /// The open transaction commits, having read the pages that it locked: what is committed is
     /// exactly what it wrote. Where the station refused it the client is committing, and the next
     /// call hands the same commit in.
+    ///
+    /// It copies these pages at the locked station; `finish` does so before it takes the lock.
     pub fn commit_at(
         &mut self,
         alloc: Global,
@@ -25,14 +31,35 @@ impl<Q: Chooser> Worker<Q> {
         ensures { CommitsAt self.old station.old result self.new station.new }
     {
         let frame = self.commit_frame(alloc)?;
+        Ok(self.hand_frame_in(alloc, frame, station)?)
+    }
+
+    /// As `commit_at`, by a frame that says the commit already, if one is to be said: no page is
+    /// copied.
+    pub(super) fn commit_by(
+        &mut self,
+        alloc: Global,
+        frame: Frame,
+        station: &mut Station,
+    ) -> Result<CommitNo, WorkerFault>
+        requires says { self.old.client.stage ≢ Idle → SaysCommit self.old.client frame }
+        ensures { CommitsAt self.old station.old result self.new station.new }
+    {
+        self.finish_by(&frame)?;
+        Ok(self.hand_frame_in(alloc, frame, station)?)
+    }
+
+    /// The frame of the commit of the transaction that is open, or committing. It takes no lock,
+    /// and nothing changes.
+    pub(super) fn frame_to_commit(&self, alloc: Global) -> Result<Frame, WorkerFault>
+        requires { HasTransaction self.now }
+        ensures says { IfOk result (SaysCommit self.now.client) }
+        ensures arose { IsClient self.now.client }
+        ensures lacks { IfErr result (LacksFrame self.now) }
+    {
         // What holds of every client, its limits say.
         let _known = self.client.limits();
-        let reads = self.client.locked();
-        let refused = match station.commit_owned(alloc, frame, reads, &mut self.hand) {
-            Ok(number) => return Ok(number),
-            Err(refused) => refused,
-        };
-        Err(fault_of(refused))
+        Ok(self.client.commit_frame(alloc)?)
     }
 
     /// The commit of the open transaction, which is committing then, or of the one that is.
@@ -50,11 +77,45 @@ impl<Q: Chooser> Worker<Q> {
         };
         Ok(frame)
     }
+
+    /// The open transaction is committing by that frame, unless it was before.
+    fn finish_by(&mut self, frame: &Frame) -> Result<(), ClientFault>
+        requires says { self.old.client.stage ≢ Idle → SaysCommit self.old.client frame.now }
+        ensures ok { OnOk result (FinishesOrAgain self.old.client frame.now self.new.client) }
+        ensures says { OnOk result (SaysCommit self.new.client frame.now) }
+        ensures err { IfErr result (λ fault. RefusesFrame self.old.client fault self.new.client) }
+        ensures rest { self.new ≡ with_client self.old self.new.client }
+    {
+        if self.is_committing() {
+            return Ok(());
+        }
+        self.client.finish_with(frame)
+    }
+
+    /// Hands the frame in, with the pages as reads that the transaction locked.
+    fn hand_frame_in(
+        &mut self,
+        alloc: Global,
+        frame: Frame,
+        station: &mut Station,
+    ) -> Result<CommitNo, OfficeFault>
+        ensures hands { HandsFrameIn self.old station.old frame result self.new station.new }
+        ensures arose { IsClient self.old.client }
+    {
+        // What holds of every client, its limits say.
+        let _known = self.client.limits();
+        let reads = self.client.locked();
+        let refused = match station.commit_owned(alloc, frame, reads, &mut self.hand) {
+            Ok(number) => return Ok(number),
+            Err(refused) => refused,
+        };
+        Err(fault_of(refused))
+    }
 }
 
 /// The fault of a refused commit. Its frame goes, since the client can say it again.
-fn fault_of(refused: (OfficeFault, Frame)) -> WorkerFault
-    ensures { result ≡ WorkerFault.Office refused.0 }
+fn fault_of(refused: (OfficeFault, Frame)) -> OfficeFault
+    ensures { result ≡ refused.0 }
 {
-    WorkerFault::Office(refused.0)
+    refused.0
 }

@@ -191,7 +191,9 @@ impl<Q: Chooser> Worker<Q> {
         ensures refused { IfErr result (λ refused. IsStill self refused.1) }
         ensures why { IfErr result (λ refused. StopsServing refused.1 refused.0) }
     {
-        match self.wait_for(rt, alloc, office, &Awaited::Welcome) {
+        let mut station = office.lock(rt);
+        let first = self.go_on(rt, alloc, office, &Awaited::Welcome, &mut station);
+        match self.wait_on(rt, alloc, office, &Awaited::Welcome, station, first) {
             Ok(_) => Ok(self),
             Err(fault) => Err((fault, self)),
         }

@@ -2,6 +2,8 @@
 ghost use Rattle.std.specs.Prelude.{◌≡◌, ◌↔◌, [], false, true, IfErr, IfOk, IfSome, IsTrue};
 ghost use Rattle.std.specs.Prelude.{MatchBool, Ok, Err, OnOk};
 ghost use Rattle.std.specs.Borrow.{sem};
+ghost use Rattle.cb_client.specs.CallAnswers.{SaysCommit};
+ghost use Rattle.cb_client_core.specs.ClientState.{IsClient};
 ghost use Rattle.cb_protocol.specs.Client as protocol;
 ghost use Rattle.cb_protocol.specs.ClientCalls.{CallDrop, CallWant};
 ghost use Rattle.cb_worker.specs.Asking.{AsksFor, AsksToWrite};
@@ -19,7 +21,7 @@ ghost use Rattle.cb_worker.specs.Serving.{ServesAndTells, ServesSome};
 ghost use Rattle.cb_worker.specs.Steps.{Begun, Comes, RefusesToBegin, StopsOr};
 ghost use Rattle.cb_worker.specs.Waiting.{Fetches, Finishes, HasRead};
 ghost use Rattle.cb_worker.specs.Waiting.{IsServed, ReadsAtHand, Wants};
-ghost use Rattle.cb_worker.specs.Workers.{Ended, Ends, HasTransaction, IsStill};
+ghost use Rattle.cb_worker.specs.Workers.{Ended, Ends, HasTransaction, IsStill, WorkerState};
 ghost use Rattle.cb_worker.specs.Workers.{after_hit, may_hit, seen_by};
 
 use crate::answers::{Fetched, Finished, Wanted};
@@ -28,11 +30,12 @@ use crate::said::Said;
 use crate::worker::Worker;
 use crate::worker_fault::WorkerFault;
 use cb_client::{ReadAnswer, WantAnswer};
+use cb_frame::Frame;
 use cb_page::PageNo;
 use cb_station::{Office, OfficeFault, Station};
 use cb_twoq::Chooser;
 use std::alloc::Global;
-use std::sync::Wait;
+use std::sync::{MutexGuard, Wait};
 
 impl<Q: Chooser> Worker<Q> {
     /// Hands in and takes all that there is.
@@ -171,7 +174,9 @@ impl<Q: Chooser> Worker<Q> {
             return Ok(true);
         }
         self.needs_transaction()?;
-        match self.wait_for(rt, alloc, office, &Awaited::Page(page))? {
+        let mut station = office.lock(rt);
+        let first = self.begin_fetch(rt, alloc, office, page, &mut station);
+        match self.wait_on(rt, alloc, office, &Awaited::Page(page), station, first)? {
             Came::There => Ok(true),
             Came::Ended(_) => Ok(false),
         }
@@ -243,7 +248,16 @@ impl<Q: Chooser> Worker<Q> {
         ensures refused { IfErr result (RefusesWant self.old self.new page) }
     {
         self.needs_transaction()?;
-        match self.wait_for(rt, alloc, office, &Awaited::Permission(page))? {
+        let mut station = office.lock(rt);
+        let first = self.begin_want(rt, alloc, office, page, &mut station);
+        match self.wait_on(
+            rt,
+            alloc,
+            office,
+            &Awaited::Permission(page),
+            station,
+            first,
+        )? {
             Came::There => Ok(Wanted::Permitted),
             Came::Ended(_) => Ok(Wanted::Aborted),
         }
@@ -382,6 +396,9 @@ impl<Q: Chooser> Worker<Q> {
     /// The open transaction commits; waits until its commit is on disk. What is committed is exactly
     /// what it wrote. Refused as the client does where nothing is open or committing.
     ///
+    /// The pages that it wrote are copied before the lock is taken, and under it none is. `Memory` of
+    /// its client only where memory for that copy was refused, or for what it serves.
+    ///
     /// After a fault of the office the client is committing, and a later call goes on.
     pub fn finish<R: Wait>(
         &mut self,
@@ -396,21 +413,27 @@ impl<Q: Chooser> Worker<Q> {
         ensures refused { IfErr result (RefusesFinish self.old self.new) }
     {
         self.needs_transaction()?;
-        match self.wait_for(rt, alloc, office, &Awaited::End)? {
+        let frame = self.frame_to_commit(alloc)?;
+        let mut station = office.lock(rt);
+        let first = self.begin_finish(rt, alloc, office, frame, &mut station);
+        match self.wait_on(rt, alloc, office, &Awaited::End, station, first)? {
             Came::Ended(finished) => Ok(finished),
             Came::There => unreachable!(),
         }
     }
 
-    /// Serves, and commits unless the transaction is over. `None` where its end is to be waited
-    /// for.
+    /// Serves, and commits by that frame unless the transaction is over; the frame goes then. `None`
+    /// where its end is to be waited for.
     fn begin_finish<R: Wait>(
         &mut self,
         rt: &R,
         alloc: Global,
         office: &Office,
+        frame: Frame,
         station: &mut Station,
     ) -> Result<Option<Came>, WorkerFault>
+        requires says { SaysCommit self.old.client frame }
+        requires arose { IsClient self.old.client }
         ensures comes { IfOk result (λ came. IfSome came (Comes Awaited.End self.new)) }
         ensures served { OnOk result (IsServed self.new) }
         ensures still { IsStill self.old self.new }
@@ -424,27 +447,34 @@ impl<Q: Chooser> Worker<Q> {
         }
         // What holds of every station, its history says.
         let _known = station.history();
-        let _number = self.commit_at(alloc, station)?;
+        let _number = self.commit_by(alloc, frame, station)?;
         // Serving tells all who are to be told of the commit.
         self.go_on(rt, alloc, office, &Awaited::End, station)
     }
 
-    /// Waits, and serves meanwhile, until something came of it.
-    pub(super) fn wait_for<R: Wait>(
+    /// Waits, and serves meanwhile, until something came of it: at once where the step that began
+    /// it has an answer.
+    pub(super) fn wait_on<'a, R: Wait>(
         &mut self,
         rt: &R,
         alloc: Global,
-        office: &Office,
+        office: &'a Office,
         awaited: &Awaited,
+        locked: MutexGuard<'a, Station>,
+        first: Result<Option<Came>, WorkerFault>,
     ) -> Result<Came, WorkerFault>
+        requires comes { IfOk first (λ came. IfSome came (Comes awaited.now self.old)) }
+        requires served { OnOk first (IsServed self.old) }
+        requires refused { IfErr first (StopsOr self.old (RefusesToBegin awaited.now self.old)) }
         ensures comes { IfOk result (Comes awaited.now self.new) }
         ensures served { OnOk result (IsServed self.new) }
         ensures still { IsStill self.old self.new }
-        ensures begun { OnOk result (Begun awaited.now self.old self.new) }
+        ensures begun { (before : WorkerState) → OnOk first (Begun awaited.now before self.old)
+            → OnOk result (Begun awaited.now before self.new) }
         ensures refused { IfErr result (StopsOr self.new (RefusesToBegin awaited.now self.new)) }
     {
-        let mut station = office.lock(rt);
-        let mut came = self.begin_to_wait(rt, alloc, office, awaited, &mut station);
+        let mut station = locked;
+        let mut came = first;
         for _ in rt.forever() {
             if let Some(answer) = came.transpose() {
                 return answer;
@@ -455,32 +485,8 @@ impl<Q: Chooser> Worker<Q> {
         unreachable!()
     }
 
-    /// Does what is to be done before one waits. `None` where nothing has come of it yet.
-    fn begin_to_wait<R: Wait>(
-        &mut self,
-        rt: &R,
-        alloc: Global,
-        office: &Office,
-        awaited: &Awaited,
-        station: &mut Station,
-    ) -> Result<Option<Came>, WorkerFault>
-        ensures comes { IfOk result (λ came. IfSome came (Comes awaited.now self.new)) }
-        ensures served { OnOk result (IsServed self.new) }
-        ensures still { IsStill self.old self.new }
-        ensures begun { OnOk result (Begun awaited.now self.old self.new) }
-        ensures told { IsTold station.new }
-        ensures refused { IfErr result (StopsOr self.new (RefusesToBegin awaited.now self.new)) }
-    {
-        match awaited {
-            Awaited::Welcome => self.go_on(rt, alloc, office, awaited, station),
-            Awaited::Page(page) => self.begin_fetch(rt, alloc, office, *page, station),
-            Awaited::Permission(page) => self.begin_want(rt, alloc, office, *page, station),
-            Awaited::End => self.begin_finish(rt, alloc, office, station),
-        }
-    }
-
     /// Serves, and looks what has come. `None` where nothing has.
-    fn go_on<R: Wait>(
+    pub(super) fn go_on<R: Wait>(
         &mut self,
         rt: &R,
         alloc: Global,
