@@ -20,7 +20,7 @@ told_ending Are e (Err error) old_out new_out old_err new_err prints = tt
 
 -- what is counted of a run over a database has all jobs
 has_all : {S : Type 0} (g : Ghosts S) (settings : Config) (after : Held S) (counted : Counted) → IsCounted g (all_jobs settings) after counted → HasAll settings counted
-has_all g settings after counted is = record { few = is.few; exact = is.exact }
+has_all g settings after counted is = record { few = is.few; exact = is.exact; over = is.over }
 
 -- so does what is printed of it
 pub told_all : {S : Type 0} (g : Ghosts S) {E : Type 0} (settings : Config) (after : Held S) (result : Result ℕ E) (old_out new_out old_err new_err : Option (List ℕ))

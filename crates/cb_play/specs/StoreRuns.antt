@@ -5,16 +5,18 @@ use Rattle.cb_jobs.specs.declared.printing.Counted.{Counted}
 use Rattle.cb_console.specs.declared.config.Config.{Config}
 use Rattle.cb_console.specs.RunSettings.{IsRunSettings, PrintsRefusal}
 use Rattle.cb_console.specs.declared.running.RunFault.{RunFault}
-use Rattle.cb_run.specs.Runs.{WasCutOff}
+use Rattle.cb_run.specs.Ends.{WasCutOff, WasOver}
 
 -- how many jobs all clients have together
 abbrev pub all_jobs : Config → ℕ
 all_jobs settings = settings.limits.clients * settings.jobs
 
--- All jobs of all clients were committed, fewer only where the run was cut off.
+-- All jobs of all clients were committed, fewer only where the run was cut off; and it was over,
+-- with each commit on disk.
 pub record HasAll (settings : Config) (counted : Counted) : Type 0 where
   pub few : counted.committed ≤ all_jobs settings
   pub exact : (counted.committed ≡ all_jobs settings) ⊎ WasCutOff
+  pub over : WasOver
 
 -- What is printed, with the status: where workers can run, some outcome of a run; else the fault,
 -- and nothing on the output.

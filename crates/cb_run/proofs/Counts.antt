@@ -1,6 +1,7 @@
 -- What the counts of a run are.
 use Rattle.std.proofs.Common.{◌≡◌, ◌≤◌, ◌⊎◌, inl, inr, ℕ, Bool, true, false, arith, refl}
-use Rattle.cb_run.specs.Runs.{WasCutOff, adds_up}
+use Rattle.cb_run.specs.Ends.{WasCutOff}
+use Rattle.cb_run.specs.Runs.{adds_up}
 
 -- jobs that add up are at most all
 pub few_done : (committed all : ℕ) (cut_off : Bool) → adds_up committed all cut_off ≡ true → committed ≤ all

@@ -1,5 +1,5 @@
 -- How a run of workers ends, and what its counts are. This project's rules.
-use Rattle.std.specs.Prelude.{◌≡◌, ◌≤◌, ◌⊎◌, ◌==◌, ◌&&◌, ◌||◌, ℕ, Bool, true, nat_lt, ⊤}
+use Rattle.std.specs.Prelude.{◌≡◌, ◌≤◌, ◌⊎◌, ◌==◌, ◌&&◌, ◌||◌, ℕ, Bool, nat_lt}
 use Rattle.std.specs.Prelude.{Option, Some, None, Result, Ok, Err, IsTrue}
 use Rattle.cb_client.specs.declared.client_fault.ClientFault.TheVariants as client
 use Rattle.cb_commit.specs.Stores.{StoreState}
@@ -10,10 +10,9 @@ use Rattle.cb_jobs.specs.declared.ending.Ending.{Ending}
 use Rattle.cb_jobs.specs.declared.ending.Ending.TheVariants as ending
 use Rattle.cb_jobs.specs.declared.printing.Counted.{Counted}
 use Rattle.cb_shelf.specs.Reading.{Holds}
-use Rattle.cb_station.specs.Flags.{is_cut_off}
-use Rattle.cb_station.specs.Stations.{IsStation, StationState}
 use Rattle.cb_sql.specs.declared.fault.ShelfFault.{ShelfFault}
 use Rattle.cb_sql.specs.declared.fault.ShelfFault.TheVariants as shelf
+use Rattle.cb_run.specs.Ends.{WasCutOff, WasOver}
 use Rattle.cb_worker.specs.declared.worker_fault.WorkerFault.{WorkerFault}
 use Rattle.cb_worker.specs.declared.worker_fault.WorkerFault.TheVariants as worker
 use Rattle.sqlite.specs.Effect.{Database}
@@ -42,15 +41,11 @@ abbrev pub of_client : (client : ℕ) → Ending → ClientEnding
 of_client client told = record { client = client; ending = told }
 
 -- by the flusher's fault, else by that of the lowest client that told of one
-abbrev pub ending_of_run : Result ⊤ ShelfFault → Option ClientEnding → Result ⊤ Ending
+abbrev pub ending_of_run : {T : Type 0} → Result T ShelfFault → Option ClientEnding
+    → Result T Ending
 ending_of_run (Err fault) told = Err (ending_of_shelf fault)
 ending_of_run (Ok done) (Some told) = Err told.ending
-ending_of_run (Ok done) None = Ok tt
-
--- The run was cut off: while nobody had the lock, a station lay there that was halted, or of which
--- calls of `work` were still to end.
-abbrev pub WasCutOff : Type 0
-WasCutOff = (station : StationState) × IsStation station × (is_cut_off station.flags ≡ true)
+ending_of_run (Ok done) None = Ok done
 
 -- whether so many committed jobs are all, or fewer where the run was cut off
 abbrev pub adds_up : (committed all : ℕ) → (cut_off : Bool) → Bool
@@ -61,11 +56,13 @@ abbrev pub IsSumIn : Database → (sum : ℕ) → Type 0
 IsSumIn db sum = (tables : _) × (store : StoreState) × Holds tables db store
     × (sum ≡ sum_of_counters store)
 
--- All jobs were committed, fewer only where the run was cut off; and the sum is that of the tables
--- as they are, unless the disk failed or the connection was closed.
+-- All jobs were committed, fewer only where the run was cut off; it was over, with each commit on
+-- disk; and the sum is that of the tables as they are, unless the disk failed or the connection was
+-- closed.
 pub record IsCounted {S : Type 0} (g : Ghosts S) (all : ℕ) (after : Held S) (counted : Counted)
     : Type 0 where
   pub few : counted.committed ≤ all
   pub exact : (counted.committed ≡ all) ⊎ WasCutOff
+  pub over : WasOver
   pub summed : HasCleanDisk (state g after) → IsTrue (state g after).is_open
       → IsSumIn (state g after).now counted.sum

@@ -1,7 +1,9 @@
--- Why a flusher stops, and where it has nothing to write.
+-- Why a flusher stops, and what it does next.
 use Rattle.std.specs.Prelude.{◌≡◌, ◌==◌, ◌-◌, ◌&&◌, ◌↔◌, if◌then◌else◌, not, ℕ, Option, Some, None}
 use Rattle.std.specs.Prelude.{IfSome}
 use Rattle.cb_commit.specs.Batches.{BatchState}
+use Rattle.cb_server_state.specs.Commits.{batch_of}
+use Rattle.cb_station.specs.Flags.{is_cut_off}
 use Rattle.cb_station.specs.Stations.{StationState, server_of}
 use Rattle.cb_page.specs.Bounds.{Bounds}
 use Rattle.cb_protocol.specs.Flush.{next_batch}
@@ -9,6 +11,9 @@ use Rattle.cb_sql.specs.declared.fault.ShelfFault.TheVariants.{Shape, Memory}
 use Rattle.cb_sql.specs.Writing.{Fits}
 use Rattle.cb_run.specs.declared.flusher.CountedStop.{CountedStop}
 use Rattle.cb_run.specs.declared.flusher.FlushStop.{FlushStop}
+use Rattle.cb_run.specs.declared.over.Next.{Next}
+use Rattle.cb_run.specs.declared.over.Next.TheVariants as next
+use Rattle.cb_run.specs.Ends.{IsOver}
 
 -- There was no memory for a batch; or one is still to be written, of which the shape is blamed
 -- exactly where it isn't that of the tables.
@@ -28,6 +33,9 @@ abbrev pub tries_left : CountedStop → (last : ℕ) → (left : ℕ) → ℕ
 tries_left counted last left =
     if (number_of counted.stop.batch == last) && not counted.wrote then left - 1 else 2
 
--- Nothing is left to write: every commit is on disk.
-abbrev pub IsWritten : StationState → Type 0
-IsWritten station = next_batch (server_of station) ≡ None
+-- what the flusher does next at a station: it takes the next batch; or the run is over, and cut off
+-- or not
+abbrev pub IsNext : StationState → Next → Type 0
+IsNext station (next.Batch batch) = next_batch (server_of station) ≡ Some (batch_of batch)
+IsNext station (next.Over cut_off) =
+    IsOver station × (is_cut_off station.flags ≡ cut_off)

@@ -1,18 +1,16 @@
 //! What the flusher asks of the office, and what it tells it.
-ghost use Rattle.std.specs.Prelude.{◌≡◌, ◌↔◌, ◌<◌, ◌≤◌, ℕ, true, false, Err, IfErr, IfOk, IfSome};
-ghost use Rattle.std.specs.Prelude.{None, Ok, OnErr, OnOk, Some};
-ghost use Rattle.std.specs.Option.{option_map};
+ghost use Rattle.std.specs.Prelude.{◌≡◌, ◌↔◌, ◌<◌, ◌≤◌, ℕ, false, Err, IfErr};
+ghost use Rattle.std.specs.Prelude.{OnErr, OnOk, Some};
 ghost use Rattle.std.specs.Sync.Mutex.{mutex_guard_value};
 ghost use Rattle.sqlite.specs.Held.{state};
 ghost use Rattle.sqlite.specs.State.{Survives};
-ghost use Rattle.cb_server_state.specs.Commits.{batch_of};
 ghost use Rattle.cb_station.specs.Flags.{is_over};
 ghost use Rattle.cb_station.specs.Stations.{server_of};
-ghost use Rattle.cb_protocol.specs.Flush.{next_batch};
-ghost use Rattle.cb_run.specs.Stopping.{IsWritten};
+ghost use Rattle.cb_run.specs.Ends.{IsWritten};
 ghost use Rattle.cb_shelf.specs.Flushing.{WritesOne, WritesOrStays};
 ghost use Rattle.cb_sql.specs.Writing.{Fits, Wrote};
 
+use crate::over::{Next, next_at};
 use crate::pace::{Pace, time_since};
 use cb_commit::Batch;
 use cb_jobs::Watch;
@@ -23,26 +21,6 @@ use sqlite::Alter;
 use std::alloc::{AllocError, Global};
 use std::sync::{MutexGuard, Wait};
 use std::time::{Clock, Instant};
-
-/// The next batch, or `None` once nothing is left and no call of `work` commits any more; nothing
-/// where that is to be waited for.
-fn batch_at(alloc: Global, station: &Station) -> Option<Result<Option<Batch>, ShelfFault>>
-    ensures batch { IfSome result (λ next. IfOk next (λ batch.
-        option_map batch_of batch ≡ next_batch (server_of station.now))) }
-    ensures fault { IfSome result (λ next. IfErr next (λ fault. fault ≡ ShelfFault.Memory)) }
-    ensures ends { result ≡ Some (Ok None)
-        → (is_over station.now.flags ≡ true) × IsWritten station.now }
-    ensures waits { result ≡ None
-        → (is_over station.now.flags ≡ false) × IsWritten station.now }
-{
-    let Ok(batch) = station.batch(alloc) else {
-        return Some(Err(ShelfFault::Memory));
-    };
-    if batch.is_some() || station.is_over() {
-        return Some(Ok(batch));
-    }
-    None
-}
 
 /// Waits for others who commit, where there is something to write: as the pace says.
 fn await_others<'a, R: Wait + Clock>(
@@ -72,21 +50,22 @@ fn wait_for_more<'a, R: Wait, W: Watch>(
     office.wait(rt, station)
 }
 
-/// The next batch; `None` once nothing is left and no call of `work` commits any more. The watch is
-/// told each time that it is waited for. Who is about to commit is waited for as the pace says.
+/// The next batch; or that the run is over, once nothing is left to write and no call of `work`
+/// commits any more. The watch is told each time that it is waited for. Who is about to commit is
+/// waited for as the pace says.
 pub(crate) fn next_batch<R: Wait + Clock, W: Watch>(
     rt: &R,
     alloc: Global,
     office: &Office,
     watch: &mut W,
     pace: &Pace,
-) -> Result<Option<Batch>, ShelfFault>
+) -> Result<Next, ShelfFault>
     ensures { IfErr result (λ fault. fault ≡ ShelfFault.Memory) }
 {
     let mut station = office.lock(rt);
     for _ in rt.forever() {
         station = await_others(rt, office, station, pace);
-        if let Some(next) = batch_at(alloc, &station) {
+        if let Some(next) = next_at(alloc, &station) {
             return next;
         }
         station = wait_for_more(rt, office, station, watch);

@@ -35,15 +35,16 @@ pub(crate) fn of_worker(fault: WorkerFault) -> Option<Ending>
 }
 
 /// By the flusher's fault, else by that of the lowest client that told of one: how a run ends whose
-/// threads have all ended.
-pub fn of_run(flushed: Result<(), ShelfFault>, told: Option<ClientEnding>) -> Result<(), Ending>
+/// threads have all ended. What the flusher ended with is handed on.
+pub fn of_run<T: Drop>(
+    flushed: Result<T, ShelfFault>,
+    told: Option<ClientEnding>,
+) -> Result<T, Ending>
     ensures { result ≡ ending_of_run flushed told }
 {
-    if let Err(fault) = flushed {
-        return Err(of_shelf(fault));
-    }
-    match told {
-        Some(told) => Err(told.ending),
-        None => Ok(()),
+    match (flushed, told) {
+        (Err(fault), _) => Err(of_shelf(fault)),
+        (Ok(_), Some(told)) => Err(told.ending),
+        (Ok(ended), None) => Ok(ended),
     }
 }

@@ -8,6 +8,7 @@ ghost use Rattle.cb_run.specs.Stopping.{Stops};
 ghost use Rattle.cb_sql.specs.Writing.{Fits};
 
 use crate::desk::{flush_batch, next_batch};
+use crate::over::{Next, Over};
 use crate::pace::Pace;
 use cb_commit::Batch;
 use cb_jobs::Watch;
@@ -49,7 +50,7 @@ pub(crate) fn flush_counted<R: Wait + Clock, S: Alter, W: Watch>(
     office: &Office,
     shelf: &mut Shelf<S>,
     watch: &mut W,
-) -> Result<(), CountedStop>
+) -> Result<Over, CountedStop>
     ensures limits { shelf.new.limits ≡ shelf.old.limits }
     ensures stops { IfErr result (λ counted. Stops shelf.old.limits counted.stop) }
     ensures written { OnOk result (WritesSome S.Store shelf.old.limits shelf.old.conn
@@ -63,8 +64,8 @@ pub(crate) fn flush_counted<R: Wait + Clock, S: Alter, W: Watch>(
     let mut pace = Pace::new();
     for _ in rt.forever() {
         let batch = match next_batch(rt, alloc, office, watch, &pace) {
-            Ok(Some(batch)) => batch,
-            Ok(None) => return Ok(()),
+            Ok(Next::Batch(batch)) => batch,
+            Ok(Next::Over(over)) => return Ok(over),
             Err(fault) => {
                 let batch = None;
                 let stop = FlushStop { fault, batch };
@@ -89,7 +90,7 @@ pub(crate) fn flush_counted_again<R: Wait + Clock, S: Alter, W: Watch>(
     shelf: &mut Shelf<S>,
     watch: &mut W,
     stop: FlushStop,
-) -> Result<(), CountedStop>
+) -> Result<Over, CountedStop>
     ensures limits { shelf.new.limits ≡ shelf.old.limits }
     ensures stops { IfErr result (λ counted. Stops shelf.old.limits counted.stop) }
     ensures held { OnOk result (IfSome stop.batch (Fits shelf.old.limits)) }

@@ -20,6 +20,7 @@ mod faults;
 mod flusher;
 mod job;
 mod loops;
+mod over;
 mod pace;
 mod results;
 mod run;

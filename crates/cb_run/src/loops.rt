@@ -2,6 +2,7 @@
 ghost use Rattle.std.specs.Prelude.{◌≡◌, IfErr, IfSome, OnErr, OnOk};
 ghost use Rattle.sqlite.specs.Held.{state};
 ghost use Rattle.sqlite.specs.State.{Survives};
+ghost use Rattle.cb_run.specs.Ends.{WasOver};
 ghost use Rattle.cb_run.specs.Flushing.{LeavesFirst, LeavesSome, MadeFirst, MadeSome, WritesFirst};
 ghost use Rattle.cb_run.specs.Flushing.{WritesSome};
 ghost use Rattle.cb_run.specs.Stopping.{Stops};
@@ -22,7 +23,8 @@ use std::time::Clock;
 /// enough.
 ///
 /// It holds no lock while it writes. Which batches those are no contract says, since it takes the
-/// lock itself.
+/// lock itself. That it was so at a moment while nobody had the lock, where it ends well, a clause
+/// says.
 pub fn flush_loop<R: Wait + Clock, S: Alter>(
     rt: &R,
     alloc: Global,
@@ -30,6 +32,7 @@ pub fn flush_loop<R: Wait + Clock, S: Alter>(
     shelf: &mut Shelf<S>,
 ) -> Result<(), FlushStop>
     ensures limits { shelf.new.limits ≡ shelf.old.limits }
+    ensures over { OnOk result WasOver }
     ensures stops { IfErr result (Stops shelf.old.limits) }
     ensures written { OnOk result (WritesSome S.Store shelf.old.limits shelf.old.conn
         shelf.new.conn) }
@@ -51,6 +54,7 @@ pub fn flush_loop_watched<R: Wait + Clock, S: Alter, W: Watch>(
     watch: &mut W,
 ) -> Result<(), FlushStop>
     ensures limits { shelf.new.limits ≡ shelf.old.limits }
+    ensures over { OnOk result WasOver }
     ensures stops { IfErr result (Stops shelf.old.limits) }
     ensures written { OnOk result (WritesSome S.Store shelf.old.limits shelf.old.conn
         shelf.new.conn) }
@@ -60,7 +64,7 @@ pub fn flush_loop_watched<R: Wait + Clock, S: Alter, W: Watch>(
         (MadeSome S.Store shelf.old.conn) }
 {
     match flush_counted(rt, alloc, office, shelf, watch) {
-        Ok(()) => Ok(()),
+        Ok(over) => Ok(over.end()),
         Err(counted) => Err(counted.into_stop()),
     }
 }
@@ -75,6 +79,7 @@ pub fn flush_again<R: Wait + Clock, S: Alter>(
     stop: FlushStop,
 ) -> Result<(), FlushStop>
     ensures limits { shelf.new.limits ≡ shelf.old.limits }
+    ensures over { OnOk result WasOver }
     ensures stops { IfErr result (Stops shelf.old.limits) }
     ensures held { OnOk result (IfSome stop.batch (Fits shelf.old.limits)) }
     ensures written { OnOk result (WritesFirst S.Store shelf.old.limits stop.batch shelf.old.conn
@@ -97,6 +102,7 @@ pub fn flush_again_watched<R: Wait + Clock, S: Alter, W: Watch>(
     stop: FlushStop,
 ) -> Result<(), FlushStop>
     ensures limits { shelf.new.limits ≡ shelf.old.limits }
+    ensures over { OnOk result WasOver }
     ensures stops { IfErr result (Stops shelf.old.limits) }
     ensures held { OnOk result (IfSome stop.batch (Fits shelf.old.limits)) }
     ensures written { OnOk result (WritesFirst S.Store shelf.old.limits stop.batch shelf.old.conn
@@ -107,7 +113,7 @@ pub fn flush_again_watched<R: Wait + Clock, S: Alter, W: Watch>(
         (MadeFirst S.Store stop.batch shelf.old.conn) }
 {
     match flush_counted_again(rt, alloc, office, shelf, watch, stop) {
-        Ok(()) => Ok(()),
+        Ok(over) => Ok(over.end()),
         Err(counted) => Err(counted.into_stop()),
     }
 }

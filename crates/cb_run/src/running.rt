@@ -1,14 +1,15 @@
 //! Workers and the flusher, to their end.
-ghost use Rattle.std.specs.Prelude.{◌≡◌, ◌*◌, true, IfOk};
+ghost use Rattle.std.specs.Prelude.{◌*◌, IfOk};
 ghost use Rattle.cb_jobs.specs.Outcomes.{PrintsCounted};
-ghost use Rattle.cb_run.specs.Runs.{IsCounted, WasCutOff};
+ghost use Rattle.cb_run.specs.Runs.{IsCounted};
 
 use crate::client::{give_up, job_list, run_client};
 use crate::counting::{Counting, adds_up, all_jobs, sum_up};
 use crate::faults::of_run;
+use crate::over::Over;
 use crate::results::Results;
 use crate::run::Run;
-use crate::tries::flush_in_tries;
+use crate::tries::flush_to_end;
 use cb_jobs::{Counted, Ending, FirstEnding, Gate, Unwatched, Watch, print_run};
 use cb_page::Limits;
 use cb_shelf::{Shelf, ShelfFault};
@@ -111,8 +112,9 @@ where
         return Err(Ending::Memory);
     };
     let mut counting = Counting::new(run.rt, run.alloc, limits, jobs, &results, watch)?;
-    let cut_off = run_all(run, limits, shelf, jobs, &mut counting, &results)?;
+    let over = run_all(run, limits, shelf, jobs, &mut counting, &results)?;
     let committed = counting.committed()?;
+    let cut_off = over.is_cut_off();
     if !adds_up(committed, all_jobs(limits, jobs), cut_off) {
         return Err(Ending::Worker);
     }
@@ -121,8 +123,9 @@ where
 }
 
 /// Runs the workers on threads of their own, and the flusher on this one, until all have ended. The
-/// flusher ends once the last worker has; should it end before, the others are halted. Whether the
-/// run was cut off by others, who halted the office, or closed it before all had begun to work.
+/// flusher ends once the last worker has; should it end before, the others are halted. Who ends well
+/// holds that the run is over, and whether others cut it off: they halted the office, or closed it
+/// before all had begun to work.
 fn run_all<R, G, S, W>(
     run: Run<'_, R, G>,
     limits: &Limits,
@@ -130,22 +133,19 @@ fn run_all<R, G, S, W>(
     jobs: u32,
     watch: &mut W,
     results: &Results,
-) -> Result<bool, Ending>
+) -> Result<Over, Ending>
 where
     R: Threads + Wait + Clock + Sync,
     G: Gate + Sync,
     S: Alter,
     W: Watch,
-    ensures { IfOk result (λ cut_off. cut_off ≡ true → WasCutOff) }
 {
     let noted = Mutex::new(FirstEnding::none());
     let faults = &noted;
-    let (flushed, cut_off) = thread::scope(
+    let flushed = thread::scope(
         thread::scope_env(),
         run.rt,
-        |scope| -> (Result<(), ShelfFault>, bool)
-            ensures { result.1 ≡ true → WasCutOff }
-        {
+        |scope| -> Result<Over, ShelfFault> {
             for client in 0..limits.clients() {
                 let started = match job_list(run.rt, run.alloc, jobs) {
                     Ok(list) => scope
@@ -159,20 +159,11 @@ where
                     let _noted = give_up(run.rt, run.office, faults, client, Ending::Memory);
                 }
             }
-            let flushed = flush_in_tries(run.rt, run.alloc, run.office, shelf, watch);
-            (flushed, halt_at_end(run.rt, run.office))
+            let flushed = flush_to_end(run.rt, run.alloc, run.office, shelf, watch);
+            run.office.halt(run.rt);
+            flushed
         },
     );
     let told = noted.lock(run.rt).told;
-    of_run(flushed, told)?;
-    Ok(cut_off)
-}
-
-/// Halts the office once the flusher has ended. Whether the run was cut off before.
-fn halt_at_end<R: Wait>(rt: &R, office: &Office) -> bool
-    ensures { result ≡ true → WasCutOff }
-{
-    let cut_off = office.lock(rt).is_cut_off();
-    office.halt(rt);
-    cut_off
+    of_run(flushed, told)
 }

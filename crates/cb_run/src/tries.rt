@@ -2,10 +2,12 @@
 ghost use Rattle.std.specs.Prelude.{◌≡◌, OnErr, OnOk};
 ghost use Rattle.sqlite.specs.Held.{state};
 ghost use Rattle.sqlite.specs.State.{Survives};
+ghost use Rattle.cb_run.specs.Ends.{WasOver};
 ghost use Rattle.cb_run.specs.Flushing.{MadeAtLast, Tries, WritesAtLast};
 ghost use Rattle.cb_run.specs.Stopping.{number_of, tries_left};
 
 use crate::flusher::{CountedStop, FlushStop, flush_counted, flush_counted_again};
+use crate::over::Over;
 use cb_jobs::Watch;
 use cb_shelf::{Shelf, ShelfFault};
 use cb_station::Office;
@@ -61,6 +63,28 @@ pub fn flush_in_tries<R: Wait + Clock, S: Alter, W: Watch>(
     shelf: &mut Shelf<S>,
     watch: &mut W,
 ) -> Result<(), ShelfFault>
+    ensures over { OnOk result WasOver }
+    ensures limits { shelf.new.limits ≡ shelf.old.limits }
+    ensures written { OnOk result (WritesAtLast S.Store shelf.old.limits shelf.old.conn
+        shelf.new.conn) }
+    ensures left { OnErr result (Tries S.Store shelf.old.limits shelf.old.conn shelf.new.conn) }
+    ensures crash { Survives (state S.Store shelf.old.conn) (state S.Store shelf.new.conn)
+        (MadeAtLast S.Store shelf.old.limits shelf.old.conn) }
+{
+    match flush_to_end(rt, alloc, office, shelf, watch) {
+        Ok(over) => Ok(over.end()),
+        Err(fault) => Err(fault),
+    }
+}
+
+/// As [`flush_in_tries`]; who ends well holds that the run is over.
+pub(crate) fn flush_to_end<R: Wait + Clock, S: Alter, W: Watch>(
+    rt: &R,
+    alloc: Global,
+    office: &Office,
+    shelf: &mut Shelf<S>,
+    watch: &mut W,
+) -> Result<Over, ShelfFault>
     ensures limits { shelf.new.limits ≡ shelf.old.limits }
     ensures written { OnOk result (WritesAtLast S.Store shelf.old.limits shelf.old.conn
         shelf.new.conn) }
@@ -72,8 +96,9 @@ pub fn flush_in_tries<R: Wait + Clock, S: Alter, W: Watch>(
     let mut left = TRIES;
     let mut last = 0;
     for _ in rt.forever() {
-        let Err(counted) = stopped else {
-            return Ok(());
+        let counted = match stopped {
+            Ok(over) => return Ok(over),
+            Err(counted) => counted,
         };
         left = tries_left(&counted, last, left);
         let stop = counted.into_stop();

@@ -6,9 +6,10 @@ use Rattle.cb_run.proofs.running.counted.Goals as goal
 
 pub returns : goal.returns
 returns g c =
-    let right : adds_up c.in_ok-committed.committed (c.args.limits.now.clients * c.args.jobs) c.in_ok-cut_off.cut_off ≡ true = search rules in
+    let right : adds_up c.in_ok-committed.committed (c.args.limits.now.clients * c.args.jobs) c.is_cut_off-cut_off.result ≡ true = search rules in
     record {
-      few = few_done c.in_ok-committed.committed (c.args.limits.now.clients * c.args.jobs) c.in_ok-cut_off.cut_off right;
-      exact = all_done c.in_ok-committed.committed (c.args.limits.now.clients * c.args.jobs) c.in_ok-cut_off.cut_off right c.in_ok-cut_off.ensures;
+      few = few_done c.in_ok-committed.committed (c.args.limits.now.clients * c.args.jobs) c.is_cut_off-cut_off.result right;
+      exact = all_done c.in_ok-committed.committed (c.args.limits.now.clients * c.args.jobs) c.is_cut_off-cut_off.result right c.is_cut_off-cut_off.ensures.cut_off;
+      over = c.is_cut_off-cut_off.ensures.over;
       summed = c.in_ok-sum.ensures.summed;
     }

@@ -1,10 +1,10 @@
--- What holds at each turn of the loops of `flush_in_tries`.
+-- What holds at each turn of the loops of `flush_to_end`.
 use Rattle.std.proofs.Common.{◌≡◌}
 use Rattle.std.specs.Prelude.{OnErr, OnOk}
 use Rattle.sqlite.specs.Held.{state}
 use Rattle.sqlite.specs.State.{Survives}
 use Rattle.cb_run.specs.Flushing.{MadeAtLast, Tries, WritesAtLast}
-use Rattle.cb_run.proofs.tries.flush_in_tries.Given as goal
+use Rattle.cb_run.proofs.tries.flush_to_end.Given as goal
 
 -- the tables' limits stay, and some tries were made
 abbrev pub invariant-loop : goal.invariant-loop

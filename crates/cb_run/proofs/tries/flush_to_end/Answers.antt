@@ -1,11 +1,11 @@
--- Goals of `flush_in_tries`.
+-- Goals of `flush_to_end`.
 use Rattle.std.proofs.Common.{◌∙◌, subst}
 use Rattle.std.specs.Prelude.{OnErr, OnOk}
 use Rattle.std.proofs.lemmas.Result.{on_err_weaker, on_ok_weaker}
 use Rattle.cb_page.specs.Bounds.{Bounds}
 use Rattle.cb_run.proofs.Trying.{first_left, first_survives, first_written, later_left, later_survives, later_written}
 use Rattle.cb_run.specs.Flushing.{LeavesFirst, Tries, WritesFirst}
-use Rattle.cb_run.proofs.tries.flush_in_tries.Goals as goal
+use Rattle.cb_run.proofs.tries.flush_to_end.Goals as goal
 
 pub loop-init : goal.loop-init
 loop-init g c = (
