@@ -2,13 +2,21 @@
 use Rattle.std.specs.Prelude.{◌≡◌, ◌+◌, ◌-◌, ◌%◌, ◌^◌, ◌<◌, ◌≤◌, ℕ, Option, Some, None, Ok}
 use Rattle.std.specs.Prelude.{length, drop, Vec}
 use Rattle.std.specs.Global.{Global}
-use Rattle.cb_client.specs.CallAnswers.{Writes}
+use Rattle.cb_client.specs.CallAnswers.{Begins, Writes}
 use Rattle.cb_jobs.specs.Counters.{counter_of}
 use Rattle.cb_jobs.specs.declared.tally.JobDone.{JobDone}
 use Rattle.cb_protocol.specs.Basics.{Bytes}
+use Rattle.cb_outbox.specs.Messages.{page_writes}
 use Rattle.cb_protocol.specs.Client as protocol
-use Rattle.cb_worker.specs.Waiting.{MayWrite}
-use Rattle.cb_worker.specs.Workers.{Ended, Hit, WorkerState, after_hit, last_txn, with_client}
+use Rattle.cb_protocol.specs.Messages.{write_of_page}
+use Rattle.cb_station.specs.Commits.{writes_of}
+use Rattle.cb_worker.specs.Committing.{HandedCommitIn}
+use Rattle.cb_worker.specs.Keeping.{HasWritten, Uses}
+use Rattle.cb_worker.specs.ReadToCommit.{KeepsWritten}
+use Rattle.cb_worker.specs.Waiting.{Wants}
+use Rattle.cb_worker.specs.Workers.{Ended, Hit, IsStill, WorkerState, after_hit, last_txn, seen_by}
+use Rattle.cb_worker.specs.Workers.{with_client}
+use Rattle.cb_worker.specs.declared.answers.Wanted.TheVariants as wanted
 
 -- the worker has just read the page, with these bytes
 abbrev pub HasBytes : WorkerState → (page : ℕ) → Bytes → Type 0
@@ -20,12 +28,17 @@ pub record HasEnded (txn : ℕ) (worker : WorkerState) (outcome : protocol.LastO
   pub last : last_txn worker.client ≡ txn
   pub ended : Ended worker outcome
 
--- so after a copy of the page's bytes was taken, in the transaction of that number; or that was
--- aborted
-abbrev pub Copies : (txn : ℕ) → WorkerState → (page : ℕ) → Option (Vec ℕ Global) → Type 0
-Copies txn worker page (Some copy) =
-    HasBytes worker page copy.items × (last_txn worker.client ≡ txn)
-Copies txn worker page None = HasEnded txn worker protocol.Aborted
+-- The page was read, by that grant and with these bytes, which the transaction uses from then on;
+-- and it is still the same worker.
+pub record ReadsPage (old new : WorkerState) (page grant : ℕ) (bytes : Bytes) : Type 0 where
+  pub read : HasBytes new page bytes
+  pub still : IsStill old new
+  pub uses : Uses (seen_by new) page grant bytes
+
+-- so after a copy of the page's bytes was taken; or the transaction was aborted
+abbrev pub Copies : (old new : WorkerState) → (page : ℕ) → Option (Vec ℕ Global) → Type 0
+Copies old new page (Some copy) = (grant : ℕ) × ReadsPage old new page grant copy.items
+Copies old new page None = HasEnded (last_txn old.client) new protocol.Aborted
 
 -- The counter that bytes begin with is one more, modulo 2^64, and the rest of them is the same.
 -- Fewer than eight bytes are the same.
@@ -35,34 +48,54 @@ pub record IsOneMore (bytes counted : Bytes) : Type 0 where
   pub size : length counted ≡ length bytes
   pub short : length bytes < 8 → counted ≡ bytes
 
--- The page was read, was permitted to be written, and was written with the bytes that were read,
--- counted up; that transaction is the worker's last.
-pub record CountsUp (page txn : ℕ) (worker : WorkerState) : Type 0 where
+-- The page was read, then was permitted to be written, with the same bytes, and then was written
+-- with them counted up: so the transaction has written it, by the grant by which it was read. No
+-- other transaction began.
+pub record CountsUp (page : ℕ) (old new : WorkerState) : Type 0 where
+  pub grant : ℕ
   pub bytes : Bytes
   pub reading : WorkerState
-  pub read : HasBytes reading page bytes
+  pub reads : ReadsPage old reading page grant bytes
   pub permitted : WorkerState
-  pub may : MayWrite permitted page
+  pub wants : Wants reading permitted page wanted.Permitted
+  pub waits : IsStill reading permitted
   pub counted : Bytes
   pub more : IsOneMore bytes counted
-  pub writes : Writes permitted.client page counted (Ok tt) worker.client
-  pub others : worker ≡ with_client permitted worker.client
-  pub last : last_txn worker.client ≡ txn
+  pub writes : Writes permitted.client page counted (Ok tt) new.client
+  pub others : new ≡ with_client permitted new.client
+  pub written : HasWritten (seen_by new) page grant counted
+  pub last : last_txn new.client ≡ last_txn old.client
 
--- pages 0 and 1 were counted up in that transaction; a client of even number took page 0 first, one
--- of odd number page 1
-abbrev pub CountsBoth : (client txn : ℕ) → WorkerState → Type 0
-CountsBoth client txn worker = (first : WorkerState) × CountsUp (client % 2) txn first
-    × CountsUp (1 - client % 2) txn worker
+-- Pages 0 and 1 were counted up, one after the other; a client of even number took page 0 first,
+-- one of odd number page 1. What was written of the first one stays.
+pub record CountsBoth (client : ℕ) (old new : WorkerState) : Type 0 where
+  pub between : WorkerState
+  pub first : CountsUp (client % 2) old between
+  pub second : CountsUp (1 - client % 2) between new
+  pub keeps : KeepsWritten between new (client % 2)
 
--- Both were, in a transaction that began since the worker was the old one, and then that
--- transaction committed, by that number.
+-- the commit that was handed in has the page, as it was counted up
+abbrev pub CommitsPage : {last : WorkerState} → HandedCommitIn last
+    → {page : ℕ} → {old new : WorkerState} → CountsUp page old new → Type 0
+CommitsPage handed {page} counts =
+    write_of_page (page_writes (writes_of handed.commits.frame)) page
+    ≡ Some (record { page = page; grant = counts.grant; bytes = counts.counted })
+
+-- A transaction began since the worker was the old one; then both were counted up in it; then its
+-- commit was handed in, with both so; and it committed, by that number.
 pub record CommitsJob (client number : ℕ) (old new : WorkerState) : Type 0 where
+  pub start : WorkerState
+  pub begun : WorkerState
   pub txn : ℕ
-  pub begun : last_txn old.client < txn
+  pub begins : Begins start.client (Ok txn) begun.client
+  pub rest : begun ≡ with_client start begun.client
+  pub since : last_txn old.client < last_txn begun.client
   pub counted : WorkerState
-  pub counts : CountsBoth client txn counted
-  pub committed : HasEnded txn new (protocol.Committed number)
+  pub counts : CountsBoth client begun counted
+  pub handed : HandedCommitIn counted
+  pub first : CommitsPage handed counts.first
+  pub second : CommitsPage handed counts.second
+  pub committed : HasEnded (last_txn begun.client) new (protocol.Committed number)
 
 -- a transaction that began since then was aborted
 abbrev pub IsAborted : (old new : WorkerState) → Type 0

@@ -125,7 +125,7 @@ fn count_both<R: Wait, Q: Chooser>(
     client: ClientNo,
 ) -> Result<bool, WorkerFault>
     ensures { IfOk result (λ counted. MatchBool counted
-        (CountsBoth client (last_txn worker.old.client) worker.new)
+        (CountsBoth client worker.old worker.new)
         (HasEnded (last_txn worker.old.client) worker.new protocol.Aborted)) }
 {
     let first = u32::from(client.get() % 2);
@@ -144,7 +144,7 @@ fn count_page<R: Wait, Q: Chooser>(
     page: PageNo,
 ) -> Result<bool, WorkerFault>
     ensures { IfOk result (λ counted. MatchBool counted
-        (CountsUp page (last_txn worker.old.client) worker.new)
+        (CountsUp page worker.old worker.new)
         (HasEnded (last_txn worker.old.client) worker.new protocol.Aborted)) }
 {
     let Some(bytes) = copy_page(rt, alloc, office, worker, page)? else {
@@ -177,7 +177,7 @@ fn copy_page<R: Wait, Q: Chooser>(
     page: PageNo,
 ) -> Result<Option<Vec<u8>>, WorkerFault>
     ensures { IfOk result (λ copy.
-        Copies (last_txn worker.old.client) worker.new page copy) }
+        Copies worker.old worker.new page copy) }
 {
     match worker.fetch(rt, alloc, office, page)? {
         Fetched::Aborted => Ok(None),
