@@ -15,7 +15,8 @@ RT = os.environ.get("RT", "rt").split()
 # What programs stand on.
 SHELF = ["cb_page", "cb_frame_types", "cb_frame", "cb_commit", "cb_shelf", "cb_test_parts"]
 KILLED = [
-    "cb_page", "cb_console", "cb_shelf", "cb_station", "cb_jobs", "cb_run", "sqlite", "anyhow",
+    "cb_page", "cb_commit", "cb_console", "cb_sql", "cb_shelf", "cb_station", "cb_jobs", "cb_run",
+    "sqlite", "anyhow",
 ]
 DATABASE = ["sqlite", "sqlite_disk", "sqlite_store", "anyhow"]
 
@@ -130,11 +131,13 @@ def killed_runs(room: Path) -> Path:
     for part in ("specs", "proofs"):
         (crate / part).mkdir()
     # It has cb_play's runs over a file, with what is said of them.
-    shutil.copy(play_crate / "src/store_run.rt", crate / "src")
-    shutil.copy(play_crate / "specs/StoreRuns.antt", crate / "specs")
+    for text in ("store_file", "store_run"):
+        shutil.copy(play_crate / f"src/{text}.rt", crate / "src")
+    for text in ("StoreFiles", "StoreRuns"):
+        shutil.copy(play_crate / f"specs/{text}.antt", crate / "specs")
     shutil.copy(play_crate / "proofs/Told.antt", crate / "proofs")
     shutil.copytree(play_crate / "proofs/store_run", crate / "proofs/store_run")
-    (crate / "specs/Lib.antt").write_text("pub mod StoreRuns\n")
+    (crate / "specs/Lib.antt").write_text("pub mod StoreFiles\npub mod StoreRuns\n")
     (crate / "proofs/Lib.antt").write_text("mod Told\n")
     replace_in(crate, "cb_play", "killed_runs")
     return built(crate / "out/killed_runs", ran_by_rt(crate, ["none", "none"]))

@@ -5,7 +5,8 @@ use Rattle.sqlite.specs.Store.{Ghosts}
 use Rattle.cb_page.specs.Bounds.{Bounds}
 use Rattle.cb_serve.specs.Serving.{IsServed}
 use Rattle.cb_serve.specs.declared.fault.ServeFault.{ServeFault}
-use Rattle.cb_play.specs.Services.{OpensShelf, ServesDatabase}
+use Rattle.cb_play.specs.Services.{ServesDatabase}
+use Rattle.cb_play.specs.StoreFiles.{OpensShelf}
 
 -- it was served, and the connection given back
 pub opened_and_served : {S : Type 0} (g : Ghosts S) {E : Type 0} (limits : Bounds) (ending : Result E ServeFault) (old opened after new : Held S) (in1 in2 out1 out2 : Option (List ℕ))

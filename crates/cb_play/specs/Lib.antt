@@ -1,3 +1,5 @@
 pub mod Endings
+pub mod Requests
 pub mod Services
+pub mod StoreFiles
 pub mod StoreRuns

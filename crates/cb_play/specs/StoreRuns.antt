@@ -1,11 +1,16 @@
 -- What is printed of a run over a store's file. This project's rules.
-use Rattle.std.specs.Prelude.{◌≡◌, ◌≤◌, ◌*◌, ◌⊎◌, ℕ, Option, Result, Ok, Err, List}
-use Rattle.cb_jobs.specs.Outcomes.{PrintsCounted}
+use Rattle.std.specs.Prelude.{◌≡◌, ◌≤◌, ◌*◌, ◌⊎◌, ℕ, Option, Some, None, Result, Ok, Err, List}
+use Rattle.cb_jobs.specs.Outcomes.{PrintsCounted, PrintsRun}
 use Rattle.cb_jobs.specs.declared.printing.Counted.{Counted}
 use Rattle.cb_console.specs.declared.config.Config.{Config}
 use Rattle.cb_console.specs.RunSettings.{IsRunSettings, PrintsRefusal}
 use Rattle.cb_console.specs.declared.running.RunFault.{RunFault}
 use Rattle.cb_run.specs.Ends.{WasCutOff, WasOver}
+use Rattle.cb_run.specs.Runs.{ending_of_shelf}
+use Rattle.cb_play.specs.declared.store_file.Reach.{Reach}
+use Rattle.cb_play.specs.declared.store_file.Reach.TheVariants as reach
+use Rattle.cb_play.specs.declared.store_file.StoreEnd.{StoreEnd}
+use Rattle.cb_play.specs.declared.store_file.StoreFile.{StoreFile}
 
 -- how many jobs all clients have together
 abbrev pub all_jobs : Config → ℕ
@@ -18,18 +23,37 @@ pub record HasAll (settings : Config) (counted : Counted) : Type 0 where
   pub exact : (counted.committed ≡ all_jobs settings) ⊎ WasCutOff
   pub over : WasOver
 
--- What is printed, with the status: where workers can run, some outcome of a run; else the fault,
--- and nothing on the output.
-abbrev pub PrintsStoreRun : Result Config RunFault → ℕ
+-- What is printed of a run over a store that came so far, with the status: of one that was refused
+-- its fault; of one that was read some outcome of a run.
+abbrev pub PrintsReached : Reach → (Counted → Type 0) → ℕ
     → Option (List ℕ) → Option (List ℕ) → Option (List ℕ) → Option (List ℕ) → Type 0
-PrintsStoreRun (Ok settings) status old_out new_out old_err new_err =
-    PrintsCounted (HasAll settings) status old_out new_out old_err new_err
-PrintsStoreRun (Err e) status old_out new_out old_err new_err =
-    (new_out ≡ old_out) × PrintsRefusal e status old_err new_err
+PrintsReached (reach.Refused fault) Are status old_out new_out old_err new_err =
+    PrintsRun (Err (ending_of_shelf fault)) status old_out new_out old_err new_err
+PrintsReached reach.Read Are status old_out new_out old_err new_err =
+    PrintsCounted Are status old_out new_out old_err new_err
+PrintsReached _ Are status old_out new_out old_err new_err = ⊥
 
--- A run under a configuration's text prints what came of it.
-pub record IsStoreRun (config_bytes : List ℕ) (status : ℕ)
+-- That file was opened as the store, and what is printed is what it came to.
+pub record PrintsOver (path : List ℕ) (settings : Config) (ended : StoreEnd)
+    (old_out new_out old_err new_err : Option (List ℕ)) : Type 0 where
+  pub file : StoreFile
+  pub opened : ended.file ≡ Some file
+  pub of_path : file.path.now ≡ path
+  pub prints : PrintsReached file.reach (HasAll settings) ended.status
+      old_out new_out old_err new_err
+
+-- What is printed, with the status: where workers can run, what came of the store in the file of
+-- this path; else the fault, and nothing on the output, and no file was opened.
+abbrev pub PrintsStoreRun : List ℕ → Result Config RunFault → StoreEnd
+    → Option (List ℕ) → Option (List ℕ) → Option (List ℕ) → Option (List ℕ) → Type 0
+PrintsStoreRun path (Ok settings) ended old_out new_out old_err new_err =
+    PrintsOver path settings ended old_out new_out old_err new_err
+PrintsStoreRun path (Err e) ended old_out new_out old_err new_err =
+    (ended.file ≡ None) × (new_out ≡ old_out) × PrintsRefusal e ended.status old_err new_err
+
+-- A run under a configuration's text, over the store in the file of a path, prints what came of it.
+pub record IsStoreRun (config_bytes path : List ℕ) (ended : StoreEnd)
     (old_out new_out old_err new_err : Option (List ℕ)) : Type 0 where
   pub settings : Result Config RunFault
   pub of_text : IsRunSettings config_bytes settings
-  pub prints : PrintsStoreRun settings status old_out new_out old_err new_err
+  pub prints : PrintsStoreRun path settings ended old_out new_out old_err new_err

@@ -12,6 +12,7 @@ mod files;
 mod program;
 mod script;
 mod serve_run;
+mod store_file;
 mod store_run;
 
 use crate::endings::end_by;

@@ -1,12 +1,14 @@
 //! What the program does with the words of its command line.
 ghost use Rattle.std.specs.Prelude.{◌≡◌, IfOk};
 ghost use Rattle.cb_play.specs.Endings.{IsAnswered, IsStatus};
+ghost use Rattle.cb_play.specs.Requests.{IsOver, IsOverNamed};
 
 use crate::arguments::{DrawRequest, Request, RunRequest, request_of};
 use crate::endings::end_by;
 use crate::files::{read_file, read_text};
 use crate::script::do_script;
 use crate::serve_run::serve_store;
+use crate::store_file::StoreEnd;
 use crate::store_run::{AnyTime, run_store};
 use cb_console::{DONE, Escaped, WRONG_INPUT, draw_to, play_to};
 use cb_jobs::{Progress, Unwatched};
@@ -80,31 +82,38 @@ fn answer_words<R: Threads + Wait + Clock + Sync, O: Write, E: Write>(
 {
     match request_of(rt.alloc(), words) {
         Ok(Request::Script(file)) => do_script(rt, threads, file, out, err),
-        Ok(request) => do_request(rt, threads, request, out, err),
+        Ok(request) => Ok(do_request(rt, threads, request, out, err)?.status),
         Err(error) => tell_words(rt, words, &error, out, err),
     }
 }
 
-/// Does one request that is no script.
-pub(crate) fn do_request<R: Threads + Wait + Clock + Sync, O: Write, E: Write>(
+/// Does one request that is no script. The answer has the program's status and, where the request
+/// names a store, which file was opened.
+pub(crate) fn do_request<'a, R: Threads + Wait + Clock + Sync, O: Write, E: Write>(
     rt: &HostRuntime,
     threads: &R,
-    request: Request<'_>,
+    request: Request<'a>,
     out: &mut O,
     err: &mut E,
-) -> io::Result<u8>
-    ensures { IfOk result IsAnswered }
+) -> io::Result<StoreEnd<'a>>
+    ensures status { IfOk result (λ ended. IsAnswered ended.status) }
+    ensures store { IfOk result (λ ended.
+        IsOverNamed request.entry ended (O.contents out.old) (O.contents out.new)) }
 {
     match request {
-        Request::Play { config, schedule } => play_files(rt, config, schedule, out, err),
-        Request::Chart { config, schedule } => chart_files(rt, config, schedule, out, err),
-        Request::Draw(request) => draw_file(rt, &request, out, err),
+        Request::Play { config, schedule } => {
+            Ok(StoreEnd::none(play_files(rt, config, schedule, out, err)?))
+        }
+        Request::Chart { config, schedule } => {
+            Ok(StoreEnd::none(chart_files(rt, config, schedule, out, err)?))
+        }
+        Request::Draw(request) => Ok(StoreEnd::none(draw_file(rt, &request, out, err)?)),
         Request::Run(request) => run_workers(rt, threads, &request, out, err),
         Request::Serve { config, store } => serve_frames(rt, config, store, out, err),
-        Request::Sides(file) => play_sides(rt, file, out, err),
+        Request::Sides(file) => Ok(StoreEnd::none(play_sides(rt, file, out, err)?)),
         Request::Script(_) => {
             writeln!(err, "script: a script in a script")?;
-            Ok(WRONG_INPUT)
+            Ok(StoreEnd::none(WRONG_INPUT))
         }
     }
 }
@@ -213,17 +222,19 @@ fn draw_file<O: Write, E: Write>(
 
 /// Runs workers under the configuration of a file. Where it is asked for, the process's standard
 /// error shows how far they are; `err` has the same as without it.
-fn run_workers<R: Threads + Wait + Clock + Sync, O: Write, E: Write>(
+fn run_workers<'a, R: Threads + Wait + Clock + Sync, O: Write, E: Write>(
     rt: &HostRuntime,
     threads: &R,
-    request: &RunRequest<'_>,
+    request: &RunRequest<'a>,
     out: &mut O,
     err: &mut E,
-) -> io::Result<u8>
-    ensures { IfOk result IsAnswered }
+) -> io::Result<StoreEnd<'a>>
+    ensures status { IfOk result (λ ended. IsAnswered ended.status) }
+    ensures store { IfOk result (λ ended.
+        IsOver request.now.store.now ended (O.contents out.old) (O.contents out.new)) }
 {
     let Some(config) = read_file(rt, request.config, err)? else {
-        return Ok(WRONG_INPUT);
+        return Ok(StoreEnd::none(WRONG_INPUT));
     };
     let (config, store) = (config.as_slice(), request.store);
     if request.progress {
@@ -253,17 +264,19 @@ fn run_workers<R: Threads + Wait + Clock + Sync, O: Write, E: Write>(
 }
 
 /// Serves the frames of the standard input under the configuration of a file.
-fn serve_frames<O: Write, E: Write>(
+fn serve_frames<'a, O: Write, E: Write>(
     rt: &HostRuntime,
     config: &str,
-    store: &str,
+    store: &'a str,
     out: &mut O,
     err: &mut E,
-) -> io::Result<u8>
-    ensures { IfOk result IsAnswered }
+) -> io::Result<StoreEnd<'a>>
+    ensures status { IfOk result (λ ended. IsAnswered ended.status) }
+    ensures store { IfOk result (λ ended.
+        IsOver store.now ended (O.contents out.old) (O.contents out.new)) }
 {
     let Some(config) = read_file(rt, config, err)? else {
-        return Ok(WRONG_INPUT);
+        return Ok(StoreEnd::none(WRONG_INPUT));
     };
     let mut input = rt.stdin();
     serve_store(rt, config.as_slice(), store, &mut input, out, err)

@@ -1,11 +1,11 @@
 //! A server of frames over a store in a file.
-ghost use Rattle.std.specs.Prelude.{IfOk};
+ghost use Rattle.std.specs.Prelude.{◌≡◌, IfOk};
 ghost use Rattle.cb_play.specs.Endings.{IsAnswered};
-ghost use Rattle.cb_play.specs.Services.{IsService, ServesDatabase};
+ghost use Rattle.cb_play.specs.Services.{IsService, ServesDatabase, TellsReached};
 
+use crate::store_file::{StoreEnd, StoreFile};
 use cb_console::{Config, RunFault, print_refusal, read_config};
 use cb_serve::{RoundFault, Served, print_served, serve};
-use cb_shelf::{Shelf, ShelfFault};
 use sqlite::{Alter, Connection};
 use std::alloc::Global;
 use std::io;
@@ -13,45 +13,56 @@ use std::io::{Read, Write};
 
 /// Serves the frames of `input` under a configuration's text, over the store in a file, which is
 /// made where it isn't there; what is said goes to `out`. Why it ended before the input did is said
-/// on `err`; the answer is the program's status.
+/// on `err`; the answer has the program's status, and which file was opened.
 ///
 /// The file isn't opened before the configuration was checked. That the store is closed at the end
 /// is said by no clause: what was committed is on disk before that, beside the file if not in it.
-pub(crate) fn serve_store<I: Read, O: Write, E: Write>(
+pub(crate) fn serve_store<'a, I: Read, O: Write, E: Write>(
     rt: &HostRuntime,
     config: &[u8],
-    store: &str,
+    store: &'a str,
     input: &mut I,
     out: &mut O,
     err: &mut E,
-) -> io::Result<u8>
-    ensures status { IfOk result IsAnswered }
-    ensures service { IfOk result (λ status. IsService config.now status
+) -> io::Result<StoreEnd<'a>>
+    ensures status { IfOk result (λ ended. IsAnswered ended.status) }
+    ensures service { IfOk result (λ ended. IsService config.now store.now ended
         (I.remaining input.old) (I.remaining input.new)
         (O.contents out.old) (O.contents out.new) (E.contents err.old) (E.contents err.new)) }
 {
     match read_config(rt.alloc(), config) {
-        Ok(config) => print_served(serve_file(rt, &config, store, input, out), err),
-        Err(fault) => print_refusal(&RunFault::from(fault), err),
+        Ok(config) => {
+            let (file, served) = serve_file(rt, &config, store, input, out);
+            let status = print_served(served, err)?;
+            Ok(StoreEnd::over(status, file))
+        }
+        Err(fault) => {
+            let status = print_refusal(&RunFault::from(fault), err)?;
+            Ok(StoreEnd::none(status))
+        }
     }
 }
 
 /// Opens the file, serves, and closes it.
-fn serve_file<I: Read, O: Write>(
+fn serve_file<'a, I: Read, O: Write>(
     rt: &HostRuntime,
     config: &Config,
-    store: &str,
+    store: &'a str,
     input: &mut I,
     out: &mut O,
-) -> Served {
-    let conn = match Connection::open(rt, store) {
+) -> (StoreFile<'a>, Served)
+    ensures path { result.0.path.now ≡ store.now }
+    ensures tells { TellsReached result.0.reach result.1.ending }
+{
+    let (mut file, opened) = StoreFile::open(rt, store);
+    let conn = match opened {
         Ok(conn) => conn,
-        Err(error) => return Served::refused(RoundFault::from(ShelfFault::from(error))),
+        Err(fault) => return (file, Served::refused(RoundFault::from(fault))),
     };
-    let (served, conn) = serve_over(rt.alloc(), config, conn, input, out);
+    let (served, conn) = serve_over(rt.alloc(), config, conn, &mut file, input, out);
     // What is still in the log beside the file, the next open finds.
     let _ = conn.close();
-    served
+    (file, served)
 }
 
 /// Serves over the store in a database, and gives the connection back.
@@ -59,14 +70,17 @@ fn serve_over<S: Alter, I: Read, O: Write>(
     alloc: Global,
     config: &Config,
     conn: Connection<S>,
+    file: &mut StoreFile<'_>,
     input: &mut I,
     out: &mut O,
 ) -> (Served, Connection<S>)
-    ensures { ServesDatabase S.Store config.now.limits result.0.ending conn result.1
+    ensures path { file.new.path.now ≡ file.old.path.now }
+    ensures tells { TellsReached file.new.reach result.0.ending }
+    ensures serves { ServesDatabase S.Store config.now.limits result.0.ending conn result.1
         (I.remaining input.old) (I.remaining input.new)
         (O.contents out.old) (O.contents out.new) }
 {
-    match Shelf::open(alloc, conn, &config.limits) {
+    match file.lay_out(alloc, conn, &config.limits) {
         Ok(mut shelf) => {
             let served = serve(alloc, &config.limits, &mut shelf, input, out);
             (served, shelf.close())

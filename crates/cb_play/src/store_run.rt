@@ -1,14 +1,17 @@
 //! Workers over a store in a file.
 ghost use Rattle.std.specs.Prelude.{◌≡◌, ◌*◌, false, IfOk};
+ghost use Rattle.cb_commit.specs.Stores.{IsOf};
 ghost use Rattle.cb_jobs.specs.Outcomes.{PrintsCounted};
 ghost use Rattle.cb_run.specs.Runs.{IsCounted};
-ghost use Rattle.cb_play.specs.StoreRuns.{HasAll, IsStoreRun, all_jobs};
+ghost use Rattle.cb_play.specs.StoreRuns.{IsStoreRun, PrintsOver, PrintsReached, all_jobs};
 
+use crate::store_file::{StoreEnd, StoreFile};
+use cb_commit::Store;
 use cb_console::{Config, print_refusal, run_settings};
 use cb_jobs::{Ending, Gate, Turn, Watch, print_run};
 use cb_page::{ClientNo, Limits};
 use cb_run::{of_shelf, run_on_watched};
-use cb_shelf::{Shelf, ShelfFault};
+use cb_shelf::Shelf;
 use cb_station::{Office, Station};
 use sqlite::{Alter, Connection};
 use std::alloc::Global;
@@ -32,46 +35,50 @@ impl Gate for AnyTime {
 
 /// Runs workers under a configuration's text, over the store in a file, which is made where it
 /// isn't there. It says on `out` how many jobs were committed and the sum of the counters, else on
-/// `err` why not; the answer is the program's status. Meanwhile `watch` is told how far it is.
+/// `err` why not; the answer has the program's status, and which file was opened. Meanwhile `watch`
+/// is told how far it is.
 ///
 /// The file isn't opened before the configuration was checked. That the store is closed at the end
 /// is said by no clause: what was committed is on disk before that, beside the file if not in it.
-pub(crate) fn run_store<R, G, W, O, E>(
+pub(crate) fn run_store<'a, R, G, W, O, E>(
     rt: &HostRuntime,
     threads: &R,
     config: &[u8],
-    store: &str,
+    store: &'a str,
     gate: &G,
     watch: &mut W,
     out: &mut O,
     err: &mut E,
-) -> io::Result<u8>
+) -> io::Result<StoreEnd<'a>>
 where
     R: Threads + Wait + Clock + Sync,
     G: Gate + Sync,
     W: Watch,
     O: Write,
     E: Write,
-    ensures { IfOk result (λ status. IsStoreRun config.now status
+    ensures { IfOk result (λ ended. IsStoreRun config.now store.now ended
         (O.contents out.old) (O.contents out.new) (E.contents err.old) (E.contents err.new)) }
 {
     match run_settings(rt.alloc(), config) {
         Ok(config) => run_file(rt, threads, &config, store, gate, watch, out, err),
-        Err(fault) => print_refusal(&fault, err),
+        Err(fault) => {
+            let status = print_refusal(&fault, err)?;
+            Ok(StoreEnd::none(status))
+        }
     }
 }
 
 /// Opens the file, runs, and closes it.
-fn run_file<R, G, W, O, E>(
+fn run_file<'a, R, G, W, O, E>(
     rt: &HostRuntime,
     threads: &R,
     config: &Config,
-    store: &str,
+    store: &'a str,
     gate: &G,
     watch: &mut W,
     out: &mut O,
     err: &mut E,
-) -> io::Result<u8>
+) -> io::Result<StoreEnd<'a>>
 where
     R: Threads + Wait + Clock + Sync,
     G: Gate + Sync,
@@ -79,17 +86,25 @@ where
     O: Write,
     E: Write,
     requires { config.now.limits.keep_write ≡ false }
-    ensures { IfOk result (λ status. PrintsCounted (HasAll config.now) status
+    ensures { IfOk result (λ ended. PrintsOver store.now config.now ended
         (O.contents out.old) (O.contents out.new) (E.contents err.old) (E.contents err.new)) }
 {
-    let conn = match Connection::open(rt, store) {
+    let (mut file, opened) = StoreFile::open(rt, store);
+    let conn = match opened {
         Ok(conn) => conn,
-        Err(error) => return print_run(Err(of_shelf(ShelfFault::from(error))), out, err),
+        Err(fault) => {
+            let status = print_run(Err(of_shelf(fault)), out, err)?;
+            return Ok(StoreEnd::over(status, file));
+        }
     };
-    let (printed, conn) = run_over(threads, rt.alloc(), config, conn, gate, watch, out, err);
+    let alloc = rt.alloc();
+    let (printed, conn) = run_over(
+        threads, alloc, config, conn, &mut file, gate, watch, out, err,
+    );
     // What is still in the log beside the file, the next open finds.
     let _ = conn.close();
-    printed
+    let status = printed?;
+    Ok(StoreEnd::over(status, file))
 }
 
 /// Runs workers over the store in a database, and gives the connection back.
@@ -98,6 +113,7 @@ fn run_over<R, S, G, W, O, E>(
     alloc: Global,
     config: &Config,
     conn: Connection<S>,
+    file: &mut StoreFile<'_>,
     gate: &G,
     watch: &mut W,
     out: &mut O,
@@ -111,13 +127,16 @@ where
     O: Write,
     E: Write,
     requires { config.now.limits.keep_write ≡ false }
-    ensures { IfOk result.0 (λ status.
-        PrintsCounted (IsCounted S.Store (all_jobs config.now) result.1) status
+    ensures path { file.new.path.now ≡ file.old.path.now }
+    ensures prints { IfOk result.0 (λ status. PrintsReached file.new.reach
+        (IsCounted S.Store (all_jobs config.now) result.1) status
         (O.contents out.old) (O.contents out.new) (E.contents err.old) (E.contents err.new)) }
 {
-    match Shelf::open(alloc, conn, &config.limits) {
+    match file.lay_out(alloc, conn, &config.limits) {
         Ok(mut shelf) => {
-            let printed = run_in(threads, alloc, config, &mut shelf, gate, watch, out, err);
+            let printed = run_in(
+                threads, alloc, config, &mut shelf, file, gate, watch, out, err,
+            );
             (printed, shelf.close())
         }
         Err((fault, conn)) => (print_run(Err(of_shelf(fault)), out, err), conn),
@@ -130,6 +149,7 @@ fn run_in<R, S, G, W, O, E>(
     alloc: Global,
     config: &Config,
     shelf: &mut Shelf<S>,
+    file: &mut StoreFile<'_>,
     gate: &G,
     watch: &mut W,
     out: &mut O,
@@ -144,12 +164,44 @@ where
     E: Write,
     requires plain { config.now.limits.keep_write ≡ false }
     requires shelf { shelf.old.limits ≡ config.now.limits }
+    ensures path { file.new.path.now ≡ file.old.path.now }
+    ensures prints { IfOk result (λ status. PrintsReached file.new.reach
+        (IsCounted S.Store (all_jobs config.now) shelf.new.conn) status
+        (O.contents out.old) (O.contents out.new) (E.contents err.old) (E.contents err.new)) }
+{
+    match file.read(alloc, shelf) {
+        Ok(store) => run_from(threads, alloc, config, store, shelf, gate, watch, out, err),
+        Err(fault) => print_run(Err(of_shelf(fault)), out, err),
+    }
+}
+
+/// Runs workers from a store on, which lies in the shelf.
+fn run_from<R, S, G, W, O, E>(
+    threads: &R,
+    alloc: Global,
+    config: &Config,
+    store: Store,
+    shelf: &mut Shelf<S>,
+    gate: &G,
+    watch: &mut W,
+    out: &mut O,
+    err: &mut E,
+) -> io::Result<u8>
+where
+    R: Threads + Wait + Clock + Sync,
+    S: Alter,
+    G: Gate + Sync,
+    W: Watch,
+    O: Write,
+    E: Write,
+    requires plain { config.now.limits.keep_write ≡ false }
+    requires store { IsOf config.now.limits store }
     ensures { IfOk result (λ status.
         PrintsCounted (IsCounted S.Store (all_jobs config.now) shelf.new.conn) status
         (O.contents out.old) (O.contents out.new) (E.contents err.old) (E.contents err.new)) }
 {
     let (limits, jobs) = (&config.limits, config.jobs);
-    match office_over(alloc, limits, shelf, jobs, watch) {
+    match office_over(alloc, limits, store, jobs, watch) {
         Ok(office) => run_on_watched(
             threads, alloc, limits, &office, shelf, jobs, gate, watch, out, err,
         ),
@@ -157,22 +209,17 @@ where
     }
 }
 
-/// An office over the store in a shelf, that each client's work will use; `watch` is told of the
-/// run.
-fn office_over<S: Alter, W: Watch>(
+/// An office over a store, that each client's work will use; `watch` is told of the run.
+fn office_over<W: Watch>(
     alloc: Global,
     limits: &Limits,
-    shelf: &mut Shelf<S>,
+    store: Store,
     jobs: u32,
     watch: &mut W,
 ) -> Result<Office, Ending>
     requires plain { limits.now.keep_write ≡ false }
-    requires shelf { shelf.old.limits ≡ limits.now }
+    requires store { IsOf limits.now store }
 {
-    let store = match shelf.load(alloc) {
-        Ok(store) => store,
-        Err(fault) => return Err(of_shelf(fault)),
-    };
     let all = u64::from(limits.clients()).saturating_mul(u64::from(jobs));
     watch.begins(all, store.number());
     match Station::new(alloc, limits, store) {

@@ -1,9 +1,9 @@
 -- Goals of `run_file`.
-use Rattle.cb_play.proofs.Told.{told_all, told_ending}
+use Rattle.std.proofs.Common.{◌∙◌}
+use Rattle.cb_play.proofs.Told.{over_run}
 use Rattle.cb_play.proofs.store_run.run_file.Goals as goal
 
-pub returns-in-Err : goal.returns-in-Err
-returns-in-Err g c = told_ending _ c.of_shelf.result _ _ _ _ _ c.print_run.ensures
-
 pub returns : goal.returns
-returns g c = told_all _ _ _ _ _ _ _ _ c.run_over-printed.ensures
+returns g c =
+    over_run _ _ _ _ _ c.run_over-printed.new.file _ c.in_ok-status.status _ _ _ _ c.over-2.ensures.over c.over-2.ensures.status (c.run_over-printed.ensures.path ∙ c.open-opened.ensures.path)
+    c.in_ok-status.was c.run_over-printed.ensures.prints

@@ -1,0 +1,17 @@
+-- What it is to open a store's tables. This project's rules.
+use Rattle.std.specs.Prelude.{IsTrue}
+use Rattle.sqlite.specs.Held.{Held, state}
+use Rattle.sqlite.specs.State.{HasCleanDisk, Survives}
+use Rattle.sqlite.specs.Store.{Ghosts}
+use Rattle.cb_page.specs.Bounds.{Bounds}
+use Rattle.cb_shelf.specs.Opening.{LaysOut, Opened}
+use Rattle.cb_sql.specs.Inside.{IsSettled}
+
+module _ {S : Type 0} (g : Ghosts S) (limits : Bounds) where
+  -- A shelf was opened over the database: its tables are laid out, on disk.
+  pub record OpensShelf (old opened : Held S) : Type 0 where
+    pub laid_out : HasCleanDisk (state g opened) → IsTrue (state g opened).is_open
+        → LaysOut g limits (state g old).now (state g opened).committed
+    pub settled : HasCleanDisk (state g opened) → IsTrue (state g opened).is_open
+        → IsSettled (state g opened)
+    pub crash : Survives (state g old) (state g opened) (Opened g limits old)
