@@ -3,4 +3,5 @@
 mod batches;
 mod disks;
 mod reopened;
+mod served;
 mod stops;
