@@ -1,10 +1,34 @@
 //! The example of the crate's first page.
+ghost use Rattle.std.specs.Prelude.{◌≡◌, false};
+
 use crate::{
-    Chooser, ClientNo, CommitNo, Finished, Limits, Office, PageNo, Station, Store, TwoQ, Worker,
-    WorkerFault,
+    Chooser, ClientNo, CommitNo, Finished, FlushStop, Limits, Office, PageNo, Shelf, Station, TwoQ,
+    Worker, WorkerFault, flush_loop,
 };
+use sqlite::{Alter, Connection, Files, Options};
+use sqlite_disk::Memory;
 use std::alloc::Global;
 use std::sync::Wait;
+use std::time::Clock;
+
+/// Why nothing is on disk.
+#[derive(Drop)]
+enum Failure {
+    Worker(WorkerFault),
+    Flusher(FlushStop),
+}
+
+impl From<WorkerFault> for Failure {
+    fn from(fault: WorkerFault) -> Failure {
+        Failure::Worker(fault)
+    }
+}
+
+impl From<FlushStop> for Failure {
+    fn from(stop: FlushStop) -> Failure {
+        Failure::Flusher(stop)
+    }
+}
 
 /// A client reads page 0, is permitted to write it, and commits 16 bytes of 7.
 fn commits<R: Wait>(
@@ -12,28 +36,48 @@ fn commits<R: Wait>(
     alloc: Global,
     office: &Office,
     worker: &mut Worker<TwoQ>,
-) -> Result<Finished, WorkerFault> {
+) -> Result<(), WorkerFault> {
     let page = PageNo::new(0);
     worker.begin()?;
     worker.fetch(rt, alloc, office, page)?;
     worker.want(rt, alloc, office, page)?;
     worker.write(page, &[7; 16])?;
-    let number = worker.commit_at(alloc, &mut office.lock(rt))?;
-    office.lock(rt).flushed(alloc, number)?;
-    worker.finish(rt, alloc, office)
+    worker.commit_at(alloc, &mut office.lock(rt))?;
+    Ok(())
 }
 
-/// Whether a client that joins an office over zeros commits the first transaction, and leaves.
-fn joins_commits_and_leaves<R: Wait>(rt: &R, alloc: Global) -> Option<bool> {
-    let limits = Limits::new(1, 8, 16, 4, 1, 2).ok()?;
-    let store = Store::zeros(alloc, &limits).ok()?;
-    let station = Station::new(alloc, &limits, store).ok()?;
-    let office = Office::new(station, 1);
-    let chooser = TwoQ::make(alloc, &limits).ok()?;
+/// It does so; then the flusher writes these bytes to the shelf, and ends since the office is
+/// closed. The client is told that they are on disk.
+fn finishes<R: Wait + Clock, S: Alter>(
+    rt: &R,
+    alloc: Global,
+    office: &Office,
+    shelf: &mut Shelf<S>,
+    worker: &mut Worker<TwoQ>,
+) -> Result<Finished, Failure> {
+    commits(rt, alloc, office, worker)?;
+    office.close(rt);
+    flush_loop(rt, alloc, office, shelf)?;
+    Ok(worker.finish(rt, alloc, office)?)
+}
+
+/// Whether a client that joins an office over a shelf commits the first transaction, and leaves.
+fn joins_commits_and_leaves<R: Wait + Clock, S: Alter>(
+    rt: &R,
+    alloc: Global,
+    limits: &Limits,
+    shelf: &mut Shelf<S>,
+) -> Option<bool>
+    requires plain { limits.now.keep_write ≡ false }
+    requires shelf { shelf.old.limits ≡ limits.now }
+{
+    let store = shelf.load(alloc).ok()?;
+    let office = Office::new(Station::new(alloc, limits, store).ok()?, 1);
+    let chooser = TwoQ::make(alloc, limits).ok()?;
     let client = ClientNo::new(0);
-    let mut worker = Worker::join(rt, alloc, &office, &limits, client, chooser).ok()?;
-    let first = Ok(Finished::Committed(CommitNo::new(1)));
-    let is_first = commits(rt, alloc, &office, &mut worker) == first;
+    let mut worker = Worker::join(rt, alloc, &office, limits, client, chooser).ok()?;
+    let finished = finishes(rt, alloc, &office, shelf, &mut worker).ok();
+    let is_first = finished == Some(Finished::Committed(CommitNo::new(1)));
     match worker.leave(rt, alloc, &office) {
         Ok(()) => Some(is_first),
         Err((_, worker)) => {
@@ -43,7 +87,34 @@ fn joins_commits_and_leaves<R: Wait>(rt: &R, alloc: Global) -> Option<bool> {
     }
 }
 
+/// Whether the first page is 16 bytes of 7 in what the shelf holds.
+fn has_the_page<S: Alter>(alloc: Global, limits: &Limits, shelf: &mut Shelf<S>) -> Option<bool> {
+    let store = shelf.load(alloc).ok()?;
+    if !store.is_of(limits) {
+        return None;
+    }
+    let page = PageNo::in_store(limits, 0)?;
+    Some(store.bytes(page) == [7; 16].as_slice())
+}
+
+/// Whether a client does so over a new database in memory, which has the page then.
+fn commits_to_a_new_database<R: Wait + Clock>(rt: &R, alloc: Global) -> Option<bool> {
+    let Ok(limits) = Limits::new(1, 8, 16, 4, 1, 2) else {
+        return None;
+    };
+    let files = Files {
+        log: Memory::new(alloc),
+        db: Memory::new(alloc),
+    };
+    let conn = Connection::open_files(alloc, files, Options::new(1)).ok()?;
+    let Ok(mut shelf) = Shelf::open(alloc, conn, &limits) else {
+        return None;
+    };
+    let is_first = joins_commits_and_leaves(rt, alloc, &limits, &mut shelf)?;
+    Some(is_first && has_the_page(alloc, &limits, &mut shelf)?)
+}
+
 #[test]
 fn example(rt: HostRuntime) {
-    assert!(rt; joins_commits_and_leaves(&rt, rt.alloc()) == Some(true));
+    assert!(rt; commits_to_a_new_database(&rt, rt.alloc()) == Some(true));
 }

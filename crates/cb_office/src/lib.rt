@@ -15,16 +15,23 @@
 //! `cb_worker`, `cb_jobs` and `cb_run`. What an office and a worker are made of is handed on too.
 //!
 //! An example, which is compiled and run as the test `example`. A client reads a page, writes it
-//! and commits; that the commit is on disk is reported at once, in place of a flusher:
+//! and commits:
 //!
 //! ```
 //! worker.begin()?;
 //! worker.fetch(rt, alloc, office, page)?;
 //! worker.want(rt, alloc, office, page)?;
 //! worker.write(page, &[7; 16])?;
-//! let number = worker.commit_at(alloc, &mut office.lock(rt))?;
-//! office.lock(rt).flushed(alloc, number)?;
-//! worker.finish(rt, alloc, office)
+//! worker.commit_at(alloc, &mut office.lock(rt))?;
+//! ```
+//!
+//! The flusher writes that to a shelf, mostly on a thread of its own. It ends once the office is
+//! closed, and then the client is told:
+//!
+//! ```
+//! office.close(rt);
+//! flush_loop(rt, alloc, office, shelf)?;
+//! Ok(worker.finish(rt, alloc, office)?)
 //! ```
 #![tactic(auto)]
 
@@ -37,6 +44,7 @@ pub use cb_hands::{Entry, Grant, Hand};
 pub use cb_jobs::{Gate, Tally, Turn, counter_sum};
 pub use cb_page::{ClientNo, CommitNo, Limits, PageNo};
 pub use cb_run::{FlushStop, flush_again, flush_loop, run_on, work};
+pub use cb_shelf::{Shelf, ShelfFault};
 pub use cb_station::{Office, OfficeFault, Station};
 pub use cb_twoq::{Chooser, TwoQ};
 pub use cb_worker::{Fetched, Finished, Wanted, Worker, WorkerFault};
