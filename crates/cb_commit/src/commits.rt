@@ -2,6 +2,7 @@
 ghost use Rattle.std.specs.Prelude.{◌≡◌, ℕ, ◌+◌, ◌<◌, ◌≤◌, ◌↔◌, ◌&&◌, nat_lt, List, map, Bool};
 ghost use Rattle.std.specs.Prelude.{length, IsTrue, IsSome, IfErr, IfSome, IfOk, OnOk, OnErr};
 ghost use Rattle.std.specs.List.{All};
+ghost use Rattle.std.specs.Vec.{vec_capacity, vec_len};
 ghost use Rattle.cb_page.specs.Flags.{has};
 ghost use Rattle.cb_page.specs.Numbers.{max_number};
 ghost use Rattle.cb_commit.specs.Stores.{IsOf, version_at};
@@ -153,12 +154,14 @@ impl Commits {
     }
 
     /// The commits up to this number are on disk now: a Done for each that wasn't before, in order.
+    /// The list has room for these and no more.
     ///
     /// `AllocError` only where memory was refused.
     pub fn flushed(&mut self, alloc: Global, number: CommitNo) -> Result<Vec<Frame>, AllocError>
         requires { CanFlush self.old number }
         ensures dones { IfOk result (λ frames.
             frames.items ≡ dones_between self.old.flushed number self.old.commits) }
+        ensures room { IfOk result (λ frames. vec_capacity frames ≡ vec_len frames) }
         ensures ok { OnOk result (self.new ≡ record self.old { flushed = number }) }
         ensures err { OnErr result (self.new ≡ self.old) }
     {
@@ -226,13 +229,14 @@ impl Commits {
     }
 }
 
-/// The Dones of these commits.
+/// The Dones of these commits, in a list with room for no more.
 fn dones(alloc: Global, commits: &[Commit]) -> Result<Vec<Frame>, AllocError>
-    ensures { IfOk result (λ frames. frames.items ≡ map done_of commits.now) }
+    ensures dones { IfOk result (λ frames. frames.items ≡ map done_of commits.now) }
+    ensures room { IfOk result (λ frames. vec_capacity frames ≡ vec_len frames) }
 {
     let mut frames = Vec::with_capacity(alloc, commits.len())?;
     for commit in commits {
-        frames.push(commit.done())?;
+        frames.push_reserved(commit.done());
     }
     Ok(frames)
 }

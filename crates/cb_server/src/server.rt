@@ -4,7 +4,7 @@ ghost use Rattle.std.specs.Prelude.{Err};
 ghost use Rattle.std.specs.Prelude.{slice_index, false, true};
 ghost use Rattle.std.specs.List.{AllByRecursion};
 ghost use Rattle.std.specs.Option.{option_map};
-ghost use Rattle.std.specs.Vec.{vec_capacity};
+ghost use Rattle.std.specs.Vec.{vec_capacity, vec_len};
 ghost use Rattle.cb_commit.specs.History.{CatchesUp, remembered};
 ghost use Rattle.cb_commit.specs.Stores.{IsOf};
 ghost use Rattle.cb_frame.specs.Checks.{has_pages, kind_of};
@@ -240,6 +240,7 @@ impl Server {
     }
 
     /// The commits up to this number are on disk now: a Done for each that wasn't before, in order.
+    /// The list has room for these and no more.
     ///
     /// `AllocError` only where memory was refused; nothing changes then.
     pub fn flushed(&mut self, alloc: Global, number: CommitNo) -> Result<Vec<Frame>, AllocError>
@@ -247,6 +248,7 @@ impl Server {
         ensures ok { IfOk result (λ said. Does self.old (ReachesDisk number)
             (messages_of said.items) self.new) }
         ensures fits { IfOk result (λ said. AllByRecursion (Fits self.old.limits) said.items) }
+        ensures room { IfOk result (λ said. vec_capacity said ≡ vec_len said) }
         ensures unchanged { OnErr result (IsUnchanged self.old self.new) }
     {
         let dones = self.engine.callbacks.flushed(alloc, number)?;

@@ -1,6 +1,7 @@
 //! Transactions and incarnations end: their asks and marks go.
 ghost use Rattle.std.specs.Prelude.{◌≡◌, ◌∷◌, ◌<◌, ◌≤◌, ◌+◌, [], true, IfErr, IfOk, OnOk};
 ghost use Rattle.std.specs.Prelude.{OnErr};
+ghost use Rattle.std.specs.Vec.{vec_capacity, vec_len};
 ghost use Rattle.cb_callbacks.specs.Following.{FollowsAll, FollowsPages};
 ghost use Rattle.cb_commit.specs.History.{FitsInto};
 ghost use Rattle.cb_outbox.specs.Messages.{messages_of, page_writes};
@@ -124,12 +125,14 @@ impl Callbacks {
     }
 
     /// The commits up to this number are on disk now: a Done for each that wasn't before, in order.
+    /// The list has room for these and no more.
     ///
     /// `AllocError` only where memory was refused.
     pub fn flushed(&mut self, alloc: Global, number: CommitNo) -> Result<Vec<Frame>, AllocError>
         requires { can_flush (server_of self.old.state) number ≡ true }
         ensures dones { IfOk result (λ frames. messages_of frames.items
             ≡ messages_sent (server_flush (server_of self.old.state) number)) }
+        ensures room { IfOk result (λ frames. vec_capacity frames ≡ vec_len frames) }
         ensures ok { OnOk result (Does self.old.state
             (server_flush (server_of self.old.state) number) self.new.state) }
         ensures err { OnErr result (self.new ≡ self.old) }

@@ -14,7 +14,7 @@ returns-clause-dones c =
     let last : c.number-last.result ≡ s.store.number = c.number-last.ensures.value in
     let count : length (remembered s) - (s.store.number - c.get.result) - (length (remembered s) - (s.store.number - s.flushed)) ≡ c.args.number - s.flushed =
     omega (arith, kept s are, c.get.ensures.value, may.above, may.there, are.forgotten_on_disk) in
-    c.in_ok-frames.ensures ∙ rw (have, last, count, ← c.self.view_is) (sym (dones_remembered s c.args.number are may))
+    c.in_ok-frames.ensures.dones ∙ rw (have, last, count, ← c.self.view_is) (sym (dones_remembered s c.args.number are may))
 
 pub invariant_of-self : goal.invariant_of-self
 invariant_of-self c = search rules
