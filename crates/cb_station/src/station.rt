@@ -24,6 +24,8 @@ mod entering;
 mod flags;
 mod taking;
 
+pub(crate) use crate::station::flags::Expected;
+
 use crate::office_fault::OfficeFault;
 use crate::station::flags::Flags;
 use cb_commit::{Batch, Store};
