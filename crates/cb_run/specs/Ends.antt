@@ -1,8 +1,10 @@
 -- When a run is over, and whether it was cut off. This project's rules.
-use Rattle.std.specs.Prelude.{◌≡◌, Bool, true, None}
+use Rattle.std.specs.Prelude.{◌≡◌, Bool, true, None, Ok}
+use Rattle.cb_hands.specs.Hands.{HandState}
 use Rattle.cb_protocol.specs.Flush.{next_batch}
 use Rattle.cb_station.specs.Flags.{is_cut_off, is_over}
 use Rattle.cb_station.specs.Stations.{IsStation, StationState, server_of}
+use Rattle.cb_worker.specs.Entering.{LeavesSome}
 
 -- Nothing is left to write: every commit is on disk.
 abbrev pub IsWritten : StationState → Type 0
@@ -27,3 +29,7 @@ WasOver = (cut_off : Bool) × EndedAs cut_off
 -- The run was over, and cut off: the station was halted, or calls of `work` were still to end.
 abbrev pub WasCutOff : Type 0
 WasCutOff = EndedAs true
+
+-- a worker left its office: its call said so, of the station that it took
+abbrev pub HasLeft : Type 0
+HasLeft = (hand : HandState) × LeavesSome hand (Ok tt)

@@ -2,11 +2,11 @@
 ghost use Rattle.std.specs.Prelude.{◌≡◌, ◌-◌, ◌%◌, IfOk, MatchBool};
 ghost use Rattle.cb_protocol.specs.Client as protocol;
 ghost use Rattle.cb_run.specs.Jobs.{CommitsJob, Copies, CountsBoth, CountsUp, EndsJob, HasEnded};
-ghost use Rattle.cb_run.specs.Jobs.{IsOneMore, TellsJob};
+ghost use Rattle.cb_run.specs.Jobs.{IsOneMore};
 ghost use Rattle.cb_worker.specs.Workers.{last_txn};
 
 use cb_admission::TryEnd;
-use cb_jobs::{JobDone, count_up};
+use cb_jobs::count_up;
 use cb_page::{ClientNo, CommitNo, PageNo};
 use cb_station::Office;
 use cb_twoq::Chooser;
@@ -14,44 +14,8 @@ use cb_worker::{Fetched, Finished, Wanted, Worker, WorkerFault};
 use std::alloc::Global;
 use std::sync::Wait;
 
-/// What is told of a job that was done: nobody but `do_job` makes one, and nobody copies it.
-#[derive(Drop)]
-pub struct DoneJob {
-    done: JobDone,
-}
-
-impl DoneJob {
-    /// Which job it is, and the number of its commit.
-    pub fn told(self) -> JobDone
-        ensures { result ≡ self.done }
-    {
-        let DoneJob { done } = self;
-        done
-    }
-}
-
-/// Does a job, and tells of it once it is on disk.
-pub(crate) fn do_job<R: Wait, Q: Chooser>(
-    rt: &R,
-    alloc: Global,
-    office: &Office,
-    worker: &mut Worker<Q>,
-    client: ClientNo,
-    job: u64,
-) -> Result<DoneJob, WorkerFault>
-    ensures { IfOk result (λ told. TellsJob client job told.done worker.old worker.new) }
-{
-    let number = run_job(rt, alloc, office, worker, client)?;
-    let done = JobDone {
-        client,
-        job,
-        number,
-    };
-    Ok(DoneJob { done })
-}
-
 /// Runs a job, once more each time that it is aborted, and answers the number of its commit.
-fn run_job<R: Wait, Q: Chooser>(
+pub(crate) fn run_job<R: Wait, Q: Chooser>(
     rt: &R,
     alloc: Global,
     office: &Office,

@@ -30,9 +30,8 @@ mod working;
 
 pub use faults::{of_run, of_shelf};
 pub use flusher::FlushStop;
-pub use job::DoneJob;
 pub use loops::{flush_again, flush_again_watched, flush_loop, flush_loop_watched};
-pub use results::Results;
+pub use results::{DoneJob, Results};
 pub use running::{run_on, run_on_watched};
 pub use tries::flush_in_tries;
 pub use working::work;

@@ -1,8 +1,59 @@
 //! What workers tell of the jobs that they did.
-use crate::job::DoneJob;
+ghost use Rattle.std.specs.Prelude.{◌≡◌, IfOk};
+ghost use Rattle.cb_run.specs.Jobs.{TellsJob};
+
+use crate::job::run_job;
+use cb_jobs::JobDone;
+use cb_page::ClientNo;
+use cb_station::Office;
+use cb_twoq::Chooser;
+use cb_worker::{Worker, WorkerFault};
 use crossbeam_channel::{Receiver, Sender, TryIter};
 use std::alloc::{AllocError, Global};
 use std::sync::Wait;
+
+/// A job that was done and isn't told of yet. [`do_job`] alone makes one, and [`Results::send`]
+/// alone takes one: it can't be copied or let go, so each job that is done is told of once.
+pub(crate) struct UntoldJob {
+    done: JobDone,
+}
+
+/// What is told of a job that was done: [`Results::send`] alone makes one, of an [`UntoldJob`], and
+/// nobody copies it.
+#[derive(Drop)]
+pub struct DoneJob {
+    done: JobDone,
+}
+
+impl DoneJob {
+    /// Which job it is, and the number of its commit.
+    pub fn told(self) -> JobDone
+        ensures { result ≡ self.done }
+    {
+        let DoneJob { done } = self;
+        done
+    }
+}
+
+/// Does a job, and answers what is to be told of it, once it is on disk.
+pub(crate) fn do_job<R: Wait, Q: Chooser>(
+    rt: &R,
+    alloc: Global,
+    office: &Office,
+    worker: &mut Worker<Q>,
+    client: ClientNo,
+    job: u64,
+) -> Result<UntoldJob, WorkerFault>
+    ensures { IfOk result (λ untold. TellsJob client job untold.done worker.old worker.new) }
+{
+    let number = run_job(rt, alloc, office, worker, client)?;
+    let done = JobDone {
+        client,
+        job,
+        number,
+    };
+    Ok(UntoldJob { done })
+}
 
 /// The results of jobs, which any number of workers send. Its two ends stay together until all have
 /// ended, so that only want of memory keeps a result from being sent.
@@ -21,10 +72,11 @@ impl Results {
         Ok(Results { to, from })
     }
 
-    /// Sends a result.
-    pub(crate) fn send<R: Wait>(&self, rt: &R, done: DoneJob) -> Result<(), AllocError> {
+    /// Tells of a job that was done.
+    pub(crate) fn send<R: Wait>(&self, rt: &R, untold: UntoldJob) -> Result<(), AllocError> {
+        let UntoldJob { done } = untold;
         // It fails where memory is refused, or the other end is gone: and that is here.
-        if self.to.send(rt, done).is_err() {
+        if self.to.send(rt, DoneJob { done }).is_err() {
             return Err(AllocError);
         }
         Ok(())

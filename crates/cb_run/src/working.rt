@@ -1,8 +1,9 @@
 //! A worker's jobs, one after another, and its end.
-ghost use Rattle.std.specs.Prelude.{◌≡◌, OnErr};
+ghost use Rattle.std.specs.Prelude.{◌≡◌, Ok, OnOk, OnErr};
+ghost use Rattle.cb_run.specs.Ends.{HasLeft};
+ghost use Rattle.cb_worker.specs.Entering.{LeavesSome};
 
-use crate::job::do_job;
-use crate::results::Results;
+use crate::results::{Results, do_job};
 use crate::run::Run;
 use cb_jobs::{Gate, Turn};
 use cb_page::ClientNo;
@@ -31,7 +32,9 @@ pub fn work<R: Wait + Clock, Q: Chooser, G: Gate>(
     jobs: &Receiver<u64>,
     results: &Results,
     gate: &G,
-) -> Result<(), WorkerFault> {
+) -> Result<(), WorkerFault>
+    ensures left { OnOk result HasLeft }
+{
     let run = Run {
         rt,
         alloc,
@@ -55,7 +58,8 @@ fn end<R: Wait + Clock, Q: Chooser>(
     worker: Worker<Q>,
     worked: Result<(), WorkerFault>,
 ) -> Result<(), WorkerFault>
-    ensures { OnErr worked (result ≡ worked) }
+    ensures worked { OnErr worked (result ≡ worked) }
+    ensures left { OnOk result (LeavesSome worker.hand (Ok tt)) }
 {
     if worked.is_err() {
         worker.abandon();
@@ -80,9 +84,9 @@ fn run_jobs<R: Wait + Clock, Q: Chooser, G: Gate>(
     let client = worker.client();
     for job in jobs.iter(run.rt) {
         await_turn(run, worker, client, job)?;
-        let done = do_job(run.rt, run.alloc, run.office, worker, client, job)?;
+        let untold = do_job(run.rt, run.alloc, run.office, worker, client, job)?;
         run.gate.after_commit(client, job);
-        results.send(run.rt, done)?;
+        results.send(run.rt, untold)?;
     }
     Ok(())
 }
