@@ -1,38 +1,66 @@
 -- What a service over a store's file does, and what is said of it. This project's rules.
 use Rattle.std.specs.Prelude.{◌≡◌, ◌⊎◌, ℕ, Option, Some, None, Result, Ok, Err, List}
-use Rattle.sqlite.specs.Held.{Held}
+use Rattle.sqlite.specs.Held.{Held, state}
+use Rattle.sqlite.specs.State.{HasCleanDisk}
 use Rattle.sqlite.specs.Store.{Ghosts}
 use Rattle.cb_console.specs.RunSettings.{BecomesOfConfig, PrintsRefusal}
 use Rattle.cb_console.specs.Settings.{IsConfig, RefusesConfig}
 use Rattle.cb_console.specs.declared.config.Config.{Config}
 use Rattle.cb_console.specs.declared.config.ConfigFault.{ConfigFault}
 use Rattle.cb_console.specs.declared.running.RunFault.{RunFault}
+use Rattle.cb_commit.specs.Stores.{StoreState}
 use Rattle.cb_page.specs.Bounds.{Bounds}
 use Rattle.cb_serve.specs.Endings.{PrintsEnding, becomes_of_shelf}
-use Rattle.cb_serve.specs.Serving.{IsRefused, IsServed}
+use Rattle.cb_serve.specs.Serving.{IsServed}
 use Rattle.cb_serve.specs.declared.fault.ServeFault.{ServeFault}
 use Rattle.cb_serve.specs.declared.fault.ServeFault.TheVariants as fault
 use Rattle.cb_serve.specs.declared.serving.Served.{Served}
-use Rattle.cb_play.specs.StoreFiles.{OpensShelf}
+use Rattle.cb_sql.specs.Inside.{IsSame}
+use Rattle.cb_play.specs.StoreFiles.{OpensShelf, ReadsStore}
 use Rattle.cb_play.specs.declared.store_file.Reach.{Reach}
 use Rattle.cb_play.specs.declared.store_file.Reach.TheVariants as reach
 use Rattle.cb_play.specs.declared.store_file.StoreEnd.{StoreEnd}
 use Rattle.cb_play.specs.declared.store_file.StoreFile.{StoreFile}
 
 module _ {S : Type 0} (g : Ghosts S) (limits : Bounds) where
-  -- The database was opened as a shelf, and the frames were served over it; or it was refused, and
-  -- nothing was read or put out.
-  abbrev pub ServesDatabase : {E : Type 0} → Result E ServeFault → (old new : Held S)
-      → (old_in new_in old_out new_out : Option (List ℕ)) → Type 0
-  ServesDatabase ending old new old_in new_in old_out new_out =
-      ((opened : Held S) × OpensShelf g limits old opened
-      × IsServed g limits ending opened new old_in new_in old_out new_out)
-      ⊎ IsRefused g limits ending old new old_in new_in old_out new_out
+  -- The store in the tables was read, and the frames were served over it.
+  pub record ServesStore {E : Type 0} (ending : Result E ServeFault) (old new : Held S)
+      (old_in new_in old_out new_out : Option (List ℕ)) : Type 0 where
+    pub store : StoreState
+    pub tables : Held S
+    pub reads : ReadsStore g limits store old tables
+    pub serves : IsServed g limits store ending tables new old_in new_in old_out new_out
 
--- how a service ended over a store that came so far: one that was refused by its fault
+  -- a store that came so far was refused, and its very fault is told: nothing was read or put out,
+  -- and the tables hold what they did
+  abbrev pub IsRefused : {E : Type 0} → Reach → Result E ServeFault → (old new : Held S)
+      → (old_in new_in old_out new_out : Option (List ℕ)) → Type 0
+  IsRefused (reach.Refused e) ending old new old_in new_in old_out new_out =
+      (ending ≡ Err (fault.Round (becomes_of_shelf e))) × (new_in ≡ old_in) × (new_out ≡ old_out)
+      × (HasCleanDisk (state g new) → IsSame (state g old) (state g new))
+  IsRefused _ ending old new old_in new_in old_out new_out = ⊥
+
+  -- what came of the tables of a shelf, whose store came so far: it was read, or refused
+  abbrev pub ServesTables : {E : Type 0} → Reach → Result E ServeFault → (old new : Held S)
+      → (old_in new_in old_out new_out : Option (List ℕ)) → Type 0
+  ServesTables reach.Read ending old new old_in new_in old_out new_out =
+      ServesStore ending old new old_in new_in old_out new_out
+  ServesTables came ending old new old_in new_in old_out new_out =
+      IsRefused came ending old new old_in new_in old_out new_out
+
+  -- The database was opened as a shelf, and it was served over its tables; or it was refused.
+  abbrev pub ServesDatabase : {E : Type 0} → Reach → Result E ServeFault → (old new : Held S)
+      → (old_in new_in old_out new_out : Option (List ℕ)) → Type 0
+  ServesDatabase came ending old new old_in new_in old_out new_out =
+      ((opened : Held S) × OpensShelf g limits old opened
+      × ServesTables came ending opened new old_in new_in old_out new_out)
+      ⊎ IsRefused came ending old new old_in new_in old_out new_out
+
+-- How a service ended over a store that came so far: one that was refused, when it was opened, laid
+-- out or read, by its very fault.
 abbrev pub TellsReached : {E : Type 0} → Reach → Result E ServeFault → Type 0
 TellsReached (reach.Refused e) ending = ending ≡ Err (fault.Round (becomes_of_shelf e))
-TellsReached reach.LaidOut ending = Unit {0}
+TellsReached reach.Read ending = Unit {0}
 TellsReached _ ending = ⊥
 
 -- The file of that path was opened as the store, and how the service over it ended is said.

@@ -1,11 +1,13 @@
--- What it is to open a store's tables. This project's rules.
+-- What it is to open a store's tables, and to read them. This project's rules.
 use Rattle.std.specs.Prelude.{IsTrue}
 use Rattle.sqlite.specs.Held.{Held, state}
 use Rattle.sqlite.specs.State.{HasCleanDisk, Survives}
 use Rattle.sqlite.specs.Store.{Ghosts}
+use Rattle.cb_commit.specs.Stores.{StoreState}
 use Rattle.cb_page.specs.Bounds.{Bounds}
+use Rattle.cb_shelf.specs.Newer.{HoldsNewer}
 use Rattle.cb_shelf.specs.Opening.{LaysOut, Opened}
-use Rattle.cb_sql.specs.Inside.{IsSettled}
+use Rattle.cb_sql.specs.Inside.{IsSame, IsSettled}
 
 module _ {S : Type 0} (g : Ghosts S) (limits : Bounds) where
   -- A shelf was opened over the database: its tables are laid out, on disk.
@@ -15,3 +17,8 @@ module _ {S : Type 0} (g : Ghosts S) (limits : Bounds) where
     pub settled : HasCleanDisk (state g opened) → IsTrue (state g opened).is_open
         → IsSettled (state g opened)
     pub crash : Survives (state g old) (state g opened) (Opened g limits old)
+
+  -- The store that the tables hold was read, and they are as before.
+  pub record ReadsStore (store : StoreState) (old new : Held S) : Type 0 where
+    pub holds : HasCleanDisk (state g new) → HoldsNewer (state g old).now store
+    pub same : HasCleanDisk (state g new) → IsSame (state g old) (state g new)

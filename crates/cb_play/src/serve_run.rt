@@ -1,11 +1,13 @@
 //! A server of frames over a store in a file.
 ghost use Rattle.std.specs.Prelude.{◌≡◌, IfOk};
 ghost use Rattle.cb_play.specs.Endings.{IsAnswered};
-ghost use Rattle.cb_play.specs.Services.{IsService, ServesDatabase, TellsReached};
+ghost use Rattle.cb_play.specs.Services.{IsService, ServesDatabase, ServesTables};
+ghost use Rattle.cb_play.specs.Services.{TellsReached};
 
 use crate::store_file::{StoreEnd, StoreFile};
 use cb_console::{Config, RunFault, print_refusal, read_config};
 use cb_serve::{RoundFault, Served, print_served, serve};
+use cb_shelf::Shelf;
 use sqlite::{Alter, Connection};
 use std::alloc::Global;
 use std::io;
@@ -76,15 +78,39 @@ fn serve_over<S: Alter, I: Read, O: Write>(
 ) -> (Served, Connection<S>)
     ensures path { file.new.path.now ≡ file.old.path.now }
     ensures tells { TellsReached file.new.reach result.0.ending }
-    ensures serves { ServesDatabase S.Store config.now.limits result.0.ending conn result.1
+    ensures serves { ServesDatabase S.Store config.now.limits file.new.reach result.0.ending
+        conn result.1
         (I.remaining input.old) (I.remaining input.new)
         (O.contents out.old) (O.contents out.new) }
 {
     match file.lay_out(alloc, conn, &config.limits) {
         Ok(mut shelf) => {
-            let served = serve(alloc, &config.limits, &mut shelf, input, out);
+            let served = serve_in(alloc, config, &mut shelf, file, input, out);
             (served, shelf.close())
         }
         Err((fault, conn)) => (Served::refused(RoundFault::from(fault)), conn),
+    }
+}
+
+/// Serves over the store in a shelf.
+fn serve_in<S: Alter, I: Read, O: Write>(
+    alloc: Global,
+    config: &Config,
+    shelf: &mut Shelf<S>,
+    file: &mut StoreFile<'_>,
+    input: &mut I,
+    out: &mut O,
+) -> Served
+    requires { shelf.old.limits ≡ config.now.limits }
+    ensures path { file.new.path.now ≡ file.old.path.now }
+    ensures tells { TellsReached file.new.reach result.ending }
+    ensures serves { ServesTables S.Store config.now.limits file.new.reach result.ending
+        shelf.old.conn shelf.new.conn
+        (I.remaining input.old) (I.remaining input.new)
+        (O.contents out.old) (O.contents out.new) }
+{
+    match file.read(alloc, shelf) {
+        Ok(store) => serve(alloc, &config.limits, store, shelf, input, out),
+        Err(fault) => Served::refused(RoundFault::from(fault)),
     }
 }

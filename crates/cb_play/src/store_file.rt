@@ -2,6 +2,7 @@
 ghost use Rattle.std.specs.Prelude.{◌≡◌, Some, None, codes, IfErr, IfOk};
 ghost use Rattle.cb_commit.specs.Stores.{IsOf};
 ghost use Rattle.cb_play.specs.StoreFiles.{OpensShelf};
+ghost use Rattle.cb_shelf.specs.Newer.{HoldsNewer};
 ghost use Rattle.cb_sql.specs.Inside.{IsSame};
 ghost use Rattle.sqlite.specs.Held.{state};
 ghost use Rattle.sqlite.specs.State.{HasCleanDisk};
@@ -127,6 +128,10 @@ impl<'a> StoreFile<'a> {
         ensures refused { IfErr result (λ fault. self.new.reach ≡ Reach.Refused fault) }
         ensures of { IfOk result (IsOf shelf.old.limits) }
         ensures limits { shelf.new.limits ≡ shelf.old.limits }
+        ensures holds { HasCleanDisk (state S.Store shelf.new.conn)
+            → IfOk result (HoldsNewer (state S.Store shelf.old.conn).now) }
+        ensures same { HasCleanDisk (state S.Store shelf.new.conn)
+            → IsSame (state S.Store shelf.old.conn) (state S.Store shelf.new.conn) }
     {
         match shelf.load(alloc) {
             Ok(store) => {

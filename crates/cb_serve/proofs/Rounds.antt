@@ -6,8 +6,7 @@ use Rattle.std.proofs.lemmas.Grind.{flat_map-append}
 use Rattle.std.proofs.lemmas.List.{append-nil, take-append-drop}
 use Rattle.std.specs.Io.KnownBytes.{Appends, Consumes, IsAtEnd}
 use Rattle.std.specs.List.{AllByRecursion, flat_map}
-use Rattle.sqlite.specs.Held.{Held, state}
-use Rattle.sqlite.specs.State.{HasCleanDisk}
+use Rattle.sqlite.specs.Held.{Held}
 use Rattle.sqlite.specs.Store.{Ghosts}
 use Rattle.cb_commit.specs.Stores.{StoreState}
 use Rattle.cb_page.specs.Bounds.{Bounds}
@@ -15,14 +14,12 @@ use Rattle.cb_protocol.specs.Flush.{next_batch}
 use Rattle.cb_protocol.specs.Server.{Server}
 use Rattle.cb_server.specs.ServerValue.{IsNew, ServerValue, server_of}
 use Rattle.cb_server_state.specs.Commits.{batch_of}
-use Rattle.cb_shelf.specs.Newer.{HoldsNewer}
-use Rattle.cb_sql.specs.Inside.{IsSame}
 use Rattle.cb_serve.proofs.Inputs.{spells_nothing}
 use Rattle.cb_serve.proofs.Writing.{survives_still}
 use Rattle.cb_serve.specs.Answering.{Spells, after_inputs, inputs_in, said_to}
 use Rattle.cb_serve.specs.Parts.{Answered, Commits, DoesRound, EndsRound, StopsAnswering, StopsCommit, StopsRound, standing}
 use Rattle.cb_serve.specs.Rounds.{IsRound, Round, SaysDones, Standing, Writes, WritesOrNot, counted_on, reached}
-use Rattle.cb_serve.specs.Serving.{AreRounds, Ends, IsStopped, PutsSome, Serves, ServesStore, opened, put_in, read_in}
+use Rattle.cb_serve.specs.Serving.{AreRounds, Ends, IsStopped, PutsSome, Serves, opened, put_in, read_in}
 use Rattle.cb_serve.specs.Steps.{TakesAll}
 use Rattle.cb_serve.specs.Streams.{IsNoFrame, IsPart, IsPiece, IsRest, bytes_of, count_passed}
 use Rattle.cb_serve.specs.declared.fault.RoundFault.{RoundFault}
@@ -296,17 +293,11 @@ module _ {S : Type 0} (g : Ghosts S) where
       (subst (λ (k : List ℕ). IfErr r (λ f. (f ≡ fault.Cut) × (k ≢ []))) names err))
 
   -- the whole of it, over a store
-  pub serves_store : {E : Type 0} (limits : Bounds) (store : StoreState) (r : Result E ServeFault) (server : ServerValue) (pending : List ℕ) (old tables new : Held S)
+  pub serves_over : {E : Type 0} (limits : Bounds) (store : StoreState) (r : Result E ServeFault) (server : ServerValue) (pending : List ℕ) (old new : Held S)
       (in0 in1 out0 out1 : Option (List ℕ)) → IsNew limits store server → pending ≡ []
-      → (HasCleanDisk (state g tables) → HoldsNewer (state g old).now store) → (HasCleanDisk (state g tables) → IsSame (state g old) (state g tables))
-      → Serves g server.limits r (record { server = server_of server; waiting = pending; passed = 0; tables = tables }) new in0 in1 out0 out1
-      → ServesStore g limits r old new in0 in1 out0 out1
-  serves_store limits store r server pending old tables new in0 in1 out0 out1 is empty holds same serves = record {
-    store = store;
-    tables = tables;
-    holds = holds;
-    same = same;
-    serves = subst (λ (l : Bounds). Serves g l r (record { server = opened limits store; waiting = []; passed = 0; tables = tables }) new in0 in1 out0 out1) is.limits
-        (subst (λ (k : List ℕ). Serves g server.limits r (record { server = opened limits store; waiting = k; passed = 0; tables = tables }) new in0 in1 out0 out1) empty
-        (subst (λ (s : Server). Serves g server.limits r (record { server = s; waiting = pending; passed = 0; tables = tables }) new in0 in1 out0 out1) is.server serves));
-  }
+      → Serves g server.limits r (record { server = server_of server; waiting = pending; passed = 0; tables = old }) new in0 in1 out0 out1
+      → Serves g limits r (record { server = opened limits store; waiting = []; passed = 0; tables = old }) new in0 in1 out0 out1
+  serves_over limits store r server pending old new in0 in1 out0 out1 is empty serves =
+      subst (λ (l : Bounds). Serves g l r (record { server = opened limits store; waiting = []; passed = 0; tables = old }) new in0 in1 out0 out1) is.limits
+      (subst (λ (k : List ℕ). Serves g server.limits r (record { server = opened limits store; waiting = k; passed = 0; tables = old }) new in0 in1 out0 out1) empty
+      (subst (λ (s : Server). Serves g server.limits r (record { server = s; waiting = pending; passed = 0; tables = old }) new in0 in1 out0 out1) is.server serves))

@@ -3,8 +3,7 @@ use Rattle.std.specs.Prelude.{◌≡◌, ◌≢◌, ◌⊎◌, ℕ, List, [], �
 use Rattle.std.specs.Prelude.{Some, IfSome, Result, Ok, Err}
 use Rattle.std.specs.List.{AllByRecursion, flat_map}
 use Rattle.std.specs.Io.KnownBytes.{Appends, Consumes, IsAtEnd}
-use Rattle.sqlite.specs.Held.{Held, state}
-use Rattle.sqlite.specs.State.{HasCleanDisk}
+use Rattle.sqlite.specs.Held.{Held}
 use Rattle.sqlite.specs.Store.{Ghosts}
 use Rattle.cb_commit.specs.Batches.{BatchState}
 use Rattle.cb_commit.specs.Stores.{StoreState}
@@ -14,13 +13,11 @@ use Rattle.cb_protocol.specs.Server.{Server, new_server}
 use Rattle.cb_protocol.specs.World.{opening_store}
 use Rattle.cb_server_state.specs.Commits.{batch_of}
 use Rattle.cb_server_state.specs.States.{limits_of, opening_of}
-use Rattle.cb_shelf.specs.Newer.{HoldsNewer}
-use Rattle.cb_sql.specs.Inside.{IsSame}
 use Rattle.cb_serve.specs.Answering.{Spells, after_inputs, inputs_in, said_to}
 use Rattle.cb_serve.specs.Rounds.{IsRound, LeavesBatch, Round, SaysDones, Standing, Writes}
 use Rattle.cb_serve.specs.Rounds.{WritesOrNot}
 use Rattle.cb_serve.specs.Streams.{IsNoFrame, IsPart, IsPiece, Piece, bytes_of}
-use Rattle.cb_serve.specs.declared.fault.RoundFault.{RoundFault}
+use Rattle.cb_serve.specs.declared.fault.RoundFault.TheVariants as round
 use Rattle.cb_serve.specs.declared.fault.ServeFault.{ServeFault}
 use Rattle.cb_serve.specs.declared.fault.ServeFault.TheVariants as fault
 
@@ -99,30 +96,21 @@ module _ {S : Type 0} (g : Ghosts S) (limits : Bounds) where
     pub puts : Appends old_out new_out (put_in rounds ++ put)
     pub ends : Ends ending read put new_in last tables
 
-  -- The same from a store that the tables hold; or the tables don't give one, and nothing is read
-  -- or put out.
-  pub record ServesStore {E : Type 0} (ending : Result E ServeFault) (old new : Held S)
+  -- It was refused before any round: no memory for a server, nothing was read or put out, and the
+  -- tables are as before.
+  pub record LacksMemory {E : Type 0} (ending : Result E ServeFault) (old new : Held S)
       (old_in new_in old_out new_out : Option (List ℕ)) : Type 0 where
-    pub store : StoreState
-    pub tables : Held S
-    pub holds : HasCleanDisk (state g tables) → HoldsNewer (state g old).now store
-    pub same : HasCleanDisk (state g tables) → IsSame (state g old) (state g tables)
-    pub serves : Serves ending
-        (record { server = opened limits store; waiting = []; passed = 0; tables = tables }) new
-        old_in new_in old_out new_out
+    pub told : ending ≡ Err (fault.Round round.Memory)
+    pub tables : new ≡ old
+    pub unread : new_in ≡ old_in
+    pub unsaid : new_out ≡ old_out
 
-  -- It was refused before any round: nothing was read or put out, and the tables hold what they did.
-  abbrev pub IsRefused : {E : Type 0} → Result E ServeFault → (old new : Held S)
+  -- A service over a store: rounds, the first of them with a new server over it; or there is no
+  -- memory for that server.
+  abbrev pub IsServed : {E : Type 0} → StoreState → Result E ServeFault → (old new : Held S)
       → (old_in new_in old_out new_out : Option (List ℕ)) → Type 0
-  IsRefused ending old new old_in new_in old_out new_out =
-      ((why : RoundFault) × (ending ≡ Err (fault.Round why)))
-      × (new_in ≡ old_in) × (new_out ≡ old_out)
-      × (HasCleanDisk (state g new) → IsSame (state g old) (state g new))
-
-  -- A service over the store in the tables; or the tables don't give one, or there is no memory for
-  -- it, and it was refused.
-  abbrev pub IsServed : {E : Type 0} → Result E ServeFault → (old new : Held S)
-      → (old_in new_in old_out new_out : Option (List ℕ)) → Type 0
-  IsServed ending old new old_in new_in old_out new_out =
-      ServesStore ending old new old_in new_in old_out new_out
-      ⊎ IsRefused ending old new old_in new_in old_out new_out
+  IsServed store ending old new old_in new_in old_out new_out =
+      Serves ending
+      (record { server = opened limits store; waiting = []; passed = 0; tables = old }) new
+      old_in new_in old_out new_out
+      ⊎ LacksMemory ending old new old_in new_in old_out new_out

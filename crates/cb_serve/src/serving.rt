@@ -84,26 +84,26 @@ fn ended(pending: &[u8]) -> Result<(), ServeFault>
     }
 }
 
-/// Serves the frames of the input over the store in a shelf, until the input ends: each frame is
-/// taken by the protocol's server in order, and what is said to it goes to the output. What was
-/// committed by the frames that were read at once is written in one transaction, and answered then.
-/// What can't be read is passed over.
+/// Serves the frames of the input over a store, which lies in the shelf, until the input ends: each
+/// frame is taken by the protocol's server in order, and what is said to it goes to the output. What
+/// was committed by the frames that were read at once is written in one transaction, and answered
+/// then. What can't be read is passed over.
+///
+/// It is refused before any round only for want of memory.
 pub fn serve<S: Alter, R: Read, W: Write>(
     alloc: Global,
     limits: &Limits,
+    store: Store,
     shelf: &mut Shelf<S>,
     input: &mut R,
     output: &mut W,
 ) -> Served
-    requires { shelf.old.limits ≡ limits.now }
-    ensures { IsServed S.Store limits.now result.ending shelf.old.conn shelf.new.conn
+    requires shelf { shelf.old.limits ≡ limits.now }
+    requires store { IsOf limits.now store }
+    ensures { IsServed S.Store limits.now store result.ending shelf.old.conn shelf.new.conn
         (R.remaining input.old) (R.remaining input.new)
         (W.contents output.old) (W.contents output.new) }
 {
-    let store = match shelf.load(alloc) {
-        Ok(store) => store,
-        Err(fault) => return Served::refused(RoundFault::from(fault)),
-    };
     match begin(alloc, limits, store) {
         Err(AllocError) => Served::refused(RoundFault::Memory),
         Ok((mut server, mut room)) => {

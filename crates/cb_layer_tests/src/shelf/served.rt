@@ -81,7 +81,7 @@ fn joined(alloc: Global, pieces: &[&[u8]]) -> Result<Vec<u8>, AllocError> {
     Ok(all)
 }
 
-/// Whether a service over a shelf ends so.
+/// Whether a service over the store in a shelf ends so.
 fn ends_so<S: Alter, R: Read, W: Write>(
     alloc: Global,
     limits: &Limits,
@@ -92,7 +92,10 @@ fn ends_so<S: Alter, R: Read, W: Write>(
 ) -> bool
     requires { shelf.old.limits ≡ limits.now }
 {
-    let served = serve(alloc, limits, shelf, input, output);
+    let Ok(store) = shelf.load(alloc) else {
+        return false;
+    };
+    let served = serve(alloc, limits, store, shelf, input, output);
     let mut said = Vec::new(alloc);
     let status = print_served(served, &mut said).ok();
     let ends = said.as_slice() == ending.0.as_bytes() && status == ending.1;
