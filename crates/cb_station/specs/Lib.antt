@@ -5,3 +5,4 @@ pub mod Commits
 pub mod Admission
 pub mod Telling
 pub mod FaultTexts
+pub mod Offices

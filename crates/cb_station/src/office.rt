@@ -6,10 +6,11 @@ ghost use Rattle.cb_station.specs.Stations.{IsStation};
 ghost use Rattle.cb_station.specs.Telling.{EndsTry, Halts, IsTold, Tells, after_work, closed};
 ghost use Rattle.cb_station.specs.Telling.{untold_in, with_untold};
 
-use crate::station::Station;
+use crate::station::{Expected, Station};
 use cb_admission::{Ticket, TryEnd};
 use cb_page::{ClientNo, CommitNo};
 use std::array;
+use std::marker::Model;
 use std::sync::{Condvar, Mutex, MutexGuard, Wait};
 use std::time::{Clock, Duration};
 
@@ -20,23 +21,35 @@ const CLIENTS: usize = 32;
 /// another's; whoever waits for anything else is told of commits, closing and halting.
 ///
 /// What a call that takes the lock itself does with the station no contract can say: it is shown by
-/// tests.
+/// tests. In contracts an office is how many calls of `work` it expects.
 #[derive(Drop)]
 pub struct Office {
     station: Mutex<Station>,
     changed: Condvar,
     frames: [Condvar; CLIENTS],
+    expected: Expected,
+}
+
+impl Model for Office {
+    ghost use Rattle.cb_station.specs.Offices.{OfficeState};
+
+    ghost Value = { OfficeState };
+
+    ghost view = { λ office. record { expected = office.expected } };
 }
 
 impl Office {
     /// An office over a station. The last of so many calls of `work` to end closes it; with none it
     /// is closed.
-    pub fn new(mut station: Station, workers: usize) -> Office {
-        station.expect_workers(workers);
+    pub fn new(mut station: Station, workers: usize) -> Office
+        ensures { result.expected ≡ workers }
+    {
+        let expected = station.expect_workers(workers);
         Office {
             station: Mutex::new(station),
             changed: Condvar::new(),
             frames: array::from_fn(|_client| Condvar::new()),
+            expected,
         }
     }
 

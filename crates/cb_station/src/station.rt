@@ -25,6 +25,7 @@ mod flags;
 mod taking;
 
 use crate::office_fault::OfficeFault;
+pub(crate) use crate::station::flags::Expected;
 use crate::station::flags::Flags;
 use cb_commit::{Batch, Store};
 use cb_frame::Frame;

@@ -7,6 +7,7 @@ ghost use Rattle.cb_station.specs.Telling.{after_work, closed, halted, untold_in
 
 use crate::station::Station;
 use cb_admission::AdmissionWindow;
+use std::marker::Model;
 
 /// Whether the station is closed, whether it is halted, how many calls of `work` are still to end,
 /// how many are going on, how many tries are let in, and whether there is news of any of these, or
@@ -46,10 +47,26 @@ impl Flags {
     }
 }
 
+/// Says how many calls of `work` a station expects: nobody but [`Station::expect_workers`] makes
+/// one. In contracts it is that number.
+#[derive(Drop)]
+pub(crate) struct Expected {
+    workers: usize,
+}
+
+impl Model for Expected {
+    ghost use Rattle.std.specs.Prelude.{ℕ};
+
+    ghost Value = { ℕ };
+
+    ghost view = { λ expected. expected.workers };
+}
+
 impl Station {
     /// So many calls of `work` will use the station. With none it is closed.
-    pub(crate) fn expect_workers(&mut self, workers: usize)
-        ensures { self.new ≡ record self.old {
+    pub(crate) fn expect_workers(&mut self, workers: usize) -> Expected
+        ensures expected { result ≡ workers }
+        ensures station { self.new ≡ record self.old {
           flags = record self.old.flags {
             closed = self.old.flags.closed || workers == 0;
             left = workers;
@@ -61,6 +78,7 @@ impl Station {
             self.close();
         }
         self.flags.left = workers;
+        Expected { workers }
     }
 
     /// No call of `work` begins any more.
