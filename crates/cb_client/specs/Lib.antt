@@ -6,3 +6,4 @@ pub mod CallAnswers
 pub mod Lending
 pub mod Laws
 pub mod FramesTaken
+pub mod FaultTexts

@@ -3,6 +3,7 @@ ghost use Rattle.std.specs.Prelude.{◌≡◌};
 ghost use Rattle.cb_client.specs.declared.client_fault.ClientFault.TheVariants.{Memory};
 
 use std::alloc::AllocError;
+use std::fmt;
 use thiserror::Error;
 
 /// Why a call is refused; nothing changes then. The text is the fault's number and name; where
@@ -10,44 +11,57 @@ use thiserror::Error;
 #[derive(Clone, Copy, Debug, PartialEq, Eq, Error)]
 pub enum ClientFault {
     /// The server's Welcome has not come.
-    #[error("1 NotWelcome")]
     NotWelcome,
     /// There is no transaction.
-    #[error("2 NoTransaction")]
     NoTransaction,
     /// A transaction is open, or its commit is out.
-    #[error("3 TransactionOpen")]
     TransactionOpen,
     /// The transaction's commit is out.
-    #[error("4 Committing")]
     Committing,
     /// An ask is out.
-    #[error("5 Waiting")]
     Waiting,
     /// There is no such page.
-    #[error("6 PageRange")]
     PageRange,
     /// The transaction has not read the page.
-    #[error("7 NotRead")]
     NotRead,
     /// The page's bytes are not in the pool: its grant is bare.
-    #[error("8 NotHere")]
     NotHere,
     /// There is no permission to write the page.
-    #[error("9 NotWritable")]
     NotWritable,
     /// The bytes are not as many as a page has.
-    #[error("10 WrongLength")]
     WrongLength,
     /// Every page in the pool is fixed.
-    #[error("11 PoolFull")]
     PoolFull,
     /// No transaction number is left.
-    #[error("12 Exhausted")]
     Exhausted,
     /// A growth was refused.
-    #[error("13 Memory")]
     Memory,
+}
+
+impl fmt::Display for ClientFault {
+    ghost use Rattle.std.specs.Prelude.{Some};
+    ghost use Rattle.cb_client.specs.FaultTexts.{fault_text};
+
+    ghost output = { λ fault. Some (fault_text fault) };
+
+    fn fmt<W: fmt::Write>(&self, f: &mut fmt::Formatter<W>) -> fmt::Result {
+        let text = match self {
+            ClientFault::NotWelcome => "1 NotWelcome",
+            ClientFault::NoTransaction => "2 NoTransaction",
+            ClientFault::TransactionOpen => "3 TransactionOpen",
+            ClientFault::Committing => "4 Committing",
+            ClientFault::Waiting => "5 Waiting",
+            ClientFault::PageRange => "6 PageRange",
+            ClientFault::NotRead => "7 NotRead",
+            ClientFault::NotHere => "8 NotHere",
+            ClientFault::NotWritable => "9 NotWritable",
+            ClientFault::WrongLength => "10 WrongLength",
+            ClientFault::PoolFull => "11 PoolFull",
+            ClientFault::Exhausted => "12 Exhausted",
+            ClientFault::Memory => "13 Memory",
+        };
+        write!(f, "{text}")
+    }
 }
 
 impl From<AllocError> for ClientFault {

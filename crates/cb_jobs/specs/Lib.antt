@@ -1,4 +1,5 @@
 pub mod Counters
+pub mod FaultTexts
 pub mod Outcomes
 pub mod Pauses
 pub mod Tallies

@@ -5,6 +5,7 @@ ghost use Rattle.cb_jobs.specs.Tallies.{flags_set, is_done, jobs_done, jobs_of, 
 
 use cb_page::{ClientNo, CommitNo};
 use std::alloc::{AllocError, Global};
+use std::fmt;
 use std::marker::Model;
 use thiserror::Error;
 
@@ -20,11 +21,24 @@ pub struct JobDone {
 #[derive(Clone, Copy, Debug, PartialEq, Eq, Error)]
 pub enum TallyFault {
     /// The job was counted before.
-    #[error("1 Double")]
     Double,
     /// There is no such client, or it has no such job.
-    #[error("2 Stranger")]
     Stranger,
+}
+
+impl fmt::Display for TallyFault {
+    ghost use Rattle.std.specs.Prelude.{Some};
+    ghost use Rattle.cb_jobs.specs.FaultTexts.{fault_text};
+
+    ghost output = { λ fault. Some (fault_text fault) };
+
+    fn fmt<W: fmt::Write>(&self, f: &mut fmt::Formatter<W>) -> fmt::Result {
+        let text = match self {
+            TallyFault::Double => "1 Double",
+            TallyFault::Stranger => "2 Stranger",
+        };
+        write!(f, "{text}")
+    }
 }
 
 /// Which of one client's jobs are done. In contracts it is a list of flags by job.

@@ -2,3 +2,4 @@ pub mod ServerValue
 pub mod Taking
 pub mod Answering
 pub mod ServerLaws
+pub mod FaultTexts

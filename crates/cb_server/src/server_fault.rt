@@ -3,6 +3,7 @@ ghost use Rattle.std.specs.Prelude.{◌≡◌};
 ghost use Rattle.cb_server.specs.declared.server_fault.ServerFault.TheVariants.{Memory};
 
 use std::alloc::AllocError;
+use std::fmt;
 use thiserror::Error;
 
 /// Why a frame is refused; nothing changes then. The text is the fault's number and name.
@@ -10,11 +11,24 @@ use thiserror::Error;
 pub enum ServerFault {
     /// No grant number is left for an ask to read beyond one for each that waits, or no commit
     /// number for a commit.
-    #[error("1 Exhausted")]
     Exhausted,
     /// A growth was refused.
-    #[error("2 Memory")]
     Memory,
+}
+
+impl fmt::Display for ServerFault {
+    ghost use Rattle.std.specs.Prelude.{Some};
+    ghost use Rattle.cb_server.specs.FaultTexts.{fault_text};
+
+    ghost output = { λ fault. Some (fault_text fault) };
+
+    fn fmt<W: fmt::Write>(&self, f: &mut fmt::Formatter<W>) -> fmt::Result {
+        let text = match self {
+            ServerFault::Exhausted => "1 Exhausted",
+            ServerFault::Memory => "2 Memory",
+        };
+        write!(f, "{text}")
+    }
 }
 
 impl From<AllocError> for ServerFault {

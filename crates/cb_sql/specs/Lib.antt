@@ -3,3 +3,4 @@ pub mod Statements
 pub mod Inside
 pub mod Writing
 pub mod Asking
+pub mod FaultTexts

@@ -4,20 +4,34 @@ ghost use Rattle.cb_sql.specs.Faults.{fault_of};
 
 use sqlite::{Error as SqlError, ErrorCode};
 use std::alloc::{AllocError, AllocFailed};
+use std::fmt;
 use thiserror::Error;
 
 /// Why a shelf refuses. The text is the fault's number and name.
 #[derive(Clone, Copy, Debug, PartialEq, Eq, Error)]
 pub enum ShelfFault {
     /// The tables, or the pages of a batch, aren't of a store of these limits.
-    #[error("1 Shape")]
     Shape,
     /// The database refused for another cause.
-    #[error("2 Store")]
     Store,
     /// Memory was refused.
-    #[error("3 Memory")]
     Memory,
+}
+
+impl fmt::Display for ShelfFault {
+    ghost use Rattle.std.specs.Prelude.{Some};
+    ghost use Rattle.cb_sql.specs.FaultTexts.{fault_text};
+
+    ghost output = { λ fault. Some (fault_text fault) };
+
+    fn fmt<W: fmt::Write>(&self, f: &mut fmt::Formatter<W>) -> fmt::Result {
+        let text = match self {
+            ShelfFault::Shape => "1 Shape",
+            ShelfFault::Store => "2 Store",
+            ShelfFault::Memory => "3 Memory",
+        };
+        write!(f, "{text}")
+    }
 }
 
 /// What a refusal of the database is to the shelf.

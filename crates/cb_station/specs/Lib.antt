@@ -4,3 +4,4 @@ pub mod Moves
 pub mod Commits
 pub mod Admission
 pub mod Telling
+pub mod FaultTexts

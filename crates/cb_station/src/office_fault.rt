@@ -5,6 +5,7 @@ ghost use Rattle.cb_server.specs.declared.server_fault.ServerFault.TheVariants a
 
 use cb_server::ServerFault;
 use std::alloc::AllocError;
+use std::fmt;
 use thiserror::Error;
 
 /// Why a call is refused: the lowest number that stands. Nothing changes then. The text is the
@@ -13,26 +14,39 @@ use thiserror::Error;
 pub enum OfficeFault {
     /// A frame or client outside the limits, or not the hand's; a frame of a kind that another call
     /// takes; a hand that isn't the one stored.
-    #[error("1 Foreign")]
     Foreign,
     /// A page read without a grant, or written without the permission of that very transaction.
-    #[error("2 NotHeld")]
     NotHeld,
     /// The transaction has ended, or is the victim of a deadlock.
-    #[error("3 NotLive")]
     NotLive,
     /// The client has a hand.
-    #[error("4 Joined")]
     Joined,
     /// The incarnation isn't greater than the hand's.
-    #[error("5 Old")]
     Old,
     /// No number is left.
-    #[error("6 Exhausted")]
     Exhausted,
     /// A growth was refused.
-    #[error("7 Memory")]
     Memory,
+}
+
+impl fmt::Display for OfficeFault {
+    ghost use Rattle.std.specs.Prelude.{Some};
+    ghost use Rattle.cb_station.specs.FaultTexts.{fault_text};
+
+    ghost output = { λ fault. Some (fault_text fault) };
+
+    fn fmt<W: fmt::Write>(&self, f: &mut fmt::Formatter<W>) -> fmt::Result {
+        let text = match self {
+            OfficeFault::Foreign => "1 Foreign",
+            OfficeFault::NotHeld => "2 NotHeld",
+            OfficeFault::NotLive => "3 NotLive",
+            OfficeFault::Joined => "4 Joined",
+            OfficeFault::Old => "5 Old",
+            OfficeFault::Exhausted => "6 Exhausted",
+            OfficeFault::Memory => "7 Memory",
+        };
+        write!(f, "{text}")
+    }
 }
 
 impl From<AllocError> for OfficeFault {

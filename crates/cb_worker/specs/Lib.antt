@@ -12,3 +12,4 @@ pub mod Serving
 pub mod Entering
 pub mod Dropping
 pub mod ReadToCommit
+pub mod FaultTexts

@@ -6,20 +6,34 @@ ghost use Rattle.cb_worker.specs.declared.worker_fault.WorkerFault.TheVariants a
 use cb_client::ClientFault;
 use cb_station::OfficeFault;
 use std::alloc::AllocError;
+use std::fmt;
 use thiserror::Error;
 
 /// Why a call is refused. The text is the fault's number and name.
 #[derive(Clone, Copy, Debug, PartialEq, Eq, Error)]
 pub enum WorkerFault {
     /// Its client refused the call.
-    #[error("1 Client")]
     Client(ClientFault),
     /// The station did.
-    #[error("2 Office")]
     Office(OfficeFault),
     /// The office was halted.
-    #[error("3 Halted")]
     Halted,
+}
+
+impl fmt::Display for WorkerFault {
+    ghost use Rattle.std.specs.Prelude.{Some};
+    ghost use Rattle.cb_worker.specs.FaultTexts.{fault_text};
+
+    ghost output = { λ fault. Some (fault_text fault) };
+
+    fn fmt<W: fmt::Write>(&self, f: &mut fmt::Formatter<W>) -> fmt::Result {
+        let text = match self {
+            WorkerFault::Client(_) => "1 Client",
+            WorkerFault::Office(_) => "2 Office",
+            WorkerFault::Halted => "3 Halted",
+        };
+        write!(f, "{text}")
+    }
 }
 
 impl From<ClientFault> for WorkerFault {
