@@ -8,3 +8,4 @@ pub use Rattle.cb_page.specs.Bounds
 pub use Rattle.cb_page.specs.Faults
 pub use Rattle.cb_page.specs.Numbers
 pub use Rattle.cb_page.specs.Rising
+pub mod FaultTexts

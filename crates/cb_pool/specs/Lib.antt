@@ -5,3 +5,4 @@ pub mod CopiesState
 pub mod Agree
 pub mod Refusals
 pub mod Lending
+pub mod FaultTexts

@@ -15,6 +15,7 @@ use cb_page::{Limits, Page, PageNo, PageSet};
 use cb_twoq::{ChooseFault, Chooser, ChooserCall};
 use http_server::Log;
 use std::alloc::{AllocError, Global};
+use std::fmt;
 use std::marker::Model;
 use thiserror::Error;
 
@@ -22,11 +23,24 @@ use thiserror::Error;
 #[derive(Clone, Copy, Debug, PartialEq, Eq, Error)]
 pub enum PoolFault {
     /// The page isn't here, and each slot has a fixed page.
-    #[error("1 Full")]
     Full,
     /// A growth was refused.
-    #[error("2 Memory")]
     Memory,
+}
+
+impl fmt::Display for PoolFault {
+    ghost use Rattle.std.specs.Prelude.{Some};
+    ghost use Rattle.cb_pool.specs.FaultTexts.{fault_text};
+
+    ghost output = { λ fault. Some (fault_text fault) };
+
+    fn fmt<W: fmt::Write>(&self, f: &mut fmt::Formatter<W>) -> fmt::Result {
+        let text = match self {
+            PoolFault::Full => "1 Full",
+            PoolFault::Memory => "2 Memory",
+        };
+        write!(f, "{text}")
+    }
 }
 
 impl From<ChooseFault> for PoolFault {

@@ -7,3 +7,4 @@ pub mod Places
 pub mod Runs
 pub mod Calls
 pub mod PageHash
+pub mod FaultTexts

@@ -5,17 +5,31 @@ ghost use Rattle.cb_twoq.specs.Law.{Chooses, IsFull, Forgets};
 
 use cb_page::{Limits, PageNo, PageSet};
 use std::alloc::{AllocError, Global};
+use std::fmt;
 use thiserror::Error;
 
 /// Why a reference was refused. Nothing changed then.
 #[derive(Clone, Copy, Debug, PartialEq, Eq, Error)]
 pub enum ChooseFault {
     /// The page has no slot, and each slot has a fixed page.
-    #[error("1 Full")]
     Full,
     /// A growth was refused.
-    #[error("2 Memory")]
     Memory,
+}
+
+impl fmt::Display for ChooseFault {
+    ghost use Rattle.std.specs.Prelude.{Some};
+    ghost use Rattle.cb_twoq.specs.FaultTexts.{fault_text};
+
+    ghost output = { λ fault. Some (fault_text fault) };
+
+    fn fmt<W: fmt::Write>(&self, f: &mut fmt::Formatter<W>) -> fmt::Result {
+        let text = match self {
+            ChooseFault::Full => "1 Full",
+            ChooseFault::Memory => "2 Memory",
+        };
+        write!(f, "{text}")
+    }
 }
 
 impl From<AllocError> for ChooseFault {
