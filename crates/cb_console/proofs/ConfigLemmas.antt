@@ -4,9 +4,10 @@ use Rattle.std.proofs.lemmas.Bool.Decides.{nat_tests}
 use Rattle.std.specs.Map.{keys_of}
 use Rattle.toml.specs.View.{members_view}
 use Rattle.toml.specs.declared.value.Value.{Value}
+use Rattle.cb_page.specs.FaultTexts.{limit_text}
 use Rattle.cb_page.specs.Faults.{first_fault}
 use Rattle.cb_page.specs.declared.limits.LimitFault.{LimitFault}
-use Rattle.cb_console.specs.Settings.{IsFirst, is_known, limit_cause, limit_text, unknown_causes}
+use Rattle.cb_console.specs.Settings.{IsFirst, is_known, limit_cause, unknown_causes}
 use Rattle.toml.specs.Data.{Members}
 use Rattle.cb_console.specs.declared.config.Key.TheVariants as key
 use Rattle.cb_console.specs.declared.config.ConfigFault.{ConfigFault}

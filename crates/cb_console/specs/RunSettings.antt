@@ -1,6 +1,6 @@
 -- Under which configurations workers can run, and what is said of any other. This project's rules.
-use Rattle.std.specs.Prelude.{◌≡◌, ◌≢◌, ◌⊎◌, ◌<◌, ◌≤◌, ℕ, true, false, Option, Some, option_map}
-use Rattle.std.specs.Prelude.{Result, Ok, Err, IfSome, List, [], ◌∷◌, ◌++◌, codes}
+use Rattle.std.specs.Prelude.{◌≡◌, ◌≢◌, ◌⊎◌, ◌<◌, ◌≤◌, ℕ, true, false, Option}
+use Rattle.std.specs.Prelude.{Result, Ok, Err, List, [], ◌∷◌, ◌++◌, codes}
 use Rattle.std.specs.Io.KnownBytes.{Appends}
 use Rattle.cb_console.specs.Settings.{IsConfig, IsWrong, config_line, config_text}
 use Rattle.cb_console.specs.declared.config.Config.{Config}
@@ -31,18 +31,18 @@ IsRunRefusal config_bytes refusal =
     ⊎ ((settings : Config) × (refusal ≡ fault.KeepWrite) × IsConfig config_bytes settings
     × (2 ≤ settings.limits.pages) × (settings.limits.keep_write ≡ true))
 
--- The line of a fault. How one of the limits is shown is said by no clause.
-abbrev pub run_fault_line : RunFault → Option (List ℕ)
-run_fault_line (fault.Config e) = option_map (λ line. codes "config: " ++ line) (config_line e)
-run_fault_line fault.FewPages = Some (codes "config: run needs 2 pages")
-run_fault_line fault.KeepWrite = Some (codes "config: run needs keep_write 0")
-run_fault_line fault.Memory = Some (codes "memory")
+-- the line of a fault
+abbrev pub run_fault_line : RunFault → List ℕ
+run_fault_line (fault.Config e) = codes "config: " ++ config_line e
+run_fault_line fault.FewPages = codes "config: run needs 2 pages"
+run_fault_line fault.KeepWrite = codes "config: run needs keep_write 0"
+run_fault_line fault.Memory = codes "memory"
 
 -- A fault's line is said, and its status is 4 for want of memory, else 2.
 abbrev pub PrintsRefusal : RunFault → ℕ → Option (List ℕ) → Option (List ℕ) → Type 0
 PrintsRefusal e status old new =
     (e ≡ fault.Memory → status ≡ 4) × (e ≢ fault.Memory → status ≡ 2)
-    × IfSome (run_fault_line e) (λ line. Appends old new (line ++ 10 ∷ []))
+    × Appends old new (run_fault_line e ++ 10 ∷ [])
 
 -- which settings a text has for a run, or why it has none
 abbrev pub IsRunSettings : List ℕ → Result Config RunFault → Type 0

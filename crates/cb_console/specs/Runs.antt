@@ -1,8 +1,7 @@
 -- What a run of the program is: which events are played, what is printed of them, and the status.
 -- This project's rules.
-use Rattle.std.specs.Prelude.{◌≡◌, ◌≢◌, ◌<◌, ◌⊎◌, ℕ, Bool, true, false, Option, Some, None}
-use Rattle.std.specs.Prelude.{option_map}
-use Rattle.std.specs.Prelude.{Result, Ok, Err, IfSome, List, [], ◌∷◌, ◌++◌, length, take, codes}
+use Rattle.std.specs.Prelude.{◌≡◌, ◌≢◌, ◌<◌, ◌⊎◌, ℕ, Bool, true, false, Option}
+use Rattle.std.specs.Prelude.{Result, Ok, Err, List, [], ◌∷◌, ◌++◌, length, take, codes}
 use Rattle.std.specs.Io.KnownBytes.{Appends}
 use Rattle.cb_page.specs.Bounds.{Bounds}
 use Rattle.cb_world.specs.Draws.{IsOpening}
@@ -81,11 +80,11 @@ IsOutcome config_bytes schedule_bytes (Ok played) = IsPlay config_bytes schedule
 IsOutcome config_bytes schedule_bytes (Err e) =
     e ≢ fault.Memory → IsRefusal config_bytes schedule_bytes e
 
--- The line of a fault. How one of the limits is shown is said by no clause.
-abbrev pub read_fault_line : ReadFault → Option (List ℕ)
-read_fault_line (fault.Config e) = option_map (λ line. codes "config: " ++ line) (config_line e)
-read_fault_line (fault.Schedule e) = Some (fault_text e)
-read_fault_line fault.Memory = Some (codes "memory")
+-- the line of a fault
+abbrev pub read_fault_line : ReadFault → List ℕ
+read_fault_line (fault.Config e) = codes "config: " ++ config_line e
+read_fault_line (fault.Schedule e) = fault_text e
+read_fault_line fault.Memory = codes "memory"
 
 -- all lines of a transcript are printed, with the two last
 abbrev pub PrintsAll : TranscriptState → Bool → Option (List ℕ) → Option (List ℕ) → Type 0
@@ -108,7 +107,7 @@ Ends transcript status old_out new_out old_err new_err =
 abbrev pub PrintsFault : ReadFault → ℕ → Option (List ℕ) → Option (List ℕ) → Type 0
 PrintsFault e status old new =
     (e ≡ fault.Memory → status ≡ 4) × (e ≢ fault.Memory → status ≡ 2)
-    × IfSome (read_fault_line e) (λ line. Appends old new (line ++ 10 ∷ []))
+    × Appends old new (read_fault_line e ++ 10 ∷ [])
 
 -- What is printed of an outcome, with the status: all of a whole play; of a play that memory ended,
 -- the lines of the events that were played; nothing of a refusal.

@@ -2,7 +2,7 @@
 -- This project's rules.
 use Rattle.std.specs.Prelude.{◌≡◌, ◌≢◌, ◌⊎◌, ℕ, ◌/◌, ◌==◌, max, pos, Bool, not, ◌&&◌, nat_le}
 use Rattle.std.specs.Prelude.{nat_lt, List, [], ◌∷◌, ◌++◌, map, codes, Option, Some, None, is_some}
-use Rattle.std.specs.Prelude.{is_none, unwrap_or, option_map, Result, Ok, Err, if◌then◌else◌}
+use Rattle.std.specs.Prelude.{is_none, unwrap_or, Result, Ok, Err, if◌then◌else◌}
 use Rattle.std.specs.Prelude.{string_bytes}
 use Rattle.std.specs.List.{list_any}
 use Rattle.std.specs.Option.{option_and_then}
@@ -10,11 +10,11 @@ use Rattle.std.specs.Str.{bytes_eq, IsUtf8}
 use Rattle.toml.specs.Data.{Data, integer, Members, no_members, member, get_member}
 use Rattle.toml.specs.Parse.{parse_document}
 use Rattle.cb_page.specs.Bounds.{Bounds}
+use Rattle.cb_page.specs.FaultTexts.{limit_text}
 use Rattle.cb_page.specs.Faults.{first_fault}
 use Rattle.cb_page.specs.Limits.{limit_causes}
 use Rattle.cb_page.specs.Numbers.{max_number}
 use Rattle.cb_page.specs.declared.limits.LimitFault.{LimitFault}
-use Rattle.cb_page.specs.declared.limits.LimitFault.TheVariants as limit
 use Rattle.cb_console.specs.Escaped.{escaped}
 use Rattle.cb_console.specs.declared.config.Config.{Config}
 use Rattle.cb_console.specs.declared.config.ConfigFault.{ConfigFault}
@@ -141,15 +141,6 @@ config_by required others = record {
   jobs = others.jobs;
 }
 
--- a fault of the limits, by its number and name
-abbrev pub limit_text : LimitFault → List ℕ
-limit_text limit.Clients = codes "1 Clients"
-limit_text limit.Pages = codes "2 Pages"
-limit_text limit.PageSize = codes "3 PageSize"
-limit_text limit.Slots = codes "4 Slots"
-limit_text limit.Kin = codes "5 Kin"
-limit_text limit.Kout = codes "6 Kout"
-
 -- numbers that are no limits of a store
 abbrev pub limit_cause : Bool × LimitFault → Bool × List ℕ
 limit_cause cause = (cause.0, codes "limit " ++ limit_text cause.1)
@@ -204,12 +195,10 @@ config_text fault.Jobs = codes "jobs"
 config_text fault.KeepWrite = codes "keep_write"
 config_text fault.Memory = codes "memory"
 
--- The same as a line shows it, with an unknown key's control characters escaped. How a fault of the
--- limits is shown is said by no clause.
-abbrev pub config_line : ConfigFault → Option (List ℕ)
-config_line (fault.Unknown name) = Some (codes "unknown " ++ escaped (string_bytes name))
-config_line (fault.Limit e) = None
-config_line other = Some (config_text other)
+-- the same as a line shows it, with an unknown key's control characters escaped
+abbrev pub config_line : ConfigFault → List ℕ
+config_line (fault.Unknown name) = codes "unknown " ++ escaped (string_bytes name)
+config_line other = config_text other
 
 -- The text is this table in TOML.
 pub record IsTable (text : List ℕ) (table : Members) : Type 0 where

@@ -98,7 +98,7 @@ pub enum ConfigFault {
 }
 
 impl fmt::Display for ConfigFault {
-    ghost output = { config_line };
+    ghost output = { λ fault. Some (config_line fault) };
 
     fn fmt<W: fmt::Write>(&self, f: &mut fmt::Formatter<W>) -> fmt::Result {
         match self {

@@ -1,5 +1,6 @@
 //! Plays a schedule over a store of zeros, and prints what became of it.
 ghost use Rattle.std.specs.Prelude.{◌≡◌, ◌≢◌, List, [], ◌++◌, length, codes, IfOk, IfErr, OnOk};
+ghost use Rattle.std.specs.Prelude.{Some};
 ghost use Rattle.std.specs.Io.KnownBytes.{Appends};
 ghost use Rattle.cb_console.specs.Output.{lines_from};
 ghost use Rattle.cb_console.specs.Runs.{BecomesOfConfig, BecomesOfSchedule, Ends, IsPlay, IsPlayOf};
@@ -30,7 +31,7 @@ pub enum ReadFault {
 }
 
 impl fmt::Display for ReadFault {
-    ghost output = { read_fault_line };
+    ghost output = { λ fault. Some (read_fault_line fault) };
 
     fn fmt<W: fmt::Write>(&self, f: &mut fmt::Formatter<W>) -> fmt::Result {
         match self {

@@ -1,5 +1,5 @@
 //! The settings under which workers run.
-ghost use Rattle.std.specs.Prelude.{◌≡◌, ◌≢◌, IfOk, IfErr};
+ghost use Rattle.std.specs.Prelude.{◌≡◌, ◌≢◌, Some, IfOk, IfErr};
 ghost use Rattle.cb_console.specs.RunSettings.{BecomesOfConfig, CanRun, IsRunRefusal};
 ghost use Rattle.cb_console.specs.RunSettings.{PrintsRefusal, run_fault_line};
 ghost use Rattle.cb_console.specs.declared.running.RunFault.TheVariants as fault;
@@ -22,7 +22,7 @@ pub enum RunFault {
 }
 
 impl fmt::Display for RunFault {
-    ghost output = { run_fault_line };
+    ghost output = { λ fault. Some (run_fault_line fault) };
 
     fn fmt<W: fmt::Write>(&self, f: &mut fmt::Formatter<W>) -> fmt::Result {
         match self {

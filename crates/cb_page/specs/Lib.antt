@@ -7,3 +7,4 @@ pub mod Counting
 pub mod Flags
 pub mod Words
 pub mod Clients
+pub mod FaultTexts

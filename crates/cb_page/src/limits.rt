@@ -6,6 +6,7 @@ ghost use Rattle.cb_page.specs.Faults.{first_fault};
 ghost use Rattle.cb_page.specs.Limits.{limit_causes, is_outside};
 ghost use Rattle.cb_page.specs.Bounds.{Bounds, AreInRange};
 
+use std::fmt;
 use std::marker::Model;
 use thiserror::Error;
 
@@ -14,23 +15,36 @@ use thiserror::Error;
 #[derive(Clone, Copy, Debug, PartialEq, Eq, Error)]
 pub enum LimitFault {
     /// The number of clients isn't from 1 to 32.
-    #[error("1 Clients")]
     Clients,
     /// The number of pages isn't from 1 to 4,096.
-    #[error("2 Pages")]
     Pages,
     /// The page size isn't from 16 to 65,536 bytes in steps of 16.
-    #[error("3 PageSize")]
     PageSize,
     /// The number of slots isn't from 2 to 1,024.
-    #[error("4 Slots")]
     Slots,
     /// Kin isn't from 1 to one less than the slots.
-    #[error("5 Kin")]
     Kin,
     /// Kout isn't from 1 to 4,096.
-    #[error("6 Kout")]
     Kout,
+}
+
+impl fmt::Display for LimitFault {
+    ghost use Rattle.std.specs.Prelude.{Some};
+    ghost use Rattle.cb_page.specs.FaultTexts.{limit_text};
+
+    ghost output = { λ fault. Some (limit_text fault) };
+
+    fn fmt<W: fmt::Write>(&self, f: &mut fmt::Formatter<W>) -> fmt::Result {
+        let text = match self {
+            LimitFault::Clients => "1 Clients",
+            LimitFault::Pages => "2 Pages",
+            LimitFault::PageSize => "3 PageSize",
+            LimitFault::Slots => "4 Slots",
+            LimitFault::Kin => "5 Kin",
+            LimitFault::Kout => "6 Kout",
+        };
+        write!(f, "{text}")
+    }
 }
 
 /// The limits of one store and its clients, all in range. In contracts they are the record of the
