@@ -1,5 +1,9 @@
 //! The command line.
 
+ghost use Rattle.std.specs.Prelude.{IfSome};
+ghost use Rattle.clap.specs.Words.{subcommand_rows_of};
+ghost use Rattle.cb_play.specs.Requests.{IsAsked};
+
 use clap::error::ErrorKind;
 use clap::{Arg, ArgAction, ArgMatches, Command, Error, value_parser};
 use std::alloc::{AllocError, Global};
@@ -352,7 +356,9 @@ fn command<'a>(alloc: Global) -> Result<Command<'a>, AllocError> {
 }
 
 /// What a command line that was read asks for, if it asks for anything.
-fn asked<'a>(matches: &ArgMatches<'a>) -> Option<Request<'a>> {
+fn asked<'a>(matches: &ArgMatches<'a>) -> Option<Request<'a>>
+    ensures { IfSome result (λ request. IsAsked (subcommand_rows_of matches.now) request) }
+{
     match matches.subcommand() {
         Some(("play", matches)) => Some(Request::Play {
             config: matches.get_str("CONFIG")?,
