@@ -219,6 +219,7 @@ fn office_over<W: Watch>(
 ) -> Result<Office, Ending>
     requires plain { limits.now.keep_write ≡ false }
     requires store { IsOf limits.now store }
+    ensures { IfOk result (λ office. office.expected ≡ limits.now.clients) }
 {
     let all = u64::from(limits.clients()).saturating_mul(u64::from(jobs));
     watch.begins(all, store.number());
