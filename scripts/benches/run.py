@@ -6,7 +6,10 @@ Each job is a transaction of its own (WAL, synchronous FULL). In turn: `run`, wh
 fight for pages 0 and 1; the program own_pages, whose clients have two pages each that no other
 uses, or all the same two; kit_jobs over the same database library as these; and jobs.c over
 SQLite's own library, that also with 32 jobs in a transaction. It prints durable jobs a second of
-each, and how many batches carried the commits of own_pages, with the number of aborted tries.
+each, and how many batches carried the commits of own_pages, with the number of aborted tries. Last
+come the rows of a table, of each program: its least, its median and its greatest rate; the ratio of
+its median to that of SQLite alone, and to that of its own runs of one client; and, as the medians
+of the turns, how many tries were aborted a job and how many commits a batch had.
 
 It needs SQLite's C library with its header, and the programs, which are built first unless PLAY,
 OWN and ALONE (kit_jobs) name built ones. ROOM is the folder of the stores (the system's temporary
@@ -15,6 +18,7 @@ programs alike, as on a slower disk. A turn of 40,000 jobs takes some minutes.
 """
 import os
 import re
+import statistics
 import subprocess
 import time
 
@@ -28,7 +32,38 @@ ALONE = ["cb_jobs", "sqlite", "anyhow"]
 CONFIG = "clients = {}\npages = 2\npage_size = 16\nslots = 2\njobs = {}\n"
 
 
-def timed(name, count, words, slow_sync):
+class Rates:
+    """What each program did in a second, turn for turn, and what it told of its batches."""
+
+    def __init__(self):
+        self.jobs, self.aborted, self.in_batch = {}, {}, {}
+
+    def note(self, name, count, took, said):
+        """Keeps what one run did, and what it said."""
+        self.jobs.setdefault(name, []).append(count / took)
+        if told := re.search(r"(\d+) commits in (\d+) batches, (\d+) tries aborted", said):
+            commits, batches, aborted = map(int, told.groups())
+            self.aborted.setdefault(name, []).append(aborted / count)
+            self.in_batch.setdefault(name, []).append(commits / max(batches, 1))
+
+    def ratio(self, name, other):
+        """How many times the other's jobs this one does."""
+        if other not in self.jobs:
+            return ""
+        return f"{statistics.median(self.jobs[name]) / statistics.median(self.jobs[other]):.2f}"
+
+    def row(self, name):
+        """The row of a program in the table."""
+        rates = self.jobs[name]
+        told = [min(rates), statistics.median(rates), max(rates)]
+        cells = [name, *(f"{it:,.0f}" for it in told), self.ratio(name, "SQLite alone")]
+        cells.append(self.ratio(name, f"{name.partition(',')[0]}, 1 client"))
+        for found in (self.aborted, self.in_batch):
+            cells.append(f"{statistics.median(found[name]):.2f}" if name in found else "")
+        return f"| {' | '.join(cells)} |"
+
+
+def timed(rates, name, count, words, slow_sync):
     """Says how many of the jobs there are a second."""
     slower = {"LD_PRELOAD": str(slow_sync), "SYNC_MICROSECONDS": os.environ.get("SYNC", "0")}
     both = {"stdout": subprocess.PIPE, "stderr": subprocess.STDOUT}
@@ -39,33 +74,36 @@ def timed(name, count, words, slow_sync):
     if done.returncode:
         print(f"{name}: FAILED: {done.stdout}", flush=True)
         return
+    rates.note(name, count, took, done.stdout)
     batches = re.search(r"commits in(.*)", done.stdout)
     more = f", in{batches[1]}" if batches else ""
     print(f"{name}: {count / took:.0f} jobs a second{more}", flush=True)
 
 
-def turn(number, jobs, room, programs):
+def turn(rates, number, jobs, room, programs):
     """One turn of each program."""
     play, own, alone, in_c, slow_sync = programs
     few, many = jobs // 4, jobs // 32 * 32
     words = [alone, room / f"kit_{number}.db", few]
-    timed(f"the same library alone, turn {number}", few, words, slow_sync)
+    timed(rates, "the kit's library alone", few, words, slow_sync)
     words = [in_c, room / f"alone_{number}.db", few]
-    timed(f"sqlite alone, turn {number}", few, words, slow_sync)
+    timed(rates, "SQLite alone", few, words, slow_sync)
     together = [in_c, room / f"together_{number}.db", jobs, 32]
-    timed(f"sqlite alone, 32 jobs a transaction, turn {number}", many, together, slow_sync)
+    timed(rates, "SQLite alone, 32 jobs a transaction", many, together, slow_sync)
     for clients in (1, 4, 8, 32):
         each, config = jobs // clients, room / "run.toml"
+        of = "1 client" if clients == 1 else f"{clients} clients"
         config.write_text(CONFIG.format(clients, each))
         words = [play, "run", config, room / f"run_{clients}_{number}.db"]
-        timed(f"run, {clients} clients, turn {number}", clients * each, words, slow_sync)
-        for pages, name in (("own", "own pages"), ("shared", "the same two pages")):
+        timed(rates, f"run, {of}", clients * each, words, slow_sync)
+        for pages, name in (("own", "own pages"), ("shared", "two pages")):
             words = [own, room / f"{pages}_{clients}_{number}.db", clients, each, pages]
-            timed(f"{name}, {clients} clients, turn {number}", clients * each, words, slow_sync)
+            timed(rates, f"{name}, {of}", clients * each, words, slow_sync)
 
 
 def main(words):
     jobs, turns = map(int, (words + ["40000", "3"][len(words) :])[:2])
+    rates = Rates()
     with building.a_room() as room:
         first, other = [f"{room}/first.db", "1", "1", "own"], [f"{room}/first_alone.db", "1"]
         programs = (
@@ -76,5 +114,8 @@ def main(words):
             building.library_in_c("slow_sync", room, "-ldl"),
         )
         for number in range(1, turns + 1):
-            turn(number, jobs, room, programs)
+            print(f"turn {number}", flush=True)
+            turn(rates, number, jobs, room, programs)
+    for name in rates.jobs:
+        print(rates.row(name))
     return 0

@@ -8,13 +8,13 @@ disk, in batches of 16; beside it stands one that forgets nothing. A run is one 
 many jobs over a store in a file of its own, as `cb_play run` does them; beside it stands one whose
 results lie in their channel until the end. It prints the greatest resident memory of each in KB.
 
-It needs the program of scripts/programs/server_memory, or of run_memory, which is built first
-unless PROGRAM names a built one. ROOM is the folder of the stores (the system's temporary one if it
-isn't set): in memory, as /dev/shm, a run of 3,000,000 jobs takes some ten minutes. The status is 1
-where the memory after MANY is more than 1.1 times that after FEW.
+It needs a C compiler, and the program of scripts/programs/server_memory, or of run_memory, which is
+built first unless PROGRAM names a built one. ROOM is the folder of the stores (the system's
+temporary one if it isn't set): in memory, as /dev/shm, a run of 3,000,000 jobs takes some ten
+minutes. The status is 1 where the memory after MANY is more than 1.1 times that after FEW.
 """
+import statistics
 import subprocess
-import sys
 
 import building
 
@@ -23,35 +23,42 @@ RUN = [
     "cb_page", "cb_twoq", "cb_station", "cb_shelf", "cb_worker", "cb_jobs", "cb_run", "sqlite",
     "crossbeam_channel", "anyhow",
 ]
-PEAK = """
-import resource, subprocess, sys
-subprocess.run(sys.argv[1:], check=True, stdout=subprocess.DEVNULL)
-print(resource.getrusage(resource.RUSAGE_CHILDREN).ru_maxrss)
-"""
 
 
-def peak(program, *words):
-    """The greatest resident memory of a run, in KB."""
-    words = [sys.executable, "-c", PEAK, program, *words]
-    said = subprocess.run(words, capture_output=True, text=True, check=True)
-    return int(said.stdout)
+class Measured:
+    """A program, and the one that says how much memory a run of it had."""
+
+    def __init__(self, program, room):
+        self.words = [building.in_c("peak", room), program]
+
+    def peak(self, *more):
+        """The greatest resident memory of a run, in KB."""
+        done = subprocess.run([*self.words, *more], capture_output=True, text=True, check=True)
+        return int(done.stdout)
 
 
 def of_server(room):
-    """The greatest memory of a server after so many commits, by what else is said."""
+    """The greatest memory of a server after so many commits, by what else is said: the median of
+    nine runs, since it is so little that what a run finds mapped already makes a tenth of it."""
     program = building.named("PROGRAM") or building.program("server_memory", SERVER, ["1"], room)
-    return lambda *more: peak(program, *more), ["10000", "1000000"], "commits"
+    measured = Measured(program, room)
+
+    def median(*more):
+        return int(statistics.median(measured.peak(*more) for _ in range(9)))
+
+    return median, ["10000", "1000000"], "commits"
 
 
 def of_run(room):
-    """The same of a run after so many jobs, over a new store each time."""
+    """The same of one run after so many jobs, over a new store each time."""
     first = [f"{room}/first.db", "1"]
     program = building.named("PROGRAM") or building.program("run_memory", RUN, first, room)
+    measured = Measured(program, room)
 
     def run(*more):
         for each in room.glob("run.db*"):
             each.unlink()
-        return peak(program, f"{room}/run.db", *more)
+        return measured.peak(f"{room}/run.db", *more)
 
     return run, ["30000", "3000000"], "jobs"
 

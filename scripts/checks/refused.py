@@ -41,9 +41,9 @@ Each begins the program anew for each growth that it makes, and refuses that one
 
 They need `cb_play` (calls, plays), a C compiler (all but growths), the tests that the gate or `rt
 test` built (run), and their own programs, which are built first; PROGRAM names a built one for
-calls, plays, shelf and run. Of `shelf` the build takes 12
-processor minutes over libraries that are checked already. `growths` builds the tests anew for each
-number, which takes minutes. The status is 1 where a call ended in another way.
+each but `growths`. Of `shelf` the build takes 12 processor minutes over libraries that are checked
+already. `growths` builds the tests anew for each number, which takes minutes. The status is 1 where
+a call ended in another way.
 """
 import importlib
 import sys

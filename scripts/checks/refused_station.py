@@ -45,8 +45,9 @@ def played(test, library, refused):
 
 
 def refused_in_turn(room):
-    """Builds the test, and runs it for each growth; the status."""
-    test, library = built_tests(room), building.library_in_c("refuse", room, "-ldl")
+    """Builds the test, unless PROGRAM names it, and runs it for each growth; the status."""
+    test = building.named("PROGRAM") or built_tests(room)
+    library = building.library_in_c("refuse", room, "-ldl")
     _, growths = played(test, library, 0)
     failed = 0
     for refused in range(growths + 1):

@@ -1,4 +1,5 @@
-/* Writes batches of pages as a shelf's tables have them, by libsqlite3, and reads them back: `pages FILE PAGES SIZE COUNT`. */
+/* Sets batches of pages in a shelf's tables by its statements, each of other bytes, by libsqlite3, and reads them back:
+   `pages FILE PAGES SIZE COUNT`. */
 #include <sqlite3.h>
 #include <stdio.h>
 #include <stdlib.h>
@@ -70,13 +71,18 @@ int main(int argc, char **argv) {
     "CREATE TABLE page2(no INTEGER PRIMARY KEY, version INTEGER NOT NULL) STRICT;"
     "CREATE TABLE part(no INTEGER NOT NULL, place INTEGER NOT NULL, body BLOB NOT NULL, "
     "PRIMARY KEY(no, place)) STRICT;");
-  page = prepared(db, "INSERT OR REPLACE INTO page2 (no, version) VALUES (?1, ?2)");
-  part = prepared(db, "INSERT OR REPLACE INTO part (no, place, body) VALUES (?1, ?2, ?3)");
+  page = prepared(db, "INSERT INTO page2 (no, version) VALUES (?1, ?2)");
+  part = prepared(db, "INSERT INTO part (no, place, body) VALUES (?1, ?2, ?3)");
   sqlite3_stmt *mark = prepared(db, "UPDATE mark2 SET commits = ?1 WHERE id = 1");
   put(db, pages, 0, body, size);
   snprintf(row, sizeof row, "INSERT INTO mark2 VALUES (1, 0, %d, %d); COMMIT", size, pages);
   run(db, row);
+  sqlite3_finalize(page);
+  sqlite3_finalize(part);
+  page = prepared(db, "UPDATE page2 SET version = ?2 WHERE no = ?1");
+  part = prepared(db, "UPDATE part SET body = ?3 WHERE no = ?1 AND place = ?2");
   for (int number = 1; number <= 21; number++) {
+    memset(body, number, size);
     double start = now();
     run(db, "BEGIN");
     put(db, count, number, body, size);
