@@ -25,25 +25,17 @@ static uint32_t bit_of(const uint8_t *frame) {
   return UINT32_C(1) << header_at(frame).client % MOST_CLIENTS;
 }
 
-/* The bytes that go together at most, where each commit is as long as the last one: those for which
- * one sync is enough, unless all clients have more than twice as many. */
-static size_t most_together(const struct gather *gather) {
-  uint32_t all = gather->newest | gather->former | gather->waiting;
-  size_t size = gather->last * (size_t)__builtin_popcount(all);
-  return size <= 2 * SYNCED ? SYNCED : ROUND;
-}
-
-/* The bytes of those that go together: the first ones, and at least one. Whose they are, and how
- * many, is told; and whose the others are. */
+/* The bytes of those that go together: the first ones, as many as are read at once. Whose they are,
+ * and how many, is told; and whose the others are. */
 static size_t first_ones(const struct gather *gather, unsigned *count, uint32_t *whose,
                          uint32_t *others) {
-  size_t size = 0, most = most_together(gather);
+  size_t size = 0;
   *count = 0;
   *whose = *others = 0;
   for (size_t at = 0; at < gather->held.size;) {
     const uint8_t *frame = gather->held.at + at;
     size_t length = HEADER + (size_t)header_at(frame).body;
-    if (size == at && (at == 0 || at + length <= most)) {
+    if (size == at && (at == 0 || at + length <= ROUND)) {
       size += length;
       *whose |= bit_of(frame);
       ++*count;
@@ -106,7 +98,7 @@ static void look(struct gather *gather) {
     return;
   }
   uint32_t missing = (gather->newest | gather->former) & ~gather->waiting;
-  bool is_full = gather->held.size + gather->last > most_together(gather);
+  bool is_full = gather->held.size + gather->last > ROUND;
   bool waits = missing != 0 && !is_full && gather->skips == 0 && gather->clock >= 0;
   uint64_t time = waits ? patience(gather) : 0;
   if (time > 0) {

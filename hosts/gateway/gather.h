@@ -1,7 +1,6 @@
-/* Commits on their way to a server, handed on together: the server syncs once for all that it
- * reads at once, where that isn't too long, and else twice. So where all clients have no more than
- * two syncs are enough for, only as many go together as one is; else as many as the server reads at
- * once. One commit goes however long it is.
+/* Commits on their way to a server, handed on together: the server writes all that it reads at once
+ * in one transaction, which takes one sync, or two where it is long. So no more go together than it
+ * reads, but for one that is longer.
  *
  * While some are out the others wait. Once those are answered their clients will commit again in a
  * moment, and it pays to wait for them; but the server is idle meanwhile. So all who were in the
@@ -15,10 +14,7 @@
 
 #include <uv.h>
 
-enum {
-  ROUND = 1048576,    /* bytes that `cb_play serve` reads at once */
-  SYNCED = 24 * 4160, /* bytes of commits for which its database syncs once */
-};
+enum { ROUND = 1048576 }; /* bytes that `cb_play serve` reads at once */
 
 struct gather {
   uv_poll_t poll;

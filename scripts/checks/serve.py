@@ -343,11 +343,11 @@ def run_copies(tries: Tries, it: Built) -> None:
 # ---- commits that go together ----
 
 # Clients, microseconds of a sync, of each commit at the server, between two that come and of a
-# drawn delay; and how many commits a second there are at least. Where a sync takes 3 ms the gateway
-# waits for all, or for the 24 for whom one sync is enough; where it takes 0.15 ms, for few.
+# drawn delay; and how many commits a second there are at least. Where a sync takes 3 ms the server
+# waits for all; where it takes 0.15 ms, for few.
 GATHERED = {
     (1, 3150, 25, 30, 20): 300, (4, 3150, 25, 30, 20): 1170, (16, 3150, 25, 30, 20): 3900,
-    (32, 3150, 25, 30, 20): 5300, (32, 3150, 25, 60, 20): 4800, (32, 3150, 25, 60, 300): 4500,
+    (32, 3150, 25, 30, 20): 6400, (32, 3150, 25, 60, 20): 5300, (32, 3150, 25, 60, 300): 4800,
     (2, 3150, 25, 30, 3000): 260, (16, 150, 25, 30, 20): 18000, (32, 150, 25, 30, 20): 27500,
 }
 

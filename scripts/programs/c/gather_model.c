@@ -1,9 +1,9 @@
 /* gather_model CLIENTS SYNC EACH BETWEEN THINK: how many commits go together, by the gateway's own
- * code (gather.c) over a clock of its own. A batch takes the server SYNC microseconds, twice as
- * long from 28 commits on, since the database syncs twice for so many, and EACH more for each
- * commit. After its answer its clients' next commits come BETWEEN apart, each later by a drawn time
- * whose mean is THINK. It prints how many commits there were a second, and how many in a batch.
- * Nothing in it rests on how busy the machine is. */
+ * code (gather.c) over a clock of its own. A batch takes the server SYNC microseconds, as if one
+ * sync were enough for each, and EACH more for each commit. After its answer its clients' next
+ * commits come BETWEEN apart, each later by a drawn time whose mean is THINK. It prints how many
+ * commits there were a second, and how many in a batch. Nothing in it rests on how busy the machine
+ * is. */
 #include <stdint.h>
 
 static uint64_t clock_now, timer_at;
@@ -30,7 +30,7 @@ static uv_poll_cb is_due;
 #include <math.h>
 #include <stdio.h>
 
-enum { BODY = 4122, ONE_SYNC = 27 };
+enum { BODY = 4122 };
 static const uint64_t NEVER = UINT64_MAX;
 static uint64_t next_of[MOST_CLIENTS], answer_at, sync_time, each_time;
 static unsigned out[MOST_CLIENTS], out_count;
@@ -50,7 +50,7 @@ static bool taken(void *owner, const uint8_t *bytes, size_t size) {
   }
   batches++;
   commits += out_count;
-  answer_at = clock_now + sync_time * (out_count > ONE_SYNC ? 2 : 1) + each_time * out_count;
+  answer_at = clock_now + sync_time + each_time * out_count;
   return true;
 }
 
