@@ -3,7 +3,7 @@ ghost use Rattle.std.specs.Prelude.{◌≡◌, Some, None};
 ghost use Rattle.cb_jobs.specs.Outcomes.{line_of, lower, status_of};
 
 use std::fmt;
-use std::marker::Model;
+use std::marker::{Model, PhantomData};
 
 /// Why a run ended before all was done. The text is its line on the standard error.
 #[derive(Clone, Copy, Debug, PartialEq, Eq)]
@@ -53,14 +53,15 @@ pub struct ClientEnding {
     pub ending: Ending,
 }
 
-/// Says that a client's ending was noted: nobody but [`FirstEnding::note`] makes one, and nobody
-/// copies it. In contracts it is that ending.
+/// Says that a client's ending was noted in its run's [`FirstEnding`]: nobody but
+/// [`FirstEnding::note`] makes one, and nobody copies it. In contracts it is that ending.
 #[derive(Drop)]
-pub struct Noted {
+pub struct Noted<N> {
     told: ClientEnding,
+    run: PhantomData<N>,
 }
 
-impl Model for Noted {
+impl<N> Model for Noted<N> {
     ghost use Rattle.cb_jobs.specs.declared.ending.ClientEnding.{ClientEnding};
 
     ghost Value = { ClientEnding };
@@ -68,13 +69,14 @@ impl Model for Noted {
     ghost view = { λ noted. noted.told };
 }
 
-impl Noted {
+impl<N> Noted<N> {
     /// That ending was noted.
-    fn of(client: u16, ending: Ending) -> Noted
+    fn of(client: u16, ending: Ending) -> Noted<N>
         ensures { result ≡ record { client = client; ending = ending } }
     {
         let told = ClientEnding { client, ending };
-        Noted { told }
+        let run = PhantomData;
+        Noted { told, run }
     }
 
     /// Which ending it was.
@@ -85,22 +87,25 @@ impl Noted {
     }
 }
 
-/// The ending of the lowest client that has one.
+/// The ending of the lowest client of a run that has one. It holds the run's name, a value of some
+/// type `N`. Code that is written for any `N` can make no such value, and so no `FirstEnding` of its
+/// own: it notes in the one that it was lent.
 #[derive(Drop)]
-pub struct FirstEnding {
+pub struct FirstEnding<N> {
     pub told: Option<ClientEnding>,
+    run: N,
 }
 
-impl FirstEnding {
-    /// Nothing was told yet.
-    pub fn none() -> FirstEnding
+impl<N> FirstEnding<N> {
+    /// Nothing was told yet of the run of this name.
+    pub fn none(run: N) -> FirstEnding<N>
         ensures { result.told ≡ None }
     {
-        FirstEnding { told: None }
+        FirstEnding { told: None, run }
     }
 
     /// Notes how a client's part ended, unless a lower client's is noted.
-    pub fn note(&mut self, client: u16, ending: Ending) -> Noted
+    pub fn note(&mut self, client: u16, ending: Ending) -> Noted<N>
         ensures lowest { self.new.told
             ≡ lower self.old.told (record { client = client; ending = ending }) }
         ensures noted { result ≡ record { client = client; ending = ending } }

@@ -34,14 +34,14 @@ pub(crate) fn job_list<R: Wait>(
     Ok(from)
 }
 
-/// Notes how a client's part ended, and halts the office.
-pub(crate) fn give_up<R: Wait>(
+/// Notes how a client's part of the run of this name ended, and halts the office.
+pub(crate) fn give_up<R: Wait, N: Drop>(
     rt: &R,
     office: &Office,
-    faults: &Mutex<FirstEnding>,
+    faults: &Mutex<FirstEnding<N>>,
     client: u16,
     ending: Ending,
-) -> Noted
+) -> Noted<N>
     ensures { result ≡ of_client client ending }
 {
     let noted = faults.lock(rt).note(client, ending);
@@ -50,13 +50,13 @@ pub(crate) fn give_up<R: Wait>(
 }
 
 /// Notes a worker's fault, and halts the office; a client that was halted says nothing of why.
-fn give_up_by<R: Wait>(
+fn give_up_by<R: Wait, N: Drop>(
     rt: &R,
     office: &Office,
-    faults: &Mutex<FirstEnding>,
+    faults: &Mutex<FirstEnding<N>>,
     client: u16,
     fault: WorkerFault,
-) -> Option<Noted>
+) -> Option<Noted<N>>
     ensures { result ≡ option_map (of_client client) (ending_of_worker fault) }
 {
     match of_worker(fault) {
@@ -66,13 +66,13 @@ fn give_up_by<R: Wait>(
 }
 
 /// A client joins and works; where it can't go on the office is halted.
-pub(crate) fn run_client<Q: Chooser, R: Wait + Clock, G: Gate>(
+pub(crate) fn run_client<Q: Chooser, R: Wait + Clock, G: Gate, N: Drop>(
     run: Run<'_, R, G>,
     limits: &Limits,
     client: u16,
     jobs: &Receiver<u64>,
     results: &Results,
-    faults: &Mutex<FirstEnding>,
+    faults: &Mutex<FirstEnding<N>>,
 ) {
     if let Err(fault) = join_and_work::<Q, R, G>(run, limits, client, jobs, results) {
         let _noted = give_up_by(run.rt, run.office, faults, client, fault);

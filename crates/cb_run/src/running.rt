@@ -122,6 +122,10 @@ where
     Ok(Counted { committed, sum })
 }
 
+/// The name of a run, under which its clients' endings are noted.
+#[derive(Drop)]
+struct ThisRun;
+
 /// Runs the workers on threads of their own, and the flusher on this one, until all have ended. The
 /// flusher ends once the last worker has; should it end before, the others are halted. Who ends well
 /// holds that the run is over, and whether others cut it off: they halted the office, or closed it
@@ -140,7 +144,7 @@ where
     S: Alter,
     W: Watch,
 {
-    let noted = Mutex::new(FirstEnding::none());
+    let noted = Mutex::new(FirstEnding::none(ThisRun));
     let faults = &noted;
     let flushed = thread::scope(
         thread::scope_env(),
@@ -150,7 +154,9 @@ where
                 let started = match job_list(run.rt, run.alloc, jobs) {
                     Ok(list) => scope
                         .spawn(move || {
-                            run_client::<TwoQ, R, G>(run, limits, client, &list, results, faults)
+                            run_client::<TwoQ, R, G, ThisRun>(
+                                run, limits, client, &list, results, faults,
+                            )
                         })
                         .is_ok(),
                     Err(_) => false,
