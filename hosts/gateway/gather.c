@@ -71,8 +71,8 @@ void gather_send_all(struct gather *gather) {
   }
 }
 
-/* How long others may be waited for from now on: until the next has to come, if it is to cost less
- * than those that wait; 0 where the time is over. */
+/* How long the next may be waited for from now on: no longer than each of those that wait costs; 0
+ * where the time is over. */
 static uint64_t patience(const struct gather *gather) {
   uint64_t most = gather->took / 2 < WAIT_MOST ? gather->took / 2 : WAIT_MOST;
   uint64_t waited = uv_hrtime() - gather->answered;

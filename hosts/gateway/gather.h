@@ -1,12 +1,13 @@
 /* Commits on their way to a server, handed on together: the server writes all that it reads at once
  * in one transaction, which takes one sync, or two where it is long. So no more go together than it
- * reads, but for one that is longer.
+ * reads at once; one that is longer than that goes alone.
  *
  * While some are out the others wait. Once those are answered their clients will commit again in a
  * moment, and it pays to wait for them; but the server is idle meanwhile. So all who were in the
- * last two batches are waited for, as long as the next one comes sooner than those that wait cost
- * each, for at most half as long as the last batch took, and not for a while where nobody came.
- * Other frames don't pass through here. */
+ * last two batches are waited for: for half as long as the last batch took at most, and ten
+ * milliseconds; for the next commit no longer than each of those that wait costs (the time of the
+ * last batch and of the wait, shared by them); and not for a while where nobody came. Other frames
+ * don't pass through here. */
 #ifndef GATEWAY_GATHER_H
 #define GATEWAY_GATHER_H
 

@@ -38,8 +38,8 @@ class Measured:
 
 
 def of_server(room):
-    """The greatest memory of a server after so many commits, by what else is said: the median of
-    nine runs, since it is so little that what a run finds mapped already makes a tenth of it."""
+    """The greatest memory of a server after so many commits, or with what else is said. It is the
+    median of nine runs: so little memory differs by a tenth, by what the system has cached."""
     program = building.named("PROGRAM") or building.program("server_memory", SERVER, ["1"], room)
     measured = Measured(program, room)
 

@@ -343,7 +343,7 @@ def run_copies(tries: Tries, it: Built) -> None:
 # ---- commits that go together ----
 
 # Clients, microseconds of a sync, of each commit at the server, between two that come and of a
-# drawn delay; and how many commits a second there are at least. Where a sync takes 3 ms the server
+# drawn delay; and how many commits a second there are at least. Where a sync takes 3 ms the gateway
 # waits for all; where it takes 0.15 ms, for few.
 GATHERED = {
     (1, 3150, 25, 30, 20): 300, (4, 3150, 25, 30, 20): 1170, (16, 3150, 25, 30, 20): 3900,

@@ -1,5 +1,5 @@
-/* Sets batches of pages in a shelf's tables by its statements, each of other bytes, by libsqlite3, and reads them back:
-   `pages FILE PAGES SIZE COUNT`. */
+/* pages FILE PAGES SIZE COUNT: sets batches of pages in a shelf's tables by a shelf's statements,
+   each time with other bytes, by libsqlite3, and reads the pages back. */
 #include <sqlite3.h>
 #include <stdio.h>
 #include <stdlib.h>
