@@ -1,6 +1,6 @@
 // Runs a program without its output, and says the greatest resident memory that it had, in KB:
-// `peak PROGRAM WORD..`. It is small, since what a process has when it becomes a program counts as
-// that program's.
+// `peak PROGRAM WORD..`. The system also counts what the process had before it became that program.
+// So this one is small, and no script in Python.
 #include <fcntl.h>
 #include <stdio.h>
 #include <sys/resource.h>
