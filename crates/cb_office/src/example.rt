@@ -73,7 +73,9 @@ fn joins_commits_and_leaves<R: Wait + Clock, S: Alter>(
 {
     let store = shelf.load(alloc).ok()?;
     let office = Office::new(Station::new(alloc, limits, store).ok()?, 1);
-    let chooser = TwoQ::make(alloc, limits).ok()?;
+    let Ok(chooser) = TwoQ::make(alloc, limits) else {
+        return None;
+    };
     let client = ClientNo::new(0);
     let mut worker = Worker::join(rt, alloc, &office, limits, client, chooser).ok()?;
     let finished = finishes(rt, alloc, &office, shelf, &mut worker).ok();
