@@ -8,8 +8,8 @@ with, the other edits (their sum, their number and the dearest), the check witho
 end, and a program's check with its two builds. The last lines are the sums in processor minutes and
 the gate's own.
 
-It takes as long as the gate does. Proofs and edits from nothing took some 300 processor minutes, by
-a sum of several runs on a busy machine (28 November 2026). The toolchain is called through a folder
+It takes as long as the gate does. Proofs and edits from nothing took 300 to 400 processor minutes,
+by sums of several runs on busy machines (28 November 2026). The toolchain is called through a folder
 of links in which `rattle` is a program that notes the seconds of each call. KIT names the toolchain
 if it isn't that of the command `rt`. The status is the gate's.
 """
