@@ -53,7 +53,7 @@ uint32_t rughvadi_link_fetch(rughvadi_link *link, uint32_t page, uint8_t *room, 
 /* Waits until the transaction may write the page, which it has read. */
 uint32_t rughvadi_link_want(rughvadi_link *link, uint32_t page);
 
-/* Writes a page that the transaction has read, once it may. */
+/* Wants a page that the transaction has read, waits until it may be written, and writes it. */
 uint32_t rughvadi_link_put(rughvadi_link *link, uint32_t page, const uint8_t *bytes, size_t len);
 
 /* Commits the transaction, and waits until it is on disk; *number is its number. */
