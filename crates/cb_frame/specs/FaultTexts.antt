@@ -15,7 +15,8 @@ frame_text fault.Range = codes "5 Range"
 frame_text fault.Order = codes "6 Order"
 frame_text fault.Memory = codes "7 Memory"
 
--- the same of bytes that came, behind it what is shown of the fault within
+-- of bytes that came: the fault of the frame, or that of who took it, behind the number and name
+-- of which of both it is
 abbrev pub bytes_text : {F : Type 0} → (F → Option (List ℕ)) → BytesFault F → Option (List ℕ)
 bytes_text shown (bytes.Frame fault) = Some (codes "1 Frame: " ++ frame_text fault)
 bytes_text shown (bytes.Taker fault) = option_map (λ text. codes "2 Taker: " ++ text) (shown fault)

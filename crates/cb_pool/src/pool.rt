@@ -19,7 +19,7 @@ use std::fmt;
 use std::marker::Model;
 use thiserror::Error;
 
-/// Why a page was not installed. Nothing changed then.
+/// Why a page was not installed. Nothing changed then. It is printed as its number and its name.
 #[derive(Clone, Copy, Debug, PartialEq, Eq, Error)]
 pub enum PoolFault {
     /// The page isn't here, and each slot has a fixed page.

@@ -54,9 +54,9 @@ DonesNameCommits world = (client incarnation txn number : ℕ)
     → DoneSent world client incarnation txn number
     → IsCommit world.server.commits client incarnation txn number
 
--- Done is said only of commits that are on disk (textbook: durability).
+-- Done is said only of commits that were reported as on disk (textbook: durability).
 pub record DonesOnDisk (world : World) : Type 0 where
-  -- what is on disk was committed
+  -- what was reported was committed
   pub committed : world.server.flushed ≤ world.server.store.last_commit
   -- and each Done that was sent is of a commit up to that
   pub on_disk : (client incarnation txn number : ℕ)

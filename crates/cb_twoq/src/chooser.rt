@@ -8,7 +8,7 @@ use std::alloc::{AllocError, Global};
 use std::fmt;
 use thiserror::Error;
 
-/// Why a reference was refused. Nothing changed then.
+/// Why a reference was refused. Nothing changed then. It is printed as its number and its name.
 #[derive(Clone, Copy, Debug, PartialEq, Eq, Error)]
 pub enum ChooseFault {
     /// The page has no slot, and each slot has a fixed page.
