@@ -1,5 +1,6 @@
 //! The numbers of a body without page bytes.
-ghost use Rattle.std.specs.Prelude.{◌≡◌, ◌≤◌, ◌++◌, IsTrue, ◌↔◌, length, OnOk};
+ghost use Rattle.std.specs.Prelude.{◌≡◌, ◌<◌, ◌≤◌, ◌+◌, ◌++◌, IsTrue, ◌↔◌, length, OnOk, OnErr};
+ghost use Rattle.std.specs.Vec.{vec_len, vec_capacity};
 ghost use Rattle.cb_frame_types.specs.Fields.{FieldsFit, fields_length, fields_spelling};
 
 use crate::words::{put_u32, put_u64};
@@ -70,10 +71,16 @@ impl Fields {
         }
     }
 
-    /// Puts them behind what is there.
+    /// Puts them behind what is there. It is refused only where room for them is lacking and memory
+    /// for more is refused; some of them may have been put then.
     #[tactic(auto, using(std::proofs::Common::append_assoc), unfolding(crate::specs::Fields::fields_spelling))]
     pub fn put(self, out: &mut Vec<u8>) -> Result<(), AllocError>
-        ensures { OnOk result (out.new.items ≡ out.old.items ++ fields_spelling self) }
+        ensures put { OnOk result (out.new.items ≡ out.old.items ++ fields_spelling self) }
+        ensures len { OnOk result (vec_len out.new ≡ vec_len out.old + fields_length self) }
+        // The capacity never shrinks, and room that was there is enough.
+        ensures capacity { vec_capacity out.old ≤ vec_capacity out.new }
+        ensures full { OnErr result (
+            vec_capacity out.old < vec_len out.old + fields_length self) }
     {
         match self {
             Fields::Nothing => Ok(()),
