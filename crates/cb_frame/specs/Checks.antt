@@ -122,7 +122,7 @@ short_at kind.Downgraded bytes = page_grant_txn_at short.Downgraded bytes
 short_at kind.Downgrade bytes = page_grant_txn_at short.Downgrade bytes
 short_at _ bytes = short.Hello
 
--- whether a frame of the kind that a code stands for has page bytes; memory is taken for them alone
+-- whether frames of a code's kind can have page bytes; memory is taken for them alone
 abbrev pub has_pages : Option Kind → Bool
 has_pages None = false
 has_pages (Some kind) = not (is_short kind)

@@ -36,7 +36,7 @@ use std::alloc::Global;
 /// count or a size that isn't the one the length gives is `Length`; a number out of its range is
 /// `Range`; a commit whose pages don't rise is `Order`. All of this is looked at before memory is
 /// taken: once for each page's bytes, and once for a commit's list of them. `Memory` is answered
-/// where that is refused.
+/// where that is refused, so never where there are no page bytes: a commit of no pages takes none.
 pub fn decode(alloc: Global, limits: &Limits, bytes: &[u8]) -> Result<(Frame, usize), FrameFault>
     // What is read is the one spelling of a frame in its version.
     ensures found { IfOk result (λ read. IsFrameInSome limits.now read.0 (take read.1 bytes.now)) }
@@ -48,9 +48,11 @@ pub fn decode(alloc: Global, limits: &Limits, bytes: &[u8]) -> Result<(Frame, us
     // A fault is the first whose cause stands; want of memory never stands in place of one.
     ensures fault { IfErr result (λ e.
         first_fault (causes limits.now bytes.now) ≡ fault_in_bytes e) }
-    // Memory is answered only where the kind is one whose frames have page bytes.
+    // Memory is answered only where the kind is one whose frames can have page bytes.
     ensures memory { has_pages (kind_of (slice_index bytes.now 1)) ≡ false →
         result ≢ Err fault.Memory }
+    // It isn't answered for a commit of no pages either: its body has 10 bytes.
+    ensures empty { body_length bytes.now ≤ 10 → result ≢ Err fault.Memory }
 {
     read(alloc, limits, bytes)
 }
@@ -75,6 +77,7 @@ fn read(alloc: Global, limits: &Limits, bytes: &[u8]) -> Result<(Frame, usize), 
     ensures range { AreInRange limits.now }
     ensures memory { has_pages (kind_of (slice_index bytes.now 1)) ≡ false →
         result ≢ Err fault.Memory }
+    ensures empty { body_length bytes.now ≤ 10 → result ≢ Err fault.Memory }
 {
     let page_size = limits.page_size();
     if bytes.len() < 16 {
@@ -155,6 +158,7 @@ fn frame_of(
         (frame_at limits.now version kind bytes.now)
         result }
     ensures memory { is_short kind ≡ true → result ≢ Err fault.Memory }
+    ensures empty { len ≤ 10 → result ≢ Err fault.Memory }
 {
     let content = &bytes[16..16 + len];
     if !parts_fit(limits, version, kind, content) {

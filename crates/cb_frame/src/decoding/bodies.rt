@@ -35,6 +35,7 @@ pub fn body_of(
         (body_at limits.now version kind body.now)
         result }
     ensures memory { is_short kind ≡ true → result ≢ Err fault.Memory }
+    ensures empty { length body.now ≤ 10 → result ≢ Err fault.Memory }
 {
     match kind {
         Kind::Commit => commit_of(alloc, limits, version, body),
@@ -156,8 +157,9 @@ fn commit_of(
     body: &[u8],
 ) -> Result<Body, FrameFault>
     requires { can_be_length limits.now version Kind.Commit (length body.now) ≡ true }
-    ensures { let commit = commit_at version limits.now.page_size body.now in
+    ensures body { let commit = commit_at version limits.now.page_size body.now in
         Gives (first_fault (body_causes limits.now commit)) commit result }
+    ensures empty { length body.now ≤ 10 → result ≢ Err fault.Memory }
 {
     let txn = txn_at(body, 0)?;
     let count = count_in(version, limits.page_size(), body.len());

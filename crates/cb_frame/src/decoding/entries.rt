@@ -1,5 +1,5 @@
 //! The pages of a commit, in bytes whose length and sizes are right.
-ghost use Rattle.std.specs.Prelude.{◌≡◌, ◌≤◌, ◌+◌, ◌*◌, ◌&&◌, nat_lt, length, map, true, IfOk};
+ghost use Rattle.std.specs.Prelude.{◌≡◌, ◌≤◌, ◌+◌, ◌*◌, ◌&&◌, nat_lt, length, map, true, IfOk, IsOk};
 ghost use Rattle.std.specs.Int.{w32, w64};
 ghost use Rattle.std.specs.List.{list_all};
 ghost use Rattle.cb_page.specs.Numbers.{is_number};
@@ -63,7 +63,7 @@ pub fn pages_rise(limits: &Limits, version: FrameVersion, count: usize, entries:
     true
 }
 
-/// The pages, of which each number is in its range.
+/// The pages, of which each number is in its range. No memory is taken for none.
 pub fn writes_of(
     alloc: Global,
     limits: &Limits,
@@ -74,8 +74,9 @@ pub fn writes_of(
     requires len { length entries.now ≡ count * write_length version limits.now.page_size }
     requires fit { list_all (is_write limits.now)
         (writes_at version limits.now.page_size count entries.now) ≡ true }
-    ensures { IfOk result (λ writes.
+    ensures writes { IfOk result (λ writes.
         writes ≡ writes_at version limits.now.page_size count entries.now) }
+    ensures empty { count ≡ 0 → IsOk result }
 {
     let size = write_length(version, limits.page_size());
     let mut writes = Vec::with_capacity(alloc, count)?;
