@@ -1,5 +1,6 @@
 //! The pages of a commit, in bytes whose length and sizes are right.
-ghost use Rattle.std.specs.Prelude.{◌≡◌, ◌≤◌, ◌+◌, ◌*◌, ◌&&◌, nat_lt, length, map, true, IfOk, IsOk};
+ghost use Rattle.std.specs.Prelude.{◌≡◌, ◌≤◌, ◌+◌, ◌*◌, ◌&&◌, nat_lt, length, map, true};
+ghost use Rattle.std.specs.Prelude.{IfOk, IsOk};
 ghost use Rattle.std.specs.Int.{w32, w64};
 ghost use Rattle.std.specs.List.{list_all};
 ghost use Rattle.cb_page.specs.Numbers.{is_number};
