@@ -32,9 +32,10 @@ pub record IsWorld (v : WorldState) : Type 0 where
   pub serial : IsSerialOnOpening (told v)
   pub running : v.stopped ≡ false → IsReached v
 
--- The world w answers a to event e and becomes v, both running: whatever world of the protocol w
--- is, v is one that this one becomes by the event with the answer. The packets are the old ones and
--- as many more as the answer names, what was told stays told, and the whole promise holds of v.
+-- The world w answers a to event e and becomes v; both are running. If w is a world of the
+-- protocol, then v is what that world becomes by this event with this answer. The packets are the
+-- old ones and as many more as the answer names, what was told stays told, and the whole promise
+-- holds of v.
 pub record Steps (w : WorldState) (e : Event) (a : Answer) (v : WorldState) : Type 0 where
   pub ran : w.stopped ≡ false
   pub runs : v.stopped ≡ false
