@@ -7,8 +7,11 @@ use Rattle.cb_server_state.specs.States.{Does, Stays}
 use Rattle.cb_server_state.specs.declared.server_state.ServerState.{ServerState}
 use Rattle.cb_outbox.proofs.Saying.{after_append, says_as, says_nothing, says_then}
 use Rattle.cb_outbox.specs.Saying.{OutboxState}
+use Rattle.cb_protocol.proofs.ServedSteps.{tells_again, tells_only}
+use Rattle.cb_protocol.proofs.SettlingClears.{after_sends}
 use Rattle.cb_protocol.specs.Messages.{Body, Message, Welcome}
 use Rattle.cb_protocol.specs.Numbers.{copies_sent}
+use Rattle.cb_protocol.specs.Resend.{server_again}
 use Rattle.cb_protocol.specs.Server.{ChangeSession, DeadlockTest, ForgetTransaction, Send, Server, ServerStep, server_after}
 use Rattle.cb_protocol.specs.Session.{Admit, BeginTransaction}
 use Rattle.cb_protocol.specs.ServerMessages.{and_then, begin_transaction, direct_answer, named_txn, take_current}
@@ -124,6 +127,20 @@ serves_as old new f g e m = record {
 
 pub serves_nothing : (e : Engine) → Serves e (λ s. []) e
 serves_nothing e = record { becomes = refl; sends = sym (append-nil e.outbox.sent); stays = stays_same e.callbacks.state; page_size = refl; few = λ few. few; room = λ little. little }
+
+-- what is said again changes nothing
+pub serves_again : (e : Engine) → messages_sent (server_again (server_in e)) ≡ [] → Serves e server_again e
+serves_again e none = record {
+  becomes = sym (after_sends s (server_again s) (tells_only s.flushed (server_again s) (tells_again s.flushed s)));
+  sends = sym (ap (λ (l : List Message). e.outbox.sent ++ l) none ∙ append-nil e.outbox.sent);
+  stays = stays_same e.callbacks.state;
+  page_size = refl;
+  few = λ few. few;
+  room = λ little. little;
+}
+  where
+    s : Server
+    s = server_in e
 
 -- room for an ask's place is made before
 pub reserved : (old res : Engine) → Does old.callbacks.state [] res.callbacks.state → res.outbox ≡ old.outbox → Makes old (λ s. []) res

@@ -1,6 +1,6 @@
 -- What a server answers and does, by the protocol's tables.
-use Rattle.std.specs.Prelude.{◌≡◌, ◌≤◌, ◌==◌, ◌&&◌, nat_le, ℕ, Bool, true, false, List, length}
-use Rattle.std.specs.Prelude.{take}
+use Rattle.std.specs.Prelude.{◌≡◌, ◌≢◌, ◌≤◌, ◌==◌, ◌&&◌, nat_le, ℕ, Bool, true, false, List, []}
+use Rattle.std.specs.Prelude.{length, take}
 use Rattle.cb_frame.specs.Checks.{causes, fault_in_bytes}
 use Rattle.cb_frame.specs.declared.fault.BytesFault.{BytesFault}
 use Rattle.cb_frame.specs.declared.fault.BytesFault.TheVariants as reading
@@ -8,7 +8,7 @@ use Rattle.cb_frame_types.specs.Grammar.{IsFrameInSome}
 use Rattle.cb_frame_types.specs.declared.frame.Frame.{Frame}
 use Rattle.cb_outbox.specs.Messages.{body_of}
 use Rattle.cb_page.specs.Faults.{first_fault}
-use Rattle.cb_protocol.specs.AnyMessages.{Input, MessageComes, input_steps}
+use Rattle.cb_protocol.specs.AnyMessages.{Input, MessageComes, SendsAgain, input_steps}
 use Rattle.cb_protocol.specs.Messages as protocol
 use Rattle.cb_protocol.specs.Messages.{Message, to_server}
 use Rattle.cb_protocol.specs.Server.{Server, server_after}
@@ -29,6 +29,10 @@ pub record Does (old : ServerValue) (input : Input) (messages : List Message) (n
   pub limits : new.limits ≡ old.limits
   pub opening : (commits_of new).opening ≡ (commits_of old).opening
   pub forgotten : (commits_of new).forgotten ≡ (commits_of old).forgotten
+
+-- What may be lost is not nothing: there is something to say again.
+abbrev pub HasToSayAgain : ServerValue → Type 0
+HasToSayAgain state = messages_sent (input_steps on_cycle (server_of state) SendsAgain) ≢ []
 
 -- what comes by a frame
 abbrev pub input_of : Frame → Input

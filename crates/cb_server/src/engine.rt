@@ -1,7 +1,6 @@
 //! What a server does for a message, step by step.
-ghost use Rattle.std.specs.Prelude.{◌≡◌, ◌==◌, ◌<◌, ◌≤◌, ◌∷◌, [], false, true, IfErr, IfOk};
-ghost use Rattle.std.specs.Prelude.{OnErr};
-ghost use Rattle.std.specs.Prelude.{◌+◌, OnOk, length, max};
+ghost use Rattle.std.specs.Prelude.{◌≡◌, ◌≢◌, ◌==◌, ◌<◌, ◌≤◌, ◌∷◌, [], false, true, IfErr, IfOk};
+ghost use Rattle.std.specs.Prelude.{◌+◌, OnErr, OnOk, length, max};
 ghost use Rattle.cb_outbox.specs.Messages.{body_of, short_of};
 ghost use Rattle.cb_protocol.specs.Messages.{Hello, Welcome, to_server};
 ghost use Rattle.cb_protocol.specs.Ranges.{BodyFits};
@@ -11,6 +10,7 @@ ghost use Rattle.cb_protocol.specs.ServerMessages.{admit_incarnation, is_exhaust
 ghost use Rattle.cb_protocol.specs.ServerMessages.{server_take, take_current};
 ghost use Rattle.cb_protocol.specs.Settling.{settle_pages};
 ghost use Rattle.cb_protocol.specs.WaitsFor.{on_cycle};
+ghost use Rattle.cb_protocol.specs.World.{messages_sent};
 ghost use Rattle.cb_server.specs.Answering.{CanSettle, FitsIn, HasClient, HasLimits, HasRoom};
 ghost use Rattle.cb_server.specs.Answering.{IsCurrent, IsLeft, IsReady, LacksNumber, Makes, Meets};
 ghost use Rattle.cb_server.specs.Answering.{Serves, copies_for_body, is_hello, limits_in};
@@ -377,13 +377,18 @@ impl Engine {
         self.callbacks.settle(&mut self.outbox);
     }
 
-    /// What may be lost is said again.
+    /// What may be lost is said again. Where that is nothing, no room is asked for.
     pub(crate) fn again(&mut self, alloc: Global, limits: &Limits) -> Result<(), AllocError>
         requires of { HasLimits self.old limits.now }
         ensures ok { OnOk result (Serves self.old server_again self.new) }
+        ensures needed { OnErr result (messages_sent (server_again (server_in self.old)) ≢ []) }
         ensures callbacks { self.new.callbacks ≡ self.old.callbacks }
         ensures left { OnErr result (IsLeft self.old self.new) }
     {
+        let says = self.callbacks.sends_again(limits);
+        if !says {
+            return Ok(());
+        }
         let clients = usize::from(limits.clients());
         let messages = self.callbacks.messages_to_settle(limits) + clients;
         self.outbox.reserve(alloc, messages, 0)?;

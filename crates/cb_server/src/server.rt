@@ -16,8 +16,8 @@ ghost use Rattle.cb_protocol.specs.AnyMessages.{ReachesDisk, SendsAgain};
 ghost use Rattle.cb_protocol.specs.Flush.{can_flush, next_batch};
 ghost use Rattle.cb_server.specs.ServerValue.{IsNew, IsServer, IsUnchanged, commits_of, forgot};
 ghost use Rattle.cb_server.specs.ServerValue.{most_frames, server_of};
-ghost use Rattle.cb_server.specs.Taking.{Does, IsBytesFault, MayWantMemory, Refuses, Takes};
-ghost use Rattle.cb_server.specs.Taking.{TakesBytes, lacks_number_for};
+ghost use Rattle.cb_server.specs.Taking.{Does, HasToSayAgain, IsBytesFault, MayWantMemory};
+ghost use Rattle.cb_server.specs.Taking.{Refuses, Takes, TakesBytes, lacks_number_for};
 ghost use Rattle.cb_server_state.specs.Commits.{batch_of};
 ghost use Rattle.cb_server_state.specs.States.{AreOf, PartsAgree, newest_first};
 ghost use Rattle.cb_waits.specs.Follows.{Follows};
@@ -204,12 +204,13 @@ impl Server {
     /// What may be lost is said again: Callbacks for the first asks to write, Downgrades for the
     /// first asks to read, AbortNow to the doomed. Nothing else changes.
     ///
-    /// `AllocError` only where memory was refused.
+    /// `AllocError` only where memory was refused, so never where there is nothing to say.
     pub fn again(&mut self, alloc: Global) -> Result<Vec<Frame>, AllocError>
         ensures ok { IfOk result (λ said. Does self.old SendsAgain (messages_of said.items)
             self.new) }
         ensures fits { IfOk result (λ said. AllByRecursion (Fits self.old.limits) said.items) }
         ensures room { IfOk result (λ said. vec_capacity said ≤ most_frames (server_of self.old)) }
+        ensures needed { OnErr result (HasToSayAgain self.old) }
         ensures unchanged { IsUnchanged self.old self.new }
     {
         self.engine.again(alloc, &self.limits)?;

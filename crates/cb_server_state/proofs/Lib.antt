@@ -7,6 +7,7 @@
 -- Changes: what is said with a change.
 -- Rooms, Walks: room for some of the steps; a walk that leaves out those to whom nothing is sent.
 -- Calling, Again: callbacks to those with a copy; what is sent again.
+-- Lost: whether steps send a message at all.
 -- Spending: by which word an ask that left was spent.
 pub mod Alike
 pub mod Rows
@@ -19,4 +20,5 @@ pub mod Rooms
 pub mod Walks
 pub mod Calling
 pub mod Again
+pub mod Lost
 pub mod Spending

@@ -13,7 +13,7 @@ up_to each zero = []
 up_to each (suc number) = up_to each number ++ each number
 
 module _ (each : ℕ → List ServerStep) where
-  up_to_none : (from end : ℕ) → from ≤ end → ((number : ℕ) → from ≤ number → number < end → each number ≡ []) → up_to each end ≡ up_to each from
+  pub up_to_none : (from end : ℕ) → from ≤ end → ((number : ℕ) → from ≤ number → number < end → each number ≡ []) → up_to each end ≡ up_to each from
   up_to_none from zero le none = ap (up_to each) (let e : zero ≡ from = omega (arith, le) in e)
   up_to_none from (suc number) le none = elim (cases_lt number from) [
     | inl below ↦ ap (up_to each) (let e : suc number ≡ from = omega (arith, le, below) in e)
@@ -23,16 +23,16 @@ module _ (each : ℕ → List ServerStep) where
         ∙ up_to_none from number past (λ other above lt. none other above (omega (arith, lt))))
   ]
 
-  up_to_next : (from number : ℕ) → from ≤ number → ((other : ℕ) → from ≤ other → other < number → each other ≡ [])
+  pub up_to_next : (from number : ℕ) → from ≤ number → ((other : ℕ) → from ≤ other → other < number → each other ≡ [])
       → up_to each (number + 1) ≡ up_to each from ++ each number
   up_to_next from number le none = ap (up_to each) (add-one number)
       ∙ ap (λ (l : List ServerStep). l ++ each number) (up_to_none from number le none)
 
-  record Rest (from end : ℕ) : Type 0 where
-    rest : List ServerStep
-    is : up_to each end ≡ up_to each from ++ rest
+  pub record Rest (from end : ℕ) : Type 0 where
+    pub rest : List ServerStep
+    pub is : up_to each end ≡ up_to each from ++ rest
 
-  up_to_rest : (from end : ℕ) → from ≤ end → Rest from end
+  pub up_to_rest : (from end : ℕ) → from ≤ end → Rest from end
   up_to_rest from zero le = record {
     rest = [];
     is = ap (up_to each) (let e : zero ≡ from = omega (arith, le) in e) ∙ sym (append-nil (up_to each from));

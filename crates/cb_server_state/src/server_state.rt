@@ -14,6 +14,7 @@ mod asking;
 mod commits;
 mod holding_up;
 mod known;
+mod lost;
 mod questions;
 mod saying;
 mod steps;

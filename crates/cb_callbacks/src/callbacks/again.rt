@@ -1,9 +1,10 @@
 //! What may be lost is sent again.
-ghost use Rattle.std.specs.Prelude.{◌≤◌, ◌+◌, ◌*◌, length};
+ghost use Rattle.std.specs.Prelude.{◌≡◌, ◌≤◌, ◌+◌, ◌*◌, length};
 ghost use Rattle.cb_asks.specs.Asks.{asks_below};
 ghost use Rattle.cb_outbox.specs.Saying.{HasRoomFor, OutboxState, Says};
 ghost use Rattle.cb_protocol.specs.Numbers.{messages_for_pages};
 ghost use Rattle.cb_protocol.specs.Resend.{server_again};
+ghost use Rattle.cb_server_state.specs.Asking.{sends_any};
 ghost use Rattle.cb_server_state.specs.States.{AreOf, server_of};
 
 use crate::Callbacks;
@@ -11,6 +12,15 @@ use cb_outbox::Outbox;
 use cb_page::Limits;
 
 impl Callbacks {
+    /// Whether anything is to be sent again. It looks no further than the first message that it
+    /// finds.
+    pub fn sends_again(&self, limits: &Limits) -> bool
+        requires of { AreOf limits.now self.now.state }
+        ensures { result ≡ sends_any (server_again (server_of self.now.state)) }
+    {
+        self.state.sends_again(limits.clients())
+    }
+
     /// What may be lost is sent again: for the first ask of each page, Callbacks or a Downgrade to
     /// those that have not said InUse; and AbortNow to each client whose transaction is doomed.
     pub fn again(&self, limits: &Limits, outbox: &mut Outbox)

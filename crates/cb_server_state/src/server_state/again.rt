@@ -97,7 +97,7 @@ impl ServerState {
     }
 
     /// The client's live transaction, where it is the victim of a deadlock.
-    fn victim(&self, client: ClientNo) -> Option<TxnNo>
+    pub(crate) fn victim(&self, client: ClientNo) -> Option<TxnNo>
         requires { HasClient self.now client }
         ensures { MatchOption result ((server_of self.now).doomed client ≡ false)
             (λ txn. ((server_of self.now).doomed client ≡ true)

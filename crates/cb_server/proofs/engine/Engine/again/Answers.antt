@@ -1,10 +1,19 @@
 -- Goals of `Engine::again`.
 use Rattle.std.proofs.Common.{◌≤◌, length, refl, sym, ap, ◌∙◌, arith}
 use Rattle.cb_protocol.specs.Resend.{server_again}
-use Rattle.cb_server.specs.Answering.{HasLittleRoom, most_room}
+use Rattle.cb_server_state.proofs.Lost.{none_sent, some_sent}
+use Rattle.cb_server.specs.Answering.{HasLittleRoom, most_room, server_in}
 use Rattle.cb_server.specs.declared.engine.Engine.{Engine}
-use Rattle.cb_server.proofs.Making.{if_err, serves, stays_same}
+use Rattle.cb_server.proofs.Making.{if_err, serves, serves_again, stays_same}
 use Rattle.cb_server.proofs.engine.Engine.again.Goals as goal
+
+pub returns-then-not-says-clause-ok : goal.returns-then-not-says-clause-ok
+returns-then-not-says-clause-ok c =
+    serves_again c.args.self.now (none_sent (server_again (server_in c.args.self.now)) (sym c.sends_again-says.ensures ∙ c.if-not-says.true))
+
+pub returns-in_err-reserve-clause-needed : goal.returns-in_err-reserve-clause-needed
+returns-in_err-reserve-clause-needed c =
+    if_err c.from_residual.result (some_sent (server_again (server_in c.args.self.now)) (sym c.sends_again-says.ensures ∙ c.if-not-says.false))
 
 pub again-requires-clause-room : goal.again-requires-clause-room
 again-requires-clause-room c =
