@@ -1,7 +1,7 @@
 -- Whether steps send a message, one list after another and along a walk.
-use Rattle.std.proofs.Common.{◌≡◌, ◌≢◌, ℕ, ◌+◌, ◌<◌, ◌≤◌, Bool, true, false, ◌||◌, List, [], ◌∷◌, ◌++◌, refl, sym, ap, ◌∙◌, arith, rules}
+use Rattle.std.proofs.Common.{◌≡◌, ◌≢◌, ℕ, ◌+◌, ◌<◌, ◌≤◌, Bool, true, false, ◌||◌, List, [], ◌∷◌, ◌++◌, refl, sym, ap, ◌∙◌, arith}
 use Rattle.cb_server_state.specs.Asking.{sends_any}
-use Rattle.cb_server_state.proofs.Walks.{Rest, up_to, up_to_next, up_to_none, up_to_rest}
+use Rattle.cb_server_state.proofs.Walks.{up_to, up_to_next, up_to_none, up_to_rest}
 use Rattle.cb_protocol.specs.Resend.{again_doomed}
 use Rattle.cb_protocol.specs.Server.{Send, Server, ServerStep}
 use Rattle.cb_protocol.specs.World.{messages_sent}

@@ -1,5 +1,5 @@
 -- Goals of `ServerState::aborts_again`.
-use Rattle.std.proofs.Common.{◌≡◌, ◌<◌, ◌≤◌, true, rules, sym, ap, arith, ◌∙◌}
+use Rattle.std.proofs.Common.{◌≡◌, ◌<◌, ◌≤◌, true, rules, sym, arith}
 use Rattle.cb_protocol.specs.Resend.{again_doomed}
 use Rattle.cb_protocol.specs.Server.{Server}
 use Rattle.cb_server_state.specs.Asking.{abort_to, sends_any}
