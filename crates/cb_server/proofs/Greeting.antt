@@ -1,6 +1,7 @@
 -- Hello, by its incarnation, and every other message.
-use Rattle.std.proofs.Common.{◌≡◌, ◌≢◌, ℕ, ◌<◌, ◌≤◌, nat_lt, nat_le, Bool, true, false, ◌==◌, ◌&&◌, if◌then◌else◌, [], ◌∷◌, refl, sym, ap, ◌∙◌, arith, true≢false}
+use Rattle.std.proofs.Common.{◌≡◌, ◌≢◌, ℕ, ◌+◌, ◌<◌, ◌≤◌, nat_lt, nat_le, Bool, true, false, ◌==◌, ◌&&◌, if◌then◌else◌, [], ◌∷◌, refl, sym, ap, ◌∙◌, arith, true≢false}
 use Rattle.std.proofs.lemmas.Bool.Decides.{nat_tests}
+use Rattle.cb_asks.specs.Asks.{asks_below}
 use Rattle.cb_server_state.specs.Questions.{admission_in}
 use Rattle.cb_links.specs.declared.sessions.Admission.{Admission}
 use Rattle.cb_links.specs.declared.sessions.Admission.TheVariants as admission
@@ -10,8 +11,8 @@ use Rattle.cb_protocol.specs.Server.{Send, Server}
 use Rattle.cb_protocol.specs.ServerMessages.{admit_incarnation, begin_transaction, direct_answer, lacks_number, named_txn, server_take, take_current}
 use Rattle.cb_protocol.specs.Settling.{settle_pages}
 use Rattle.cb_protocol.specs.WaitsFor.{on_cycle}
-use Rattle.cb_server.specs.Answering.{is_hello}
-use Rattle.cb_server.specs.Taking.{may_want_memory}
+use Rattle.cb_server.specs.Answering.{copies_for_body, is_hello, messages_for_body}
+use Rattle.cb_server.specs.Taking.{may_be_answered, may_want_memory, may_want_room}
 use Rattle.cb_server.proofs.Making.{begins_none}
 
 pub is_unknown : (s : Server) (c i : ℕ) → admission.Unknown ≡ admission_in s c i → (s.session c).current < i
@@ -94,11 +95,35 @@ ignored s c b way settled = rw (begins b way, answers b way, settled) refl
     answers (Downgraded p g t) e = absurd cc
     answers _ e = refl
 
--- a number is lacking only for what goes to a server
-pub lacks_at_server : (s : Server) (c : ℕ) (b : Body) → lacks_number s c b ≡ true → to_server b ≡ true
-lacks_at_server s c (AskRead t p) e = refl
-lacks_at_server s c (Commit t ws) e = refl
-lacks_at_server s c _ e = absurd cc
+-- a number is lacking only for what may be answered
+pub lacks_answered : (s : Server) (c : ℕ) (b : Body) → lacks_number s c b ≡ true → may_be_answered b ≡ true
+lacks_answered s c (AskRead t p) e = refl
+lacks_answered s c (Commit t ws) e = refl
+lacks_answered s c _ e = absurd cc
+
+-- what may be answered may want memory
+pub answered_may_want : (s : Server) (b : Body) → may_be_answered b ≡ true → may_want_room s b ≡ true
+answered_may_want s Hello e = refl
+answered_may_want s (AskRead t p) e = refl
+answered_may_want s (AskWrite t p g) e = refl
+answered_may_want s (Commit t ws) e = refl
+answered_may_want s _ e = absurd cc
+
+some_wait : (n m k : ℕ) → m ≡ 0 → k ≡ 0 → 0 < m + k + n → nat_lt 0 n ≡ true
+some_wait n m k e f l = grind (arith, nat_tests)
+
+-- so may what needs room
+pub room_may_want : (s : Server) (b : Body) (clients m k : ℕ) → to_server b ≡ true → m ≡ messages_for_body clients b → k ≡ copies_for_body b
+    → 0 < m + k + asks_below s s.pages → may_want_room s b ≡ true
+room_may_want s Hello n m k t e f l = refl
+room_may_want s (AskRead r p) n m k t e f l = refl
+room_may_want s (AskWrite r p g) n m k t e f l = refl
+room_may_want s (Commit r ws) n m k t e f l = refl
+room_may_want s (GiveBack p g) n m k t e f l = some_wait (asks_below s s.pages) m k e f l
+room_may_want s (InUse r p g) n m k t e f l = some_wait (asks_below s s.pages) m k e f l
+room_may_want s (Drop r) n m k t e f l = some_wait (asks_below s s.pages) m k e f l
+room_may_want s (Downgraded p g r) n m k t e f l = some_wait (asks_below s s.pages) m k e f l
+room_may_want s _ n m k t e f l = absurd cc
 
 -- for which messages memory may be wanted
 both : (a b : Bool) → a ≡ true → b ≡ true → (a && b) ≡ true
@@ -123,6 +148,6 @@ pub hello_may_want : (s : Server) (c i : ℕ) (b : Body) → is_hello b ≡ true
 hello_may_want s c i Hello h l = at_most _ _ l
 hello_may_want s c i _ h l = absurd cc
 
-pub current_may_want : (s : Server) (c i : ℕ) (b : Body) → is_hello b ≡ false → i ≡ (s.session c).current → to_server b ≡ true → may_want_memory s c i b ≡ true
+pub current_may_want : (s : Server) (c i : ℕ) (b : Body) → is_hello b ≡ false → i ≡ (s.session c).current → may_want_room s b ≡ true → may_want_memory s c i b ≡ true
 current_may_want s c i Hello h e t = absurd cc
 current_may_want s c i b h e t = both _ _ (same_number i _ e) t

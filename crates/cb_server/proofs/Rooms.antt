@@ -1,13 +1,15 @@
 -- Room for settling, once a message is answered.
-use Rattle.std.proofs.Common.{◌≡◌, ℕ, ◌+◌, ◌≤◌, false, List, ◌++◌, length, sym, ap, ◌∙◌, subst, arith}
+use Rattle.std.proofs.Common.{◌≡◌, ℕ, ◌+◌, ◌<◌, ◌≤◌, false, true≢false, List, [], ◌∷◌, ◌++◌, length, Result, Ok, Err, OnErr, zero, suc, refl, sym, ap, ◌∙◌, subst, arith}
+use Rattle.std.specs.Prelude.{IsOk}
 use Rattle.std.proofs.lemmas.List.{length-append}
+use Rattle.cb_asks.specs.Asks.{asks_below}
 use Rattle.cb_outbox.proofs.Saying.{after_append, copies_append, sent_append}
 use Rattle.cb_page.specs.Bounds.{Bounds}
 use Rattle.cb_protocol.proofs.GrantNumbers.{left_at_admission, left_at_answer, left_at_begin}
 use Rattle.cb_protocol.specs.Messages.{AskRead, AskWrite, Body, Commit, Hello, Message}
-use Rattle.cb_protocol.specs.Numbers.{HasGrantsLeft, copies_sent}
-use Rattle.cb_protocol.specs.Server.{Server, ServerStep, server_after}
-use Rattle.cb_protocol.specs.ServerMessages.{begin_transaction, direct_answer, named_txn}
+use Rattle.cb_protocol.specs.Numbers.{HasGrantsLeft, copies_sent, messages_for_pages, messages_for_queue}
+use Rattle.cb_protocol.specs.Server.{Server, ServerStep, WaitingAsk, server_after}
+use Rattle.cb_protocol.specs.ServerMessages.{begin_transaction, direct_answer, named_txn, read_asks_below, read_asks_in}
 use Rattle.cb_protocol.specs.WaitsFor.{on_cycle}
 use Rattle.cb_protocol.specs.World.{messages_sent}
 use Rattle.cb_server.specs.Answering.{CanAnswer, CanSayTo, CanSettle, HasLimits, HasRoom, LacksNumber, Makes, answer_to, copies_for_body, messages_for_body, messages_in_all, read_asks_in_all, server_in}
@@ -85,6 +87,36 @@ can_answer old mid limits b messages copies of same is also room =
     subst (λ (n : ℕ). HasRoom mid (messages_in_all mid + n) (read_asks_in_all mid + copies_for_body b))
     (is ∙ ap (λ (n : ℕ). messages_for_body n b) (sym (ap (λ (s : Server). s.clients) same ∙ of.clients)))
     (subst (λ (n : ℕ). HasRoom mid (messages_in_all mid + messages) (read_asks_in_all mid + n)) also room)
+
+-- where nobody waits, settling needs nothing
+none_at : (n m : ℕ) → n + m ≡ 0 → (n ≡ 0) × (m ≡ 0)
+none_at n m e = (omega (arith, e), omega (arith, e))
+
+no_messages : (clients : ℕ) (q : List WaitingAsk) → length q ≡ 0 → messages_for_queue clients q ≡ 0
+no_messages clients [] e = refl
+no_messages clients (a ∷ q) e = absurd (omega (arith, e))
+
+no_reads : (q : List WaitingAsk) → length q ≡ 0 → read_asks_in q ≡ 0
+no_reads [] e = refl
+no_reads (a ∷ q) e = absurd (omega (arith, e))
+
+pub no_messages_below : (s : Server) (end : ℕ) → asks_below s end ≡ 0 → messages_for_pages s end ≡ 0
+no_messages_below s zero e = refl
+no_messages_below s (suc page) e =
+    let both = none_at (asks_below s page) (length (s.queue page)) e in
+    let rest = no_messages_below s page both.0 in let here = no_messages s.clients (s.queue page) both.1 in omega (arith, rest, here)
+
+pub no_reads_below : (s : Server) (end : ℕ) → asks_below s end ≡ 0 → read_asks_below s end ≡ 0
+no_reads_below s zero e = refl
+no_reads_below s (suc page) e =
+    let both = none_at (asks_below s page) (length (s.queue page)) e in
+    let rest = no_reads_below s page both.0 in let here = no_reads (s.queue page) both.1 in omega (arith, rest, here)
+
+-- what can't be refused for nothing is refused for something
+pub refused_for : {X F : Type 0} (r : Result X F) (n : ℕ) → (n ≡ 0 → IsOk r) → OnErr r (0 < n)
+refused_for (Ok x) n f = tt
+refused_for (Err x) zero f = absurd (true≢false (sym (f refl)))
+refused_for (Err x) (suc n) f = omega arith
 
 -- there is room for the answer alone
 pub can_say_to : (e : Engine) (b : Body) → CanAnswer e b → CanSayTo b e

@@ -2,7 +2,7 @@
 use Rattle.std.specs.Prelude.{◌≡◌, ◌≤◌, ◌<◌, ◌+◌, ◌&&◌, ℕ, Bool, true, false, List}
 use Rattle.std.specs.Prelude.{[], ◌∷◌, ◌++◌}
 use Rattle.std.specs.Prelude.{length, ⊤}
-use Rattle.cb_asks.specs.Asks.{room_at}
+use Rattle.cb_asks.specs.Asks.{asks_below, room_at}
 use Rattle.cb_callbacks.specs.Numbers as numbers
 use Rattle.cb_callbacks.specs.Numbers.{IsLiveOne}
 use Rattle.cb_commit.specs.History.{FitsInto}
@@ -70,8 +70,12 @@ pub record HasRoom (engine : Engine) (messages copies : ℕ) : Type 0 where
 abbrev pub read_asks_in_all : Engine → ℕ
 read_asks_in_all engine = read_asks_below (server_in engine) (server_in engine).pages
 
--- how many messages settling may send for them: two for an ask to read, and for an ask to write one
--- to each client and one more to its own (this project's rule)
+-- how many asks wait
+abbrev pub asks_in_all : Engine → ℕ
+asks_in_all engine = asks_below (server_in engine) (server_in engine).pages
+
+-- how many messages settling may send for all asks that wait: two for an ask to read, and for an
+-- ask to write one to each client and one more to its own (this project's rule)
 abbrev pub messages_in_all : Engine → ℕ
 messages_in_all engine = messages_for_pages (server_in engine) (server_in engine).pages
 

@@ -1,6 +1,7 @@
 -- What a server answers and does, by the protocol's tables.
-use Rattle.std.specs.Prelude.{◌≡◌, ◌≢◌, ◌≤◌, ◌==◌, ◌&&◌, nat_le, ℕ, Bool, true, false, List, []}
-use Rattle.std.specs.Prelude.{length, take}
+use Rattle.std.specs.Prelude.{◌≡◌, ◌≢◌, ◌≤◌, ◌==◌, ◌&&◌, ◌||◌, nat_le, nat_lt, ℕ, Bool, true, false}
+use Rattle.std.specs.Prelude.{List, [], length, take}
+use Rattle.cb_asks.specs.Asks.{asks_below}
 use Rattle.cb_frame.specs.Checks.{causes, fault_in_bytes}
 use Rattle.cb_frame.specs.declared.fault.BytesFault.{BytesFault}
 use Rattle.cb_frame.specs.declared.fault.BytesFault.TheVariants as reading
@@ -54,13 +55,31 @@ abbrev pub is_exhaustion : ServerFault → Bool
 is_exhaustion fault.Exhausted = true
 is_exhaustion fault.Memory = false
 
--- Memory may be wanted for it: a Hello that isn't stale, or another message to a server, of the
--- current incarnation. Whatever else comes is let go (this project's rule).
+-- some ask waits
+abbrev pub somebody_waits : Server → Bool
+somebody_waits server = nat_lt 0 (asks_below server server.pages)
+
+-- A message that its client may hear an answer to, at once or once its ask is met, or whose pages
+-- are kept. No other says anything, where nobody waits.
+abbrev pub may_be_answered : protocol.Body → Bool
+may_be_answered protocol.Hello = true
+may_be_answered (protocol.AskRead txn page) = true
+may_be_answered (protocol.AskWrite txn page grant) = true
+may_be_answered (protocol.Commit txn writes) = true
+may_be_answered _ = false
+
+-- Memory may be wanted for a message of the current incarnation: for one to a server that may be
+-- answered, or where some ask waits (this project's rule).
+abbrev pub may_want_room : Server → protocol.Body → Bool
+may_want_room server body = to_server body && (may_be_answered body || somebody_waits server)
+
+-- Memory may be wanted for it: for a Hello that isn't stale, or for another message of the current
+-- incarnation, as said above. Whatever else comes is let go (this project's rule).
 abbrev pub may_want_memory : Server → (client incarnation : ℕ) → protocol.Body → Bool
 may_want_memory server client incarnation protocol.Hello =
     nat_le (server.session client).current incarnation
 may_want_memory server client incarnation body =
-    (incarnation == (server.session client).current) && to_server body
+    (incarnation == (server.session client).current) && may_want_room server body
 
 -- A frame for which memory may be wanted.
 abbrev pub MayWantMemory : ServerValue → Frame → Type 0

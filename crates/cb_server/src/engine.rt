@@ -13,10 +13,11 @@ ghost use Rattle.cb_protocol.specs.WaitsFor.{on_cycle};
 ghost use Rattle.cb_protocol.specs.World.{messages_sent};
 ghost use Rattle.cb_server.specs.Answering.{CanSettle, FitsIn, HasClient, HasLimits, HasRoom};
 ghost use Rattle.cb_server.specs.Answering.{IsCurrent, IsLeft, IsReady, LacksNumber, Makes, Meets};
-ghost use Rattle.cb_server.specs.Answering.{Serves, copies_for_body, is_hello, limits_in};
+ghost use Rattle.cb_server.specs.Answering.{Serves, asks_in_all, copies_for_body, is_hello};
+ghost use Rattle.cb_server.specs.Answering.{limits_in};
 ghost use Rattle.cb_server.specs.Answering.{messages_for_body, messages_in_all};
 ghost use Rattle.cb_server.specs.Answering.{read_asks_in_all, server_in};
-ghost use Rattle.cb_server.specs.Taking.{is_exhaustion, may_want_memory};
+ghost use Rattle.cb_server.specs.Taking.{is_exhaustion, may_want_memory, may_want_room};
 
 mod answers;
 mod asks;
@@ -174,7 +175,8 @@ impl Engine {
         ensures taken { OnOk result (LacksNumber self.old client (body_of body.now) false) }
         ensures err { IfErr result (λ fault.
             LacksNumber self.old client (body_of body.now) (is_exhaustion fault)) }
-        ensures needed { OnErr result (to_server (body_of body.now) ≡ true) }
+        ensures needed { OnErr result
+            (may_want_room (server_in self.old) (body_of body.now) ≡ true) }
         ensures left { OnErr result (IsLeft self.old self.new) }
     {
         match body {
@@ -208,7 +210,8 @@ impl Engine {
         ensures taken { OnOk result (LacksNumber self.old client (short_of body.now) false) }
         ensures err { IfErr result (λ fault.
             LacksNumber self.old client (short_of body.now) (is_exhaustion fault)) }
-        ensures needed { OnErr result (to_server (short_of body.now) ≡ true) }
+        ensures needed { OnErr result
+            (may_want_room (server_in self.old) (short_of body.now) ≡ true) }
         ensures left { OnErr result (IsLeft self.old self.new) }
     {
         if self.lacks_grant(client, body) {
@@ -341,7 +344,7 @@ impl Engine {
     }
 
     /// Room for an answer of so many messages and copies of pages, and for settling once that is
-    /// given.
+    /// given. None is asked for where there is no answer and nobody waits.
     pub(crate) fn reserve(
         &mut self,
         alloc: Global,
@@ -360,6 +363,7 @@ impl Engine {
         ensures most_room { self.new.outbox.room ≤ max self.old.outbox.room
             (length self.old.outbox.sent + (messages_in_all self.old + messages)) }
         ensures callbacks { self.new.callbacks ≡ self.old.callbacks }
+        ensures needed { OnErr result (0 < messages + copies + asks_in_all self.old) }
         ensures left { IsLeft self.old self.new }
     {
         let messages = self.callbacks.messages_to_settle(limits) + messages;

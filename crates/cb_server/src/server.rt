@@ -106,7 +106,8 @@ impl Server {
     /// would enter a queue, beyond one for each that waits, or a commit number for a commit that
     /// would be applied. `Memory` only where a growth was refused, so never for a frame that is let
     /// go: of another incarnation than the current one, but for a greater one's Hello, or of a kind
-    /// that goes to clients. Nothing changes then.
+    /// that goes to clients; and, where nobody waits, for no GiveBack, InUse, Drop or Downgraded.
+    /// Nothing changes then.
     ///
     /// The pages of a commit that is applied are copied, since the list of commits keeps them; no
     /// others are.

@@ -1,5 +1,5 @@
 //! The direct answers to messages, once their transactions have begun.
-ghost use Rattle.std.specs.Prelude.{◌≡◌, ℕ, OnErr, OnOk};
+ghost use Rattle.std.specs.Prelude.{◌≡◌, ℕ, OnErr, OnOk, true};
 ghost use Rattle.cb_outbox.specs.Messages.{short_of};
 ghost use Rattle.cb_protocol.specs.Messages.{Downgraded, Drop as DropBody, GiveBack, InUse};
 ghost use Rattle.cb_protocol.specs.Ranges.{BodyFits};
@@ -8,6 +8,7 @@ ghost use Rattle.cb_protocol.specs.WaitsFor.{on_cycle};
 ghost use Rattle.cb_server.specs.Answering.{Begins, CanSay, CanSayTo, HasBegunTold, HasClient};
 ghost use Rattle.cb_server.specs.Answering.{HasPage, IsCurrent, IsLeft, IsStanding, Makes, Stands};
 ghost use Rattle.cb_server.specs.Answering.{answer_to, limits_in, server_in};
+ghost use Rattle.cb_server.specs.Taking.{may_be_answered};
 
 use crate::engine::Engine;
 use cb_frame::ShortBody;
@@ -56,6 +57,7 @@ impl Engine {
         requires room { CanSayTo (short_of body) self.old }
         ensures ok { OnOk result (Makes self.old (answer_to on_cycle client (short_of body))
             self.new) }
+        ensures needed { OnErr result (may_be_answered (short_of body) ≡ true) }
         ensures left { OnErr result (IsLeft self.old self.new) }
     {
         match body {

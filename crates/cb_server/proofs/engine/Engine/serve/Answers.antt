@@ -1,11 +1,12 @@
 -- Goals of `Engine::serve`.
-use Rattle.std.proofs.Common.{rules, ◌≡◌, ◌∙◌, [], false, sym, subst}
+use Rattle.std.proofs.Common.{rules, ◌≡◌, ◌∙◌, [], false, true, sym, subst}
 use Rattle.cb_outbox.specs.Messages.{short_of}
+use Rattle.cb_protocol.specs.Messages.{to_server}
 use Rattle.cb_protocol.specs.Server.{Server, server_after}
 use Rattle.cb_protocol.specs.ServerMessages.{begin_transaction, lacks_number, named_txn, take_current}
 use Rattle.cb_protocol.specs.WaitsFor.{on_cycle}
 use Rattle.cb_server.specs.Answering.{server_in}
-use Rattle.cb_server.proofs.Greeting.{ignored, lacks_at_server}
+use Rattle.cb_server.proofs.Greeting.{answered_may_want, ignored, lacks_answered, room_may_want}
 use Rattle.cb_server.proofs.Making.{if_err, left_then, serves, serves_as, serves_nothing, takes}
 use Rattle.cb_server.proofs.Rooms.{can_answer, can_say_to, settles_after_answer}
 use Rattle.cb_server.proofs.engine.Engine.serve.Goals as goal
@@ -37,8 +38,20 @@ returns-clause-ok c =
 
 pub returns-then-lacks_grant-clause-needed : goal.returns-then-lacks_grant-clause-needed
 returns-then-lacks_grant-clause-needed c =
-    lacks_at_server (server_after (server_in c.args.self.now) (begin_transaction (server_in c.args.self.now) c.args.client (named_txn (short_of c.args.body.now)))) c.args.client (short_of c.args.body.now)
-    (c.lacks_grant.ensures ∙ c.if-lacks_grant.true)
+    answered_may_want (server_in c.args.self.now) (short_of c.args.body.now)
+    (lacks_answered (server_after (server_in c.args.self.now) (begin_transaction (server_in c.args.self.now) c.args.client (named_txn (short_of c.args.body.now)))) c.args.client (short_of c.args.body.now)
+    (c.lacks_grant.ensures ∙ c.if-lacks_grant.true))
+
+pub returns-in_err-reserve-clause-needed : goal.returns-in_err-reserve-clause-needed
+returns-in_err-reserve-clause-needed c =
+    let way : to_server (short_of c.args.body.now) ≡ true = search rules in
+    if_err c.from_residual.result
+    (room_may_want (server_in c.args.self.now) (short_of c.args.body.now) c.args.limits.now.clients c.messages_for_body.result c.copies_for_body.result way
+    c.messages_for_body.ensures.messages c.copies_for_body.ensures.copies c.in_err-reserve.ensures.needed)
+
+pub returns-in_err-answer-clause-needed : goal.returns-in_err-answer-clause-needed
+returns-in_err-answer-clause-needed c =
+    if_err c.from_residual-in_err-answer.result (answered_may_want (server_in c.args.self.now) (short_of c.args.body.now) c.in_err-answer.ensures.needed)
 
 pub returns-in_err-answer-clause-left : goal.returns-in_err-answer-clause-left
 returns-in_err-answer-clause-left c =
