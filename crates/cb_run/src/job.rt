@@ -5,6 +5,7 @@ ghost use Rattle.cb_run.specs.Jobs.{CommitsJob, Copies, CountsBoth, CountsUp, En
 ghost use Rattle.cb_run.specs.Jobs.{IsOneMore};
 ghost use Rattle.cb_worker.specs.Workers.{last_txn};
 
+use crate::ended_try::{EndedTry, enter_next, give_back};
 use cb_admission::TryEnd;
 use cb_jobs::count_up;
 use cb_page::{ClientNo, CommitNo, PageNo};
@@ -14,39 +15,44 @@ use cb_worker::{Fetched, Finished, Wanted, Worker, WorkerFault};
 use std::alloc::Global;
 use std::sync::Wait;
 
-/// Runs a job, once more each time that it is aborted, and answers the number of its commit.
+/// Runs a job, once more each time that it is aborted, and answers the number of its commit. The
+/// try that ended last is `held`, before and afterwards.
 pub(crate) fn run_job<R: Wait, Q: Chooser>(
     rt: &R,
     alloc: Global,
     office: &Office,
     worker: &mut Worker<Q>,
     client: ClientNo,
+    held: &mut Option<EndedTry>,
 ) -> Result<CommitNo, WorkerFault>
     ensures { IfOk result (λ number.
         CommitsJob client number worker.old worker.new) }
 {
     for _ in rt.forever() {
-        if let Some(number) = admitted(rt, alloc, office, worker, client)? {
+        if let Some(number) = admitted(rt, alloc, office, worker, client, held)? {
             return Ok(number);
         }
     }
     unreachable!()
 }
 
-/// Tries a job once the office lets it in, and gives the ticket back, however the try ends; `None`
-/// where it was aborted.
+/// Tries a job once the office lets it in, and holds the try as it ended; `None` where it was
+/// aborted.
 fn admitted<R: Wait, Q: Chooser>(
     rt: &R,
     alloc: Global,
     office: &Office,
     worker: &mut Worker<Q>,
     client: ClientNo,
+    held: &mut Option<EndedTry>,
 ) -> Result<Option<CommitNo>, WorkerFault>
     ensures { IfOk result (λ ended. EndsJob client ended worker.old worker.new) }
 {
-    let ticket = worker.enter(rt, alloc, office)?;
+    let ticket = enter_next(rt, alloc, office, worker, held.take())?;
     let tried = try_job(rt, alloc, office, worker, client);
-    office.end_try(rt, ticket, end_of(&tried));
+    let end = end_of(&tried);
+    // None is held meanwhile.
+    give_back(rt, office, held.replace(EndedTry { ticket, end }));
     tried
 }
 

@@ -16,6 +16,7 @@
 mod client;
 mod counting;
 mod desk;
+mod ended_try;
 mod faults;
 mod flusher;
 mod job;

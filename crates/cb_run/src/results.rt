@@ -2,6 +2,7 @@
 ghost use Rattle.std.specs.Prelude.{◌≡◌, IfOk};
 ghost use Rattle.cb_run.specs.Jobs.{TellsJob};
 
+use crate::ended_try::EndedTry;
 use crate::job::run_job;
 use cb_jobs::JobDone;
 use cb_page::ClientNo;
@@ -35,7 +36,8 @@ impl DoneJob {
     }
 }
 
-/// Does a job, and answers what is to be told of it, once it is on disk.
+/// Does a job, and answers what is to be told of it, once it is on disk. The try that ended last is
+/// `held`, before and afterwards.
 pub(crate) fn do_job<R: Wait, Q: Chooser>(
     rt: &R,
     alloc: Global,
@@ -43,10 +45,11 @@ pub(crate) fn do_job<R: Wait, Q: Chooser>(
     worker: &mut Worker<Q>,
     client: ClientNo,
     job: u64,
+    held: &mut Option<EndedTry>,
 ) -> Result<UntoldJob, WorkerFault>
     ensures { IfOk result (λ untold. TellsJob client job untold.done worker.old worker.new) }
 {
-    let number = run_job(rt, alloc, office, worker, client)?;
+    let number = run_job(rt, alloc, office, worker, client, held)?;
     let done = JobDone {
         client,
         job,

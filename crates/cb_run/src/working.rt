@@ -3,6 +3,7 @@ ghost use Rattle.std.specs.Prelude.{◌≡◌, Ok, OnOk, OnErr};
 ghost use Rattle.cb_run.specs.Ends.{HasLeft};
 ghost use Rattle.cb_worker.specs.Entering.{LeavesSome};
 
+use crate::ended_try::{EndedTry, give_back};
 use crate::results::{Results, do_job};
 use crate::run::Run;
 use cb_jobs::{Gate, Turn};
@@ -10,7 +11,7 @@ use cb_page::ClientNo;
 use cb_station::Office;
 use cb_twoq::Chooser;
 use cb_worker::{Worker, WorkerFault};
-use crossbeam_channel::Receiver;
+use crossbeam_channel::{Receiver, TryRecvError};
 use std::alloc::Global;
 use std::sync::Wait;
 use std::time::{Clock, Duration};
@@ -74,34 +75,71 @@ fn end<R: Wait + Clock, Q: Chooser>(
     }
 }
 
-/// Does each job once it may begin, and sends its result.
+/// Does all jobs. The ticket of the last try goes back then, however they ended.
 fn run_jobs<R: Wait + Clock, Q: Chooser, G: Gate>(
     run: Run<'_, R, G>,
     worker: &mut Worker<Q>,
     jobs: &Receiver<u64>,
     results: &Results,
 ) -> Result<(), WorkerFault> {
+    let mut held = None;
+    let worked = do_jobs(run, worker, jobs, results, &mut held);
+    give_back(run.rt, run.office, held);
+    worked
+}
+
+/// Does each job once it may begin, and sends its result. The try that ended last is `held` until
+/// the next one begins, or something is waited for.
+fn do_jobs<R: Wait + Clock, Q: Chooser, G: Gate>(
+    run: Run<'_, R, G>,
+    worker: &mut Worker<Q>,
+    jobs: &Receiver<u64>,
+    results: &Results,
+    held: &mut Option<EndedTry>,
+) -> Result<(), WorkerFault> {
     let client = worker.client();
-    for job in jobs.iter(run.rt) {
-        await_turn(run, worker, client, job)?;
-        let untold = do_job(run.rt, run.alloc, run.office, worker, client, job)?;
+    for _ in run.rt.forever() {
+        let Some(job) = next_job(run, jobs, held) else {
+            return Ok(());
+        };
+        await_turn(run, worker, client, job, held)?;
+        let untold = do_job(run.rt, run.alloc, run.office, worker, client, job, held)?;
         run.gate.after_commit(client, job);
         results.send(run.rt, untold)?;
     }
-    Ok(())
+    unreachable!()
 }
 
-/// Serves until the job may begin, and waits a moment each time that it may not.
+/// The next job; `None` once none is left. The ticket goes back before one is waited for.
+fn next_job<R: Wait, G>(
+    run: Run<'_, R, G>,
+    jobs: &Receiver<u64>,
+    held: &mut Option<EndedTry>,
+) -> Option<u64> {
+    match jobs.try_recv(run.rt) {
+        Ok(job) => Some(job),
+        Err(TryRecvError::Disconnected) => None,
+        Err(TryRecvError::Empty) => {
+            give_back(run.rt, run.office, held.take());
+            jobs.recv(run.rt).ok()
+        }
+    }
+}
+
+/// Serves until the job may begin, and waits a moment each time that it may not. The ticket goes
+/// back before that.
 fn await_turn<R: Wait + Clock, Q: Chooser, G: Gate>(
     run: Run<'_, R, G>,
     worker: &mut Worker<Q>,
     client: ClientNo,
     job: u64,
+    held: &mut Option<EndedTry>,
 ) -> Result<(), WorkerFault> {
     for _ in run.rt.forever() {
         if run.gate.before_job(client, job) == Turn::Go {
             return Ok(());
         }
+        give_back(run.rt, run.office, held.take());
         let moment = Duration::from_millis(MOMENT);
         worker.serve_and_wait(run.rt, run.alloc, run.office, moment)?;
     }

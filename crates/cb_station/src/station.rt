@@ -168,7 +168,7 @@ impl Station {
 
     /// Which clients are to be told that there is something for them: those to whom the server said
     /// something, and who is to be let in next.
-    pub(crate) fn untold(&self) -> ClientSet
+    pub fn untold(&self) -> ClientSet
         ensures { result ≡ untold_in self.now }
     {
         self.dispatcher.untold()

@@ -6,3 +6,4 @@ mod frames;
 mod handed;
 mod limits;
 mod stations;
+mod turns;

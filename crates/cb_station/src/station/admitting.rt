@@ -39,6 +39,27 @@ impl Station {
         self.notice_next();
     }
 
+    /// A try of the client's ends, and gives its ticket back; then the client's next one is let in
+    /// as by [`Station::admit`]. Only then is looked who is next: so nobody is to be told where the
+    /// client takes the place that it gave back, and no room is left beside it.
+    pub fn try_again(&mut self, held: Ticket, end: TryEnd, client: ClientNo) -> Option<Ticket>
+        ensures exact { is_some result
+            ≡ may_enter (after_try self.old.flags.window end) client }
+        ensures after { MatchOption result
+            (StaysOut (after_try self.old.flags.window end) client self.new.flags.window)
+            (λ ticket.
+            Enters (after_try self.old.flags.window end) client self.new.flags.window) }
+        ensures rest { self.new
+            ≡ with_untold (with_window self.old self.new.flags.window) (untold_in self.new) }
+        ensures next { NoticesNext self.new.flags.window (untold_in self.old)
+            (untold_in self.new) }
+    {
+        self.flags.window.leave(held, end);
+        let again = self.flags.window.enter(client);
+        self.notice_next();
+        again
+    }
+
     /// The client no longer waits to be let in; who is next is to be told.
     pub fn stop_waiting(&mut self, client: ClientNo)
         ensures gives_up { GivesUp self.old.flags.window client self.new.flags.window }

@@ -25,7 +25,7 @@ pub(crate) enum Act {
     /// before. Each later one begins once all commits are on disk and the flusher waits, or has
     /// ended.
     Closed,
-    /// Two clients wait for each other.
+    /// Two clients wait for each other, and one try is let in at once.
     Mutual,
 }
 

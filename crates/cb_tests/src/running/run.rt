@@ -2,6 +2,7 @@
 use crate::running::disks::{Faults, both};
 use crate::running::flags::greet;
 use crate::running::gates::{Act, Counts, Guarded, Plan};
+use crate::running::tickets::narrow;
 use crate::running::trials::Trial;
 use crate::running::work::{Deed, Outcome, Work, opening};
 use cb_admission::AdmissionWindow;
@@ -179,6 +180,15 @@ fn have_left<R: Wait>(rt: &R, alloc: Global, office: &Office, plan: Plan) -> boo
     true
 }
 
+/// What is done in an office before such a run.
+fn prepare<R: Wait>(rt: &R, alloc: Global, office: &Office, act: Act) {
+    match act {
+        Act::Joined => greet(rt, alloc, office, ClientNo::new(1)),
+        Act::Mutual => narrow(&mut office.lock(rt)),
+        _ => {}
+    }
+}
+
 /// What comes of a run in an office.
 pub(crate) fn came_in<R: Threads + Wait + Clock + Sync, S: Alter>(
     rt: &R,
@@ -188,9 +198,7 @@ pub(crate) fn came_in<R: Threads + Wait + Clock + Sync, S: Alter>(
     shelf: &mut Shelf<S>,
     counts: &Counts,
 ) -> Came {
-    if let Act::Joined = counts.plan.act {
-        greet(rt, alloc, office, ClientNo::new(1));
-    }
+    prepare(rt, alloc, office, counts.plan.act);
     let mut watch = Waited {
         told: Told::none(),
         counts,

@@ -1,4 +1,5 @@
-//! A try that waits to be let in while another holds the only ticket.
+//! A try that waits to be let in while another holds the only ticket; and tries of one client, one
+//! after another.
 use crate::running::trials::{Trial, goes_well};
 use cb_admission::{Ticket, TryEnd};
 use cb_page::{ClientNo, Limits};
@@ -32,12 +33,18 @@ const WRONG: u64 = 3;
 /// So many aborted tries leave the window one try wide.
 const ABORTED: u64 = 5;
 
+/// Narrows the window to one try, where none is in.
+pub(crate) fn narrow(station: &mut Station) {
+    for _try in 0..ABORTED {
+        if let Some(ticket) = station.admit(ClientNo::new(1)) {
+            station.end_try(ticket, TryEnd::Aborted);
+        }
+    }
+}
+
 /// Narrows the window to one try, and takes its ticket for client 1.
 fn take_last(station: &mut Station) -> Option<Ticket> {
-    for _try in 0..ABORTED {
-        let ticket = station.admit(ClientNo::new(1))?;
-        station.end_try(ticket, TryEnd::Aborted);
-    }
+    narrow(station);
     station.admit(ClientNo::new(1))
 }
 
@@ -123,6 +130,52 @@ pub(crate) fn ends_its_wait<R: Wait + Threads + Sync>(
         Wake::Halt => HALTED,
     };
     outcome.load(Ordering::SeqCst) == ended && is_empty(&office.lock(rt))
+}
+
+/// Whether a worker's next try is let in as its last one ends, and is the only one that is in; and
+/// whether none is once the office is halted, with the last one's end noted.
+fn goes_on<R: Wait>(
+    rt: &R,
+    alloc: Global,
+    office: &Office,
+    worker: &mut Worker<TwoQ>,
+) -> Result<bool, WorkerFault> {
+    let ticket = worker.enter(rt, alloc, office)?;
+    let again = worker.enter_again(rt, alloc, office, ticket, TryEnd::Committed)?;
+    let inside = office.lock(rt).window().inside();
+    office.halt(rt);
+    match worker.enter_again(rt, alloc, office, again, TryEnd::Aborted) {
+        Err(WorkerFault::Halted) => Ok(inside == 1 && office.lock(rt).window().aborted() == 1),
+        Err(_) => Ok(false),
+        Ok(ticket) => {
+            office.end_try(rt, ticket, TryEnd::GivenUp);
+            Ok(false)
+        }
+    }
+}
+
+/// Whether a client's tries go on until the office is halted, and every ticket comes back.
+pub(crate) fn goes_on_until_halted<R: Wait>(
+    rt: &R,
+    alloc: Global,
+    limits: &Limits,
+    office: &Office,
+) -> bool {
+    let Ok(chooser) = TwoQ::make(alloc, limits) else {
+        return false;
+    };
+    let joined = Worker::join(rt, alloc, office, limits, ClientNo::new(0), chooser);
+    let Ok(mut worker) = joined else {
+        return false;
+    };
+    let well = goes_on(rt, alloc, office, &mut worker).unwrap_or(false);
+    worker.abandon();
+    well && is_empty(&office.lock(rt))
+}
+
+#[test]
+fn goes_on_by_one_call(rt: HostRuntime) {
+    assert!(rt; goes_well(Trial::GoingOn, &rt, rt.alloc()));
 }
 
 #[test]

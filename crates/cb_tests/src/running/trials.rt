@@ -12,7 +12,7 @@ use crate::running::pacing::keeps_pace;
 use crate::running::refusals::{Refusal, is_refused_at_first};
 use crate::running::run::came_in;
 use crate::running::sharing::are_shared;
-use crate::running::tickets::{Wake, ends_its_wait};
+use crate::running::tickets::{Wake, ends_its_wait, goes_on_until_halted};
 use crate::running::unwatched::is_counted;
 use crate::running::work::{Deed, Outcome};
 use cb_page::{ClientNo, Limits};
@@ -46,6 +46,8 @@ pub(crate) enum Trial<'a> {
     Refused(Refusal),
     /// A try waits to be let in until this ends its wait.
     Entered(Wake),
+    /// A client's tries are let in one after another, until the office is halted.
+    GoingOn,
     /// The flusher waits for those whom it told, by this clock.
     Paced(&'a OwnClock),
     /// Workers of four clients run, and nobody looks on.
@@ -100,6 +102,7 @@ fn comes_with<R: Wait + Threads + Clock + Sync, S: Alter>(
         Trial::Late => comes_too_late::<TwoQ, R>(rt, alloc, limits, office),
         Trial::Refused(refusal) => is_refused_at_first(rt, alloc, limits, office, shelf, refusal),
         Trial::Entered(wake) => ends_its_wait(rt, alloc, limits, office, wake),
+        Trial::GoingOn => goes_on_until_halted(rt, alloc, limits, office),
         Trial::Paced(clock) => keeps_pace(rt, alloc, office, shelf, clock),
         Trial::Unwatched => is_counted(rt, alloc, limits, office, shelf),
         Trial::Run(counts) => {

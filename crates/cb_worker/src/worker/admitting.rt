@@ -7,16 +7,16 @@ ghost use Rattle.cb_worker.specs.Workers.{IsStill};
 
 use crate::worker::Worker;
 use crate::worker_fault::WorkerFault;
-use cb_admission::Ticket;
+use cb_admission::{Ticket, TryEnd};
 use cb_station::{Office, Station};
 use cb_twoq::Chooser;
 use std::alloc::Global;
-use std::sync::Wait;
+use std::sync::{MutexGuard, Wait};
 use std::time::{Clock, Duration};
 
 impl<Q: Chooser> Worker<Q> {
     /// Waits until a try of the client's is let in, and serves meanwhile. The ticket goes back by
-    /// `Office::end_try`, whatever becomes of the try.
+    /// `Office::end_try` or [`Worker::enter_again`], whatever becomes of the try.
     pub fn enter<R: Wait>(
         &mut self,
         rt: &R,
@@ -28,11 +28,54 @@ impl<Q: Chooser> Worker<Q> {
         ensures refused { IfErr result (StopsServing self.new) }
     {
         let mut station = office.lock(rt);
+        let first = self.enter_at(rt, alloc, office, &mut station);
+        self.wait_to_enter(rt, alloc, office, station, first)
+    }
+
+    /// Ends a try that ended so, gives its ticket back, and waits as [`Worker::enter`] until the
+    /// client's next one is let in. Both are done under one lock: where the client goes on at once
+    /// nobody else is told, unless there is room for one more.
+    pub fn enter_again<R: Wait>(
+        &mut self,
+        rt: &R,
+        alloc: Global,
+        office: &Office,
+        ticket: Ticket,
+        end: TryEnd,
+    ) -> Result<Ticket, WorkerFault>
+        ensures served { OnOk result (IsServed self.new) }
+        ensures still { IsStill self.old self.new }
+        ensures refused { IfErr result (StopsServing self.new) }
+    {
+        let mut station = office.lock(rt);
+        let first = self.enter_again_at(rt, alloc, office, &mut station, ticket, end);
+        self.wait_to_enter(rt, alloc, office, station, first)
+    }
+
+    /// Waits, and serves meanwhile, until the client is let in: at once where it was, or where that
+    /// was refused.
+    fn wait_to_enter<'a, R: Wait>(
+        &mut self,
+        rt: &R,
+        alloc: Global,
+        office: &'a Office,
+        locked: MutexGuard<'a, Station>,
+        first: Result<Option<Ticket>, WorkerFault>,
+    ) -> Result<Ticket, WorkerFault>
+        requires served { OnOk first (IsServed self.old) }
+        requires refused { IfErr first (StopsServing self.old) }
+        ensures served { OnOk result (IsServed self.new) }
+        ensures still { IsStill self.old self.new }
+        ensures refused { IfErr result (StopsServing self.new) }
+    {
+        let mut station = locked;
+        let mut entered = first;
         for _ in rt.forever() {
-            if let Some(ticket) = self.enter_at(rt, alloc, office, &mut station)? {
-                return Ok(ticket);
+            if let Some(answer) = entered.transpose() {
+                return answer;
             }
             station = office.wait_for_frame(rt, station, self.hand.client());
+            entered = self.enter_at(rt, alloc, office, &mut station);
         }
         unreachable!()
     }
@@ -60,6 +103,32 @@ impl<Q: Chooser> Worker<Q> {
         let ticket = station.admit(client);
         office.tell(station);
         Ok(ticket)
+    }
+
+    /// Serves, ends the try that has this ticket, and asks for another. `None` where that is to be
+    /// waited for.
+    fn enter_again_at<R: Wait>(
+        &mut self,
+        rt: &R,
+        alloc: Global,
+        office: &Office,
+        station: &mut Station,
+        ticket: Ticket,
+        end: TryEnd,
+    ) -> Result<Option<Ticket>, WorkerFault>
+        ensures served { OnOk result (IsServed self.new) }
+        ensures still { IsStill self.old self.new }
+        ensures told { IsTold station.new }
+        ensures refused { IfErr result (StopsServing self.new) }
+    {
+        let client = self.hand.client();
+        if let Err(fault) = self.serve_at(rt, alloc, office, station) {
+            office.end_try_at(station, ticket, end);
+            return Err(fault);
+        }
+        let again = station.try_again(ticket, end, client);
+        office.tell(station);
+        Ok(again)
     }
 
     /// Serves, and waits until there may be a frame, no longer than so long.

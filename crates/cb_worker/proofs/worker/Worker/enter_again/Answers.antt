@@ -1,0 +1,6 @@
+-- Goals of `Worker::enter_again`.
+use Rattle.cb_worker.proofs.Staying.{after}
+use Rattle.cb_worker.proofs.worker.Worker.enter_again.Goals as goal
+
+pub returns-clause-still : goal.returns-clause-still
+returns-clause-still g c = after c.args.self.now c.enter_again_at-first.new.self c.wait_to_enter.new.self c.enter_again_at-first.ensures.still c.wait_to_enter.ensures.still
