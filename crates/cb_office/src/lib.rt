@@ -47,4 +47,4 @@ pub use cb_run::{FlushStop, flush_again, flush_loop, run_on, work};
 pub use cb_shelf::{Shelf, ShelfFault};
 pub use cb_station::{Office, OfficeFault, Station};
 pub use cb_twoq::{Chooser, TwoQ};
-pub use cb_worker::{Fetched, Finished, Wanted, Worker, WorkerFault};
+pub use cb_worker::{Fetched, Finished, Left, Wanted, Worker, WorkerFault};

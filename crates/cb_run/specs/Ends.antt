@@ -30,6 +30,7 @@ WasOver = (cut_off : Bool) × EndedAs cut_off
 abbrev pub WasCutOff : Type 0
 WasCutOff = EndedAs true
 
--- a worker left its office: its call said so, of the station that it took
+-- some worker's hand left some station of which all holds that always does, as `leave` says it;
+-- neither which worker nor which station is named
 abbrev pub HasLeft : Type 0
 HasLeft = (hand : HandState) × LeavesSome hand (Ok tt)

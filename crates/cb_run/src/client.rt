@@ -1,18 +1,19 @@
 //! One client's part of a run.
-ghost use Rattle.std.specs.Prelude.{◌≡◌};
-ghost use Rattle.std.specs.Option.{option_map};
-ghost use Rattle.cb_run.specs.Runs.{ending_of_worker, of_client};
+ghost use Rattle.std.specs.Prelude.{◌≡◌, IfOk};
+ghost use Rattle.cb_run.specs.Parts.{IsEndOf, end_of_part};
+ghost use Rattle.cb_run.specs.Runs.{of_client};
 
 use crate::faults::of_worker;
+use crate::parts::{PartEnd, Parts};
 use crate::results::Results;
 use crate::run::Run;
-use crate::working::work;
+use crate::working::work_and_leave;
 use cb_client::ClientFault;
-use cb_jobs::{Ending, FirstEnding, Gate, Noted};
+use cb_jobs::{Ending, Gate, Noted};
 use cb_page::{ClientNo, Limits};
 use cb_station::{Office, OfficeFault};
 use cb_twoq::Chooser;
-use cb_worker::{Worker, WorkerFault};
+use cb_worker::{Left, Worker, WorkerFault};
 use crossbeam_channel::Receiver;
 use std::alloc::{AllocError, Global};
 use std::sync::{Mutex, Wait};
@@ -38,45 +39,63 @@ pub(crate) fn job_list<R: Wait>(
 pub(crate) fn give_up<R: Wait, N: Drop>(
     rt: &R,
     office: &Office,
-    faults: &Mutex<FirstEnding<N>>,
+    parts: &Mutex<Parts<N>>,
     client: u16,
     ending: Ending,
 ) -> Noted<N>
     ensures { result ≡ of_client client ending }
 {
-    let noted = faults.lock(rt).note(client, ending);
+    let noted = parts.lock(rt).note(client, ending);
     office.halt(rt);
     noted
 }
 
-/// Notes a worker's fault, and halts the office; a client that was halted says nothing of why.
-fn give_up_by<R: Wait, N: Drop>(
+/// How a client's part of a run ended whose work was answered so. A fault is noted, and the office
+/// halted; a client that was halted says nothing of why.
+fn end_part<R: Wait, N: Drop>(
     rt: &R,
     office: &Office,
-    faults: &Mutex<FirstEnding<N>>,
+    parts: &Mutex<Parts<N>>,
     client: u16,
-    fault: WorkerFault,
-) -> Option<Noted<N>>
-    ensures { result ≡ option_map (of_client client) (ending_of_worker fault) }
+    worked: Result<Left, WorkerFault>,
+) -> PartEnd<N>
+    ensures { result ≡ end_of_part client worked }
 {
-    match of_worker(fault) {
-        Some(ending) => Some(give_up(rt, office, faults, client, ending)),
-        None => None,
+    match worked {
+        Ok(left) => PartEnd::Left(left),
+        Err(fault) => match of_worker(fault) {
+            Some(ending) => PartEnd::Noted(give_up(rt, office, parts, client, ending)),
+            None => PartEnd::Halted,
+        },
     }
 }
 
-/// A client joins and works; where it can't go on the office is halted.
-pub(crate) fn run_client<Q: Chooser, R: Wait + Clock, G: Gate, N: Drop>(
+/// A client joins and works, and leaves; where it can't go on the office is halted.
+fn run_client<Q: Chooser, R: Wait + Clock, G: Gate, N: Drop>(
     run: Run<'_, R, G>,
     limits: &Limits,
     client: u16,
     jobs: &Receiver<u64>,
     results: &Results,
-    faults: &Mutex<FirstEnding<N>>,
+    parts: &Mutex<Parts<N>>,
+) -> PartEnd<N>
+    ensures { IsEndOf client result }
+{
+    let worked = join_and_work::<Q, R, G>(run, limits, client, jobs, results);
+    end_part(run.rt, run.office, parts, client, worked)
+}
+
+/// One client's part of a run, and that how it ended is counted.
+pub(crate) fn run_part<Q: Chooser, R: Wait + Clock, G: Gate, N: Drop>(
+    run: Run<'_, R, G>,
+    limits: &Limits,
+    client: u16,
+    jobs: &Receiver<u64>,
+    results: &Results,
+    parts: &Mutex<Parts<N>>,
 ) {
-    if let Err(fault) = join_and_work::<Q, R, G>(run, limits, client, jobs, results) {
-        let _noted = give_up_by(run.rt, run.office, faults, client, fault);
-    }
+    let end = run_client::<Q, R, G, N>(run, limits, client, jobs, results, parts);
+    parts.lock(run.rt).take(end);
 }
 
 fn join_and_work<Q: Chooser, R: Wait + Clock, G: Gate>(
@@ -85,7 +104,9 @@ fn join_and_work<Q: Chooser, R: Wait + Clock, G: Gate>(
     client: u16,
     jobs: &Receiver<u64>,
     results: &Results,
-) -> Result<(), WorkerFault> {
+) -> Result<Left, WorkerFault>
+    ensures { IfOk result (λ left. left ≡ client) }
+{
     if !limits.has_client(client) {
         return Err(WorkerFault::Office(OfficeFault::Foreign));
     }
@@ -100,5 +121,5 @@ fn join_and_work<Q: Chooser, R: Wait + Clock, G: Gate>(
     };
     let client = ClientNo::new(client);
     let worker = Worker::join(rt, alloc, office, limits, client, chooser)?;
-    work(rt, alloc, office, worker, jobs, results, gate)
+    work_and_leave(rt, alloc, office, worker, jobs, results, gate)
 }

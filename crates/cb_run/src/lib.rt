@@ -23,6 +23,7 @@ mod job;
 mod loops;
 mod over;
 mod pace;
+mod parts;
 mod results;
 mod run;
 mod running;

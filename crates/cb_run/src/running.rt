@@ -3,14 +3,14 @@ ghost use Rattle.std.specs.Prelude.{◌*◌, IfOk};
 ghost use Rattle.cb_jobs.specs.Outcomes.{PrintsCounted};
 ghost use Rattle.cb_run.specs.Runs.{IsCounted};
 
-use crate::client::{give_up, job_list, run_client};
+use crate::client::{give_up, job_list, run_part};
 use crate::counting::{Counting, adds_up, all_jobs, sum_up};
-use crate::faults::of_run;
 use crate::over::Over;
+use crate::parts::{Parts, RunOver};
 use crate::results::Results;
 use crate::run::Run;
 use crate::tries::flush_to_end;
-use cb_jobs::{Counted, Ending, FirstEnding, Gate, Unwatched, Watch, print_run};
+use cb_jobs::{Counted, Ending, Gate, Unwatched, Watch, print_run};
 use cb_page::Limits;
 use cb_shelf::{Shelf, ShelfFault};
 use cb_station::Office;
@@ -129,7 +129,8 @@ struct ThisRun;
 /// Runs the workers on threads of their own, and the flusher on this one, until all have ended. The
 /// flusher ends once the last worker has; should it end before, the others are halted. Who ends well
 /// holds that the run is over, and whether others cut it off: they halted the office, or closed it
-/// before all had begun to work.
+/// before all had begun to work. It ends well only where as many parts as there are clients ended with
+/// nothing to tell.
 fn run_all<R, G, S, W>(
     run: Run<'_, R, G>,
     limits: &Limits,
@@ -137,15 +138,15 @@ fn run_all<R, G, S, W>(
     jobs: u32,
     watch: &mut W,
     results: &Results,
-) -> Result<Over, Ending>
+) -> Result<RunOver, Ending>
 where
     R: Threads + Wait + Clock + Sync,
     G: Gate + Sync,
     S: Alter,
     W: Watch,
 {
-    let noted = Mutex::new(FirstEnding::none(ThisRun));
-    let faults = &noted;
+    let ended = Mutex::new(Parts::none(ThisRun));
+    let parts = &ended;
     let flushed = thread::scope(
         thread::scope_env(),
         run.rt,
@@ -154,15 +155,15 @@ where
                 let started = match job_list(run.rt, run.alloc, jobs) {
                     Ok(list) => scope
                         .spawn(move || {
-                            run_client::<TwoQ, R, G, ThisRun>(
-                                run, limits, client, &list, results, faults,
+                            run_part::<TwoQ, R, G, ThisRun>(
+                                run, limits, client, &list, results, parts,
                             )
                         })
                         .is_ok(),
                     Err(_) => false,
                 };
                 if !started {
-                    let _noted = give_up(run.rt, run.office, faults, client, Ending::Memory);
+                    let _noted = give_up(run.rt, run.office, parts, client, Ending::Memory);
                 }
             }
             let flushed = flush_to_end(run.rt, run.alloc, run.office, shelf, watch);
@@ -170,6 +171,5 @@ where
             flushed
         },
     );
-    let told = noted.lock(run.rt).told;
-    of_run(flushed, told)
+    ended.lock(run.rt).end(flushed, limits.clients())
 }

@@ -1,16 +1,17 @@
 //! A worker's jobs, one after another, and its end.
-ghost use Rattle.std.specs.Prelude.{◌≡◌, Ok, OnOk, OnErr};
+ghost use Rattle.std.specs.Prelude.{◌≡◌, Ok, Err, IfErr, IfOk, OnOk};
 ghost use Rattle.cb_run.specs.Ends.{HasLeft};
 ghost use Rattle.cb_worker.specs.Entering.{LeavesSome};
+ghost use Rattle.cb_worker.specs.Refusals.{RefusesLeave};
 
 use crate::ended_try::{EndedTry, give_back};
 use crate::results::{Results, do_job};
 use crate::run::Run;
 use cb_jobs::{Gate, Turn};
 use cb_page::ClientNo;
-use cb_station::Office;
+use cb_station::{Office, OfficeFault};
 use cb_twoq::Chooser;
-use cb_worker::{Worker, WorkerFault};
+use cb_worker::{Left, Worker, WorkerFault};
 use crossbeam_channel::{Receiver, TryRecvError};
 use std::alloc::Global;
 use std::sync::Wait;
@@ -29,12 +30,31 @@ pub fn work<R: Wait + Clock, Q: Chooser, G: Gate>(
     rt: &R,
     alloc: Global,
     office: &Office,
-    mut worker: Worker<Q>,
+    worker: Worker<Q>,
     jobs: &Receiver<u64>,
     results: &Results,
     gate: &G,
 ) -> Result<(), WorkerFault>
     ensures left { OnOk result HasLeft }
+{
+    match work_and_leave(rt, alloc, office, worker, jobs, results, gate) {
+        Ok(_) => Ok(()),
+        Err(fault) => Err(fault),
+    }
+}
+
+/// As [`work`]; who is answered Ok holds that the worker's client left.
+pub(crate) fn work_and_leave<R: Wait + Clock, Q: Chooser, G: Gate>(
+    rt: &R,
+    alloc: Global,
+    office: &Office,
+    mut worker: Worker<Q>,
+    jobs: &Receiver<u64>,
+    results: &Results,
+    gate: &G,
+) -> Result<Left, WorkerFault>
+    ensures left { OnOk result HasLeft }
+    ensures client { IfOk result (λ left. left ≡ worker.hand.client) }
 {
     let run = Run {
         rt,
@@ -42,13 +62,27 @@ pub fn work<R: Wait + Clock, Q: Chooser, G: Gate>(
         office,
         gate,
     };
+    let client = worker.client();
     if !office.lock(rt).begin_work() {
         return end(rt, alloc, office, worker, Ok(()));
     }
     let worked = run_jobs(run, &mut worker, jobs, results);
     let ended = end(rt, alloc, office, worker, worked);
     office.end_work(rt);
-    ended
+    of_client(client, ended)
+}
+
+/// What was answered, unless it is that another client left. No clause of a job says that the
+/// worker stays its client's, so that is looked at.
+fn of_client(client: ClientNo, ended: Result<Left, WorkerFault>) -> Result<Left, WorkerFault>
+    ensures same { OnOk result (result ≡ ended) }
+    ensures client { IfOk result (λ left. left ≡ client) }
+{
+    let left = ended?;
+    if left.client() != client {
+        return Err(WorkerFault::Office(OfficeFault::Foreign));
+    }
+    Ok(left)
 }
 
 /// The worker leaves; it is abandoned where it faulted before, or can't leave.
@@ -58,16 +92,18 @@ fn end<R: Wait + Clock, Q: Chooser>(
     office: &Office,
     worker: Worker<Q>,
     worked: Result<(), WorkerFault>,
-) -> Result<(), WorkerFault>
-    ensures worked { OnErr worked (result ≡ worked) }
+) -> Result<Left, WorkerFault>
+    ensures worked { IfErr worked (λ fault. result ≡ Err fault) }
     ensures left { OnOk result (LeavesSome worker.hand (Ok tt)) }
+    ensures client { IfOk result (λ left. left ≡ worker.hand.client) }
+    ensures why { OnOk worked (IfErr result (RefusesLeave worker)) }
 {
-    if worked.is_err() {
+    if let Err(fault) = worked {
         worker.abandon();
-        return worked;
+        return Err(fault);
     }
-    match worker.leave(rt, alloc, office) {
-        Ok(()) => Ok(()),
+    match worker.take_leave(rt, alloc, office) {
+        Ok(left) => Ok(left),
         Err((fault, worker)) => {
             worker.abandon();
             Err(fault)

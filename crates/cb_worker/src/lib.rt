@@ -13,5 +13,5 @@ mod worker_fault;
 
 pub use answers::{Fetched, Finished, Wanted};
 pub use laws::what_was_written_is_committed;
-pub use worker::Worker;
+pub use worker::{Left, Worker};
 pub use worker_fault::WorkerFault;

@@ -16,6 +16,8 @@ mod standing;
 mod turning;
 mod waiting;
 
+pub use entering::Left;
+
 use crate::said::Said;
 use cb_client::{Client, ClientFault};
 use cb_frame::Frame;

@@ -17,7 +17,32 @@ use cb_page::{ClientNo, Incarnation, Limits};
 use cb_station::{Office, OfficeFault};
 use cb_twoq::Chooser;
 use std::alloc::Global;
+use std::marker::Model;
 use std::sync::Wait;
+
+/// Says that a client's worker left an office: nobody but [`Worker::take_leave`] makes one, and
+/// nobody copies it. In contracts it is the client's number.
+#[derive(Drop)]
+pub struct Left {
+    client: ClientNo,
+}
+
+impl Model for Left {
+    ghost use Rattle.std.specs.Prelude.{ℕ};
+
+    ghost Value = { ℕ };
+
+    ghost view = { λ left. left.client };
+}
+
+impl Left {
+    /// Which client it was.
+    pub fn client(&self) -> ClientNo
+        ensures { result ≡ self.now }
+    {
+        self.client
+    }
+}
 
 impl<Q: Chooser> Worker<Q> {
     /// The client joins the office, over an empty chooser, and is welcomed. Its incarnation is the
@@ -121,14 +146,33 @@ impl<Q: Chooser> Worker<Q> {
         ensures refused { IfErr result (λ refused. refused.1 ≡ self) }
         ensures why { IfErr result (λ refused. RefusesLeave self refused.0) }
     {
+        match self.take_leave(rt, alloc, office) {
+            Ok(_) => Ok(()),
+            Err(refused) => Err(refused),
+        }
+    }
+
+    /// As [`Worker::leave`]; who is answered Ok holds that the client left.
+    pub fn take_leave<R: Wait>(
+        self,
+        rt: &R,
+        alloc: Global,
+        office: &Office,
+    ) -> Result<Left, (WorkerFault, Worker<Q>)>
+        ensures left { OnOk result (LeavesSome self.hand (Ok tt)) }
+        ensures client { IfOk result (λ left. left ≡ self.hand.client) }
+        ensures refused { IfErr result (λ refused. refused.1 ≡ self) }
+        ensures why { IfErr result (λ refused. RefusesLeave self refused.0) }
+    {
         let Worker {
             client,
             hand,
             collected,
             said,
         } = self;
+        let number = hand.client();
         match joining::leave(rt, alloc, office, hand) {
-            Ok(()) => Ok(()),
+            Ok(()) => Ok(Left { client: number }),
             Err((fault, hand)) => {
                 let worker = Worker {
                     client,

@@ -1,0 +1,1 @@
+-- Nothing is answered here: each goal is searched. With this file a refused edit is not proved twice.

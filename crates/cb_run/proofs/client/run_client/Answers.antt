@@ -1,0 +1,6 @@
+-- Goals of `run_client`.
+use Rattle.cb_run.proofs.Leaving.{ends_so}
+use Rattle.cb_run.proofs.client.run_client.Goals as goal
+
+pub returns : goal.returns
+returns g c = rw c.end_part.ensures (ends_so _ c.args.client c.join_and_work-worked.result c.join_and_work-worked.ensures)

@@ -1,0 +1,104 @@
+//! How the clients' parts of a run ended.
+ghost use Rattle.std.specs.Prelude.{◌≡◌, ◌≤◌, ◌+◌, IfErr, IfOk, OnOk, Ok, Err, None, true};
+ghost use Rattle.cb_jobs.specs.Outcomes.{lower};
+ghost use Rattle.cb_run.specs.Ends.{WasCutOff, WasOver};
+ghost use Rattle.cb_run.specs.Parts.{quiet_parts};
+ghost use Rattle.cb_run.specs.Runs.{ending_of_run, of_client};
+
+use crate::faults::of_run;
+use crate::over::Over;
+use cb_jobs::{Ending, FirstEnding, Noted};
+use cb_shelf::ShelfFault;
+use cb_worker::Left;
+
+/// How a client's part of the run of this name ended. It can't be copied or let go:
+/// [`Parts::take`] alone takes one.
+pub(crate) enum PartEnd<N> {
+    /// The client left the office.
+    Left(Left),
+    /// It faulted, and that was noted.
+    Noted(Noted<N>),
+    /// It was halted, and says nothing of why.
+    Halted,
+}
+
+/// How the clients' parts of a run ended so far: the ending of the lowest client that told of one,
+/// and how many parts had nothing to tell.
+#[derive(Drop)]
+pub(crate) struct Parts<N> {
+    faults: FirstEnding<N>,
+    quiet: u16,
+}
+
+impl<N> Parts<N> {
+    /// None has ended yet.
+    pub(crate) fn none(run: N) -> Parts<N>
+        ensures told { result.faults.told ≡ None }
+        ensures quiet { result.quiet ≡ 0 }
+    {
+        Parts {
+            faults: FirstEnding::none(run),
+            quiet: 0,
+        }
+    }
+
+    /// Notes by which fault a client's part ended.
+    pub(crate) fn note(&mut self, client: u16, ending: Ending) -> Noted<N>
+        ensures noted { result ≡ of_client client ending }
+        ensures lowest { self.new.faults.told
+            ≡ lower self.old.faults.told (of_client client ending) }
+        ensures quiet { self.new.quiet ≡ self.old.quiet }
+    {
+        self.faults.note(client, ending)
+    }
+
+    /// Takes how a part ended. One that had nothing to tell is counted, and no other.
+    pub(crate) fn take(&mut self, end: PartEnd<N>)
+    where
+        N: Drop,
+        ensures quiet { self.new.quiet ≤ self.old.quiet + quiet_parts end }
+        ensures faults { self.new.faults ≡ self.old.faults }
+    {
+        match end {
+            PartEnd::Noted(_) => {}
+            PartEnd::Left(_) => self.quiet = self.quiet.saturating_add(1),
+            PartEnd::Halted => self.quiet = self.quiet.saturating_add(1),
+        }
+    }
+
+    /// How the run ended of so many clients whose flusher ended so: by the first fault, as
+    /// [`of_run`] says; well, only where as many parts as there are clients had nothing to tell. Where
+    /// fewer had, and none told of a fault, a worker is at fault.
+    pub(crate) fn end(
+        &self,
+        flushed: Result<Over, ShelfFault>,
+        clients: u16,
+    ) -> Result<RunOver, Ending>
+        ensures faults { IfErr (ending_of_run flushed self.now.faults.told)
+            (λ ending. result ≡ Err ending) }
+        ensures quiet { OnOk result (clients ≤ self.now.quiet) }
+    {
+        let over = of_run(flushed, self.faults.told)?;
+        if self.quiet < clients {
+            return Err(Ending::Worker);
+        }
+        Ok(RunOver { over })
+    }
+}
+
+/// Says that a run is over, and that as many parts as it has clients had nothing to tell: nobody
+/// but [`Parts::end`] makes one, and nobody copies it.
+#[derive(Drop)]
+pub(crate) struct RunOver {
+    over: Over,
+}
+
+impl RunOver {
+    /// Whether the run was cut off as it ended.
+    pub(crate) fn is_cut_off(&self) -> bool
+        ensures over { WasOver }
+        ensures cut_off { result ≡ true → WasCutOff }
+    {
+        self.over.is_cut_off()
+    }
+}
