@@ -1,4 +1,5 @@
--- Which request words make, what it names, and which file is opened for it. This project's rules.
+-- Which request the matches of a command line make, what it names, and which file is opened for it.
+-- This project's rules.
 use Rattle.std.specs.Prelude.{◌≡◌, ◌⊎◌, ℕ, Bool, true, false, List, Option, Some, None, codes}
 use Rattle.std.specs.Prelude.{IfSome, MatchOption}
 use Rattle.std.specs.Str.Parse.{digits_value, without_leading_plus}
@@ -25,10 +26,11 @@ abbrev pub IsOverNamed : Request → StoreEnd → (old_out new_out : Option (Lis
 IsOverNamed asked ended old_out new_out =
     IfSome (store_of asked) (λ path. IsOver path ended old_out new_out)
 
--- a text is the value of an argument; a number is what its value says in decimal digits
+-- a text is the value of an argument
 abbrev pub IsText : List Row → (name text : List ℕ) → Type 0
 IsText rows name text = first_of name rows ≡ Some text
 
+-- a number is what an argument's value says in decimal digits
 abbrev pub IsNumber : List Row → (name : List ℕ) → ℕ → Type 0
 IsNumber rows name number = (text : List ℕ) × (one_of name rows ≡ Some text)
     × (number ≡ digits_value 10 (without_leading_plus text))

@@ -32,7 +32,7 @@ module _ {S : Type 0} (g : Ghosts S) (limits : Bounds) where
     pub serves : IsServed g limits store ending tables new old_in new_in old_out new_out
 
   -- a store that came so far was refused, and its very fault is told: nothing was read or put out,
-  -- and the tables hold what they did
+  -- and on a clean disk the database is as before, as long as the connection is open
   abbrev pub IsRefused : {E : Type 0} → Reach → Result E ServeFault → (old new : Held S)
       → (old_in new_in old_out new_out : Option (List ℕ)) → Type 0
   IsRefused (reach.Refused e) ending old new old_in new_in old_out new_out =

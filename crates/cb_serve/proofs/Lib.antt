@@ -1,3 +1,6 @@
+pub mod Faults
+pub mod Fitting
+pub mod Holding
 pub mod Inputs
 pub mod Pieces
 pub mod Rounds

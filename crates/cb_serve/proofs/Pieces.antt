@@ -10,12 +10,17 @@ use Rattle.cb_frame_types.specs.declared.frame.Frame.{Frame}
 use Rattle.cb_page.specs.Bounds.{Bounds}
 use Rattle.cb_protocol.specs.AnyMessages.{Input, SendsAgain}
 use Rattle.cb_server.specs.ServerValue.{ServerValue}
-use Rattle.cb_server.specs.Taking.{input_of}
+use Rattle.cb_server.specs.Taking.{Refuses, input_of}
+use Rattle.cb_server.specs.declared.server_fault.ServerFault.{ServerFault}
+use Rattle.cb_server.specs.declared.server_fault.ServerFault.TheVariants as server
 use Rattle.cb_serve.proofs.Inputs.{all_append, answers_nothing, answers_then}
 use Rattle.cb_serve.specs.Answering.{Answers, TakesPieces, inputs_in, inputs_of}
+use Rattle.cb_serve.specs.Endings.{becomes_of_server}
 use Rattle.cb_serve.specs.Fronts.{IsFront}
-use Rattle.cb_serve.specs.Steps.{TakesAll, TakesFront}
+use Rattle.cb_serve.specs.Steps.{RefusesFrame, RefusesFront, StopsTaking, TakesAll, TakesFront}
 use Rattle.cb_serve.specs.Streams.{IsNoFrame, IsPart, IsPiece, Piece, asks_again, bytes_of, comes, count_passed, passed_over}
+use Rattle.cb_serve.specs.declared.fault.RoundFault.{RoundFault}
+use Rattle.cb_serve.specs.declared.fault.RoundFault.TheVariants as round
 use Rattle.cb_serve.specs.declared.front.Front.TheVariants as front
 use Rattle.cb_serve.specs.declared.taking.Step.TheVariants as step
 
@@ -90,6 +95,22 @@ front_part old l bytes same is = (subst (λ (k : Bounds). IsPart k bytes) same i
 pub front_no_frame : (old : ServerValue) (l : Bounds) (bytes : List ℕ) → l ≡ old.limits → IsFront l bytes front.NoFrame → TakesFront old bytes step.NoFrame [] old
 front_no_frame old l bytes same is = (subst (λ (k : Bounds). IsNoFrame k bytes) same is, refl, refl)
 
+-- a frame was refused, by the server's fault
+pub frame_refused : (old : ServerValue) (frame : Frame) (e : ServerFault) (f : RoundFault) → f ≡ becomes_of_server e → Refuses old frame e → RefusesFrame old frame f
+frame_refused old frame server.Exhausted f is refuses = subst (RefusesFrame old frame) (sym is) refuses
+frame_refused old frame server.Memory f is refuses = subst (RefusesFrame old frame) (sym is) tt
+
+-- so the first piece was
+pub front_refused : (old : ServerValue) (l : Bounds) (bytes : List ℕ) (frame : Frame) (used : ℕ) (f : RoundFault) → l ≡ old.limits
+    → IsFront l bytes (front.Frame frame used) → RefusesFrame old frame f → RefusesFront old bytes f
+front_refused old l bytes frame used round.Exhausted same is refuses =
+    record { frame = frame; used = used; within = is.1; read = subst (λ (k : Bounds). IsFrameInSome k frame (take used bytes)) same is.0; lacks = refuses }
+front_refused old l bytes frame used round.Memory same is refuses = tt
+front_refused old l bytes frame used round.Shape same is refuses = absurd refuses
+front_refused old l bytes frame used round.Store same is refuses = absurd refuses
+front_refused old l bytes frame used round.Input same is refuses = absurd refuses
+front_refused old l bytes frame used (round.Output e) same is refuses = absurd refuses
+
 -- How far a loop over the pieces of some bytes has come.
 pub record SoFar (old : ServerValue) (bytes before after : List ℕ) (used count : ℕ) (new : ServerValue) : Type 0 where
   pub pieces : List Piece
@@ -155,3 +176,7 @@ so_far_no_frame old mid new bytes before after later more used count a said t = 
   part = λ e. absurd cc;
   no_frame = λ e. subst (λ (l : Bounds). IsNoFrame l (drop used bytes)) a.takes.answers.limits t.0;
 }
+
+pub so_far_stops : (old mid : ServerValue) (bytes before after : List ℕ) (used count : ℕ) (f : RoundFault) → SoFar old bytes before after used count mid
+    → RefusesFront mid (drop used bytes) f → StopsTaking old bytes f
+so_far_stops old mid bytes before after used count f a refuses = record { pieces = a.pieces; used = used; said = a.more; mid = mid; takes = a.takes; refuses = refuses }

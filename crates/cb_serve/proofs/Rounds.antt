@@ -14,15 +14,18 @@ use Rattle.cb_protocol.specs.Flush.{next_batch}
 use Rattle.cb_protocol.specs.Server.{Server}
 use Rattle.cb_server.specs.ServerValue.{IsNew, ServerValue, server_of}
 use Rattle.cb_server_state.specs.Commits.{batch_of}
+use Rattle.cb_sql.specs.Writing.{Fits}
+use Rattle.cb_serve.proofs.Faults.{IsOfOutput}
 use Rattle.cb_serve.proofs.Inputs.{spells_nothing}
 use Rattle.cb_serve.proofs.Writing.{survives_still}
-use Rattle.cb_serve.specs.Answering.{Spells, after_inputs, inputs_in, said_to}
-use Rattle.cb_serve.specs.Parts.{Answered, Commits, DoesRound, EndsRound, StopsAnswering, StopsCommit, StopsRound, standing}
-use Rattle.cb_serve.specs.Rounds.{IsRound, Round, SaysDones, Standing, Writes, WritesOrNot, counted_on, reached}
-use Rattle.cb_serve.specs.Serving.{AreRounds, Ends, IsStopped, PutsSome, Serves, opened, put_in, read_in}
-use Rattle.cb_serve.specs.Steps.{TakesAll}
+use Rattle.cb_serve.specs.Answering.{LacksNumber, Spells, after_inputs, inputs_in, said_to}
+use Rattle.cb_serve.specs.Parts.{Answered, Commits, DoesRound, EndsRound, PutsAnswers, PutsDones, StopsAnswering, StopsCommit, StopsReading, StopsRound, standing}
+use Rattle.cb_serve.specs.Rounds.{IsRound, Round, SaysDones, Standing, StaysUnwritten, Writes, WritesOrNot, counted_on, reached}
+use Rattle.cb_serve.specs.Serving.{AreRounds, Ends, IsStopped, Serves, Tells, opened, put_in, read_in}
+use Rattle.cb_serve.specs.Steps.{RefusesFront, StopsTaking, TakesAll}
 use Rattle.cb_serve.specs.Streams.{IsNoFrame, IsPart, IsPiece, IsRest, bytes_of, count_passed}
 use Rattle.cb_serve.specs.declared.fault.RoundFault.{RoundFault}
+use Rattle.cb_serve.specs.declared.fault.RoundFault.TheVariants as round
 use Rattle.cb_serve.specs.declared.fault.ServeFault.{ServeFault}
 use Rattle.cb_serve.specs.declared.fault.ServeFault.TheVariants as fault
 use Rattle.cb_serve.specs.declared.round.Desk.{Desk}
@@ -30,32 +33,56 @@ use Rattle.cb_serve.specs.declared.round.RoundEnd.{RoundEnd}
 use Rattle.cb_serve.specs.declared.round.RoundEnd.TheVariants as end
 use Rattle.cb_serve.specs.declared.taking.Taken.{Taken}
 
--- nothing was taken or put out
-pub stops_at_once : (server : ServerValue) (bytes : List ℕ) (out : Option (List ℕ)) → StopsAnswering server bytes out out
-stops_at_once server bytes out = record {
-  pieces = [];
-  rest = bytes;
-  answers = [];
-  are = tt;
-  cut = refl;
-  says = spells_nothing server.limits;
-  count = 0;
+-- some pieces were taken, and nothing was put out
+pub stops_taking : (f : RoundFault) (old : ServerValue) (bytes : List ℕ) (out : Option (List ℕ)) → StopsTaking old bytes f → StopsAnswering f old bytes out out
+stops_taking f old bytes out t = record {
+  pieces = t.pieces;
+  rest = drop t.used bytes;
+  answers = t.said;
+  are = t.takes.are;
+  cut = sym (take-append-drop t.used bytes) ∙ ap (λ (k : List ℕ). k ++ drop t.used bytes) t.takes.cut;
+  says = t.takes.answers.says;
+  put = [];
   puts = Appends-nil out;
+  told = told f t.refuses;
 }
+  where
+    told : (k : RoundFault) → RefusesFront t.mid (drop t.used bytes) k
+        → PutsAnswers k old.limits [] t.said (after_inputs (server_of old) (inputs_in t.pieces)) (drop t.used bytes)
+    told round.Exhausted lacks = (
+      refl,
+      subst (λ (s : Server). LacksNumber old.limits s (drop t.used bytes)) t.takes.answers.becomes
+          (subst (λ (l : Bounds). LacksNumber l (server_of t.mid) (drop t.used bytes)) t.takes.answers.limits lacks),
+    )
+    told round.Memory known = refl
+    told round.Shape wrong = absurd wrong
+    told round.Store wrong = absurd wrong
+    told round.Input wrong = absurd wrong
+    told (round.Output e) wrong = absurd wrong
 
 -- all whole pieces were taken, and a front of what is said to them was put out
-pub stops_at_answers : (old new : ServerValue) (bytes said after : List ℕ) (taken : Taken) (n : ℕ) (out out2 : Option (List ℕ)) → said ≡ []
-    → TakesAll old bytes said taken after new → Appends out out2 (take n after) → StopsAnswering old bytes out out2
-stops_at_answers old new bytes said after taken n out out2 empty t puts = record {
+pub stops_at_answers : (f : RoundFault) (old new : ServerValue) (bytes said after : List ℕ) (taken : Taken) (n : ℕ) (out out2 : Option (List ℕ)) → IsOfOutput f → said ≡ []
+    → TakesAll old bytes said taken after new → Appends out out2 (take n after) → StopsAnswering f old bytes out out2
+stops_at_answers f old new bytes said after taken n out out2 of_output empty t puts = record {
   pieces = t.pieces;
   rest = drop taken.used bytes;
   answers = t.more;
   are = t.takes.are;
   cut = sym (take-append-drop taken.used bytes) ∙ ap (λ (k : List ℕ). k ++ drop taken.used bytes) t.takes.cut;
   says = t.takes.answers.says;
-  count = n;
+  put = take n t.more;
   puts = subst (λ (k : List ℕ). Appends out out2 (take n k)) (t.said ∙ ap (λ (k : List ℕ). k ++ t.more) empty) puts;
+  told = told f of_output;
 }
+  where
+    told : (k : RoundFault) → IsOfOutput k
+        → PutsAnswers k old.limits (take n t.more) t.more (after_inputs (server_of old) (inputs_in t.pieces)) (drop taken.used bytes)
+    told (round.Output e) known = (n, refl)
+    told round.Shape wrong = absurd wrong
+    told round.Store wrong = absurd wrong
+    told round.Exhausted wrong = absurd wrong
+    told round.Input wrong = absurd wrong
+    told round.Memory wrong = absurd wrong
 
 -- what is left behind the pieces is none
 rest_at : (limits : Bounds) (bytes : List ℕ) (ends : Bool) → (ends ≡ false → IsPart limits bytes) → (ends ≡ true → IsNoFrame limits bytes) → IsRest limits bytes
@@ -107,8 +134,8 @@ module _ {S : Type 0} (g : Ghosts S) where
       )
 
   -- nothing more was done
-  pub stopped_still : (limits : Bounds) (old : Standing S) (read : List ℕ) → IsPart limits old.waiting → IsStopped g limits read [] old old.tables
-  stopped_still limits old read begins = record {
+  pub stopped_still : (limits : Bounds) (f : RoundFault) (old : Standing S) (read : List ℕ) → StopsReading f → IsPart limits old.waiting → IsStopped g limits f read [] old old.tables
+  stopped_still limits f old read why begins = record {
     begins = begins;
     pieces = [];
     rest = old.waiting ++ read;
@@ -118,25 +145,34 @@ module _ {S : Type 0} (g : Ghosts S) where
     batch = None;
     answers = [];
     dones = [];
+    fits = tt;
     written = refl;
     crash = survives_still g old.tables _;
     says = spells_nothing limits;
-    put_out = inl (0, refl, refl);
+    told = told f why;
   }
+    where
+      told : (k : RoundFault) → StopsReading k → Tells g limits k [] [] (old.waiting ++ read) [] [] None old.server old.tables old.tables
+      told round.Input known = (refl, refl, (refl, refl))
+      told round.Memory known = inl (refl, (refl, refl))
+      told round.Shape wrong = absurd wrong
+      told round.Store wrong = absurd wrong
+      told round.Exhausted wrong = absurd wrong
+      told (round.Output e) wrong = absurd wrong
 
   -- a read failed
-  pub stops_reading : (limits : Bounds) (old : Standing S) (read : List ℕ) (in1 in2 out : Option (List ℕ)) → Consumes in1 in2 read
-      → StopsRound g limits old old.tables in1 in2 out out
-  stops_reading limits old read in1 in2 out consumes =
-      record { read = read; reads = consumes; put = []; puts = Appends-nil out; stopped = stopped_still limits old read }
+  pub stops_reading : (limits : Bounds) (f : RoundFault) (old : Standing S) (read : List ℕ) (in1 in2 out : Option (List ℕ)) → StopsReading f → Consumes in1 in2 read
+      → StopsRound g limits f old old.tables in1 in2 out out
+  stops_reading limits f old read in1 in2 out why consumes =
+      record { read = read; reads = consumes; put = []; puts = Appends-nil out; stopped = stopped_still limits f old read why }
 
   -- some answers were put out
-  pub stops_answering : (limits : Bounds) (old : ServerValue) (desk : Desk) (tables : Held S) (read bytes : List ℕ) (in1 in2 out1 out2 : Option (List ℕ)) → old.limits ≡ limits
-      → bytes ≡ desk.pending.items ++ read → Consumes in1 in2 read → StopsAnswering old bytes out1 out2 → StopsRound g limits (standing g old desk tables) tables in1 in2 out1 out2
-  stops_answering limits old desk tables read bytes in1 in2 out1 out2 same reads consumes a = record {
+  pub stops_answering : (limits : Bounds) (f : RoundFault) (old : ServerValue) (desk : Desk) (tables : Held S) (read bytes : List ℕ) (in1 in2 out1 out2 : Option (List ℕ)) → old.limits ≡ limits
+      → bytes ≡ desk.pending.items ++ read → Consumes in1 in2 read → StopsAnswering f old bytes out1 out2 → StopsRound g limits f (standing g old desk tables) tables in1 in2 out1 out2
+  stops_answering limits f old desk tables read bytes in1 in2 out1 out2 same reads consumes a = record {
     read = read;
     reads = consumes;
-    put = take a.count a.answers;
+    put = a.put;
     puts = a.puts;
     stopped = λ begins. record {
       begins = begins;
@@ -148,19 +184,33 @@ module _ {S : Type 0} (g : Ghosts S) where
       batch = None;
       answers = a.answers;
       dones = [];
+      fits = tt;
       written = refl;
       crash = survives_still g tables _;
       says = subst (λ (l : Bounds). Spells l (said_to (server_of old) (inputs_in a.pieces)) a.answers) same a.says;
-      put_out = inl (a.count, refl, refl);
+      told = told f a.told;
     };
   }
+    where
+      told : (k : RoundFault) → PutsAnswers k old.limits a.put a.answers (after_inputs (server_of old) (inputs_in a.pieces)) a.rest
+          → Tells g limits k a.put a.pieces a.rest a.answers [] None (after_inputs (server_of old) (inputs_in a.pieces)) tables tables
+      told round.Exhausted h = (
+        h.0,
+        (refl, refl),
+        subst (λ (l : Bounds). LacksNumber l (after_inputs (server_of old) (inputs_in a.pieces)) a.rest) same h.1,
+      )
+      told round.Memory none = inl (none, (refl, refl))
+      told (round.Output e) h = inl (h.0, h.1, (refl, refl))
+      told round.Shape wrong = absurd wrong
+      told round.Store wrong = absurd wrong
+      told round.Input wrong = absurd wrong
 
   -- the answers were put out, and some of the Dones, or none
-  pub stops_committing : (limits : Bounds) (old mid : ServerValue) (desk read_desk after : Desk) (tables later : Held S) (read : List ℕ) (taken : Taken)
+  pub stops_committing : (limits : Bounds) (f : RoundFault) (old mid : ServerValue) (desk read_desk after : Desk) (tables later : Held S) (read : List ℕ) (taken : Taken)
       (in1 in2 out1 out2 out3 : Option (List ℕ)) → old.limits ≡ limits → read_desk.pending.items ≡ desk.pending.items ++ read → Consumes in1 in2 read
-      → Answered old read_desk after taken mid out1 out2 → StopsCommit g mid tables later out2 out3
-      → StopsRound g limits (standing g old desk tables) later in1 in2 out1 out3
-  stops_committing limits old mid desk read_desk after tables later read taken in1 in2 out1 out2 out3 same reads consumes a c =
+      → Answered old read_desk after taken mid out1 out2 → StopsCommit g f mid tables later out2 out3
+      → StopsRound g limits f (standing g old desk tables) later in1 in2 out1 out3
+  stops_committing limits f old mid desk read_desk after tables later read taken in1 in2 out1 out2 out3 same reads consumes a c =
       let is : server_of mid ≡ after_inputs (server_of old) (inputs_in a.pieces) = a.takes.answers.becomes in
       let kept : mid.limits ≡ limits = a.takes.answers.limits ∙ same in
       record {
@@ -178,23 +228,30 @@ module _ {S : Type 0} (g : Ghosts S) where
           batch = c.batch;
           answers = a.answers;
           dones = c.dones;
+          fits = subst (λ (l : Bounds). IfSome c.batch (Fits l)) kept c.fits;
           written = subst (λ (l : Bounds). WritesOrNot g l c.batch tables later) kept c.written;
           crash = c.crash;
           says = subst (λ (l : Bounds). Spells l (said_to (server_of old) (inputs_in a.pieces)) a.answers) same a.takes.answers.says;
-          put_out = how is kept c.put_out;
+          told = told is kept f c.told;
         };
       }
     where
-      how : server_of mid ≡ after_inputs (server_of old) (inputs_in a.pieces) → mid.limits ≡ limits
-          → ((c.put ≡ []) ⊎ ((n : ℕ) × (c.put ≡ take n c.dones) × SaysDones mid.limits (server_of mid) c.batch c.dones × Writes g mid.limits c.batch tables later))
-          → PutsSome g limits (a.answers ++ c.put) a.answers c.dones c.batch (after_inputs (server_of old) (inputs_in a.pieces)) tables later
-      how is kept (inl e) = inr (inl (ap (λ (k : List ℕ). a.answers ++ k) e ∙ append-nil a.answers))
-      how is kept (inr w) = inr (inr (
+      told : server_of mid ≡ after_inputs (server_of old) (inputs_in a.pieces) → mid.limits ≡ limits
+          → (k : RoundFault) → PutsDones g k mid.limits c.put c.dones c.batch (server_of mid) tables later
+          → Tells g limits k (a.answers ++ c.put) a.pieces (drop taken.used read_desk.pending.items) a.answers c.dones c.batch
+          (after_inputs (server_of old) (inputs_in a.pieces)) tables later
+      told is kept round.Store h =
+          (ap (λ (k : List ℕ). a.answers ++ k) h.0 ∙ append-nil a.answers, subst (λ (l : Bounds). StaysUnwritten g l c.batch tables later) kept h.1)
+      told is kept round.Memory none = inr (ap (λ (k : List ℕ). a.answers ++ k) none ∙ append-nil a.answers)
+      told is kept (round.Output e) w = inr (
         w.0,
         ap (λ (k : List ℕ). a.answers ++ k) w.1,
         subst (λ (s : Server). SaysDones limits s c.batch c.dones) is (subst (λ (l : Bounds). SaysDones l (server_of mid) c.batch c.dones) kept w.2),
         subst (λ (l : Bounds). Writes g l c.batch tables later) kept w.3,
-      ))
+      )
+      told is kept round.Shape wrong = absurd wrong
+      told is kept round.Exhausted wrong = absurd wrong
+      told is kept round.Input wrong = absurd wrong
 
   -- one round more
   rounds_more : (limits : Bounds) (rounds : List Round) (round : Round) (a b c : Standing S) → AreRounds g limits rounds a b → IsPart limits b.waiting → IsRound g limits round b c
@@ -242,16 +299,17 @@ module _ {S : Type 0} (g : Ghosts S) where
 
   -- a round stops
   pub serves_stopped : {E : Type 0} (limits l : Bounds) (start now : Standing S) (f : RoundFault) (tables : Held S) (in0 in1 in2 out0 out1 out2 : Option (List ℕ)) → l ≡ limits
-      → IsPart limits now.waiting → Far limits start now in0 in1 out0 out1 → StopsRound g l now tables in1 in2 out1 out2 → Serves g limits {E = E} (Err (fault.Round f)) start tables in0 in2 out0 out2
+      → IsPart limits now.waiting → Far limits start now in0 in1 out0 out1 → StopsRound g l f now tables in1 in2 out1 out2 → Serves g limits {E = E} (Err (fault.Round f)) start tables in0 in2 out0 out2
   serves_stopped limits l start now f tables in0 in1 in2 out0 out1 out2 same part far stops =
       serves_at limits (Err (fault.Round f)) start now tables stops.read stops.put in0 in1 in2 out0 out1 out2 far stops.reads stops.puts
-      (subst (λ (k : Bounds). IsPart k now.waiting → IsStopped g k stops.read stops.put now tables) same stops.stopped part)
+      (subst (λ (k : Bounds). IsPart k now.waiting → IsStopped g k f stops.read stops.put now tables) same stops.stopped part)
 
   -- there are no more rounds
-  pub serves_tired : {E : Type 0} (limits : Bounds) (start now : Standing S) (f : RoundFault) (in0 in1 out0 out1 : Option (List ℕ))
-      → IsPart limits now.waiting → Far limits start now in0 in1 out0 out1 → Serves g limits {E = E} (Err (fault.Round f)) start now.tables in0 in1 out0 out1
-  serves_tired limits start now f in0 in1 out0 out1 part far =
-      serves_at limits (Err (fault.Round f)) start now now.tables [] [] in0 in1 in1 out0 out1 out1 far (Consumes-nil in1) (Appends-nil out1) (stopped_still limits now [] part)
+  pub serves_tired : {E : Type 0} (limits : Bounds) (start now : Standing S) (in0 in1 out0 out1 : Option (List ℕ))
+      → IsPart limits now.waiting → Far limits start now in0 in1 out0 out1 → Serves g limits {E = E} (Err (fault.Round round.Input)) start now.tables in0 in1 out0 out1
+  serves_tired limits start now in0 in1 out0 out1 part far =
+      serves_at limits (Err (fault.Round round.Input)) start now now.tables [] [] in0 in1 in1 out0 out1 out1 far (Consumes-nil in1) (Appends-nil out1)
+      (stopped_still limits round.Input now [] tt part)
 
   round_at : (limits l : Bounds) (now next : Standing S) (in1 in2 out1 out2 : Option (List ℕ)) → l ≡ limits → DoesRound g l now next in1 in2 out1 out2 → DoesRound g limits now next in1 in2 out1 out2
   round_at limits l now next in1 in2 out1 out2 same d = subst (λ (k : Bounds). DoesRound g k now next in1 in2 out1 out2) same d

@@ -1,5 +1,5 @@
 -- What is committed is written, and its commits are on disk.
-use Rattle.std.proofs.Common.{◌≡◌, ◌∙◌, ◌≤◌, inl, inr, ℕ, Result, Ok, Err, OnErr, Bool, true, false, List, [], Option, Some, None, refl, ap, subst, take, arith, if◌then◌else◌, nat_lt}
+use Rattle.std.proofs.Common.{◌≡◌, ◌∙◌, ◌≤◌, inl, inr, ℕ, Bool, true, false, List, [], Option, Some, None, refl, ap, subst, take, arith, if◌then◌else◌, nat_lt}
 use Rattle.std.proofs.KnownBytes.{Appends-nil}
 use Rattle.std.proofs.lemmas.Bool.Decides.{nat_tests}
 use Rattle.std.specs.Io.KnownBytes.{Appends}
@@ -23,12 +23,15 @@ use Rattle.cb_protocol.specs.Server.{Server, SetFlushed, after_server_step, serv
 use Rattle.cb_server.specs.ServerValue.{ServerValue, forgot, server_of}
 use Rattle.cb_server.specs.Taking.{Does}
 use Rattle.cb_server_state.specs.Commits.{batch_of}
-use Rattle.cb_shelf.specs.Flushing.{WritesOne, WritesOrStays}
-use Rattle.cb_sql.specs.Inside.{IsSettled}
+use Rattle.cb_shelf.specs.Flushing.{WritesOne}
+use Rattle.cb_sql.specs.Inside.{IsSame, IsSettled}
 use Rattle.cb_sql.specs.Statements.{MakesAll, batch_statements}
 use Rattle.cb_sql.specs.Writing.{Fits, Wrote}
+use Rattle.cb_serve.proofs.Faults.{IsOfOutput}
 use Rattle.cb_serve.proofs.Inputs.{answers_one}
-use Rattle.cb_serve.specs.Parts.{Commits, StopsCommit}
+use Rattle.cb_serve.specs.Parts.{Commits, PutsDones, RefusesBatch, StopsCommit}
+use Rattle.cb_serve.specs.declared.fault.RoundFault.{RoundFault}
+use Rattle.cb_serve.specs.declared.fault.RoundFault.TheVariants as round
 
 -- after a flush the number of the last commit on disk is another, and nothing else
 after_flush : (s : Server) (n : ℕ) → server_after s (server_flush s n) ≡ after_server_step s (SetFlushed n)
@@ -53,11 +56,6 @@ none_left s b e = ap next_batch (after_flush s b.number) ∙ none_if (nat_lt b.n
 pub flushed_to : (old mid : ServerValue) (n : ℕ) (said : List Message) → Does old (ReachesDisk n) said mid → n ≤ (server_of mid).flushed
 flushed_to old mid n said does =
     let e : (server_of mid).flushed ≡ n = ap (λ (s : Server). s.flushed) (does.becomes ∙ after_flush (server_of old) n) in omega arith
-
--- what holds of any result, holds where it is refused
-pub on_err : {X E : Type 0} (P : Type 0) (r : Result X E) → P → OnErr r P
-on_err P (Ok x) p = tt
-on_err P (Err e) p = p
 
 module _ {S : Type 0} (g : Ghosts S) where
   -- nothing happens to the tables
@@ -113,45 +111,89 @@ module _ {S : Type 0} (g : Ghosts S) where
         puts = puts;
       }
 
-  -- nothing was written or put out
-  pub stops_before : (old : ServerValue) (tables : Held S) (out : Option (List ℕ)) → StopsCommit g old tables tables out out
+  -- memory was refused for the batch: nothing was written or put out
+  pub stops_before : (old : ServerValue) (tables : Held S) (out : Option (List ℕ)) → StopsCommit g round.Memory old tables tables out out
   stops_before old tables out = record {
     batch = None;
     dones = [];
     put = [];
     next = tt;
+    fits = tt;
     written = refl;
     crash = survives_still tables _;
     puts = Appends-nil out;
-    put_out = inl refl;
+    told = refl;
   }
 
-  -- a batch was refused, or was written, and nothing was put out
-  pub stops_at_batch : (old : ServerValue) (tables after : Held S) (batch : BatchState) (out : Option (List ℕ)) → next_batch (server_of old) ≡ Some (batch_of batch) → WritesOrStays g old.limits batch tables after
-      → Survives (state g tables) (state g after) (Wrote g batch tables) → StopsCommit g old tables after out out
-  stops_at_batch old tables after batch out next wrote crash = record {
+  -- a batch that was refused wasn't written
+  stays : (f : RoundFault) (a b : Held S) → RefusesBatch g f a b → HasCleanDisk (state g b) → IsSame (state g a) (state g b)
+  stays round.Store a b same = same
+  stays round.Memory a b same = same
+  stays round.Shape a b wrong = absurd wrong
+  stays round.Exhausted a b wrong = absurd wrong
+  stays round.Input a b wrong = absurd wrong
+  stays (round.Output e) a b wrong = absurd wrong
+
+  puts_none : (f : RoundFault) (l : Bounds) (batch : BatchState) (server : Server) (a b : Held S) → RefusesBatch g f a b → PutsDones g f l [] [] (Some batch) server a b
+  puts_none round.Store l batch server a b same = (refl, same)
+  puts_none round.Memory l batch server a b same = refl
+  puts_none round.Shape l batch server a b wrong = absurd wrong
+  puts_none round.Exhausted l batch server a b wrong = absurd wrong
+  puts_none round.Input l batch server a b wrong = absurd wrong
+  puts_none (round.Output e) l batch server a b wrong = absurd wrong
+
+  -- a batch was refused, and nothing was put out
+  pub stops_at_batch : (f : RoundFault) (old : ServerValue) (tables after : Held S) (batch : BatchState) (out : Option (List ℕ)) → next_batch (server_of old) ≡ Some (batch_of batch)
+      → Fits old.limits batch → RefusesBatch g f tables after → Survives (state g tables) (state g after) (Wrote g batch tables) → StopsCommit g f old tables after out out
+  stops_at_batch f old tables after batch out next fits refuses crash = record {
     batch = Some batch;
     dones = [];
     put = [];
     next = next;
-    written = wrote;
+    fits = fits;
+    written = inr (stays f tables after refuses);
     crash = crash;
     puts = Appends-nil out;
-    put_out = inl refl;
+    told = puts_none f old.limits batch (server_of old) tables after refuses;
+  }
+
+  -- a batch was written, and memory was refused for its Dones
+  pub stops_behind : (old : ServerValue) (tables after : Held S) (batch : BatchState) (out : Option (List ℕ)) → next_batch (server_of old) ≡ Some (batch_of batch)
+      → WritesOne g old.limits batch tables after → Survives (state g tables) (state g after) (Wrote g batch tables) → StopsCommit g round.Memory old tables after out out
+  stops_behind old tables after batch out next wrote crash = record {
+    batch = Some batch;
+    dones = [];
+    put = [];
+    next = next;
+    fits = wrote.fits;
+    written = inl wrote;
+    crash = crash;
+    puts = Appends-nil out;
+    told = refl;
   }
 
   -- a batch was written, and a front of the Dones was put out
-  pub stops_at_dones : (old mid : ServerValue) (tables after : Held S) (batch : BatchState) (frames : List Frame) (out out2 : Option (List ℕ)) (n : ℕ)
+  pub stops_at_dones : (f : RoundFault) (old mid : ServerValue) (tables after : Held S) (batch : BatchState) (frames : List Frame) (out out2 : Option (List ℕ)) (n : ℕ) → IsOfOutput f
       → next_batch (server_of old) ≡ Some (batch_of batch) → WritesOne g old.limits batch tables after → Survives (state g tables) (state g after) (Wrote g batch tables)
       → Does old (ReachesDisk batch.number) (messages_of frames) mid → AllByRecursion (FrameFits old.limits) frames
-      → Appends out out2 (take n (flat_map spelling frames)) → StopsCommit g old tables after out out2
-  stops_at_dones old mid tables after batch frames out out2 n next wrote crash does fit puts = record {
+      → Appends out out2 (take n (flat_map spelling frames)) → StopsCommit g f old tables after out out2
+  stops_at_dones f old mid tables after batch frames out out2 n of_output next wrote crash does fit puts = record {
     batch = Some batch;
     dones = flat_map spelling frames;
     put = take n (flat_map spelling frames);
     next = next;
+    fits = wrote.fits;
     written = inl wrote;
     crash = crash;
     puts = puts;
-    put_out = inr (n, refl, (answers_one old (ReachesDisk batch.number) frames mid does fit).says, wrote);
+    told = told f of_output;
   }
+    where
+      told : (k : RoundFault) → IsOfOutput k
+          → PutsDones g k old.limits (take n (flat_map spelling frames)) (flat_map spelling frames) (Some batch) (server_of old) tables after
+      told (round.Output e) of_output = (n, refl, (answers_one old (ReachesDisk batch.number) frames mid does fit).says, wrote)
+      told round.Shape wrong = absurd wrong
+      told round.Store wrong = absurd wrong
+      told round.Exhausted wrong = absurd wrong
+      told round.Input wrong = absurd wrong
+      told round.Memory wrong = absurd wrong

@@ -1,14 +1,15 @@
 -- What the protocol's server says to pieces of a stream, and the bytes of that.
-use Rattle.std.specs.Prelude.{◌≡◌, ◌≤◌, ℕ, List, [], ◌∷◌, ◌++◌, length, take}
+use Rattle.std.specs.Prelude.{◌≡◌, ◌≤◌, ℕ, List, [], ◌∷◌, ◌++◌, length, take, true}
 use Rattle.std.specs.List.{AllByRecursion, flat_map}
-use Rattle.cb_frame_types.specs.Grammar.{Fits}
+use Rattle.cb_frame_types.specs.Grammar.{Fits, IsFrameInSome}
 use Rattle.cb_frame_types.specs.Spelling.{spelling}
 use Rattle.cb_frame_types.specs.declared.frame.Frame.{Frame}
-use Rattle.cb_outbox.specs.Messages.{messages_of}
+use Rattle.cb_outbox.specs.Messages.{body_of, messages_of}
 use Rattle.cb_page.specs.Bounds.{Bounds}
 use Rattle.cb_protocol.specs.AnyMessages.{Input, SendsAgain, input_steps}
 use Rattle.cb_protocol.specs.Messages.{Message}
 use Rattle.cb_protocol.specs.Server.{Server, server_after}
+use Rattle.cb_protocol.specs.ServerMessages.{is_exhausted}
 use Rattle.cb_protocol.specs.WaitsFor.{on_cycle}
 use Rattle.cb_protocol.specs.World.{messages_sent}
 use Rattle.cb_server.specs.ServerValue.{ServerValue, commits_of, server_of}
@@ -43,6 +44,14 @@ pub record Spells (limits : Bounds) (messages : List Message) (bytes : List ℕ)
   pub fit : AllByRecursion (Fits limits) frames
   pub carry : messages_of frames ≡ messages
   pub spelled : bytes ≡ flat_map spelling frames
+
+-- The bytes begin with a frame for which no number is left to the server.
+pub record LacksNumber (limits : Bounds) (server : Server) (bytes : List ℕ) : Type 0 where
+  pub frame : Frame
+  pub used : ℕ
+  pub within : used ≤ length bytes
+  pub read : IsFrameInSome limits frame (take used bytes)
+  pub lacks : is_exhausted server frame.client frame.incarnation (body_of frame.body) ≡ true
 
 -- The server was called with these, and the bytes are all that it says to them. Its limits and its
 -- opening store are as before.

@@ -1,20 +1,27 @@
 -- The parts of a round.
-use Rattle.std.specs.Prelude.{◌≡◌, ◌⊎◌, ℕ, List, [], ◌++◌, take, drop, Option, None}
+use Rattle.std.specs.Prelude.{◌≡◌, ℕ, List, [], ◌++◌, take, drop, Option, None}
 use Rattle.std.specs.Prelude.{Some, IfSome, option_map, true, false}
 use Rattle.std.specs.Io.KnownBytes.{Appends, Consumes, IsAtEnd}
 use Rattle.std.specs.List.{AllByRecursion, flat_map}
-use Rattle.sqlite.specs.Held.{Held}
+use Rattle.sqlite.specs.Held.{Held, state}
+use Rattle.sqlite.specs.State.{HasCleanDisk}
 use Rattle.sqlite.specs.Store.{Ghosts}
 use Rattle.cb_commit.specs.Batches.{BatchState}
 use Rattle.cb_page.specs.Bounds.{Bounds}
 use Rattle.cb_protocol.specs.Flush.{next_batch}
+use Rattle.cb_protocol.specs.Server.{Server}
 use Rattle.cb_server.specs.ServerValue.{ServerValue, server_of}
 use Rattle.cb_server_state.specs.Commits.{batch_of}
-use Rattle.cb_serve.specs.Answering.{Spells, TakesPieces, inputs_in, said_to}
+use Rattle.cb_sql.specs.Inside.{IsSame}
+use Rattle.cb_sql.specs.Writing.{Fits}
+use Rattle.cb_serve.specs.Answering.{LacksNumber, Spells, TakesPieces, after_inputs, inputs_in}
+use Rattle.cb_serve.specs.Answering.{said_to}
 use Rattle.cb_serve.specs.Rounds.{IsRound, LeavesBatch, Round, SaysDones, Standing, Writes}
-use Rattle.cb_serve.specs.Rounds.{WritesOrNot, counted_on, reached}
+use Rattle.cb_serve.specs.Rounds.{StaysUnwritten, WritesOrNot, counted_on, reached}
 use Rattle.cb_serve.specs.Serving.{IsStopped}
 use Rattle.cb_serve.specs.Streams.{IsNoFrame, IsPart, IsPiece, Piece, bytes_of, count_passed}
+use Rattle.cb_serve.specs.declared.fault.RoundFault.{RoundFault}
+use Rattle.cb_serve.specs.declared.fault.RoundFault.TheVariants as round
 use Rattle.cb_serve.specs.declared.round.Desk.{Desk}
 use Rattle.cb_serve.specs.declared.round.RoundEnd.{RoundEnd}
 use Rattle.cb_serve.specs.declared.round.RoundEnd.TheVariants as end
@@ -32,17 +39,35 @@ pub record Answered (old : ServerValue) (desk after : Desk) (taken : Taken) (new
   pub passed : after.passed_over ≡ counted_on desk.passed_over (count_passed pieces)
   pub puts : Appends old_out new_out answers
 
--- The bytes begin with some pieces, and a front of what is said to them was put out, and no more.
-pub record StopsAnswering (old : ServerValue) (bytes : List ℕ) (old_out new_out : Option (List ℕ))
-    : Type 0 where
+-- why nothing more was read
+abbrev pub StopsReading : RoundFault → Type 0
+StopsReading round.Input = Unit {0}
+StopsReading round.Memory = Unit {0}
+StopsReading _ = ⊥
+
+-- What was put out of the answers to pieces, by why no more was: none, where no number is left for
+-- what comes next, or memory was refused; or a front of them, where the output was.
+abbrev pub PutsAnswers : RoundFault → Bounds → (put answers : List ℕ) → Server → (rest : List ℕ)
+    → Type 0
+PutsAnswers round.Exhausted limits put answers server rest =
+    (put ≡ []) × LacksNumber limits server rest
+PutsAnswers round.Memory limits put answers server rest = put ≡ []
+PutsAnswers (round.Output e) limits put answers server rest = (n : ℕ) × (put ≡ take n answers)
+PutsAnswers _ limits put answers server rest = ⊥
+
+-- The bytes begin with some pieces, and of what is said to them this was put out, and no more.
+pub record StopsAnswering (fault : RoundFault) (old : ServerValue) (bytes : List ℕ)
+    (old_out new_out : Option (List ℕ)) : Type 0 where
   pub pieces : List Piece
   pub rest : List ℕ
   pub answers : List ℕ
   pub are : AllByRecursion (IsPiece old.limits) pieces
   pub cut : bytes ≡ flat_map bytes_of pieces ++ rest
   pub says : Spells old.limits (said_to (server_of old) (inputs_in pieces)) answers
-  pub count : ℕ
-  pub puts : Appends old_out new_out (take count answers)
+  pub put : List ℕ
+  pub puts : Appends old_out new_out put
+  pub told : PutsAnswers fault old.limits put answers
+      (after_inputs (server_of old) (inputs_in pieces)) rest
 
 module _ {S : Type 0} (g : Ghosts S) where
   -- What is committed is written, in one batch; then it is on disk, and the Dones are put out.
@@ -59,20 +84,38 @@ module _ {S : Type 0} (g : Ghosts S) where
     pub crash : LeavesBatch g old.limits batch old_tables new_tables
     pub puts : Appends old_out new_out dones
 
-  -- Nothing was put out; or the batch is written, and a front of its Dones was put out. The batch is
-  -- the next one.
-  pub record StopsCommit (old : ServerValue) (old_tables new_tables : Held S)
+  -- a batch that fits was refused, by the database or for want of memory: on a clean disk the
+  -- tables are as before
+  abbrev pub RefusesBatch : RoundFault → (old new : Held S) → Type 0
+  RefusesBatch round.Store old new =
+      HasCleanDisk (state g new) → IsSame (state g old) (state g new)
+  RefusesBatch round.Memory old new =
+      HasCleanDisk (state g new) → IsSame (state g old) (state g new)
+  RefusesBatch _ old new = ⊥
+
+  -- What was put out of the Dones of a batch, by why no more was: none, where the database refused
+  -- the batch, or memory was; or a front of them, where the output was, and the batch is written.
+  abbrev pub PutsDones : RoundFault → Bounds → (put dones : List ℕ) → Option BatchState → Server
+      → (old new : Held S) → Type 0
+  PutsDones round.Store limits put dones batch server old new =
+      (put ≡ []) × StaysUnwritten g limits batch old new
+  PutsDones round.Memory limits put dones batch server old new = put ≡ []
+  PutsDones (round.Output e) limits put dones batch server old new = (n : ℕ) × (put ≡ take n dones)
+      × SaysDones limits server batch dones × Writes g limits batch old new
+  PutsDones _ limits put dones batch server old new = ⊥
+
+  -- The next batch wasn't written, or its Dones weren't put out.
+  pub record StopsCommit (fault : RoundFault) (old : ServerValue) (old_tables new_tables : Held S)
       (old_out new_out : Option (List ℕ)) : Type 0 where
     pub batch : Option BatchState
     pub dones : List ℕ
     pub put : List ℕ
     pub next : IfSome batch (λ b. next_batch (server_of old) ≡ Some (batch_of b))
+    pub fits : IfSome batch (Fits old.limits)
     pub written : WritesOrNot g old.limits batch old_tables new_tables
     pub crash : LeavesBatch g old.limits batch old_tables new_tables
     pub puts : Appends old_out new_out put
-    pub put_out : (put ≡ []) ⊎ ((n : ℕ) × (put ≡ take n dones)
-        × SaysDones old.limits (server_of old) batch dones
-        × Writes g old.limits batch old_tables new_tables)
+    pub told : PutsDones fault old.limits put dones batch (server_of old) old_tables new_tables
 
   -- where a service with this server, this desk and these tables stands
   abbrev pub standing : ServerValue → Desk → Held S → Standing S
@@ -103,10 +146,10 @@ module _ {S : Type 0} (g : Ghosts S) where
       DoesRound limits old new old_in new_in old_out new_out × IsNoFrame limits new.waiting
 
   -- A round was begun and not finished, behind less than a whole piece.
-  pub record StopsRound (limits : Bounds) (old : Standing S) (tables : Held S)
+  pub record StopsRound (limits : Bounds) (fault : RoundFault) (old : Standing S) (tables : Held S)
       (old_in new_in old_out new_out : Option (List ℕ)) : Type 0 where
     pub read : List ℕ
     pub reads : Consumes old_in new_in read
     pub put : List ℕ
     pub puts : Appends old_out new_out put
-    pub stopped : IsPart limits old.waiting → IsStopped g limits read put old tables
+    pub stopped : IsPart limits old.waiting → IsStopped g limits fault read put old tables

@@ -3,7 +3,7 @@ use Rattle.std.specs.Prelude.{◌≡◌, ℕ, ◌+◌, ◌-◌, ◌^◌, min, Li
 use Rattle.std.specs.Prelude.{Option, Some, None, IfSome, option_map}
 use Rattle.std.specs.List.{AllByRecursion, flat_map}
 use Rattle.sqlite.specs.Held.{Held, state}
-use Rattle.sqlite.specs.State.{Survives}
+use Rattle.sqlite.specs.State.{HasCleanDisk, Survives}
 use Rattle.sqlite.specs.Store.{Ghosts}
 use Rattle.cb_commit.specs.Batches.{BatchState}
 use Rattle.cb_page.specs.Bounds.{Bounds}
@@ -12,6 +12,7 @@ use Rattle.cb_protocol.specs.Flush.{next_batch}
 use Rattle.cb_protocol.specs.Server.{Server}
 use Rattle.cb_server_state.specs.Commits.{batch_of}
 use Rattle.cb_shelf.specs.Flushing.{WritesOne, WritesOrStays}
+use Rattle.cb_sql.specs.Inside.{IsSame}
 use Rattle.cb_sql.specs.Writing.{Wrote}
 use Rattle.cb_serve.specs.Answering.{Spells, after_inputs, inputs_in, said_to}
 use Rattle.cb_serve.specs.Streams.{IsPiece, IsRest, Piece, bytes_of, count_passed}
@@ -58,6 +59,12 @@ module _ {S : Type 0} (g : Ghosts S) (limits : Bounds) where
   abbrev pub WritesOrNot : Option BatchState → (old new : Held S) → Type 0
   WritesOrNot None old new = new ≡ old
   WritesOrNot (Some batch) old new = WritesOrStays g limits batch old new
+
+  -- there is a batch, and it wasn't written: on a clean disk the tables are as before
+  abbrev pub StaysUnwritten : Option BatchState → (old new : Held S) → Type 0
+  StaysUnwritten None old new = ⊥
+  StaysUnwritten (Some batch) old new =
+      HasCleanDisk (state g new) → IsSame (state g old) (state g new)
 
   -- what a crash leaves: what it left before, or the tables with the batch
   abbrev pub LeavesBatch : Option BatchState → (old new : Held S) → Type 0

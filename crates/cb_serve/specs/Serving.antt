@@ -1,9 +1,10 @@
 -- A service from its beginning to its end: rounds, and how it ends.
 use Rattle.std.specs.Prelude.{◌≡◌, ◌≢◌, ◌⊎◌, ℕ, List, [], ◌∷◌, ◌++◌, take, Option}
-use Rattle.std.specs.Prelude.{Some, IfSome, Result, Ok, Err}
+use Rattle.std.specs.Prelude.{Some, None, IfSome, Result, Ok, Err, IsTrue}
 use Rattle.std.specs.List.{AllByRecursion, flat_map}
 use Rattle.std.specs.Io.KnownBytes.{Appends, Consumes, IsAtEnd}
-use Rattle.sqlite.specs.Held.{Held}
+use Rattle.sqlite.specs.Held.{Held, state}
+use Rattle.sqlite.specs.State.{HasCleanDisk}
 use Rattle.sqlite.specs.Store.{Ghosts}
 use Rattle.cb_commit.specs.Batches.{BatchState}
 use Rattle.cb_commit.specs.Stores.{StoreState}
@@ -13,10 +14,13 @@ use Rattle.cb_protocol.specs.Server.{Server, new_server}
 use Rattle.cb_protocol.specs.World.{opening_store}
 use Rattle.cb_server_state.specs.Commits.{batch_of}
 use Rattle.cb_server_state.specs.States.{limits_of, opening_of}
-use Rattle.cb_serve.specs.Answering.{Spells, after_inputs, inputs_in, said_to}
-use Rattle.cb_serve.specs.Rounds.{IsRound, LeavesBatch, Round, SaysDones, Standing, Writes}
-use Rattle.cb_serve.specs.Rounds.{WritesOrNot}
+use Rattle.cb_shelf.specs.Newer.{HoldsNewer}
+use Rattle.cb_sql.specs.Writing.{Fits}
+use Rattle.cb_serve.specs.Answering.{LacksNumber, Spells, after_inputs, inputs_in, said_to}
+use Rattle.cb_serve.specs.Rounds.{IsRound, LeavesBatch, Round, SaysDones, Standing, StaysUnwritten}
+use Rattle.cb_serve.specs.Rounds.{Writes, WritesOrNot}
 use Rattle.cb_serve.specs.Streams.{IsNoFrame, IsPart, IsPiece, Piece, bytes_of}
+use Rattle.cb_serve.specs.declared.fault.RoundFault.{RoundFault}
 use Rattle.cb_serve.specs.declared.fault.RoundFault.TheVariants as round
 use Rattle.cb_serve.specs.declared.fault.ServeFault.{ServeFault}
 use Rattle.cb_serve.specs.declared.fault.ServeFault.TheVariants as fault
@@ -33,6 +37,11 @@ abbrev pub opened : Bounds → StoreState → Server
 opened limits store =
     new_server limits.clients limits.pages (opening_store (limits_of limits) (opening_of store))
 
+-- on a clean disk the tables hold the store, as long as the connection is open
+abbrev pub HoldsStore : {S : Type 0} → Ghosts S → StoreState → Held S → Type 0
+HoldsStore g store tables = HasCleanDisk (state g tables) → IsTrue (state g tables).is_open
+    → HoldsNewer (state g tables).now store
+
 module _ {S : Type 0} (g : Ghosts S) (limits : Bounds) where
   -- these rounds, one after another; each goes on from less than a whole piece
   abbrev pub AreRounds : List Round → (old new : Standing S) → Type 0
@@ -40,18 +49,38 @@ module _ {S : Type 0} (g : Ghosts S) (limits : Bounds) where
   AreRounds (round ∷ rounds) old new = IsPart limits old.waiting × (between : Standing S)
       × IsRound g limits round old between × AreRounds rounds between new
 
-  -- What a round that wasn't finished put out: a front of its answers, and the tables are as before;
-  -- all of them; or all of them and a front of its Dones, and then its batch is in the tables.
-  abbrev pub PutsSome : (put answers dones : List ℕ) → Option BatchState → Server
-      → (old tables : Held S) → Type 0
-  PutsSome put answers dones batch server old tables =
-      ((n : ℕ) × (put ≡ take n answers) × (tables ≡ old)) ⊎ (put ≡ answers)
+  -- a round came to no batch, and the tables are as before
+  abbrev pub Untouched : Option BatchState → (old tables : Held S) → Type 0
+  Untouched batch old tables = (batch ≡ None) × (tables ≡ old)
+
+  -- What the fault of a round that wasn't finished tells. Its batch fits, so none is `Shape`.
+  --   Store: its batch wasn't written; all of its answers were put out, and no more.
+  --   Exhausted: nothing was put out, and no number is left for the frame that comes next.
+  --   Input: no piece was taken, and nothing put out.
+  --   Output: a front of its answers was put out, and it came to no batch; or all of them and a
+  --     front of its Dones, and its batch is written.
+  --   Memory: nothing was put out, and it came to no batch; or all of its answers, and no more.
+  abbrev pub Tells : RoundFault → (put : List ℕ) → List Piece → (rest answers dones : List ℕ)
+      → Option BatchState → Server → (old tables : Held S) → Type 0
+  Tells round.Shape put pieces rest answers dones batch server old tables = ⊥
+  Tells round.Store put pieces rest answers dones batch server old tables =
+      (put ≡ answers) × StaysUnwritten g limits batch old tables
+  Tells round.Exhausted put pieces rest answers dones batch server old tables =
+      (put ≡ []) × Untouched batch old tables × LacksNumber limits server rest
+  Tells round.Input put pieces rest answers dones batch server old tables =
+      (pieces ≡ []) × (put ≡ []) × Untouched batch old tables
+  Tells (round.Output e) put pieces rest answers dones batch server old tables =
+      ((n : ℕ) × (put ≡ take n answers) × Untouched batch old tables)
       ⊎ ((n : ℕ) × (put ≡ answers ++ take n dones) × SaysDones limits server batch dones
       × Writes g limits batch old tables)
+  Tells round.Memory put pieces rest answers dones batch server old tables =
+      ((put ≡ []) × Untouched batch old tables) ⊎ (put ≡ answers)
 
-  -- A round that wasn't finished: what it read begins with these pieces, and what it put out is said
-  -- to them; its batch, if it came to one, is the next of the server that took them.
-  pub record IsStopped (read put : List ℕ) (old : Standing S) (tables : Held S) : Type 0 where
+  -- A round that wasn't finished: what it read begins with these pieces, and what it put out is
+  -- said to them; its batch, if it came to one, is the next of the server that took them, and fits;
+  -- and its fault tells how far it came.
+  pub record IsStopped (f : RoundFault) (read put : List ℕ) (old : Standing S) (tables : Held S)
+      : Type 0 where
     pub begins : IsPart limits old.waiting
     pub pieces : List Piece
     pub rest : List ℕ
@@ -63,9 +92,10 @@ module _ {S : Type 0} (g : Ghosts S) (limits : Bounds) where
     pub says : Spells limits (said_to old.server (inputs_in pieces)) answers
     pub next : IfSome batch (λ b.
         next_batch (after_inputs old.server (inputs_in pieces)) ≡ Some (batch_of b))
+    pub fits : IfSome batch (Fits limits)
     pub written : WritesOrNot g limits batch old.tables tables
     pub crash : LeavesBatch g limits batch old.tables tables
-    pub put_out : PutsSome put answers dones batch
+    pub told : Tells f put pieces rest answers dones batch
         (after_inputs old.server (inputs_in pieces)) old.tables tables
 
   -- behind the last round nothing was read or put out, and the tables stayed
@@ -82,7 +112,7 @@ module _ {S : Type 0} (g : Ghosts S) (limits : Bounds) where
       IsNoFrame limits last.waiting × EndsQuietly read put last tables
   Ends (Err fault.Cut) read put new_in last tables = IsPart limits last.waiting
       × (last.waiting ≢ []) × IsAtEnd new_in × EndsQuietly read put last tables
-  Ends (Err (fault.Round _)) read put new_in last tables = IsStopped read put last tables
+  Ends (Err (fault.Round f)) read put new_in last tables = IsStopped f read put last tables
 
   -- Rounds from there on, and how they end.
   pub record Serves {E : Type 0} (ending : Result E ServeFault) (old : Standing S) (tables : Held S)
@@ -96,21 +126,28 @@ module _ {S : Type 0} (g : Ghosts S) (limits : Bounds) where
     pub puts : Appends old_out new_out (put_in rounds ++ put)
     pub ends : Ends ending read put new_in last tables
 
-  -- It was refused before any round: no memory for a server, nothing was read or put out, and the
-  -- tables are as before.
-  pub record LacksMemory {E : Type 0} (ending : Result E ServeFault) (old new : Held S)
-      (old_in new_in old_out new_out : Option (List ℕ)) : Type 0 where
+  -- Rounds over a store that the tables hold: the first of them begins with a new server over it,
+  -- and with these tables.
+  pub record ServesStore {E : Type 0} (store : StoreState) (ending : Result E ServeFault)
+      (old new : Held S) (old_in new_in old_out new_out : Option (List ℕ)) : Type 0 where
+    pub holds : HoldsStore g store old
+    pub serves : Serves ending
+        (record { server = opened limits store; waiting = []; passed = 0; tables = old }) new
+        old_in new_in old_out new_out
+
+  -- It was refused before any round: memory was refused for a server, or for what is read. Nothing
+  -- was read or put out, and the tables are as before, and hold the store.
+  pub record LacksMemory {E : Type 0} (store : StoreState) (ending : Result E ServeFault)
+      (old new : Held S) (old_in new_in old_out new_out : Option (List ℕ)) : Type 0 where
     pub told : ending ≡ Err (fault.Round round.Memory)
     pub tables : new ≡ old
+    pub holds : HoldsStore g store new
     pub unread : new_in ≡ old_in
     pub unsaid : new_out ≡ old_out
 
-  -- A service over a store: rounds, the first of them with a new server over it; or there is no
-  -- memory for that server.
+  -- a service over a store that the tables hold: rounds, or no memory to begin with
   abbrev pub IsServed : {E : Type 0} → StoreState → Result E ServeFault → (old new : Held S)
       → (old_in new_in old_out new_out : Option (List ℕ)) → Type 0
   IsServed store ending old new old_in new_in old_out new_out =
-      Serves ending
-      (record { server = opened limits store; waiting = []; passed = 0; tables = old }) new
-      old_in new_in old_out new_out
-      ⊎ LacksMemory ending old new old_in new_in old_out new_out
+      ServesStore store ending old new old_in new_in old_out new_out
+      ⊎ LacksMemory store ending old new old_in new_in old_out new_out

@@ -1,14 +1,22 @@
 //! One round: what is there is read and taken, what was committed is written, and what is said goes
 //! out.
 ghost use Rattle.std.specs.Prelude.{◌≡◌, ◌++◌, ◌<◌, ◌≤◌, ℕ, List, [], drop, length, false};
-ghost use Rattle.std.specs.Prelude.{IfOk, OnErr, OnOk};
+ghost use Rattle.std.specs.Prelude.{Some, IfErr, IfOk, OnErr, OnOk};
 ghost use Rattle.std.specs.Io.KnownBytes.{Consumes, IsAtEnd};
-ghost use Rattle.cb_serve.specs.Parts.{Answered, Commits, EndsRound, StopsAnswering, StopsCommit};
-ghost use Rattle.cb_serve.specs.Parts.{StopsRound, standing};
+ghost use Rattle.sqlite.specs.Held.{state};
+ghost use Rattle.sqlite.specs.State.{Survives};
+ghost use Rattle.cb_protocol.specs.Flush.{next_batch};
+ghost use Rattle.cb_server.specs.ServerValue.{server_of};
+ghost use Rattle.cb_server_state.specs.Commits.{batch_of};
+ghost use Rattle.cb_shelf.specs.Flushing.{WritesOne};
+ghost use Rattle.cb_sql.specs.Writing.{Fits, Wrote};
+ghost use Rattle.cb_serve.specs.Parts.{Answered, Commits, EndsRound, RefusesBatch, StopsAnswering};
+ghost use Rattle.cb_serve.specs.Parts.{StopsCommit, StopsReading, StopsRound, standing};
 
 use crate::fault::RoundFault;
 use crate::output::{append_frames, put_out};
 use crate::taking::{Taken, take_all};
+use cb_commit::Batch;
 use cb_server::Server;
 use cb_shelf::Shelf;
 use sqlite::Alter;
@@ -50,6 +58,7 @@ fn read_more<R: Read>(
         × (goes_on ≡ false → (read ≡ []) × IsAtEnd (R.remaining input.new))) }
     ensures err { OnErr result ((read : List ℕ)
         × Consumes (R.remaining input.old) (R.remaining input.new) read) }
+    ensures fault { IfErr result StopsReading }
 {
     let count = match input.read(room) {
         Ok(0) => return Ok(false),
@@ -81,7 +90,7 @@ fn answer<W: Write>(
 ) -> Result<Taken, RoundFault>
     ensures ok { IfOk result (λ taken. Answered server.old desk.old desk.new taken server.new
         (W.contents output.old) (W.contents output.new)) }
-    ensures err { OnErr result (StopsAnswering server.old desk.old.pending.items
+    ensures err { IfErr result (λ fault. StopsAnswering fault server.old desk.old.pending.items
         (W.contents output.old) (W.contents output.new)) }
 {
     desk.said.clear();
@@ -91,6 +100,32 @@ fn answer<W: Write>(
     match put_out(output, desk.said.as_slice()) {
         Ok(()) => Ok(taken),
         Err(error) => Err(RoundFault::Output(error)),
+    }
+}
+
+/// Writes the next batch of a server, in one transaction. It fits: the server arose by the
+/// protocol's steps, and each page keeps its size.
+fn write_batch<S: Alter>(
+    server: &Server,
+    shelf: &mut Shelf<S>,
+    batch: &Batch,
+) -> Result<(), RoundFault>
+    requires limits { shelf.old.limits ≡ server.now.limits }
+    requires next { next_batch (server_of server.now) ≡ Some (batch_of batch.now) }
+    ensures fits { Fits server.now.limits batch.now }
+    ensures ok { OnOk result (WritesOne S.Store server.now.limits batch.now shelf.old.conn
+        shelf.new.conn) }
+    ensures err { IfErr result (λ fault. RefusesBatch S.Store fault shelf.old.conn
+        shelf.new.conn) }
+    ensures crash { Survives (state S.Store shelf.old.conn) (state S.Store shelf.new.conn)
+        (Wrote S.Store batch.now shelf.old.conn) }
+    ensures limits { shelf.new.limits ≡ shelf.old.limits }
+{
+    // It arose by the protocol's steps: `limits` says so.
+    let _arose = server.limits();
+    match shelf.write(batch) {
+        Ok(()) => Ok(()),
+        Err(fault) => Err(RoundFault::from(fault)),
     }
 }
 
@@ -105,14 +140,14 @@ fn commit<S: Alter, W: Write>(
     requires { shelf.old.limits ≡ server.old.limits }
     ensures ok { OnOk result (Commits S.Store server.old shelf.old.conn shelf.new.conn server.new
         (W.contents output.old) (W.contents output.new)) }
-    ensures err { OnErr result (StopsCommit S.Store server.old shelf.old.conn shelf.new.conn
-        (W.contents output.old) (W.contents output.new)) }
+    ensures err { IfErr result (λ fault. StopsCommit S.Store fault server.old shelf.old.conn
+        shelf.new.conn (W.contents output.old) (W.contents output.new)) }
     ensures limits { shelf.new.limits ≡ shelf.old.limits }
 {
     let Some(batch) = server.batch(alloc)? else {
         return Ok(());
     };
-    shelf.write(&batch)?;
+    write_batch(server, shelf, &batch)?;
     let dones = server.flushed(alloc, batch.number())?;
     server.forget(batch.number());
     said.clear();
@@ -140,7 +175,7 @@ pub(crate) fn round<S: Alter, R: Read, W: Write>(
         (standing S.Store server.new desk.new shelf.new.conn)
         (R.remaining input.old) (R.remaining input.new)
         (W.contents output.old) (W.contents output.new)) }
-    ensures err { OnErr result (StopsRound S.Store server.old.limits
+    ensures err { IfErr result (λ fault. StopsRound S.Store server.old.limits fault
         (standing S.Store server.old desk.old shelf.old.conn) shelf.new.conn
         (R.remaining input.old) (R.remaining input.new)
         (W.contents output.old) (W.contents output.new)) }

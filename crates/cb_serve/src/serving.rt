@@ -3,7 +3,7 @@ ghost use Rattle.std.specs.Prelude.{◌≡◌, ◌≢◌, ◌<◌, [], length, E
 ghost use Rattle.cb_commit.specs.Stores.{IsOf};
 ghost use Rattle.cb_server.specs.ServerValue.{IsNew};
 ghost use Rattle.cb_serve.specs.Parts.{standing};
-ghost use Rattle.cb_serve.specs.Serving.{IsServed, Serves};
+ghost use Rattle.cb_serve.specs.Serving.{HoldsStore, IsServed, Serves};
 
 use crate::fault::{RoundFault, ServeFault};
 use crate::round::{Desk, RoundEnd, round};
@@ -84,12 +84,13 @@ fn ended(pending: &[u8]) -> Result<(), ServeFault>
     }
 }
 
-/// Serves the frames of the input over a store, which lies in the shelf, until the input ends: each
-/// frame is taken by the protocol's server in order, and what is said to it goes to the output. What
-/// was committed by the frames that were read at once is written in one transaction, and answered
-/// then. What can't be read is passed over.
+/// Serves the frames of the input over a store until the input ends: each frame is taken by the
+/// protocol's server in order, and what is said to it goes to the output. What was committed by the
+/// frames that were read at once is written in one transaction, and answered then. What can't be
+/// read is passed over.
 ///
-/// It is refused before any round only for want of memory.
+/// The shelf's tables hold the store, as a load of them says, so what each round writes goes over
+/// that store. It is refused before any round only for want of memory.
 pub fn serve<S: Alter, R: Read, W: Write>(
     alloc: Global,
     limits: &Limits,
@@ -100,6 +101,7 @@ pub fn serve<S: Alter, R: Read, W: Write>(
 ) -> Served
     requires shelf { shelf.old.limits ≡ limits.now }
     requires store { IsOf limits.now store }
+    requires holds { HoldsStore S.Store store shelf.old.conn }
     ensures { IsServed S.Store limits.now store result.ending shelf.old.conn shelf.new.conn
         (R.remaining input.old) (R.remaining input.new)
         (W.contents output.old) (W.contents output.new) }

@@ -4,7 +4,8 @@ ghost use Rattle.cb_frame_types.specs.Grammar.{Fits};
 ghost use Rattle.cb_protocol.specs.AnyMessages.{SendsAgain};
 ghost use Rattle.cb_server.specs.Taking.{input_of};
 ghost use Rattle.cb_serve.specs.Answering.{Answers};
-ghost use Rattle.cb_serve.specs.Steps.{TakesAll, TakesFront};
+ghost use Rattle.cb_serve.specs.Steps.{RefusesFrame, RefusesFront, StopsTaking, TakesAll};
+ghost use Rattle.cb_serve.specs.Steps.{TakesFront};
 
 use crate::fault::RoundFault;
 use crate::front::{Front, read_front};
@@ -43,8 +44,9 @@ fn take_frame(
     said: &mut Vec<u8>,
 ) -> Result<(), RoundFault>
     requires { Fits server.old.limits frame }
-    ensures { OnOk result ((more : List ℕ) × (said.new.items ≡ said.old.items ++ more)
+    ensures ok { OnOk result ((more : List ℕ) × (said.new.items ≡ said.old.items ++ more)
         × Answers server.old (input_of frame ∷ []) more server.new) }
+    ensures err { IfErr result (RefusesFrame server.old frame) }
 {
     match server.take_owned(alloc, frame) {
         Ok(answers) => {
@@ -57,8 +59,9 @@ fn take_frame(
 
 /// Says again what may be lost, and appends that.
 fn say_again(alloc: Global, server: &mut Server, said: &mut Vec<u8>) -> Result<(), RoundFault>
-    ensures { OnOk result ((more : List ℕ) × (said.new.items ≡ said.old.items ++ more)
+    ensures ok { OnOk result ((more : List ℕ) × (said.new.items ≡ said.old.items ++ more)
         × Answers server.old (SendsAgain ∷ []) more server.new) }
+    ensures err { IfErr result (λ fault. fault ≡ RoundFault.Memory) }
 {
     let answers = server.again(alloc)?;
     append_frames(alloc, server.limits(), answers.as_slice(), said)?;
@@ -72,8 +75,9 @@ fn take_front(
     bytes: &[u8],
     said: &mut Vec<u8>,
 ) -> Result<Step, RoundFault>
-    ensures { IfOk result (λ step. (more : List ℕ) × (said.new.items ≡ said.old.items ++ more)
+    ensures ok { IfOk result (λ step. (more : List ℕ) × (said.new.items ≡ said.old.items ++ more)
         × TakesFront server.old bytes.now step more server.new) }
+    ensures err { IfErr result (RefusesFront server.old bytes.now) }
 {
     let front = read_front(alloc, server.limits(), bytes)?;
     match front {
@@ -98,8 +102,9 @@ pub(crate) fn take_all(
     bytes: &[u8],
     said: &mut Vec<u8>,
 ) -> Result<Taken, RoundFault>
-    ensures { IfOk result (λ taken. TakesAll server.old bytes.now said.old.items taken
+    ensures ok { IfOk result (λ taken. TakesAll server.old bytes.now said.old.items taken
         said.new.items server.new) }
+    ensures err { IfErr result (StopsTaking server.old bytes.now) }
 {
     let mut used = 0;
     let mut passed_over = 0;

@@ -1,6 +1,11 @@
 -- Goals of `serve_in`.
 use Rattle.cb_play.proofs.Services.{read_and_served}
+use Rattle.cb_serve.proofs.Holding.{holds_still}
 use Rattle.cb_play.proofs.serve_run.serve_in.Goals as goal
+
+pub serve-requires-clause-holds : goal.serve-requires-clause-holds
+serve-requires-clause-holds g c =
+    holds_still g.S.Store c.in-Ok.store c.args.shelf.now.conn c.read.new.shelf.conn c.in-Ok.ensures.holds c.in-Ok.ensures.same
 
 pub returns-in-Ok-clause-serves : goal.returns-in-Ok-clause-serves
 returns-in-Ok-clause-serves g c =

@@ -2,7 +2,6 @@
 use Rattle.std.proofs.Common.{◌∙◌}
 use Rattle.cb_serve.proofs.Rounds.{goes_on, serves_ended, serves_no_frame, serves_stopped, serves_tired}
 use Rattle.cb_serve.specs.Parts.{standing}
-use Rattle.cb_serve.specs.declared.fault.RoundFault.TheVariants as round
 use Rattle.cb_serve.proofs.serving.serve_rounds.Goals as goal
 
 pub returns-in-Err-clause-serves : goal.returns-in-Err-clause-serves
@@ -24,4 +23,4 @@ loop-preserved g c =
     (c.round.ensures.shelf ∙ c.loop.invariant.0, c.in-Ok.ensures.server ∙ c.loop.invariant.1, more.0, more.1)
 
 pub returns-clause-serves : goal.returns-clause-serves
-returns-clause-serves g c = serves_tired g.S.Store c.args.server.now.limits _ _ round.Input _ _ _ _ c.loop.invariant.2 c.loop.invariant.3
+returns-clause-serves g c = serves_tired g.S.Store c.args.server.now.limits _ _ _ _ _ _ c.loop.invariant.2 c.loop.invariant.3

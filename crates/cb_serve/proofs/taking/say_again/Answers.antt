@@ -10,8 +10,8 @@ pub append_frames-requires : goal.append_frames-requires
 append_frames-requires c =
     fits_still _ c.args.server.now.limits c.in_ok-answers.answers.items _ (c.limits.ensures.value ∙ c.in_ok-answers.ensures.ok.limits) c.as_slice.ensures.value c.in_ok-answers.ensures.fits
 
-pub returns : goal.returns
-returns c = (
+pub returns-clause-ok : goal.returns-clause-ok
+returns-clause-ok c = (
   flat_map spelling c.in_ok-answers.answers.items,
   appended _ _ c.in_ok-answers.answers.items _ c.as_slice.ensures.value c.in_ok-append_frames.ensures,
   answers_one c.args.server.now SendsAgain c.in_ok-answers.answers.items c.again.new.self c.in_ok-answers.ensures.ok c.in_ok-answers.ensures.fits,
