@@ -14,7 +14,8 @@ use std::alloc::{AllocError, Global};
 use std::sync::Wait;
 
 /// A job that was done and isn't told of yet. [`do_job`] alone makes one, and [`Results::send`]
-/// alone takes one: it can't be copied or let go, so each job that is done is told of once.
+/// alone takes one: it can't be copied or let go. So each job that is done is told of once, unless
+/// memory for the telling is refused.
 pub(crate) struct UntoldJob {
     done: JobDone,
 }
