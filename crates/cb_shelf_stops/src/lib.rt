@@ -16,9 +16,9 @@ use sqlite::Alter;
 /// that was said, by whichever server, is of one of these, and its number isn't above the store's.
 ///
 /// The opening store is what the first open left: zeros, where there was no table; the store that
-/// it copied, where there were older tables and no others; or the one that a shelf's tables had. Two
-/// premises are handed out by no call: the pages of a store that was copied or found are full; and
-/// the schema and the rowids of tables that were found are as `IsShelf` says.
+/// it copied, where there were older tables and no others; or the one that a shelf's tables had.
+/// Two premises are handed out by no call: the pages of a store that was copied or found are full;
+/// and the schema and the rowids of tables that were found are as `IsShelf` says.
 ///
 /// A write that `cb_shelf::Shelf::write` answers is a write here, one that it refuses changes
 /// nothing (its clauses `both` and `neither`). A stop within it leaves the batch in the file or not
