@@ -16,14 +16,13 @@ mod standing;
 mod turning;
 mod waiting;
 
-pub use entering::Left;
-
 use crate::said::Said;
 use cb_client::{Client, ClientFault};
 use cb_frame::Frame;
 use cb_hands::Hand;
 use cb_page::{ClientNo, PageNo, TxnNo};
 use cb_twoq::Chooser;
+pub use entering::Left;
 use std::marker::Model;
 
 /// A client with its hand. It can't be copied or let go; `leave` and `abandon` end it.
