@@ -42,7 +42,8 @@ extern "C" {
 /* The version of this interface; rughvadi_version() answers the library's. */
 #define RUGHVADI_VERSION 1
 
-/* The limits of one store: the same for its server and each of its clients. */
+/* The limits of one store. Its server and its clients have all but slots, kin and kout in common:
+ * these are each client's own, and a server takes any. */
 typedef struct {
   uint64_t clients;    /* 1 to 32; they are numbered from 0 */
   uint64_t pages;      /* 1 to 4,096; they are numbered from 0 */
