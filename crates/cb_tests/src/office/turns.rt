@@ -57,7 +57,7 @@ fn count_turns(station: &mut Station, held: Ticket) -> u64 {
             Some(again) => ticket = again,
             None => return turns,
         }
-        turns += u64::from(tells_nobody(station));
+        turns = u64::from(tells_nobody(station)).saturating_add(turns);
     }
     station.end_try(ticket, TryEnd::GivenUp);
     turns
