@@ -43,7 +43,7 @@ extern "C" {
 #define RUGHVADI_VERSION 1
 
 /* The limits of one store. Its server and its clients have all but slots, kin and kout in common:
- * these are each client's own, and a server takes any. */
+ * these are each client's own, and a server doesn't use them. */
 typedef struct {
   uint64_t clients;    /* 1 to 32; they are numbered from 0 */
   uint64_t pages;      /* 1 to 4,096; they are numbered from 0 */
