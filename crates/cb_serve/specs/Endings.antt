@@ -52,8 +52,8 @@ abbrev pub passed_line : ℕ → List ℕ
 passed_line count =
     if count == 0 then [] else codes "passed over " ++ decimal count ++ 10 ∷ []
 
--- The line of a fault is said, with its status. Of an output that can't be written nothing is said
--- here: its error is handed on.
+-- The line of a fault is said, with its status. An output that can't be written is no such end:
+-- its error is handed on, and the program says that line and has that status.
 abbrev pub PrintsFault : ServeFault → (status : ℕ) → (old new : Option (List ℕ)) → Type 0
 PrintsFault f status old new =
     (status ≡ status_of f) × Appends old new (line_of f ++ 10 ∷ [])

@@ -66,7 +66,8 @@ module _ {S : Type 0} (g : Ghosts S) (limits : Bounds) where
   StaysUnwritten (Some batch) old new =
       HasCleanDisk (state g new) → IsSame (state g old) (state g new)
 
-  -- what a crash leaves: what it left before, or the tables with the batch
+  -- what a crash leaves: what it left before, or the tables with the batch (where there
+  -- is no batch it says nothing, since then `written` says that the tables are the same)
   abbrev pub LeavesBatch : Option BatchState → (old new : Held S) → Type 0
   LeavesBatch batch old new = Survives (state g old) (state g new) (λ trees.
       IfSome batch (λ b. Wrote g b old trees))

@@ -54,12 +54,14 @@ module _ {S : Type 0} (g : Ghosts S) (limits : Bounds) where
   Untouched batch old tables = (batch ≡ None) × (tables ≡ old)
 
   -- What the fault of a round that wasn't finished tells. Its batch fits, so none is `Shape`.
-  --   Store: its batch wasn't written; all of its answers were put out, and no more.
+  --   Store: its batch wasn't written, so on a clean disk the tables are as before; all of its
+  --     answers were put out, and no more.
   --   Exhausted: nothing was put out, and no number is left for the frame that comes next.
   --   Input: no piece was taken, and nothing put out.
   --   Output: a front of its answers was put out, and it came to no batch; or all of them and a
   --     front of its Dones, and its batch is written.
-  --   Memory: nothing was put out, and it came to no batch; or all of its answers, and no more.
+  --   Memory: nothing was put out, and it came to no batch; or all of its answers, and no more, and
+  --     its batch, if there is one, is written or not.
   abbrev pub Tells : RoundFault → (put : List ℕ) → List Piece → (rest answers dones : List ℕ)
       → Option BatchState → Server → (old tables : Held S) → Type 0
   Tells round.Shape put pieces rest answers dones batch server old tables = ⊥

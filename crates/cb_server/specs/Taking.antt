@@ -31,7 +31,7 @@ pub record Does (old : ServerValue) (input : Input) (messages : List Message) (n
   pub opening : (commits_of new).opening ≡ (commits_of old).opening
   pub forgotten : (commits_of new).forgotten ≡ (commits_of old).forgotten
 
--- What may be lost is not nothing: there is something to say again.
+-- `again` would send a message.
 abbrev pub HasToSayAgain : ServerValue → Type 0
 HasToSayAgain state = messages_sent (input_steps on_cycle (server_of state) SendsAgain) ≢ []
 
@@ -74,7 +74,9 @@ abbrev pub may_want_room : Server → protocol.Body → Bool
 may_want_room server body = to_server body && (may_be_answered body || somebody_waits server)
 
 -- Memory may be wanted for it: for a Hello that isn't stale, or for another message of the current
--- incarnation, as said above. Whatever else comes is let go (this project's rule).
+-- incarnation, as said above. For nothing else: what is stale, or of a kind for clients, is let go,
+-- and where no ask waits a GiveBack, InUse, Drop or Downgraded is obeyed without (this project's
+-- rule).
 abbrev pub may_want_memory : Server → (client incarnation : ℕ) → protocol.Body → Bool
 may_want_memory server client incarnation protocol.Hello =
     nat_le (server.session client).current incarnation
@@ -108,7 +110,8 @@ pub record RefusesBytes (state : ServerValue) (bytes : List ℕ) (refused : Serv
   pub refuses : Refuses state frame refused
   pub needed : MayWantMemory state frame
 
--- the bytes begin with no frame, for that cause; or with one that is refused
+-- No frame was read: the bytes begin with none, for that cause, or memory was refused for the one
+-- that they begin with. Or the frame was read, and is refused.
 abbrev pub IsBytesFault : ServerValue → List ℕ → BytesFault ServerFault → Type 0
 IsBytesFault state bytes (reading.Frame found) =
     first_fault (causes state.limits bytes) ≡ fault_in_bytes found
