@@ -43,14 +43,14 @@ extern "C" {
 #define RUGHVADI_VERSION 1
 
 /* The limits of one store. Its server and its clients have all but slots, kin and kout in common:
- * these are each client's own, and a server doesn't use them. */
+ * these are each client's own. A server doesn't use them, but refuses values out of range. */
 typedef struct {
   uint64_t clients;    /* 1 to 32; they are numbered from 0 */
   uint64_t pages;      /* 1 to 4,096; they are numbered from 0 */
   uint64_t page_size;  /* bytes: 16 to 65,536 by steps of 16 */
   uint64_t slots;      /* pages in a client's pool: 2 to 1,024 */
-  uint64_t kin;        /* 1 to slots - 1: how many of these are of pages that came lately */
-  uint64_t kout;       /* 1 to 4,096: how many pages that went are remembered */
+  uint64_t kin;        /* 1 to slots - 1: with more new pages in the pool, one of these goes */
+  uint64_t kout;       /* 1 to 4,096: how many new pages that went are remembered */
   uint64_t keep_write; /* other than 0: clients keep write permissions between transactions */
 } rughvadi_limits;
 
@@ -79,7 +79,7 @@ enum {
   RUGHVADI_NOT_HERE = 8,         /* the page's bytes left the pool: read it again */
   RUGHVADI_NOT_WRITABLE = 9,     /* want it first */
   RUGHVADI_WRONG_LENGTH = 10,    /* a page has other than that many bytes */
-  RUGHVADI_POOL_FULL = 11,       /* every page in the pool is being written: more slots are needed */
+  RUGHVADI_POOL_FULL = 11,       /* every page in the pool is being written: use more slots */
   /* a client's or a server's */
   RUGHVADI_EXHAUSTED = 12,       /* no transaction, grant or commit number is left (2^62 - 1) */
   RUGHVADI_MEMORY = 13,

@@ -165,7 +165,9 @@ def check(number: int) -> None:
 
 @dataclass(frozen=True)
 class Limits:
-    """The limits of one store: the same for its server and each of its clients."""
+    """The limits of one store. Its server and its clients have all but slots, kin and kout in
+    common: these are each client's own. A server doesn't use them, but refuses values out of range.
+    """
 
     clients: int
     """1 to 32; they are numbered from 0."""
@@ -176,9 +178,9 @@ class Limits:
     slots: int
     """Pages in a client's pool: 2 to 1,024."""
     kin: int = 1
-    """1 to one less than the slots: how many of these are of pages that came lately."""
+    """1 to one less than the slots: with more new pages in the pool, one of these goes."""
     kout: int = 1
-    """1 to 4,096: how many pages that went are remembered."""
+    """1 to 4,096: how many new pages that went are remembered."""
     keep_write: bool = False
     """Whether clients keep write permissions between transactions."""
 

@@ -36,7 +36,8 @@ pub use error::{Error, Result};
 pub use link::{Link, Transaction};
 pub use server::{Batch, BatchPage, Server};
 
-/// The limits of one store: the same for its server and each of its clients.
+/// The limits of one store. Its server and its clients have all but `slots`, `kin` and `kout` in
+/// common: these are each client's own. A server doesn't use them, but refuses values out of range.
 #[derive(Clone, Copy, Debug, PartialEq, Eq)]
 pub struct Limits {
     /// 1 to 32; they are numbered from 0.
@@ -47,9 +48,9 @@ pub struct Limits {
     pub page_size: usize,
     /// Pages in a client's pool: 2 to 1,024.
     pub slots: usize,
-    /// 1 to one less than the slots: how many of these are of pages that came lately.
+    /// 1 to one less than the slots: with more new pages in the pool, one of these goes.
     pub kin: usize,
-    /// 1 to 4,096: how many pages that went are remembered.
+    /// 1 to 4,096: how many new pages that went are remembered.
     pub kout: usize,
     /// Whether clients keep write permissions between transactions.
     pub keep_write: bool,
