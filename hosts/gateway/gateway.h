@@ -63,7 +63,7 @@ struct store {
   bool is_ending;    /* it is told no more, and is to end */
   bool is_told;      /* that another server holds the store was said */
   bool has_paused;   /* its clients aren't read */
-  unsigned failures; /* how often the server ended before it said anything */
+  unsigned failures; /* how often the server ended since it last said anything */
   unsigned quiet;    /* pauses since its process ended or it said something */
 };
 

@@ -12,7 +12,7 @@
 
 enum {
   LOCK_PAUSE = 100,  /* milliseconds until a store that another server holds is tried again */
-  START_PAUSE = 200, /* until a server is started again; twice as long after each failure */
+  START_PAUSE = 200, /* doubled for each failure, it is the wait for a server's next start */
   START_PAUSE_MOST = 10000,
   PIPE = 1 << 20 /* bytes on their way to a server */
 };
