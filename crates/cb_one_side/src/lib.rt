@@ -15,8 +15,9 @@ use std::io;
 use std::io::Write;
 
 /// Plays all lists of a text, one after another. A list begins with its side and its limits; lines
-/// that begin with `<` or with the words of an answer are not read: they are printed anew. It fails
-/// with `InvalidData` at a line that isn't one of a list.
+/// that begin with `<` or with the words of an answer are not read: they are printed anew. A list of
+/// a server passes over any other line whose first word it doesn't know. It fails with
+/// `InvalidData` at a line that lacks a word, or has one that can't be read.
 pub fn play_lists<O: Write>(alloc: Global, text: &str, out: &mut O) -> io::Result<()> {
     let lines: Vec<&str> = text.lines().collect(alloc)?;
     let mut rest = lines.as_slice();

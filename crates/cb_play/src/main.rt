@@ -1,9 +1,10 @@
 //! The program: plays a page server with callback locking and its clients from a schedule of
 //! events, or runs them on threads over a store on disk.
 //!
-//! `cb_console` plays and draws, `cb_run` runs workers, `cb_serve` serves frames, `cb_one_side` plays
-//! at one side alone, `cb_console` reads configurations; here are the words of the command line, which files are read
-//! for them, a script of such words, and how the program ends.
+//! `cb_console` reads configurations, plays and draws, `cb_svg` makes pictures, `cb_run` runs
+//! workers, `cb_serve` serves frames, `cb_one_side` plays at one side alone. Here are the words of
+//! the command line, which files are read for them, a script of such words, and how the program
+//! ends.
 #![tactic(auto)]
 
 mod arguments;

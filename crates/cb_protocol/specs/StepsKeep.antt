@@ -10,9 +10,9 @@ use Rattle.cb_protocol.specs.Resend.{server_again}
 use Rattle.cb_protocol.specs.ServerMessages.{server_take}
 use Rattle.cb_protocol.specs.World.{World, Event, ClientCalls, TakePacket, Restart, packet_at, step}
 
--- What the server keeps of a client by a step: its incarnation, transaction, outcome, doom and
--- marks; its rows, with their grants; its permissions. The client may have got rows, each with a
--- new grant number, and permissions for pages of which it has a row.
+-- What the server keeps of a client by a step: its incarnation, transaction, outcome and marks; its
+-- rows, with their grants; its permissions; its doom. It may have been doomed, and have got rows,
+-- each with a new grant number, and permissions for pages of which it has a row.
 pub record KeepsClient (before after : Server) (client : ℕ) : Type 0 where
   pub incarnation : (after.session client).current ≡ (before.session client).current
   pub begun : (after.session client).txn ≡ (before.session client).txn

@@ -13,9 +13,9 @@ pub fn cycle_test_is_exact()
     ensures exact { CycleTestExact }
 {}
 
-/// After every step of the server no client lies on a cycle of waits, whatever messages came,
-/// honest or not. The invariant under it: a client has at most one ask in all queues, and only
-/// clients that there are ask, for pages that there are.
+/// After every step of the server no client lies on a cycle of waits, whatever messages in range
+/// came, honest or not. The invariant under it: a client has at most one ask in all queues, and
+/// only clients that there are ask, for pages that there are.
 pub fn no_cycle_stays()
     ensures no_cycle { NoCycleStays }
     ensures one_ask { OneAskAlways }
