@@ -19,9 +19,9 @@ It installs the library in a folder of its own, by `scripts/library`, and runs, 
 A line for each, with the last line that it wrote; of one that failed, its last lines. It needs a C
 compiler with the sanitizers, `cargo` and Python; CC, CARGO, RUSTC and RUSTDOC name others. Debian's
 cargo, /usr/bin/cargo, is taken where it is there: the crate is written for its rustc, 1.63. Which
-one was tried has a line of its own. The library is proved first, over what `rt ci` proved on this
-machine; with --built the archive that stands in crates/rughvadi/out is taken. Once that is there it
-takes some minutes. The status is 1 where one failed.
+one was tried has a line of its own. The library is proved first (scripts/library); with --built the
+archive that stands in crates/rughvadi/out is taken. Once that is there it takes some minutes. The
+status is 1 where one failed.
 """
 import os
 import sqlite3
