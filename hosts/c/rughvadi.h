@@ -1,4 +1,5 @@
-/* Rughvadi for C: a page server, and clients that keep their pages and never read a stale one.
+/* Rughvadi for C: a page server, and clients that keep their pages across transactions. What they
+ * read is current, until the server restarts or is told that they left.
  *
  * The library does no input or output, starts no thread, takes no lock, reads no clock and never
  * aborts. The host hands frames in (rughvadi_take), fetches those that are to be sent
@@ -277,8 +278,9 @@ uint32_t rughvadi_client_hello(rughvadi_handle *h);
 uint32_t rughvadi_client_begin(rughvadi_handle *h, uint64_t *txn);
 
 /* Reads a page in the open transaction. Where *here is true its bytes are in the room, no frame was
- * said, and nobody writes the page before the transaction ends. Else an ask is out: fetch it, send
- * it, hand in what comes until the status isn't WAITING any more, and read again.
+ * said, and nobody writes the page before the transaction ends, unless the server restarts or is
+ * told that the client left. Else an ask is out: fetch it, send it, hand in what comes until the
+ * status isn't WAITING any more, and read again.
  * OTHER_KIND. RANGE: no store has such a page (4,096 and more). UNFETCHED. ROOM: the room isn't as
  * long as a page. NOT_WELCOME. NO_TRANSACTION: also where it was aborted meanwhile. COMMITTING,
  * WAITING, PAGE_RANGE, POOL_FULL. */
@@ -313,8 +315,9 @@ uint32_t rughvadi_client_status(rughvadi_handle *h);
 /* How the last transaction ended: RUGHVADI_ENDED_..; *number is its commit's number, else 0. */
 uint32_t rughvadi_client_last(rughvadi_handle *h, uint64_t *number);
 
-/* The bytes of the client's copy of a page, also outside of a transaction. It is no read: the bytes
- * may be older than the store's, unless a transaction is open that has read the page.
+/* The bytes of the client's copy of a page, also outside of a transaction. It is no read, and locks
+ * nothing. They are the store's, or what this client's transaction wrote over them, until the
+ * server restarts or is told that the client left.
  * OTHER_KIND, RANGE. NOTHING: it has none. ROOM: the room isn't as long as a page. */
 uint32_t rughvadi_client_peek(rughvadi_handle *h, uint32_t page, uint8_t *room, size_t len);
 

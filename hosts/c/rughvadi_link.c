@@ -230,15 +230,20 @@ uint32_t rughvadi_link_begin(rughvadi_link *link) {
   return fault != RUGHVADI_DONE ? fault : rughvadi_client_begin(&link->client, &txn);
 }
 
+/* Whether an ask is out: of this call, or of an earlier one that no answer came to. */
+static bool asks(uint32_t fault) {
+  return fault == RUGHVADI_DONE || fault == RUGHVADI_WAITING;
+}
+
 uint32_t rughvadi_link_fetch(rughvadi_link *link, uint32_t page, uint8_t *room, size_t len) {
   while (!link->gone) {
     bool here = false;
     uint32_t fault = rughvadi_client_read(&link->client, page, room, len, &here);
-    if (fault != RUGHVADI_DONE) {
-      return aborted_or(link, fault);
-    }
-    if (here) {
+    if (fault == RUGHVADI_DONE && here) {
       return RUGHVADI_DONE;
+    }
+    if (!asks(fault)) {
+      return aborted_or(link, fault);
     }
     fault = wait_while(link, RUGHVADI_STATUS_WAITING);
     if (fault != RUGHVADI_DONE) {
@@ -252,11 +257,11 @@ uint32_t rughvadi_link_want(rughvadi_link *link, uint32_t page) {
   while (!link->gone) {
     bool may = false;
     uint32_t fault = rughvadi_client_want(&link->client, page, &may);
-    if (fault != RUGHVADI_DONE) {
-      return aborted_or(link, fault);
-    }
-    if (may) {
+    if (fault == RUGHVADI_DONE && may) {
       return RUGHVADI_DONE;
+    }
+    if (!asks(fault)) {
+      return aborted_or(link, fault);
     }
     fault = wait_while(link, RUGHVADI_STATUS_WAITING);
     if (fault != RUGHVADI_DONE) {

@@ -47,7 +47,9 @@ void rughvadi_link_close(rughvadi_link *link);
 /* Begins a transaction. */
 uint32_t rughvadi_link_begin(rughvadi_link *link);
 
-/* Reads a page, and waits for it where it isn't here. A page that is here costs no message. */
+/* Reads a page, and waits for it where it isn't here. A page that is here costs no message. After
+ * RUGHVADI_LINK_SILENT the ask is still out: call this, or _want, again, which wait for its answer
+ * first, or drop the transaction. */
 uint32_t rughvadi_link_fetch(rughvadi_link *link, uint32_t page, uint8_t *room, size_t len);
 
 /* Waits until the transaction may write the page, which it has read. */

@@ -1,5 +1,6 @@
 /* link: a link at a gateway and at a server, each a process: the greeting and its refusals, tokens,
- * signals, and what is left of a client whose connection ended, also of a page that it holds. */
+ * signals, an answer that comes late, and what is left of a client whose connection ended, also of
+ * a page that it holds. */
 #include "parties.h"
 #include "rughvadi_connect.h"
 
@@ -15,6 +16,7 @@ enum { SIZE = 64, GREETING = 8 + 1 + 1 + RUGHVADI_TOKEN + 4, ANSWER = 40 };
 static const rughvadi_limits limits = {2, 4, SIZE, 4, 1, 4, 0};
 static int ours, theirs;
 static bool disturbs;
+static int goes_on = -1; /* the server waits there for a byte once it has welcomed a client */
 static volatile sig_atomic_t signals;
 
 static void count_signal(int signal) {
@@ -56,6 +58,9 @@ static void serve(void) {
       count -= used;
       memmove(came, came + used, count);
       send_said(&server);
+      char byte;
+      HOLD(goes_on < 0 || read(goes_on, &byte, 1) == 1);
+      goes_on = -1;
     }
     got = read(theirs, came + count, sizeof came - count);
   }
@@ -220,12 +225,42 @@ static void disturbed(void) {
   ended(child);
 }
 
+/* No answer comes: each call says so, and the last one gets the answer that comes late. */
+static void silent(void) {
+  int pair[2];
+  HOLD(pipe(pair) == 0);
+  pid_t child = forked();
+  if (child == 0) {
+    goes_on = pair[0];
+    serve();
+    exit(0);
+  }
+  rughvadi_link link;
+  uint8_t page[SIZE];
+  WANT(rughvadi_link_open(&link, &limits, 1, 9, ours));
+  link.wait_ms = link.tries = 0;
+  WANT(rughvadi_link_begin(&link));
+  HOLD(rughvadi_link_fetch(&link, 2, page, SIZE) == RUGHVADI_LINK_SILENT);
+  HOLD(rughvadi_link_fetch(&link, 2, page, SIZE) == RUGHVADI_LINK_SILENT);
+  HOLD(rughvadi_link_want(&link, 2) == RUGHVADI_LINK_SILENT);
+  HOLD(write(pair[1], "", 1) == 1);
+  link.wait_ms = -1;
+  WANT(rughvadi_link_fetch(&link, 3, page, SIZE));
+  WANT(rughvadi_link_fetch(&link, 2, page, SIZE));
+  rughvadi_link_close(&link);
+  close(pair[0]);
+  close(pair[1]);
+  shutdown(ours, SHUT_RDWR);
+  ended(child);
+}
+
 int main(void) {
   greetings();
   tokens();
   gone(false);
   gone(true);
   disturbed();
-  puts("nine greetings, tokens, signals, and a held page that is gone with its connection");
+  silent();
+  puts("nine greetings, tokens, signals, a late answer, and a held page that is gone");
   return 0;
 }

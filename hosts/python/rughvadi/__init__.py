@@ -1,4 +1,5 @@
-"""A page server, and clients that keep their pages across transactions and never read a stale one.
+"""A page server, and clients that keep their pages across transactions. What a client reads is
+current, until the server restarts or is told that the client left.
 
 `Server` and `Client` do no input or output: frames are handed in (`take`) and fetched (`frames`).
 `Link` is a client over a connected socket:

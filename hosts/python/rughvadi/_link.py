@@ -208,12 +208,13 @@ class Transaction:
             self._link._send_said()
 
     def read(self, page: int) -> bytes:
-        """The bytes of a page. Nobody writes the page before the transaction ends."""
+        """The bytes of a page. Nobody writes the page before the transaction ends, unless the
+        server restarts or is told that the client left."""
         return self._link._fetch(page)
 
     def drop(self) -> None:
-        """Ends it, as the last call of the `with`: nothing is written and no answer awaited, where a
-        commit of reads alone waits for a sync. What it read has no place among the commits."""
+        """Ends it, as the last call of the `with`: nothing is written and no answer awaited, where
+        a commit of reads alone waits for a sync. What it read has no place among the commits."""
         self._link._check()
         self._link.client.drop()
         self._dropped = True

@@ -1,5 +1,6 @@
-//! A page server, and clients that keep their pages across transactions and never read a stale one:
-//! the proved library of Rughvadi, for Rust.
+//! A page server, and clients that keep their pages across transactions: the proved library of
+//! Rughvadi, for Rust. What a client reads is current, until the server restarts or is told that
+//! the client left.
 //!
 //! [`Server`] and [`Client`] do no input or output: frames are handed in ([`Client::take`]) and
 //! fetched ([`Client::next_frame`]). [`Link`] is a client over a stream, for programs that may

@@ -10,9 +10,10 @@ const TRIES: u32 = 30;
 /// How many bytes are received at once.
 const ROOM: usize = 65536;
 
-/// A client over a connected stream, which blocks. Where the stream has a time-out for reads, what may be lost is
-/// said again after each. Once the stream failed or ended, or gave what can't be taken, the client
-/// is gone: each later call answers [`Error::Closed`], also of a page that it holds.
+/// A client over a connected stream, which blocks. Where the stream has a time-out for reads, what
+/// may be lost is said again after each. Once the stream failed or ended, or gave what can't be
+/// taken, the client is gone: each later call answers [`Error::Closed`], also of a page that it
+/// holds.
 pub struct Link<S> {
     client: Client,
     stream: S,
@@ -209,14 +210,15 @@ impl<S> fmt::Debug for Link<S> {
     }
 }
 
-/// A transaction that is open. It is dropped, without an answer being awaited, and what it wrote undone, where it isn't committed.
+/// A transaction that is open. Where it isn't committed it is dropped, without an answer being
+/// awaited, and what it wrote is undone.
 pub struct Transaction<'l, S: Read + Write> {
     link: &'l mut Link<S>,
 }
 
 impl<'l, S: Read + Write> Transaction<'l, S> {
     /// The bytes of a page, to the room, which is as long as a page. Nobody writes the page before
-    /// the transaction ends.
+    /// the transaction ends, unless the server restarts or is told that the client left.
     pub fn read_into(&mut self, page: u32, room: &mut [u8]) -> Result<()> {
         self.link.fetch(page, room)
     }
