@@ -130,7 +130,8 @@ impl<Q: Chooser> Worker<Q> {
     }
 
     /// Reads a page in the open transaction, and lends its bytes: at once where it holds them, else
-    /// once they came. Refused as the client does where nothing is open or committing.
+    /// once they came. Where no transaction is open or committing, the client's own fault refuses
+    /// it.
     pub fn fetch<R: Wait>(
         &mut self,
         rt: &R,
@@ -234,7 +235,8 @@ impl<Q: Chooser> Worker<Q> {
     }
 
     /// Wants to write a page that the open transaction has read, and waits until it may. The page's
-    /// bytes are then as they were. Refused as the client does where nothing is open or committing.
+    /// bytes are then as they were. Where no transaction is open or committing, the client's own
+    /// fault refuses it.
     pub fn want<R: Wait>(
         &mut self,
         rt: &R,
@@ -303,7 +305,8 @@ impl<Q: Chooser> Worker<Q> {
     }
 
     /// Ends the open transaction without a commit; nothing is open or committing then, and its Drop
-    /// was handed in, unless it was aborted. Refused as the client does where nothing is before.
+    /// was handed in, unless it was aborted. Where nothing is before either, the client's own fault
+    /// refuses it.
     ///
     /// After a fault of the office the Drop is kept, and a later call hands it in.
     pub fn drop_txn<R: Wait>(
@@ -394,7 +397,10 @@ impl<Q: Chooser> Worker<Q> {
     }
 
     /// The open transaction commits; waits until its commit is on disk. What is committed is exactly
-    /// what it wrote. Refused as the client does where nothing is open or committing.
+    /// what it wrote. Where no transaction is open or committing, the client's own fault refuses it.
+    ///
+    /// By its clauses the commit was handed in, at some station. That it is on disk, by the number
+    /// that is answered, is what the Done said that came.
     ///
     /// The pages that it wrote are copied before the lock is taken, and under it none is. `Memory` of
     /// its client only where memory for that copy was refused, or for what it serves.
