@@ -23,8 +23,8 @@ pub(crate) fn give_back<R: Wait>(rt: &R, office: &Office, last: Option<EndedTry>
     }
 }
 
-/// Waits until the worker's next try is let in. Its last one ends as that begins, where the office
-/// hasn't got its ticket back yet.
+/// Waits until the worker's next try is let in. Where the office hasn't got the ticket of its last
+/// one back yet, it gets it as this one asks to be let in.
 pub(crate) fn enter_next<R: Wait, Q: Chooser>(
     rt: &R,
     alloc: Global,
