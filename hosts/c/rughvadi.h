@@ -256,8 +256,8 @@ uint32_t rughvadi_server_forget(rughvadi_handle *h, uint64_t number);
 uint32_t rughvadi_server_leave(rughvadi_handle *h, uint32_t client);
 
 /* The incarnation that the client may greet with next: one more than the last that the server heard
- * of since it was made. After a restart of the server it is one that the host keeps (see
- * docs/EMBEDDING.md).
+ * of since it was made. A server that was made anew has heard of none: then the host has to keep
+ * the number, or take the clock.
  * OTHER_KIND. RANGE: as above. */
 uint32_t rughvadi_server_incarnation(rughvadi_handle *h, uint32_t client, uint64_t *incarnation);
 

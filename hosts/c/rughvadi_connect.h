@@ -35,7 +35,7 @@ typedef struct {
  * CONNECT_SYSTEM, CONNECT_TOKEN. */
 uint32_t rughvadi_token_read(const char *path, uint32_t client, uint8_t token[RUGHVADI_TOKEN]);
 
-/* Connects a socket, to ADDRESS:PORT, or to the path of a Unix socket: a name with a stroke in it.
+/* Connects a socket, to ADDRESS:PORT, or to the path of a Unix socket: a name with a '/' in it.
  * The socket is the caller's, to be closed after the link. CONNECT_SYSTEM. */
 uint32_t rughvadi_dial(const char *address, int *socket);
 

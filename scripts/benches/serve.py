@@ -8,7 +8,7 @@ gateway; `hosts/served.c`, the host in C; a plain server in C, where a page goes
 in a round are written in one SQLite transaction, and 8 bytes go out; and PostgreSQL
 (synchronous_commit on), where a connection updates a row with such a page. Then, with each sync
 five milliseconds longer: eight clients at one store, and at four stores eight each. It prints
-commits a second.
+commits a second. With SYNC=MICROSECONDS each sync of all takes so much longer.
 
 It needs the library (that of LIBRARY, else installed by scripts/library, with what stands in
 crates/rughvadi/out if `--built` is said first), `cb_play` (that of PLAY, else built), libuv,
@@ -193,6 +193,8 @@ def main(words: list[str]) -> int:
             serving.in_c(building.PROGRAMS / "c/serve_client.c", room, lib),
             building.library_in_c("slow_sync", room, "-ldl"),
         )
+        if slower := os.environ.get("SYNC"):
+            os.environ.update(LD_PRELOAD=str(it.slow_sync), SYNC_MICROSECONDS=slower)
         for number in range(1, int(turns) + 1):
             turn(number, it, room, float(seconds))
             several(number, it, room, float(seconds))

@@ -39,8 +39,8 @@ impl Model for Office {
 }
 
 impl Office {
-    /// An office over a station. The last of so many calls of `work` to end closes it; with none it
-    /// is closed.
+    /// An office over a station. So many are expected to work, each from `begin_work` to `end_work`
+    /// (as `work` does); the last to end closes it. With none it is closed.
     pub fn new(mut station: Station, workers: usize) -> Office
         ensures { result.expected ≡ workers }
     {

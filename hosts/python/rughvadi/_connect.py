@@ -39,7 +39,7 @@ def read_token(path: Union[str, Path], client: int) -> bytes:
 
 def connect(address: str, token: bytes, store: str = "main", time_out: float = 1.0) -> Link:
     """A link to a store of a gateway, which listens at HOST:PORT or on a Unix socket, whose path
-    has a stroke in it. What may be lost is said again after each time-out."""
+    has a `/` in it. What may be lost is said again after each time-out."""
     connected = _dial(address)
     try:
         connected.settimeout(30 * time_out)

@@ -66,7 +66,7 @@ pub enum Stream {
 }
 
 impl Stream {
-    /// Connects to HOST:PORT, or to the path of a Unix socket: a name with a stroke in it.
+    /// Connects to HOST:PORT, or to the path of a Unix socket: a name with a `/` in it.
     pub fn dial(address: &str) -> io::Result<Stream> {
         if address.contains('/') {
             return UnixStream::connect(address).map(Stream::Local);
@@ -164,7 +164,7 @@ fn greet(stream: &mut Stream, token: &Token, store: &str) -> Result<(u32, u64, L
 
 impl Link<Stream> {
     /// A link to a store of a gateway, which listens at HOST:PORT or on a Unix socket, whose path
-    /// has a stroke in it; and the store's limits.
+    /// has a `/` in it; and the store's limits.
     pub fn connect(address: &str, token: &Token, store: &str) -> Result<(Link<Stream>, Limits)> {
         let mut stream = Stream::dial(address)?;
         stream.set_read_timeout(Some(GREETING))?;

@@ -399,8 +399,8 @@ impl<Q: Chooser> Worker<Q> {
     /// The open transaction commits; waits until its commit is on disk. What is committed is exactly
     /// what it wrote. Where no transaction is open or committing, the client's own fault refuses it.
     ///
-    /// By its clauses the commit was handed in, at some station. That it is on disk, by the number
-    /// that is answered, is what the Done said that came.
+    /// By its clauses the commit was handed in, at some station, unless the client was committing
+    /// before. No clause says that it is on disk, or that the number is its own: the Done says both.
     ///
     /// The pages that it wrote are copied before the lock is taken, and under it none is. `Memory` of
     /// its client only where memory for that copy was refused, or for what it serves.
