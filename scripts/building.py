@@ -176,16 +176,24 @@ def over(crate: str, below: Path, kit: Path) -> list[str]:
     ]
 
 
+def below_library(room: Path) -> Path:
+    """Where the crates below `rughvadi` are built: the clone that BELOW names, in which `rt ci` ran
+    over these sources, else a repository of its own without edits, in which it runs now."""
+    if given := named("BELOW"):
+        return given
+    below = copy_of(listed()["rughvadi"].partition(":")[2].split(), room, "out", "must-fail")
+    if subprocess.run([*RT, "ci"], cwd=below, stdout=sys.stderr, check=False).returncode:
+        raise NotBuilt("what stands below rughvadi isn't proved")
+    return below
+
+
 def library(room: Path) -> Path:
     """The archive of `rughvadi`, in its folder. `rt lib` doesn't take over what `rt ci` proved, so
-    `rt ci` builds the crates below, in a repository without edits, and the crate is built over
-    them, which proves it."""
+    the crate is built over what that leaves, which proves it."""
     name, kit = "rughvadi", toolchain()
     crate = TOP / "crates" / name
     archive = crate / f"out/lib{name}.a"
-    below = copy_of(listed()[name].partition(":")[2].split(), room / "below", "out", "must-fail")
-    if subprocess.run([*RT, "ci"], cwd=below, stdout=sys.stderr, check=False).returncode:
-        raise NotBuilt(f"what stands below {name} isn't proved")
+    below = below_library(room / "below")
     archive.parent.mkdir(exist_ok=True)
     words = [kit / "bin/rattle", "build", "--crate-name", name, "src/lib.rt"]
     words += ["--crate-type", "staticlib", "--links", f"{name}=", *over(name, below, kit)]

@@ -10,9 +10,10 @@ A command is a line that begins with `$ ` in a block of three backticks with the
 lines. The commands of a page run in one shell, one after another; each block begins at the top of
 the clone, which has what was committed here. A PAGE is a name, as README.md or SERVING.md.
 
-With --built the programs and archives of FOLDER/crates/*/out are copied into the clone, and a
-command `rt` stands first in the path, by which `rt run` and `rt lib` of a crate that has one prove
-nothing: they take what is there. All else is done by `rt` itself.
+With --built the programs of FOLDER/crates/*/out are copied into the clone, and a command `rt`
+stands first in the path, by which `rt run` of a crate that has one proves nothing: it takes what is
+there. The library is built over the crates that `rt ci` built in FOLDER. All else is done by `rt`
+itself.
 
 It needs `rt`; the long ones also what scripts/install needs, cargo, pkg-config and sqlite3. The
 short commands take some five processor minutes, since two of them compile the whole program. A line
@@ -40,7 +41,6 @@ if [ "$1" = run ] && [ -x "out/$name" ]; then
   [ "${{1:-}}" = -- ] && shift
   exec "out/$name" "$@"
 fi
-[ "$1" = lib ] && [ -f "out/lib$name.a" ] && exit 0
 exec {rt} "$@"
 """
 
@@ -80,18 +80,18 @@ def is_printed(wanted: list[str], printed: list[str]) -> bool:
 def take_built(folder: Path, top: Path, room: Path) -> dict[str, str]:
     """Takes what another clone has built; the environment in which `rt` does so, too."""
     for crate in sorted((folder / "crates").iterdir()):
-        for built in [crate / f"out/{crate.name}", crate / f"out/lib{crate.name}.a"]:
-            if built.is_file() and (top / "crates" / crate.name).is_dir():
-                out = top / "crates" / crate.name / "out"
-                out.mkdir(exist_ok=True)
-                shutil.copy2(built, out)
+        built, out = crate / f"out/{crate.name}", top / "crates" / crate.name / "out"
+        if built.is_file() and out.parent.is_dir():
+            out.mkdir(exist_ok=True)
+            shutil.copy2(built, out)
     real = [shutil.which(building.RT[0]) or building.RT[0], *building.RT[1:]]
     command = room / "taken/rt"
     command.parent.mkdir()
     command.write_text(TAKES.format(rt=" ".join(map(quote, real))))
     command.chmod(0o755)
     path = f"{command.parent}:{os.environ['PATH']}"
-    return {**{key: it for key, it in os.environ.items() if key != "RT"}, "PATH": path}
+    others = {key: it for key, it in os.environ.items() if key != "RT"}
+    return {**others, "PATH": path, "BELOW": str(folder)}
 
 
 def run_page(page: Path, commands: list[Shown], top: Path, env: dict[str, str]) -> int:
