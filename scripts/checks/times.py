@@ -8,10 +8,9 @@ with, the other edits (their sum, their number and the dearest), the check witho
 end, and a program's check with its two builds. The last lines are the sums in processor minutes and
 the gate's own.
 
-It takes as long as the gate does. Proofs and edits from nothing took 300 to 400 processor minutes,
-by sums of several runs on busy machines (28 November 2026). The toolchain is called through a folder
-of links in which `rattle` is a program that notes the seconds of each call. KIT names the toolchain
-if it isn't that of the command `rt`. The status is the gate's.
+It takes as long as the gate does (docs/DECISIONS.md). The toolchain is called through a folder of
+links in which `rattle` is a program that notes the seconds of each call. KIT names the toolchain if
+it isn't that of the command `rt`. The status is the gate's.
 """
 import json
 import os
