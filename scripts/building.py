@@ -4,7 +4,7 @@ import shutil
 import subprocess
 import sys
 import tempfile
-from collections.abc import Iterable, Iterator
+from collections.abc import Iterable, Iterator, Mapping
 from contextlib import contextmanager
 from pathlib import Path
 
@@ -162,15 +162,22 @@ def toolchain() -> Path:
     return Path(said.strip()).parent
 
 
-def over(crate: str, below: Path, kit: Path) -> list[str]:
-    """The words by which the prover reads a crate over the libraries that were built below it."""
-    named = ["std", *listed()[crate].partition(":")[2].split()]
-    rlib = {it: below / f"crates/{it}/out/rlib/{it}.rlib" for it in stands_on(named)}
+def over(crate: str, below: Path, kit: Path, sources: Mapping[str, Path] = {}) -> list[str]:
+    """The words by which the prover reads a crate over the libraries that were built below it, but
+    for those that it reads as sources, in these folders."""
+    lines = listed()
+    named = ["std", *lines[crate].partition(":")[2].split()]
+    used = {it: ["core", "std", *lines[it].partition(":")[2].split()] for it in sources}
+    built = [it for it in stands_on(named) if it not in sources]
+    rlib = {it: below / f"crates/{it}/out/rlib/{it}.rlib" for it in built}
+    named = dict.fromkeys(it for it in sum(used.values(), named) if it not in sources)
     words = [f"{it}={rlib.get(it, kit / f'rlibs/{it}.rlib')}" for it in named]
     folders = [kit / "rlibs", *(it.parent for it in rlib.values())]
     logic = [f"--antt-project={kit}/rattle/logic/antt-project.json"]
+    libraries = [f"{it}:{','.join(used[it])}={sources[it]}/src/lib.rt" for it in sources]
     return [
         *(part for it in words for part in ("--extern", it)),
+        *(part for it in libraries for part in ("--lib", it)),
         *(part for it in folders for part in ("-L", f"dependency={it}")),
         *logic, f"--logic-built={kit}/logic_built",
     ]
