@@ -61,9 +61,9 @@ def built(program: Path, said: str) -> Path:
 
 
 def play(variable: str = "PROGRAM") -> Path:
-    """The program `cb_play`: the one that the variable names, else built by `rt run`."""
+    """The program `cb_play`: the one that the variable names, else built."""
     crate = TOP / "crates/cb_play"
-    return named(variable) or built(crate / "out/cb_play", ran_by_rt(crate, ["--version"]))
+    return named(variable) or program_of(crate, libraries_of("cb_play"), ["--version"])
 
 
 def listed() -> dict[str, str]:
@@ -110,11 +110,18 @@ def new_crate(room: Path, name: str, libraries: Iterable[str]) -> Path:
     return crate
 
 
+def program_of(crate: Path, libraries: list[str], words: Iterable[str]) -> Path:
+    """A crate's program: over what is built in the clone that BELOW names, else by `rt`, which runs
+    it once."""
+    if below := named("BELOW"):
+        return linked(crate, libraries, below)
+    return built(crate / f"out/{crate.name}", ran_by_rt(crate, words))
+
+
 def program(name: str, libraries: list[str], words: Iterable[str], room: Path) -> Path:
     """A program of scripts/programs, built in a copy of the crates below it, and run once."""
     copy = copy_of(libraries, room / name)
-    crate = new_crate(copy, name, libraries)
-    return built(crate / f"out/{name}", ran_by_rt(crate, words))
+    return program_of(new_crate(copy, name, libraries), libraries, words)
 
 
 def replace_in(folder: Path, old: str, new: str) -> None:
@@ -140,7 +147,7 @@ def killed_runs(room: Path) -> Path:
     (crate / "specs/Lib.antt").write_text("pub mod StoreFiles\npub mod StoreRuns\n")
     (crate / "proofs/Lib.antt").write_text("mod Told\n")
     replace_in(crate, "cb_play", "killed_runs")
-    return built(crate / "out/killed_runs", ran_by_rt(crate, ["none", "none"]))
+    return program_of(crate, KILLED, ["none", "none"])
 
 
 def shelf_files(room: Path) -> Path:
@@ -153,7 +160,7 @@ def shelf_files(room: Path) -> Path:
     bench = (TOP / "crates/cb_tests/src/running/commits.rt").read_text()
     bench = bench.replace("crate::commits::", "cb_test_parts::commits::")
     (crate / "src/bench.rt").write_text(bench)
-    return built(crate / "out/shelf_files", ran_by_rt(crate, ["none", "none"]))
+    return program_of(crate, [*SHELF, *DATABASE], ["none", "none"])
 
 
 def toolchain() -> Path:
@@ -162,12 +169,18 @@ def toolchain() -> Path:
     return Path(said.strip()).parent
 
 
-def over(crate: str, below: Path, kit: Path, sources: Mapping[str, Path] = {}) -> list[str]:
-    """The words by which the prover reads a crate over the libraries that were built below it, but
-    for those that it reads as sources, in these folders."""
-    lines = listed()
-    named = ["std", *lines[crate].partition(":")[2].split()]
-    used = {it: ["core", "std", *lines[it].partition(":")[2].split()] for it in sources}
+def libraries_of(name: str) -> list[str]:
+    """The libraries that a crate names, without `std`."""
+    return listed()[name].partition(":")[2].split()
+
+
+def over(
+    libraries: Iterable[str], below: Path, kit: Path, sources: Mapping[str, Path] = {}
+) -> list[str]:
+    """The words by which the prover reads a crate over libraries that were built below it, but for
+    those that it reads as sources, in these folders."""
+    named = ["std", *libraries]
+    used = {it: ["core", "std", *libraries_of(it)] for it in sources}
     built = [it for it in stands_on(named) if it not in sources]
     rlib = {it: below / f"crates/{it}/out/rlib/{it}.rlib" for it in built}
     named = dict.fromkeys(it for it in sum(used.values(), named) if it not in sources)
@@ -183,12 +196,38 @@ def over(crate: str, below: Path, kit: Path, sources: Mapping[str, Path] = {}) -
     ]
 
 
+def linked(
+    crate: Path, libraries: Iterable[str], below: Path, *flags: str,
+    sources: Mapping[str, Path] = {},
+) -> Path:
+    """The program of a crate, or with `--test` its tests, proved over libraries that were built in
+    a clone; it stands in the crate's folder `out`."""
+    kit, is_program = toolchain(), (crate / "src/main.rt").exists()
+    made = crate / f"out/{crate.name}{'_tests' if '--test' in flags else ''}"
+    made.parent.mkdir(exist_ok=True)
+    tools = ["--toolchain", kit / "toolchain"]
+    words = [kit / "bin/rattle", "build", "--crate-name", crate.name]
+    words += ["src/main.rt" if is_program else "src/lib.rt", "--links", f"{crate.name}=", *flags]
+    words += [*over(libraries, below, kit, sources), *tools, "--backend", "llvm"]
+    link = [kit / "bin/rattle-link", "--target", "x86_64-unknown-linux-gnu", *tools, "-o", made]
+    link += [f"{made}.o", kit / "c/libos_c.a", kit / "c/liblibc_c.a"]
+    said = ""
+    for each in ([*words, "-o", f"{made}.o"], link):
+        done = subprocess.run(
+            each, cwd=crate, stdout=subprocess.PIPE, stderr=subprocess.STDOUT, text=True, check=False
+        )
+        said += done.stdout
+        if done.returncode:
+            break
+    return built(made, said)
+
+
 def below_library(room: Path) -> Path:
     """Where the crates below `rughvadi` are built: the clone that BELOW names, in which `rt ci` ran
     over these sources, else a repository of its own without edits, in which it runs now."""
     if given := named("BELOW"):
         return given
-    below = copy_of(listed()["rughvadi"].partition(":")[2].split(), room, "out", "must-fail")
+    below = copy_of(libraries_of("rughvadi"), room, "out", "must-fail")
     if subprocess.run([*RT, "ci"], cwd=below, stdout=sys.stderr, check=False).returncode:
         raise NotBuilt("what stands below rughvadi isn't proved")
     return below
@@ -203,7 +242,8 @@ def library(room: Path) -> Path:
     below = below_library(room / "below")
     archive.parent.mkdir(exist_ok=True)
     words = [kit / "bin/rattle", "build", "--crate-name", name, "src/lib.rt"]
-    words += ["--crate-type", "staticlib", "--links", f"{name}=", *over(name, below, kit)]
+    words += ["--crate-type", "staticlib", "--links", f"{name}="]
+    words += over(libraries_of(name), below, kit)
     words += ["--toolchain", kit / "toolchain", "--backend", "llvm", "-o", archive]
     if subprocess.run(words, cwd=crate, stdout=sys.stderr, check=False).returncode:
         raise NotBuilt(f"{name} isn't built")

@@ -59,7 +59,7 @@ class Prover:
             built = self.below / f"crates/{it}/out/rlib/{it}.rlib"
             if it != name and it not in sources and not built.exists():
                 raise building.NotBuilt(f"{it} isn't built in {self.below}: rt ci builds it there")
-        return building.over(name, self.below, self.kit, sources)
+        return building.over(building.libraries_of(name), self.below, self.kit, sources)
 
     def check(self, crate: Path, flags: list[str], asked: Collection[str] = ()) -> Said:
         """A check of a crate's folder. It ends as soon as each function asked for has its line:

@@ -45,18 +45,14 @@ def stored_run(top: Path) -> tuple[Said, str]:
 def built_with(prover: Prover, crate: str, name: str, top: Path) -> Path:
     """The program, or the tests, of a crate in a copy with an edit of another crate (or of its
     own), proved over what is built below."""
-    folder, is_tests = top / "crates" / name, name in TESTS.values()
     changed = {it for it in building.stands_on([name]) if crate in building.stands_on([it])}
     sources = {it: top / "crates" / it for it in changed - {name}}
-    root = "src/main.rt" if (folder / "src/main.rt").exists() else "src/lib.rt"
-    made, tools = folder / "program", ["--toolchain", prover.kit / "toolchain"]
-    words = ["build", "--crate-name", name, root, *prover.words(name, sources)]
-    words += ["--links", f"{name}=", *(["--test"] if is_tests else []), *tools]
-    said = ran([prover.kit / "bin/rattle", *words, "--backend", "llvm", "-o", f"{made}.o"], folder)
-    words = ["--target", "x86_64-unknown-linux-gnu", *tools, "-o", made, f"{made}.o"]
-    words += [prover.kit / f"c/{it}.a" for it in ("libos_c", "liblibc_c")]
-    linked = ran([prover.kit / "bin/rattle-link", *words], folder) if said.status == 0 else said
-    return building.built(made, linked.log)
+    prover.words(name, sources)
+    flags = ["--test"] if name in TESTS.values() else []
+    libraries = building.libraries_of(name)
+    return building.linked(
+        top / "crates" / name, libraries, prover.below, *flags, sources=sources
+    )
 
 
 def word_run(program: Path, words: list[str]) -> tuple[Said, str]:

@@ -27,6 +27,8 @@ def built_tests(room):
     shutil.copy(tests / "office/frames.rt", source / "office")
     (source / "office.rt").write_text("//! Frames and growths.\nmod frames;\nmod growths;\n")
     (source / "lib.rt").write_text(ROOT)
+    if below := building.named("BELOW"):
+        return building.linked(crate, CRATES, below, "--test")
     said = building.ran_by_rt(crate, [], "test")
     return building.built(crate / "out/station_growths_tests", said)
 

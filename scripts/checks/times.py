@@ -1,113 +1,133 @@
 """Runs the whole gate, and says what each part of it takes.
 
-    scripts/check times [FOLDER]     the clone, which stays; its programs are in FOLDER/crates/*/out
+    scripts/check times [--kept] [FOLDER]   a gate in a new clone; its programs are in FOLDER/crates
+    scripts/check times --of LOG            an earlier run of these sources, whose calls LOG has
 
-It runs `rt ci` in a fresh clone of this repository, and notes the processor seconds of each call of
-the prover. Of each crate: its proof, its tests with theirs, the check that its first edit begins
-with, the other edits (their sum, their number and the dearest), the check without an edit at their
-end, and a program's check with its two builds. The last lines are the sums in processor minutes and
-the gate's own.
+It runs `rt ci --anew` in a fresh clone of this repository, and notes the processor seconds of each
+call of the prover (scripts/noted.py), in FOLDER.calls. With --kept it is `rt ci`, which takes over
+what this machine kept; the crates that were taken over are named, since no sum has them.
 
-It takes as long as the gate does (docs/DECISIONS.md). The toolchain is called through a folder of
-links in which `rattle` is a program that notes the seconds of each call. KIT names the toolchain if
-it isn't that of the command `rt`. The status is the gate's.
+Of each crate: its proof, its tests with theirs, the check that its first edit begins with, the
+other edits (their sum, their number and the dearest), the check without an edit at their end, and a
+program's check with its two builds; then their sum as a multiple of the proof of cb_protocol in the
+same run, so that one machine's slow hour is no change, and the processor minutes that a thousand
+lines of its source take. The kit's rule is 4 to 6 of them; a crate that takes more than three times
+as much is marked. The last lines are the sums in processor minutes and as such multiples. Where
+cb_protocol was taken over, it is proved once over what the run built.
+
+It takes as long as the gate does (docs/DECISIONS.md); --of takes a second. KIT names the toolchain
+if it isn't that of the command `rt`. The status is the gate's, and 0 with --of.
 """
 import json
 import os
 import shutil
 import subprocess
+import sys
 import tempfile
-import time
 from collections import Counter, defaultdict
+from pathlib import Path
 
+import building
+from bodies import trials
+from bodies.prover import Prover
 from building import TOP
 
-NOTER = """#!/usr/bin/env python3
-import json, os, signal, sys
-words = sys.argv[1:]
-child = os.fork()
-if not child:
-    os.execv({rattle!r}, [{rattle!r}, *words])
-_, status, used = os.wait4(child, 0)
-name = words[words.index("--crate-name") + 1] if "--crate-name" in words else ""
-is_edit = "--incremental" in words or "rt-edit-" in os.getcwd()
-part = "edit" if is_edit else "tests" if "--test" in words else words[0]
-with open({log!r}, "a") as file:
-    file.write(json.dumps([name, part, used.ru_utime + used.ru_stime]) + "\\n")
-code = os.waitstatus_to_exitcode(status)
-if code < 0:
-    os.kill(os.getpid(), -code)
-sys.exit(code)
-"""
+PEER, PARTS = "cb_protocol", ("proof", "tests", "first", "edits", "last", "program")
+# Processor minutes of a thousand lines that are three times the kit's rule.
+DEAR = 18
 
 
-def links_to(kit, room):
-    """Makes a folder that is the toolchain, but that its `rattle` notes each call in room/calls."""
-    made = f"{room}/kit"
-    os.makedirs(f"{made}/bin")
-    for name in os.listdir(kit):
-        if name != "bin":
-            os.symlink(f"{kit}/{name}", f"{made}/{name}")
-    for name in os.listdir(f"{kit}/bin"):
-        if name == "rattle":
-            with open(f"{made}/bin/rattle", "w") as file:
-                file.write(NOTER.format(rattle=f"{kit}/bin/rattle", log=f"{room}/calls"))
-            os.chmod(f"{made}/bin/rattle", 0o755)
-        elif name.startswith("rt"):
-            # (rt finds its kit by where its own file lies)
-            shutil.copy2(f"{kit}/bin/{name}", f"{made}/bin/{name}")
-        else:
-            os.symlink(f"{kit}/bin/{name}", f"{made}/bin/{name}")
-    return made
-
-
-def parts_of(calls, programs):
-    """The seconds of each part, by crate."""
-    found = defaultdict(Counter)
-    edits = defaultdict(list)
-    for name, part, seconds in calls:
+def parts_of(calls: list[list]) -> dict[str, Counter]:
+    """The seconds of each part, by crate; of edits their number and the dearest's too."""
+    found, edits = defaultdict(Counter), defaultdict(list)
+    for name, part, seconds, *_ in calls:
+        is_program = (TOP / f"crates/{name}/src/main.rt").exists()
+        kind = "tests" if part == "tests" else "program" if is_program else "proof"
         if part == "edit":
             edits[name].append(seconds)
-        elif name in programs:
-            found[name]["program"] += seconds
-        else:
-            found[name]["tests" if part == "tests" else "proof"] += seconds
-    for name, seconds in edits.items():
-        found[name]["first"] = seconds[0]
-        found[name]["number"] = max(len(seconds) - 1, 1)
-        if len(seconds) > 1:
-            found[name]["last"] = seconds[-1]
-            found[name]["edits"] = sum(seconds[1:-1])
-            found[name]["dearest"] = max(seconds[1:-1], default=0)
+        elif name:
+            found[name][kind] += seconds
+    for name, (first, *others) in edits.items():
+        last = others.pop() if others else 0
+        found[name].update(first=first, edits=sum(others), last=last)
+        found[name].update(number=len(others), dearest=max(others, default=0))
     return found
 
 
-def main(words):
-    command = os.path.realpath(shutil.which("rt"))
-    kit = os.environ.get("KIT") or os.path.dirname(os.path.dirname(command))
-    room = tempfile.mkdtemp(prefix="gate-times-")
-    clone = words[0] if words else f"{room}/clone"
-    subprocess.run(["git", "clone", "-q", TOP, clone], check=True)
-    made, start = links_to(kit, room), time.time()
-    status = subprocess.run([f"{made}/bin/rt", "ci"], cwd=clone).returncode
-    clock = time.time() - start
-    with open(f"{room}/calls") as file:
-        calls = [json.loads(line) for line in file]
-    names = os.listdir(f"{clone}/crates")
-    programs = {it for it in names if os.path.exists(f"{clone}/crates/{it}/src/main.rt")}
-    found, sums = parts_of(calls, programs), Counter()
-    print(f"{'crate':18}{'proof':>7}{'tests':>7}{'first':>7}{'edits':>7}{'of':>4}", end="")
-    print(f"{'most':>6}{'last':>6}{'program':>9}")
-    for name in sorted(filter(None, found), key=lambda it: -sum(found[it].values())):
-        of = found[name]
-        row = [of[it] for it in ("proof", "tests", "first", "edits")]
-        print(f"{name:18}" + "".join(f"{it:7.0f}" for it in row), end="")
-        print(f"{of['number']:4}{of['dearest']:6.0f}{of['last']:6.0f}{of['program']:9.0f}")
-        parts = ("proof", "tests", "first", "edits", "last", "program")
-        sums.update({it: of[it] / 60 for it in parts})
-    told = ", ".join(f"{part} {minutes:.1f}" for part, minutes in sums.items())
-    print(f"{told} processor minutes")
-    whole = f"{sum(sums.values()):.0f} processor minutes in {clock / 60:.0f} of the clock"
-    print(f"all {whole}; clone {clone}")
-    return status
+def peer_of(calls: list[list], below: Path | None) -> float:
+    """The seconds of the proof of cb_protocol: the first one of the run, else one that is made now
+    over what it built; 0 where there is neither."""
+    for name, part, seconds, *_ in calls:
+        if name == PEER and part in ("build", "check"):
+            return seconds
+    if not below:
+        return 0
+    with building.a_room() as room:
+        prover = Prover(building.toolchain(), below)
+        return prover.check(trials.copied(PEER, room), prover.words(PEER)).seconds
 
+
+def lines_of(name: str) -> int:
+    """The lines of a crate's source."""
+    files = (TOP / "crates" / name / "src").rglob("*.rt")
+    return sum(it.read_text().count("\n") for it in files)
+
+
+def row(name: str, of: Counter, peer: float) -> str:
+    """A crate's line of the table."""
+    seconds = sum(of[it] for it in PARTS)
+    minutes = seconds / 60 / max(lines_of(name) / 1000, 0.001)
+    cells = "".join(f"{of[it]:7.0f}" for it in ("proof", "tests", "first", "edits"))
+    cells += f"{of['number']:4}{of['dearest']:6.0f}{of['last']:6.0f}{of['program']:9.0f}"
+    cells += f"{seconds / peer:7.1f}" if peer else f"{'':7}"
+    return f"{name:18}{cells}{minutes:8.1f}{' *' if minutes > DEAR else ''}"
+
+
+def table(calls: list[list], below: Path | None) -> None:
+    """Prints the table, the sums and what was taken over."""
+    found, peer, sums = parts_of(calls), peer_of(calls, below), Counter()
+    print(f"{'crate':18}{'proof':>7}{'tests':>7}{'first':>7}{'edits':>7}{'of':>4}", end="")
+    print(f"{'most':>6}{'last':>6}{'program':>9}{'times':>7}{'a 1000':>8}")
+    for name in sorted(found, key=lambda it: -sum(found[it][part] for part in PARTS)):
+        print(row(name, found[name], peer))
+        sums.update({part: found[name][part] for part in PARTS})
+    told = ", ".join(f"{part} {seconds / 60:.1f}" for part, seconds in sums.items())
+    print(f"{told} processor minutes")
+    ends = [start + clock for *_, clock, start in calls]
+    clock = (max(ends) - min(start for *_, start in calls)) / 60 if calls else 0
+    whole = sum(sums.values())
+    print(f"all {whole / 60:.0f} processor minutes in {clock:.0f} of the clock", end="")
+    print(f": {whole / peer:.1f} times the {peer:.0f} s of {PEER}" if peer else "")
+    taken = [it for it in building.listed() if not found[it]["proof"] + found[it]["program"]]
+    print(f"taken over, and in no sum: {', '.join(taken)}" if taken else "nothing was taken over")
+
+
+def run_of(clone: Path, log: Path, is_anew: bool) -> int:
+    """Runs the gate in a new clone, with its calls noted; its status."""
+    kit = os.environ.get("KIT")
+    rt = f"{kit}/bin/rt" if kit else shutil.which("rt")
+    subprocess.run(["git", "clone", "-q", TOP, clone], check=True)
+    words = [sys.executable, TOP / "scripts/noted.py", log, rt, "ci"]
+    done = subprocess.run([*words, *(["--anew"] if is_anew else [])], cwd=clone, check=False)
+    return done.returncode
+
+
+def read(log: Path) -> list[list]:
+    """The calls that a log has."""
+    return [json.loads(line) for line in log.read_text().splitlines()]
+
+
+def main(words: list[str]) -> int:
+    if words[:1] == ["--of"] and len(words) == 2:
+        table(read(Path(words[1])), building.named("BELOW"))
+        return 0
+    folders = [it for it in words if it != "--kept"]
+    if len(folders) > 1 or any(it.startswith("-") for it in folders):
+        print("scripts/check times ([--kept] [FOLDER] | --of LOG)", file=sys.stderr)
+        return 2
+    clone = Path(folders[0] if folders else f"{tempfile.mkdtemp(prefix='gate-times-')}/clone")
+    log = clone.with_name(f"{clone.name}.calls")
+    status = run_of(clone, log.absolute(), "--kept" not in words)
+    table(read(log), clone)
+    print(f"clone {clone}")
+    return status
