@@ -212,10 +212,9 @@ def linked(
     link = [kit / "bin/rattle-link", "--target", "x86_64-unknown-linux-gnu", *tools, "-o", made]
     link += [f"{made}.o", kit / "c/libos_c.a", kit / "c/liblibc_c.a"]
     said = ""
+    both = {"stdout": subprocess.PIPE, "stderr": subprocess.STDOUT, "text": True}
     for each in ([*words, "-o", f"{made}.o"], link):
-        done = subprocess.run(
-            each, cwd=crate, stdout=subprocess.PIPE, stderr=subprocess.STDOUT, text=True, check=False
-        )
+        done = subprocess.run(each, cwd=crate, **both, check=False)
         said += done.stdout
         if done.returncode:
             break

@@ -101,7 +101,7 @@ def write_proofs(crate: Path, kept: Path, copies: Iterable[Copy]) -> None:
 
 
 def take_as_stated(crate: Path, but: Collection[str] = ()) -> None:
-    """Gives each function that can have one a proof that is a hole, but for those of these paths."""
+    """Gives each function that can have one a proof that is a hole, but those of these paths."""
     for path in (crate / "src").rglob("*.rt"):
         for it in functions_of(str(path.relative_to(crate)), path.read_text()):
             if it.path and "::".join(it.path) not in but:

@@ -125,7 +125,7 @@ def edited(crate: Path, edit: Edit):
 
 
 def told_of(said: Said, of) -> str:
-    """What a check says of a function: of its path, or else of any of its name that isn't proved."""
+    """What a check says of a function: by its path, else of one of its name that isn't proved."""
     lines = said.lines()
     if of and of.path:
         return lines.get("::".join(of.path), "")
