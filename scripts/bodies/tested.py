@@ -24,8 +24,10 @@ def copy_with(edit: Edit, crate: str, names: list[str], room: Path) -> Path:
 def test_run(top: Path, name: str, test: str) -> tuple[Said, str]:
     """The tests of a crate, unproved, and the line by which the one that is meant fails."""
     said = ran([*RT, "try", name, "--test"], top / "crates" / name)
-    failed = re.search(rf"^.*\b{re.escape(test)}\b.*$", said.log, re.M)
-    return said, failed[0] if said.status and failed else ""
+    if "run=none" in said.log:
+        raise building.NotBuilt(said.log)
+    failed = re.search(rf"^test {re.escape(test)} \.\.\. (?!ok|ignored).*$", said.log, re.M)
+    return said, failed[0] if failed else ""
 
 
 def stored_run(top: Path) -> tuple[Said, str]:
