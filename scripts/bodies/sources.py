@@ -42,9 +42,15 @@ def owner_of(around: list[tuple[int, str, str]]) -> list[str] | None:
 
 
 def last_line(lines: list[str], head: int, indent: str) -> int:
-    """The last line of the function whose head is at this line."""
-    ends = (at for at in range(head, len(lines)) if lines[at] == indent + "}")
-    return head if lines[head].endswith("}") else next(ends, len(lines) - 1)
+    """The last line of the function whose head is at this line; of one that a trait declares, that
+    of its `;`."""
+    depth = 0
+    for at, line in enumerate(lines[head:], head):
+        depth += line.count("{") - line.count("}")
+        is_end = line in (indent + "}", indent + "{}") or at == head and line.endswith("}")
+        if is_end or line.endswith(";") and not depth:
+            return at
+    return len(lines) - 1
 
 
 def functions_of(file: str, text: str) -> list[Function]:
