@@ -19,6 +19,7 @@ import subprocess
 import sys
 import time
 from collections import defaultdict
+from functools import cache
 from pathlib import Path
 
 import building
@@ -26,7 +27,7 @@ from building import TOP
 
 CHECK = TOP / "scripts/check"
 LISTS = sorted(str(it) for it in (TOP / "crates/cb_play/data").glob("*_*.list"))
-# The runs of each word, in order; those marked so need what stands before them in the environment.
+# The runs of each word, in order.
 RUNS = [
     ("docs", []), ("model", []), ("wrong", ["--list"]),
     ("faults", []), ("sides", LISTS), ("schedules", []), ("limits", []),
@@ -49,12 +50,23 @@ def gate(calls: str | None, below: Path | None, room: Path) -> tuple[Path, list[
     return room / "clone", [["times", str(room / "clone")]]
 
 
+@cache
+def program_in(below: Path, named: str) -> Path:
+    """A program, or tests, that the gate left in the clone, else built over it."""
+    name, program = named.partition("/")[0], below / "crates" / named
+    if program.exists():
+        return program
+    flags = ["--test"] if named == TESTS else []
+    return building.linked(TOP / "crates" / name, building.libraries_of(name), below, *flags)
+
+
 def environment(below: Path, words: list[str]) -> dict[str, str]:
     """What a run is done with."""
-    found = {**os.environ, "BELOW": str(below), "PLAY": str(below / "crates" / PLAY)}
+    found = {**os.environ, "BELOW": str(below)}
+    if words[0] in ("killed", "serve"):
+        found["PLAY"] = str(program_in(below, PLAY))
     named = PROGRAMS.get(" ".join(words[:2]), PROGRAMS.get(words[0]))
-    program = below / "crates" / named if named else None
-    return {**found, "PROGRAM": str(program)} if program and program.exists() else found
+    return {**found, "PROGRAM": str(program_in(below, named))} if named else found
 
 
 def library_stands(below: Path) -> None:
@@ -69,11 +81,17 @@ def library_stands(below: Path) -> None:
 def one_run(below: Path, words: list[str]) -> tuple[bool, float]:
     """Whether a run passes, and its minutes of the clock."""
     print(f"== {' '.join(words)[:100]}", flush=True)
-    start, with_it = time.time(), environment(below, words)
-    if "--built" in words:
-        library_stands(below)
-    done = subprocess.run([CHECK, *words], env=with_it, stdin=subprocess.DEVNULL, check=False)
-    return done.returncode == 0, (time.time() - start) / 60
+    start = time.time()
+    try:
+        with_it = environment(below, words)
+        if "--built" in words:
+            library_stands(below)
+        done = subprocess.run([CHECK, *words], env=with_it, stdin=subprocess.DEVNULL, check=False)
+        is_well = done.returncode == 0
+    except building.NotBuilt as why:
+        print(why)
+        is_well = False
+    return is_well, (time.time() - start) / 60
 
 
 def table(came: dict[str, list[tuple[bool, float]]]) -> None:
