@@ -64,10 +64,7 @@ def copy_of(crate: Path, edit: Edit, number: int) -> Copy | None:
 def written(file: str, of: Function, was: str, now: str, edit: Edit, number: int) -> Copy:
     """The function of a wrong body, from the file's text as it was and with the edit."""
     more = now.count("\n") - was.count("\n")
-    lines = [
-        line for line in now.split("\n")[of.first : of.last + 1 + more]
-        if "no_mangle" not in line
-    ]
+    lines = now.split("\n")[of.first : of.last + 1 + more]
     name = f"{of.name}_wrong_{number}"
     text = "\n".join(lines).replace(f"fn {of.name}", f"fn {name}", 1)
     return Copy(edit, file, of, name, text)
