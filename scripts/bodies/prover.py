@@ -19,7 +19,7 @@ NAMES = re.compile(r"has no field|is not in scope|has no `|was not admitted")
 # The seconds that a command may take.
 LIMIT = 3600
 # A fault of the text itself, which the prover doesn't reach.
-COMPILES = re.compile(r"^(?:\./)?(src/\S+\.rt):(\d+):\d+: error", re.M)
+COMPILES = re.compile(r"^(?:\./)?(src/\S+\.rt):(\d+):\d+: (error.*)$", re.M)
 
 
 @dataclass(frozen=True)

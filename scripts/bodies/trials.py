@@ -69,7 +69,7 @@ def try_as_copies(prover: Prover, name: str, edits: list[Edit]) -> Came:
             wrong = faulty(crate, said, tried)
         if said.is_verdict() or not wrong:
             break
-        came.left += [it.edit for it in wrong]
+        came.bad.update({it.edit: error for it, error in wrong.items()})
         tried = [it for it in tried if it not in wrong]
     for it in tried:
         goal = goal_of(said.log, it.path())
@@ -80,14 +80,17 @@ def try_as_copies(prover: Prover, name: str, edits: list[Edit]) -> Came:
     return came
 
 
-def faulty(crate: Path, said: Said, tried: list[copies.Copy]) -> list[copies.Copy]:
-    """The functions in whose texts a check that didn't reach the prover found an error."""
-    found = []
-    for file, line in COMPILES.findall(said.log):
+def faulty(crate: Path, said: Said, tried: list[copies.Copy]) -> dict[copies.Copy, str]:
+    """The functions in whose texts a check that didn't reach the prover found errors, with the
+    first error of each."""
+    found = {}
+    for file, line, error in COMPILES.findall(said.log):
         text = (crate / file).read_text()
         place = sum(map(len, text.splitlines(keepends=True)[: int(line) - 1]))
         of = function_of(file, text, [place])
-        found += [it for it in tried if of and it.name == of.name and it not in found]
+        for it in tried:
+            if of and it.name == of.name:
+                found.setdefault(it, error)
     return found
 
 
