@@ -1,6 +1,5 @@
 //! The console and the serial check.
 
-mod drawn;
-mod every_number;
 mod histories;
+mod often;
 mod plays;

@@ -1,5 +1,4 @@
 //! The text of schedules.
 
-mod faults;
 mod greatest;
 mod refused;

@@ -1,5 +1,3 @@
 //! Pages and frames.
 
-mod greatest;
-mod literal;
 mod refused;

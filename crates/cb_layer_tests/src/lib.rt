@@ -16,12 +16,8 @@ mod event;
 #[cfg(test)]
 mod frame;
 #[cfg(test)]
-mod limits;
-#[cfg(test)]
 mod server;
 #[cfg(test)]
 mod shelf;
 #[cfg(test)]
 mod texts;
-#[cfg(test)]
-mod world;

@@ -5,5 +5,4 @@ mod commits;
 mod directory;
 mod greatest;
 mod sessions;
-mod views;
 mod waits;

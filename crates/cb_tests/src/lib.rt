@@ -3,7 +3,7 @@
 #![tactic(auto)]
 
 #[cfg(test)]
-use cb_test_parts::{commits, draw, stores};
+use cb_test_parts::{commits, stores};
 
 #[cfg(test)]
 mod office;

@@ -1,4 +1,4 @@
-//! Clients over choosers: what they refer to, let go, write and commit.
+//! Clients over choosers: what they refer to and let go, and many pages that they write.
 
 ghost use Rattle.std.specs.Prelude.{◌≡◌, ◌<◌, ◌≤◌, []};
 
@@ -232,78 +232,10 @@ fn lets_the_first_go<Q: Chooser>(alloc: Global, client: &mut Client<Q>) -> bool 
         && client.peek(page).is_none()
 }
 
-/// Whether the frame is the commit of one write, of these sixteen bytes.
-fn is_commit(frame: &Frame, txn: TxnNo, (page, grant): (PageNo, GrantNo), bytes: &[u8]) -> bool {
-    match &frame.body {
-        Body::Commit { txn: of, writes } => {
-            *of == txn
-                && writes.as_slice().len() == 1
-                && writes.as_slice().iter().all(|write| {
-                    write.page == page && write.grant == grant && write.bytes.as_slice() == bytes
-                })
-        }
-        _ => false,
-    }
-}
-
-/// Whether the transaction commits with that write.
-fn commits<Q: Chooser>(
-    alloc: Global,
-    client: &mut Client<Q>,
-    txn: TxnNo,
-    copy: (PageNo, GrantNo),
-    bytes: &[u8],
-) -> bool {
-    match client.finish(alloc) {
-        Ok(frame) => is_commit(&frame, txn, copy, bytes),
-        Err(_) => false,
-    }
-}
-
-/// Whether the next transaction writes a page that is held, and commits. The other copy is given
-/// back as it is called, the written one once the commit is done.
-fn writes_and_commits<Q: Chooser>(alloc: Global, client: &mut Client<Q>) -> bool {
-    let (page, grant) = (PageNo::new(2), GrantNo::new(3));
-    let (other, old) = (PageNo::new(3), GrantNo::new(2));
-    let (txn, number) = (TxnNo::new(5), CommitNo::new(1));
-    let called = ShortBody::Callback { page, grant };
-    let other_called = ShortBody::Callback {
-        page: other,
-        grant: old,
-    };
-    let other_given = ShortBody::GiveBack {
-        page: other,
-        grant: old,
-    };
-    begins(client, txn)
-        && reads(client, page)
-        && client.want(page).is_ok()
-        && says(alloc, client, ShortBody::MayWrite { txn, page, grant }, &[])
-        && client.write(page, &[9u8; 16]).is_ok()
-        && says(alloc, client, other_called, &[other_given])
-        && says(
-            alloc,
-            client,
-            called,
-            &[ShortBody::InUse { txn, page, grant }],
-        )
-        && commits(alloc, client, txn, (page, grant), &[9u8; 16])
-        && says(
-            alloc,
-            client,
-            ShortBody::Done { txn, number },
-            &[ShortBody::GiveBack { page, grant }],
-        )
-        && client.peek(page).is_none()
-        && client.peek(other).is_none()
-}
-
-/// Whether a new client over a new chooser does both.
-fn new_one_works<Q: Chooser>(alloc: Global, limits: &Limits) -> bool {
+/// Whether a new client over a new chooser does.
+fn new_one_lets_go<Q: Chooser>(alloc: Global, limits: &Limits) -> bool {
     match new_client::<Q>(alloc, limits) {
-        Some(mut client) => {
-            lets_the_first_go(alloc, &mut client) && writes_and_commits(alloc, &mut client)
-        }
+        Some(mut client) => lets_the_first_go(alloc, &mut client),
         None => false,
     }
 }
@@ -312,9 +244,9 @@ fn new_one_works<Q: Chooser>(alloc: Global, limits: &Limits) -> bool {
 #[test]
 fn client_over_any_chooser(rt: HostRuntime) -> Result<(), Fail> {
     let limits = Limits::new(2, 8, 16, 2, 1, 1)?;
-    assert!(rt; new_one_works::<TwoQ>(rt.alloc(), &limits));
-    assert!(rt; new_one_works::<PlainTwoQ>(rt.alloc(), &limits));
-    assert!(rt; new_one_works::<Fifo>(rt.alloc(), &limits));
+    assert!(rt; new_one_lets_go::<TwoQ>(rt.alloc(), &limits));
+    assert!(rt; new_one_lets_go::<PlainTwoQ>(rt.alloc(), &limits));
+    assert!(rt; new_one_lets_go::<Fifo>(rt.alloc(), &limits));
     Ok(())
 }
 

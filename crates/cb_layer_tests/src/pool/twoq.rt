@@ -1,8 +1,7 @@
-//! 2Q in both forms: worked cases, the same drawn references, the greatest limits, refused growths.
+//! 2Q in both forms: worked cases, the greatest limits, refused growths.
 
 use Step::{Fix, Forget, Full, Gone, Refer, Stand};
 use cb_page::{Limits, PageNo, PageSet};
-use cb_test_parts::draw::Draw;
 use cb_twoq::{ChooseFault, Chooser, Lists, PlainTwoQ, TwoQ, run_refs};
 use std::alloc::{AllocError, Global};
 use std::test::Fail;
@@ -192,77 +191,6 @@ fn are_alike(left: &Lists, right: &Lists) -> bool {
     left.a1in.as_slice() == right.a1in.as_slice()
         && left.am.as_slice() == right.am.as_slice()
         && left.a1out.as_slice() == right.a1out.as_slice()
-}
-
-/// Whether both forms have the same lists.
-fn alike<L: TwoForms, R: TwoForms>(alloc: Global, left: &L, right: &R) -> Result<bool, AllocError> {
-    Ok(are_alike(&left.copied(alloc)?, &right.copied(alloc)?))
-}
-
-/// Fixes or lets loose a drawn page, one in four of all being fixed.
-fn draw_fixed(draw: &mut Draw, fixed: &mut PageSet, page: PageNo) {
-    if page.index() < fixed.pages() {
-        if draw.below(4) == 0 {
-            fixed.insert(page);
-        } else {
-            fixed.remove(page);
-        }
-    }
-}
-
-/// Whether both forms go on alike at a drawn reference with drawn fixed pages; a page is forgotten
-/// now and then.
-fn go_on_alike<L: TwoForms, R: TwoForms>(
-    draw: &mut Draw,
-    fixed: &mut PageSet,
-    left: &mut L,
-    right: &mut R,
-) -> bool {
-    let page = PageNo::new(draw.below(64));
-    draw_fixed(draw, fixed, page);
-    if draw.below(50) == 0 {
-        left.forget(page);
-        right.forget(page);
-    }
-    let page = PageNo::new(draw.below(48));
-    let answer = left.reference(page, fixed);
-    answer == right.reference(page, fixed) && answer != Err(ChooseFault::Memory)
-}
-
-/// Whether both forms are alike after each of ten thousand drawn references.
-fn stay_alike<L: TwoForms, R: TwoForms>(
-    alloc: Global,
-    fixed: &mut PageSet,
-    left: &mut L,
-    right: &mut R,
-) -> Result<bool, AllocError> {
-    let mut draw = Draw::new(20);
-    for _ in 0..10000 {
-        if !go_on_alike(&mut draw, fixed, left, right) || !alike(alloc, left, right)? {
-            return Ok(false);
-        }
-    }
-    Ok(true)
-}
-
-/// The same from empty lists on.
-fn both_alike<L: TwoForms, R: TwoForms>(
-    alloc: Global,
-    limits: &Limits,
-) -> Result<bool, AllocError> {
-    let mut left = L::make(alloc, limits)?;
-    let mut right = R::make(alloc, limits)?;
-    let mut fixed = PageSet::new(alloc, 64)?;
-    stay_alike(alloc, &mut fixed, &mut left, &mut right)
-}
-
-/// Ten thousand drawn references with drawn fixed pages: after each, both forms have the same
-/// lists.
-#[test]
-fn both_forms_alike(rt: HostRuntime) -> Result<(), Fail> {
-    let limits = Limits::new(1, 64, 16, 16, 4, 8)?;
-    assert!(rt; both_alike::<TwoQ, PlainTwoQ>(rt.alloc(), &limits)?);
-    Ok(())
 }
 
 /// Each page of the greatest store twice, with no page fixed.

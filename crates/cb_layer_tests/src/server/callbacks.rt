@@ -138,56 +138,6 @@ fn writes_after_callback(
     Ok(granted == 2 && called == 1 && permitted == 1)
 }
 
-/// Whether who waits for whom is kept as it is when built anew.
-fn is_kept(callbacks: &Callbacks) -> bool {
-    let anew = callbacks.view();
-    for number in 0..32u16 {
-        let client = ClientNo::new(number);
-        if anew.row(client) != callbacks.kept_view().row(client) {
-            return false;
-        }
-    }
-    true
-}
-
-/// Whether it is so while a writer waits for one who uses the page, and a reader for both.
-fn keeps_view(alloc: Global, limits: &Limits, callbacks: &mut Callbacks) -> Result<bool, AllocError>
-    requires clients { 2 < limits.now.clients }
-    requires page { 3 < limits.now.pages }
-    requires of { AreOf limits.now callbacks.old.state }
-{
-    let (user, writer, page) = (ClientNo::new(0), ClientNo::new(1), PageNo::new(3));
-    let last = ClientNo::new(2);
-    read_by_both(alloc, limits, callbacks, user, writer, page)?;
-    let held = callbacks.state().directory.row(writer, page);
-    ask(alloc, limits, callbacks, writer, page, held)?;
-    greet(limits, callbacks, last);
-    ask(alloc, limits, callbacks, last, page, None)?;
-    let called = is_kept(callbacks) && !waits_for(callbacks, writer, user);
-    callbacks.mark_in_use(user, page);
-    let used = is_kept(callbacks) && waits_for(callbacks, writer, user);
-    Ok(called && used && waits_for(callbacks, last, writer))
-}
-
-/// Whether a client waits for another one.
-fn waits_for(callbacks: &Callbacks, client: ClientNo, other: ClientNo) -> bool {
-    callbacks.kept_view().row(client).contains(other)
-}
-
-/// Whether a server of zeros keeps it so.
-fn new_one_keeps_view(alloc: Global) -> Result<bool, Fail> {
-    let limits = Limits::new(3, 8, 16, 4, 1, 2)?;
-    let store = Store::zeros(alloc, &limits)?;
-    let mut callbacks = Callbacks::new(alloc, &limits, store)?;
-    Ok(keeps_view(alloc, &limits, &mut callbacks)?)
-}
-
-#[test]
-fn view_is_kept(rt: HostRuntime) -> Result<(), Fail> {
-    assert!(rt; new_one_keeps_view(rt.alloc())?);
-    Ok(())
-}
-
 /// The same over a server of zeros.
 fn anew(alloc: Global) -> Result<bool, Fail> {
     let limits = Limits::new(2, 8, 16, 4, 1, 2)?;

@@ -1,8 +1,7 @@
 //! Stations for tests.
-use crate::stores::page_of;
-use cb_commit::{Store, StoredPage};
+use cb_commit::Store;
 use cb_hands::Hand;
-use cb_page::{ClientNo, Limits, MAX_NUMBER, Version};
+use cb_page::{ClientNo, Limits};
 use cb_station::Station;
 use std::alloc::Global;
 
@@ -21,20 +20,6 @@ fn zeros_of(alloc: Global, clients: u64, pages: u64) -> Option<Station> {
         return None;
     };
     let store = Store::zeros(alloc, &limits).ok()?;
-    Station::new(alloc, &limits, store).ok()
-}
-
-/// A station of one client and one page, over a store whose last commit has the greatest number.
-pub(crate) fn at_the_end(alloc: Global) -> Option<Station> {
-    let limits = Limits::new(1, 1, 16, 4, 1, 2).ok()?;
-    let mut pages = Vec::new(alloc);
-    let bytes = page_of(alloc, 0, 16).ok()?;
-    let page = StoredPage {
-        version: Version::new(0),
-        bytes,
-    };
-    pages.push(page).ok()?;
-    let store = Store::from_rows(&limits, pages, MAX_NUMBER);
     Station::new(alloc, &limits, store).ok()
 }
 
