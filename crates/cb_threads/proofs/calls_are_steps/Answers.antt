@@ -1,0 +1,46 @@
+-- Goals of `calls_are_steps`.
+use Rattle.cb_threads.proofs.ByContracts.{begins_are_steps, commits_are_steps, flushes_are_steps}
+use Rattle.cb_threads.proofs.ByContracts.{forgets_are_steps, hits_are_steps, joins_are_steps}
+use Rattle.cb_threads.proofs.ByContracts.{leaves_are_steps, new_stations_have_opened}
+use Rattle.cb_threads.proofs.ByContracts.{refusals_are_steps, restarts_are_steps, tells_are_steps}
+use Rattle.cb_threads.proofs.ByContracts.{turns_are_steps, writes_are_steps}
+use Rattle.cb_threads.proofs.calls_are_steps.Goals as goal
+
+pub returns-clause-opens : goal.returns-clause-opens
+returns-clause-opens c = new_stations_have_opened
+
+pub returns-clause-joins : goal.returns-clause-joins
+returns-clause-joins c = joins_are_steps
+
+pub returns-clause-restarts : goal.returns-clause-restarts
+returns-clause-restarts c = restarts_are_steps
+
+pub returns-clause-leaves : goal.returns-clause-leaves
+returns-clause-leaves c = leaves_are_steps
+
+pub returns-clause-turns : goal.returns-clause-turns
+returns-clause-turns c = turns_are_steps
+
+pub returns-clause-commits : goal.returns-clause-commits
+returns-clause-commits c = commits_are_steps
+
+pub returns-clause-begins : goal.returns-clause-begins
+returns-clause-begins c = begins_are_steps
+
+pub returns-clause-writes : goal.returns-clause-writes
+returns-clause-writes c = writes_are_steps
+
+pub returns-clause-hits : goal.returns-clause-hits
+returns-clause-hits c = hits_are_steps
+
+pub returns-clause-flushes : goal.returns-clause-flushes
+returns-clause-flushes c = flushes_are_steps
+
+pub returns-clause-forgets : goal.returns-clause-forgets
+returns-clause-forgets c = forgets_are_steps
+
+pub returns-clause-tells : goal.returns-clause-tells
+returns-clause-tells c = tells_are_steps
+
+pub returns-clause-refusals : goal.returns-clause-refusals
+returns-clause-refusals c = refusals_are_steps

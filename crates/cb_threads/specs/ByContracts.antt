@@ -1,0 +1,133 @@
+-- Which public calls are steps, by what their contracts say. Each has the clauses of one call as
+-- premises, and says which step it is, of whatever program it was called in.
+use Rattle.std.specs.Prelude.{◌≡◌, ℕ, true, [], Bool, Option, Some, None, Result, Ok}
+use Rattle.std.specs.Prelude.{replicate}
+use Rattle.cb_client.specs.CallAnswers.{Begins, Writes}
+use Rattle.cb_client_core.specs.ClientState.{IsClient}
+use Rattle.cb_commit.specs.Stores as stores
+use Rattle.cb_commit.specs.Stores.{StoreState}
+use Rattle.cb_hands.specs.Hands.{HandState}
+use Rattle.cb_mailboxes.specs.Dispatching.{Everybody, Posts}
+use Rattle.cb_page.specs.Bounds.{Bounds}
+use Rattle.cb_protocol.specs.AnyMessages.{ReachesDisk}
+use Rattle.cb_protocol.specs.Basics.{Bytes, update}
+use Rattle.cb_protocol.specs.ClientCalls.{CallBegin, CallRead, CallWrite}
+use Rattle.cb_protocol.specs.Flush.{can_flush}
+use Rattle.cb_protocol.specs.Serial.{Put, Saw}
+use Rattle.cb_server.specs.ServerValue.{IsNew}
+use Rattle.cb_station.specs.Stations.{IsUnchanged, StationState, forgot, mailbox_of, server_of}
+use Rattle.cb_station.specs.Telling as telling
+use Rattle.cb_station.specs.Telling.{untold_in, with_untold}
+use Rattle.cb_threads.specs.Programs.{HasOpened, Program, limits_in, new_worker}
+use Rattle.cb_threads.specs.Steps.{CallClient, Commit, Does, Flush, Forget, Join, Leave, Refuse}
+use Rattle.cb_threads.specs.Steps.{Restart, Tell, Turn, operation_of}
+use Rattle.cb_worker.specs.Committing.{CommitsAt}
+use Rattle.cb_worker.specs.Entering.{Joined, Left, Restarted}
+use Rattle.cb_worker.specs.Turns.{Turns}
+use Rattle.cb_worker.specs.Workers.{Hit, WorkerState, after_hit, with_client}
+use Rattle.cb_worker.specs.declared.worker_fault.WorkerFault.{WorkerFault}
+
+-- a station of which nobody has a worker
+abbrev pub opened : StationState → Program
+opened station = record { station = station; worker = λ client. None; performed = [] }
+
+-- the program with this station, and with this worker of that client, or none
+abbrev pub with_worker : Program → StationState → (client : ℕ) → Option WorkerState → Program
+with_worker program station client worker = record program {
+  station = station;
+  worker = update program.worker client worker;
+}
+
+-- `Station::new`
+abbrev pub NewStationsHaveOpened : Type 0
+NewStationsHaveOpened = (limits : Bounds) (store : StoreState) (station : StationState)
+    → stores.IsSound store → IsNew limits store station.dispatcher.server
+    → ((client : ℕ) → mailbox_of station client ≡ [])
+    → station.hands ≡ replicate limits.clients None → HasOpened limits store (opened station)
+
+-- `Station::join`, as `Worker::join` makes it, where it passes the station's limits
+abbrev pub JoinsAreSteps : Type 0
+JoinsAreSteps = (old : Program) (client : ℕ) (hand : HandState) (after : StationState)
+    → old.worker client ≡ None → Joined old.station client (Ok hand) after
+    → Does old (Join client)
+    (with_worker old after client (Some (new_worker hand (limits_in old))))
+
+-- `Station::restart`, as `Worker::restart` makes it
+abbrev pub RestartsAreSteps : Type 0
+RestartsAreSteps = (old : Program) (client incarnation : ℕ) (worker : WorkerState)
+    (hand : HandState) (after : StationState) → old.worker client ≡ Some worker
+    → Restarted old.station worker.hand incarnation (Ok hand) after
+    → Does old (Restart client incarnation)
+    (with_worker old after client (Some (new_worker hand (limits_in old))))
+
+-- `Station::leave`, as `Worker::leave` and `take_leave` make it
+abbrev pub LeavesAreSteps : Type 0
+LeavesAreSteps = (old : Program) (client : ℕ) (worker : WorkerState) (after : StationState)
+    → old.worker client ≡ Some worker → Left old.station worker.hand (Ok tt) after
+    → Does old (Leave client) (with_worker old after client None)
+
+-- `Worker::turn_at`
+abbrev pub TurnsAreSteps : Type 0
+TurnsAreSteps = (old : Program) (client : ℕ) (worker next : WorkerState) (after : StationState)
+    (result : Result Bool WorkerFault) → old.worker client ≡ Some worker
+    → Turns worker old.station result next after
+    → Does old (Turn client) (with_worker old after client (Some next))
+
+-- `Worker::commit_at`
+abbrev pub CommitsAreSteps : Type 0
+CommitsAreSteps = (old : Program) (client : ℕ) (worker next : WorkerState) (after : StationState)
+    (result : Result ℕ WorkerFault) → old.worker client ≡ Some worker
+    → CommitsAt worker old.station result next after
+    → Does old (Commit client) (with_worker old after client (Some next))
+
+-- `Worker::begin`
+abbrev pub BeginsAreSteps : Type 0
+BeginsAreSteps = (old : Program) (client txn : ℕ) (worker next : WorkerState)
+    → old.worker client ≡ Some worker → Begins worker.client (Ok txn) next.client
+    → next ≡ with_client worker next.client
+    → Does old (CallClient client CallBegin) (with_worker old old.station client (Some next))
+
+-- `Worker::write`
+abbrev pub WritesAreSteps : Type 0
+WritesAreSteps = (old : Program) (client page : ℕ) (bytes : Bytes) (worker next : WorkerState)
+    → old.worker client ≡ Some worker → Writes worker.client page bytes (Ok tt) next.client
+    → next ≡ with_client worker next.client
+    → Does old (CallClient client (CallWrite page bytes))
+    (record (with_worker old old.station client (Some next)) {
+      performed = operation_of worker.client (Put page bytes) old.performed;
+    })
+
+-- `Worker::hit`
+abbrev pub HitsAreSteps : Type 0
+HitsAreSteps = (old : Program) (client page : ℕ) (bytes : Bytes) (worker : WorkerState)
+    → old.worker client ≡ Some worker → IsClient worker.client → Hit worker page bytes
+    → Does old (CallClient client (CallRead page))
+    (record (with_worker old old.station client (Some (after_hit worker page))) {
+      performed = operation_of worker.client (Saw page bytes) old.performed;
+    })
+
+-- `Station::flushed`
+abbrev pub FlushesAreSteps : Type 0
+FlushesAreSteps = (old : Program) (number : ℕ) (after : StationState)
+    → can_flush (server_of old.station) number ≡ true
+    → Posts old.station.dispatcher (ReachesDisk number) (mailbox_of old.station) Everybody
+    after.dispatcher
+    → after.hands ≡ old.station.hands
+    → Does old (Flush number) (record old { station = after })
+
+-- `Station::forget`
+abbrev pub ForgetsAreSteps : Type 0
+ForgetsAreSteps = (old : Program) (number : ℕ)
+    → Does old (Forget number) (record old { station = forgot old.station number })
+
+-- `Office::tell`; and `close`, `halt`, `admit`, `end_try` and others, which change no more
+abbrev pub TellsAreSteps : Type 0
+TellsAreSteps = (old : Program) (after : StationState)
+    → (telling.Tells old.station after → Does old Tell (record old { station = after }))
+    × (after ≡ with_untold (record old.station { flags = after.flags }) (untold_in after)
+    → Does old Tell (record old { station = after }))
+
+-- any call of a station that is refused
+abbrev pub RefusalsAreSteps : Type 0
+RefusalsAreSteps = (old : Program) (after : StationState) → IsUnchanged old.station after
+    → Does old Refuse (record old { station = after })

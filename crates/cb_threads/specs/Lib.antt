@@ -1,0 +1,5 @@
+pub mod Programs
+pub mod Steps
+pub mod Worlds
+pub mod Laws
+pub mod ByContracts

@@ -1,0 +1,47 @@
+-- A running program: a station, with the workers that share it.
+use Rattle.std.specs.Prelude.{◌≡◌, ℕ, List, [], Option, Some, None, replicate}
+use Rattle.cb_client_core.specs.ClientState.{IsClient, new_state}
+use Rattle.cb_commit.specs.Stores as stores
+use Rattle.cb_commit.specs.Stores.{StoreState}
+use Rattle.cb_hands.specs.Hands.{HandState}
+use Rattle.cb_page.specs.Bounds.{Bounds}
+use Rattle.cb_protocol.specs.Serial.{PerformedOperation}
+use Rattle.cb_server.specs.ServerValue.{IsNew}
+use Rattle.cb_station.specs.Stations.{IsStation, StationState, mailbox_of}
+use Rattle.cb_worker.specs.Workers.{WorkerState}
+
+-- The station, and of each client the worker that there is; and what the workers' transactions have
+-- read and written so far, the newest first, which is a history variable.
+pub record Program : Type 0 where
+  pub station : StationState
+  pub worker : ℕ → Option WorkerState
+  pub performed : List PerformedOperation
+
+-- the limits of the station
+abbrev pub limits_in : Program → Bounds
+limits_in program = program.station.dispatcher.server.limits
+
+-- It has just opened with these limits, over a store that is as its type says: nobody has joined,
+-- and nothing is to be sent.
+pub record HasOpened (limits : Bounds) (store : StoreState) (program : Program) : Type 0 where
+  pub sound : stores.IsSound store
+  pub server : IsNew limits store program.station.dispatcher.server
+  pub hands : program.station.hands ≡ replicate limits.clients None
+  pub mailbox : (client : ℕ) → mailbox_of program.station client ≡ []
+  pub nobody : (client : ℕ) → program.worker client ≡ None
+  pub nothing : program.performed ≡ []
+
+-- What the types promise at every moment: the station is sound, and each worker's client is one.
+pub record IsSound (program : Program) : Type 0 where
+  pub station : IsStation program.station
+  pub client : (client : ℕ) (worker : WorkerState) → program.worker client ≡ Some worker
+      → IsClient worker.client
+
+-- the worker of a hand that the station has just given out: its client was not called yet
+abbrev pub new_worker : HandState → Bounds → WorkerState
+new_worker hand limits = record {
+  client = new_state hand.client hand.incarnation limits;
+  hand = hand;
+  collected = None;
+  said = [];
+}

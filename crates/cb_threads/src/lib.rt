@@ -1,0 +1,53 @@
+//! Threads that share a station, as a world of the protocol.
+//!
+//! The crate has no code. `specs/Programs` says what a running program is, `specs/Steps` what its
+//! threads do to it, each step by the record that a call's contract has, and `specs/Worlds` which
+//! world of the protocol it is. The laws are in `specs/Laws`. Which calls are steps by what their
+//! contracts say is in `specs/ByContracts`.
+#![tactic(auto)]
+
+ghost use Rattle.cb_threads.specs.ByContracts.{BeginsAreSteps, CommitsAreSteps, FlushesAreSteps};
+ghost use Rattle.cb_threads.specs.ByContracts.{ForgetsAreSteps, HitsAreSteps, JoinsAreSteps};
+ghost use Rattle.cb_threads.specs.ByContracts.{LeavesAreSteps, NewStationsHaveOpened};
+ghost use Rattle.cb_threads.specs.ByContracts.{RefusalsAreSteps, RestartsAreSteps, TellsAreSteps};
+ghost use Rattle.cb_threads.specs.ByContracts.{TurnsAreSteps, WritesAreSteps};
+ghost use Rattle.cb_threads.specs.Laws.{HitsAgree, HitsAreTheStores, MailIsTheStores};
+ghost use Rattle.cb_threads.specs.Laws.{RunsAreSerial, RunsAreWorlds, RunsKeepThePromise};
+ghost use Rattle.cb_threads.specs.Laws.{WritersAreAlone};
+
+/// Whatever steps threads make of one station and its workers, each under the station's lock or on
+/// a worker of its own: there is a world of the protocol, reached from the opening one, that has
+/// this server, these clients and every frame that is on its way, and whose transcript has what was
+/// read and written. So the whole promise holds of it at each moment. What committed transactions
+/// read and wrote is serial in commit order, and leaves the store. The bytes that `hit` lends are
+/// the store's, but where the worker's own transaction wrote the page; two workers are lent the
+/// same; and while a worker's transaction may write a page, no other is lent bytes of it. A copy in
+/// a mailbox that its client would take is of a row that stands, with the store's bytes.
+pub fn runs_are_worlds()
+    ensures worlds { RunsAreWorlds }
+    ensures promise { RunsKeepThePromise }
+    ensures serial { RunsAreSerial }
+    ensures stores { HitsAreTheStores }
+    ensures agree { HitsAgree }
+    ensures alone { WritersAreAlone }
+    ensures mail { MailIsTheStores }
+{}
+
+/// What the contracts of these calls say makes each of them a step, whatever the program is: the
+/// calls of a station and an office that change it; of a worker `begin`, `write`, `hit`, `turn_at`
+/// and `commit_at`. A new station, of which nobody has a worker, has just opened.
+pub fn calls_are_steps()
+    ensures opens { NewStationsHaveOpened }
+    ensures joins { JoinsAreSteps }
+    ensures restarts { RestartsAreSteps }
+    ensures leaves { LeavesAreSteps }
+    ensures turns { TurnsAreSteps }
+    ensures commits { CommitsAreSteps }
+    ensures begins { BeginsAreSteps }
+    ensures writes { WritesAreSteps }
+    ensures hits { HitsAreSteps }
+    ensures flushes { FlushesAreSteps }
+    ensures forgets { ForgetsAreSteps }
+    ensures tells { TellsAreSteps }
+    ensures refusals { RefusalsAreSteps }
+{}
