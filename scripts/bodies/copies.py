@@ -47,7 +47,7 @@ def edited_function(crate: Path, edit: Edit) -> tuple[str, Function] | None:
         return None
     text = (crate / file).read_text()
     places = [text.find(old) for _, old, _ in edit.pairs()]
-    found = function_of(file, text, places) if min(places) >= 0 else None
+    found = function_of(crate.name, file, text, places) if min(places) >= 0 else None
     return (file, found) if found and found.path else None
 
 
@@ -100,7 +100,7 @@ def write_proofs(crate: Path, kept: Path, copies: Iterable[Copy]) -> None:
 def take_as_stated(crate: Path, but: Collection[str] = ()) -> None:
     """Gives each function that can have one a proof that is a hole, but those of these paths."""
     for path in (crate / "src").rglob("*.rt"):
-        for it in functions_of(str(path.relative_to(crate)), path.read_text()):
+        for it in functions_of(crate.name, str(path.relative_to(crate)), path.read_text()):
             if it.path and "::".join(it.path) not in but:
                 folder = crate / "proofs" / "/".join(it.path)
                 folder.mkdir(parents=True, exist_ok=True)

@@ -44,14 +44,16 @@ def at_a_time() -> int:
 
 
 def groups(crate: str, edits: list[Edit]) -> Iterator[list[Edit]]:
-    """Bodies in groups in which no two change one function."""
+    """Bodies in groups in which no two change one function, nor two of one name that are told
+    apart by their names alone."""
     left = edits
     while left:
         taken, group = set(), []
         for edit in left:
             of = trials.edited(TOP / "crates" / crate, edit)
-            if of not in taken:
-                taken.add(of)
+            key = of and (of.path or of.name)
+            if key not in taken:
+                taken.add(key)
                 group.append(edit)
         yield group
         left = [it for it in left if it not in group]

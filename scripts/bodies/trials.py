@@ -87,7 +87,7 @@ def faulty(crate: Path, said: Said, tried: list[copies.Copy]) -> dict[copies.Cop
     for file, line, error in COMPILES.findall(said.log):
         text = (crate / file).read_text()
         place = sum(map(len, text.splitlines(keepends=True)[: int(line) - 1]))
-        of = function_of(file, text, [place])
+        of = function_of(crate.name, file, text, [place])
         for it in tried:
             if of and it.name == of.name:
                 found.setdefault(it, error)
@@ -124,7 +124,8 @@ def edited(crate: Path, edit: Edit):
     files = sorted(edit.files())
     text = (crate / files[0]).read_text() if files[0].startswith("src/") else ""
     places = [text.find(old) for _, old, _ in edit.pairs()]
-    return function_of(files[0], text, places) if len(files) == 1 and min(places) >= 0 else None
+    is_one = len(files) == 1 and min(places) >= 0
+    return function_of(crate.name, files[0], text, places) if is_one else None
 
 
 def told_of(said: Said, of) -> str:
