@@ -5,7 +5,8 @@
 
 It runs `rt ci --anew` in a fresh clone of this repository, and notes the processor seconds of each
 call of the prover (scripts/noted.py), in FOLDER.calls. With --kept it is `rt ci`, which takes over
-what this machine kept; the crates that were taken over are named, since no sum has them.
+what this machine kept. Crates that were taken over, or that a run which was cut off didn't come to,
+are named, since no sum has them.
 
 Of each crate: its proof, its tests with theirs, the check that its first edit begins with, the
 other edits (their sum, their number and the dearest), the check without an edit at their end, and a
@@ -98,8 +99,8 @@ def table(calls: list[list], below: Path | None) -> None:
     whole = sum(sums.values())
     print(f"all {whole / 60:.0f} processor minutes in {clock:.0f} of the clock", end="")
     print(f": {whole / peer:.1f} times the {peer:.0f} s of {PEER}" if peer else "")
-    taken = [it for it in building.listed() if not found[it]["proof"] + found[it]["program"]]
-    print(f"taken over, and in no sum: {', '.join(taken)}" if taken else "nothing was taken over")
+    lost = [it for it in building.listed() if not found[it]["proof"] + found[it]["program"]]
+    print(f"not proved in this run, and in no sum: {', '.join(lost)}" if lost else "all were proved")
 
 
 def run_of(clone: Path, log: Path, is_anew: bool) -> int:
