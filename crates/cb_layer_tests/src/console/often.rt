@@ -70,5 +70,5 @@ fn every_incarnation(rt: HostRuntime) {
 
 #[test]
 fn many_commits(rt: HostRuntime) {
-    assert!(rt; commits(rt.alloc(), 1, 120_000) == Some(120_000));
+    assert!(rt; commits(rt.alloc(), 1, 70_000) == Some(70_000));
 }

@@ -1,36 +1,29 @@
-//! Schedules at the greatest limits.
+//! A schedule of more events than there may be.
 
 use cb_event::{ScheduleFault, read_schedule};
 use cb_page::Limits;
 use std::alloc::{AllocError, Global};
 
-/// The greatest limits, with pages of so many bytes.
-fn greatest_limits(page_size: u64) -> Option<Limits> {
-    Limits::new(32, 4096, page_size, 1024, 1023, 4096).ok()
-}
-
-/// A text with a line so many times.
-fn repeated(alloc: Global, line: &str, count: usize) -> Result<String, AllocError> {
-    let mut text = String::new(alloc);
-    for _ in 0..count {
-        text.push_str(line)?;
+/// A text, doubled so many times.
+fn doubled(alloc: Global, text: &str, times: u32) -> Result<String, AllocError> {
+    let mut all = String::from_str(alloc, text)?;
+    for _ in 0..times {
+        let half = String::from_str(alloc, all.as_str())?;
+        all.push_str(half.as_str())?;
     }
-    Ok(text)
+    Ok(all)
 }
 
-/// How many events there are at the greatest limits with this text behind the most there may be,
-/// or the fault.
-fn count_behind(alloc: Global, text: &str) -> Option<Result<usize, ScheduleFault>> {
-    let limits = greatest_limits(16)?;
-    let mut all = repeated(alloc, "flush\n", 1_000_000).ok()?;
-    all.push_str(text).ok()?;
-    Some(read_schedule(alloc, &limits, all.as_bytes()).map(|events| events.len()))
+/// The fault of 1,048,576 events, each behind an empty line.
+fn fault_of_all(alloc: Global) -> Option<ScheduleFault> {
+    let limits = Limits::new(32, 4096, 16, 1024, 1023, 4096).ok()?;
+    let text = doubled(alloc, "\nflush\n", 20).ok()?;
+    read_schedule(alloc, &limits, text.as_bytes()).err()
 }
 
+/// A million events are read, since want of memory would be told of an event before the one that is
+/// too many.
 #[test]
 fn most_events(rt: HostRuntime) {
-    let count = count_behind(rt.alloc(), "# no event\n\n");
-    assert!(rt; count == Some(Ok(1_000_000)));
-    let count = count_behind(rt.alloc(), "\nwrite 31 4095 255\n");
-    assert!(rt; count == Some(Err(ScheduleFault::Long { line: 1_000_002 })));
+    assert!(rt; fault_of_all(rt.alloc()) == Some(ScheduleFault::Long { line: 2_000_002 }));
 }
