@@ -1,6 +1,7 @@
 """What check and bench of a served store share: the programs, and a gateway with its files."""
 import os
 import signal
+import socket
 import subprocess
 import time
 from dataclasses import dataclass, field
@@ -54,6 +55,9 @@ class Gateway:
     words: tuple[str, ...] = ()
     limits: tuple[int, ...] = (32, 64, 4096, 32, 1)
     env: dict[str, str] = field(default_factory=dict)
+    command: tuple[object, ...] = ()  # what starts a server, if not `cb_play serve`
+    has_port: bool = False  # it listens at a port of this machine, too
+    port: int = 0
     process: Optional[subprocess.Popen] = None
 
     @property
@@ -68,21 +72,36 @@ class Gateway:
         return self.room / f"{store}.db"
 
     def start(self) -> None:
-        """Starts it, and waits until it listens."""
+        """Starts it, and waits until it listens; at another port where somebody took that one."""
         if not self.tokens.exists():
-            make = [self.program, "--make-tokens", "32", "--tokens", self.tokens]
-            subprocess.run(make, check=True)
-            (self.room / "config").write_text(CONFIG.format(*self.limits))
-            lines = [f"{it} {self.room}/config {self.database(it)}\n" for it in self.stores]
-            (self.room / "stores").write_text("".join(lines))
+            self.make_files()
+        for _ in range(20 if self.has_port else 1):
+            self.port = free_port() if self.has_port else 0
+            if self.begins():
+                return
+        raise building.NotBuilt("the gateway didn't start: " + self.log()[-1000:])
+
+    def make_files(self) -> None:
+        make = [self.program, "--make-tokens", "32", "--tokens", self.tokens]
+        subprocess.run(make, check=True)
+        (self.room / "config").write_text(CONFIG.format(*self.limits))
+        lines = [f"{it} {self.room}/config {self.database(it)}\n" for it in self.stores]
+        (self.room / "stores").write_text("".join(lines))
+
+    def begins(self) -> bool:
+        """Whether it listens."""
         words = [self.program, "--unix", self.socket, "--tokens", self.tokens]
-        words += ["--stores", self.room / "stores", *self.words, "--", self.play, "serve"]
+        words += ["--tcp", self.port] if self.port else []
+        words += ["--stores", self.room / "stores", *self.words, "--"]
+        words += self.command or (self.play, "serve")
         with (self.room / "log").open("ab") as log:
             env = {**os.environ, **self.env}
             both = {"stdout": subprocess.PIPE, "stderr": log}
             self.process = subprocess.Popen(list(map(str, words)), env=env, **both)
-        if self.process.stdout is None or self.process.stdout.readline() != b"ready\n":
-            raise building.NotBuilt("the gateway didn't start: " + self.log()[-1000:])
+        if self.process.stdout and self.process.stdout.readline() == b"ready\n":
+            return True
+        self.stop(signal.SIGKILL)
+        return False
 
     def log(self) -> str:
         return (self.room / "log").read_text()
@@ -116,6 +135,13 @@ class Gateway:
         status = Path(f"/proc/{self.process.pid}/status").read_text()
         line = next(it for it in status.splitlines() if it.startswith("VmRSS"))
         return int(line.split()[1])
+
+
+def free_port() -> int:
+    """A port that nobody listens at now."""
+    with socket.socket() as free:
+        free.bind(("127.0.0.1", 0))
+        return free.getsockname()[1]
 
 
 def wait_for(what, seconds: float = 20.0) -> bool:

@@ -46,9 +46,17 @@ uint64_t number_at(const uint8_t *at, size_t count) {
   return number;
 }
 
-void number_to(uint8_t *at, size_t count, uint64_t number) {
-  for (size_t place = count; place > 0; place--) {
-    at[place - 1] = (uint8_t)number;
-    number >>= 8;
-  }
+void put_16(uint8_t *at, uint16_t number) {
+  at[0] = (uint8_t)(number >> 8);
+  at[1] = (uint8_t)number;
+}
+
+void put_32(uint8_t *at, uint32_t number) {
+  put_16(at, (uint16_t)(number >> 16));
+  put_16(at + 2, (uint16_t)number);
+}
+
+void put_64(uint8_t *at, uint64_t number) {
+  put_32(at, (uint32_t)(number >> 32));
+  put_32(at + 4, (uint32_t)number);
 }

@@ -22,6 +22,8 @@ void bytes_free(struct bytes *bytes);
 
 /* Numbers have their highest byte first. */
 uint64_t number_at(const uint8_t *at, size_t count);
-void number_to(uint8_t *at, size_t count, uint64_t number);
+void put_16(uint8_t *at, uint16_t number);
+void put_32(uint8_t *at, uint32_t number);
+void put_64(uint8_t *at, uint64_t number);
 
 #endif

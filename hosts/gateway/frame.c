@@ -15,16 +15,16 @@ struct header header_at(const uint8_t *bytes) {
 void header_to(uint8_t *bytes, const struct header *header) {
   bytes[0] = header->version;
   bytes[1] = header->kind;
-  number_to(bytes + 2, 2, header->client);
-  number_to(bytes + 4, 8, header->incarnation);
-  number_to(bytes + 12, 4, header->body);
+  put_16(bytes + 2, header->client);
+  put_64(bytes + 4, header->incarnation);
+  put_32(bytes + 12, header->body);
 }
 
 /* Whether a commit can have so many bytes: its head, and some pages. */
-static bool is_commit(uint32_t body, uint8_t version, const struct limits *limits) {
-  uint32_t page = limits->page_size + (version == 1 ? 14 : 16);
-  return body >= COMMIT_HEAD && (body - COMMIT_HEAD) % page == 0
-         && (body - COMMIT_HEAD) / page <= limits->pages;
+static bool is_commit(const struct header *header, const struct limits *limits) {
+  uint32_t page = limits->page_size + (header->version == 1 ? 14 : 16);
+  return header->body >= COMMIT_HEAD && (header->body - COMMIT_HEAD) % page == 0
+         && (header->body - COMMIT_HEAD) / page <= limits->pages;
 }
 
 bool is_of_client(const struct header *header, const struct limits *limits) {
@@ -35,7 +35,7 @@ bool is_of_client(const struct header *header, const struct limits *limits) {
   if (!known || header->kind < KIND_HELLO || header->kind > last) {
     return false;
   }
-  return header->kind == KIND_COMMIT ? is_commit(header->body, header->version, limits)
+  return header->kind == KIND_COMMIT ? is_commit(header, limits)
                                      : header->body == bodies[header->kind];
 }
 

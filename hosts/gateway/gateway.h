@@ -1,10 +1,11 @@
 /* A gateway: clients connect to it, and it hands their frames to the server of the store that each
- * names, and the server's frames back. It reads headers alone. docs/SERVING.md says how it is used,
- * docs/FORMATS.md how it is greeted. */
+ * names, and the server's frames back. It reads headers, and of short frames the page that they
+ * name. docs/SERVING.md says how it is used, docs/FORMATS.md how it is greeted. */
 #ifndef GATEWAY_H
 #define GATEWAY_H
 
 #include "gather.h"
+#include "log.h"
 #include "outgoing.h"
 #include "settings.h"
 
@@ -14,12 +15,30 @@
 enum {
   TICK = 500,          /* milliseconds: a server says again what may be lost, waits are looked at */
   STOP = 30000,        /* in so many the servers are to end, once they are told */
-  UNGREETED_MOST = 64, /* so many connections may be about to greet */
+  UNGREETED_MOST = 64, /* so many connections of a listener may be about to greet, */
+  ADDRESS_MOST = 16,   /* and so many of one address */
+  ADDRESS = 16,        /* bytes of an address */
+  NAME = 64,           /* what a peer's name may take, with its end */
+  BACKLOG = 1024,      /* connections that the system accepts beforehand */
   TO_SERVER_MOST = 1 << 22 /* clients aren't read while a server hasn't taken so many bytes */
+};
+
+/* Why a connection goes that hasn't greeted; the first ones are told it by these numbers. */
+enum refusal {
+  WELCOME,
+  NO_GREETING,
+  NO_TOKEN,
+  NO_STORE,
+  NO_CLIENT,
+  NOT_SERVED,
+  SILENT,
+  CROWDED,
+  REFUSALS
 };
 
 struct gateway;
 struct store;
+struct door;
 
 /* A client that is connected, or about to greet. */
 struct connection {
@@ -32,16 +51,47 @@ struct connection {
   } peer;
   struct outgoing out;
   struct bytes in;     /* what came and isn't handed on */
+  struct door *door;   /* by which it came, while it is about to greet; then none */
   struct store *store; /* none until it has greeted, and once it was left */
   uint16_t client;
   uint64_t incarnation;
-  uint64_t began;  /* since when a greeting, or the rest of a frame, is awaited; 0: it isn't */
+  uint64_t began;  /* since when a greeting or the rest of a frame is awaited; 0: none is */
   uint64_t asked;  /* since when an answer to the server is awaited; 0: none is */
   uint64_t ending; /* since when it is to be closed, once what waits is out; 0: it isn't */
+  uint8_t address[ADDRESS]; /* whose count it is in; zeros where none is kept */
+  char name[NAME];          /* what a line of the log calls its peer */
   LIST_ENTRY(connection) others;
+  TAILQ_ENTRY(connection) later; /* at its door */
 };
 
 LIST_HEAD(connections, connection);
+TAILQ_HEAD(ungreeted, connection);
+
+/* A listener, and those who came by it and haven't greeted: the oldest first. */
+struct door {
+  struct gateway *gateway;
+  union {
+    uv_handle_t handle;
+    uv_stream_t stream;
+    uv_pipe_t pipe;
+    uv_tcp_t tcp;
+  } listener;
+  bool is_local;       /* a Unix socket */
+  bool has_unaccepted; /* memory was refused for a connection that came */
+  unsigned count;
+  struct ungreeted ungreeted;
+};
+
+enum { LOCAL, REMOTE, DOORS };
+
+/* Greetings that were refused: a line a second tells of them. */
+struct refused {
+  uint64_t of[REFUSALS]; /* how many, by reason */
+  unsigned untold;       /* how many no line told of, */
+  enum refusal reason;   /* and why, and who, the last of them was */
+  char name[NAME];
+  uint64_t told; /* when the last line was said; 0: none was */
+};
 
 /* A store, and its server: a process, started again where it ends. */
 struct store {
@@ -69,30 +119,54 @@ struct store {
 
 struct gateway {
   uv_loop_t *loop;
-  uv_pipe_t local;
-  uv_tcp_t remote;
+  struct door doors[DOORS];
   uv_signal_t terminate, interrupt;
   uv_prepare_t prepare;
   uv_timer_t tick;
+  uint64_t now; /* milliseconds that it has run, in ticks, and never 0: what all waits go by */
   struct tokens tokens;
   struct places places;
   struct store stores[MOST_STORES];
   struct connections connections;
-  uv_stream_t *unaccepted[2]; /* listeners with a connection that memory was refused for, or NULL */
-  unsigned ungreeted;
+  struct refused refused;
   char **serve;       /* the words that start a server, NULL behind them */
   const char *socket; /* the path of the Unix socket, or NULL */
-  uint64_t patience;  /* milliseconds for the rest of a greeting or frame */
+  uint64_t greeting;  /* milliseconds for a greeting, */
+  uint64_t patience;  /* and for a frame, from its first byte */
   uint64_t silence;   /* milliseconds for an answer to the server; 0: for ever */
   size_t buffer;      /* bytes that may wait for one client */
   bool is_stopping;
   int status;
 };
 
+/* ---- door.c: listeners, and greetings ---- */
+
+/* Makes the listeners, which don't listen yet. */
+void doors_begin(struct gateway *gateway);
+
+/* Listens on a Unix socket, or at an address; false, with a line, where it can't. */
+bool door_open_local(struct door *door, const char *path);
+bool door_open_remote(struct door *door, const char *address, int port);
+
+/* Listens no more, and cuts whoever hasn't greeted. */
+void door_close(struct door *door);
+
+/* Takes the greeting of a connection from what came; false where it isn't whole, or refused. */
+bool door_greet(struct connection *connection);
+
+/* The connection has greeted, or goes. */
+void door_pass(struct connection *connection);
+
+/* Tries again what memory was refused for, and ends those who don't greet in time. */
+void door_tick(struct door *door);
+
+/* Says the line of those that were refused since the last one. */
+void refused_tick(struct refused *refused, uint64_t now);
+
 /* ---- connection.c ---- */
 
-/* Takes a connection that came. */
-void connection_accept(uv_stream_t *listener, int status);
+/* A new one at a door, not yet open; NULL where memory was refused. */
+struct connection *connection_new(struct door *door);
 
 /* Ends it now: its client is left. With a reason, that is said on the standard error. */
 void connection_cut(struct connection *connection, const char *reason);
@@ -106,11 +180,14 @@ void connection_end(struct connection *connection);
 /* Hands a frame of the server to it. */
 void connection_put(struct connection *connection, const uint8_t *frame, size_t size);
 
+/* Takes what came behind what it had. */
+void connection_take(struct connection *connection, const uint8_t *bytes, size_t size);
+
 /* Reads it, or not for now. */
 void connection_read(struct connection *connection);
 void connection_pause(struct connection *connection);
 
-/* Ends those that were waited for too long. */
+/* Ends it if it was waited for too long. */
 void connection_tick(struct connection *connection);
 
 /* ---- store.c ---- */
@@ -150,5 +227,8 @@ void gateway_look(struct gateway *gateway);
 
 /* Stops in order. */
 void gateway_stop(struct gateway *gateway, int status);
+
+/* Whether something was awaited for longer than that. */
+bool gateway_waited(const struct gateway *gateway, uint64_t since, uint64_t most);
 
 #endif

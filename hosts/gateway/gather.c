@@ -25,41 +25,42 @@ static uint32_t bit_of(const uint8_t *frame) {
   return UINT32_C(1) << header_at(frame).client % MOST_CLIENTS;
 }
 
-/* The bytes of those that go together: the first ones, as many as are read at once. Whose they are,
- * and how many, is told; and whose the others are. */
-static size_t first_ones(const struct gather *gather, unsigned *count, uint32_t *whose,
-                         uint32_t *others) {
-  size_t size = 0;
-  *count = 0;
-  *whose = *others = 0;
+/* Commits that go together: their bytes, how many they are and whose; and whose the others are. */
+struct first {
+  size_t size;
+  unsigned count;
+  uint32_t whose, others;
+};
+
+/* The first ones, as many as are read at once. */
+static struct first first_ones(const struct gather *gather) {
+  struct first first = {0};
   for (size_t at = 0; at < gather->held.size;) {
     const uint8_t *frame = gather->held.at + at;
     size_t length = HEADER + (size_t)header_at(frame).body;
-    if (size == at && (at == 0 || at + length <= ROUND)) {
-      size += length;
-      *whose |= bit_of(frame);
-      ++*count;
+    if (first.size == at && (at == 0 || at + length <= ROUND)) {
+      first.size += length;
+      first.whose |= bit_of(frame);
+      first.count++;
     } else {
-      *others |= bit_of(frame);
+      first.others |= bit_of(frame);
     }
     at += length;
   }
-  return size;
+  return first;
 }
 
 /* Sends the first ones; false where none wait, or memory was refused. */
 static bool send_first(struct gather *gather) {
-  unsigned count;
-  uint32_t whose, others;
-  size_t size = first_ones(gather, &count, &whose, &others);
-  if (count == 0 || !gather->send(gather->owner, gather->held.at, size)) {
+  struct first first = first_ones(gather);
+  if (first.count == 0 || !gather->send(gather->owner, gather->held.at, first.size)) {
     return false;
   }
-  bytes_cut(&gather->held, size);
-  gather->count -= count;
-  gather->waiting = others;
+  bytes_cut(&gather->held, first.size);
+  gather->count -= first.count;
+  gather->waiting = first.others;
   gather->former = gather->newest;
-  gather->newest = whose;
+  gather->newest = first.whose;
   gather->is_out = true;
   gather->sent = uv_hrtime();
   arm(gather, UNANSWERED + 4 * gather->took);
@@ -143,6 +144,7 @@ void gather_leave(struct gather *gather, uint16_t client) {
 }
 
 /* The time is over. */
+/* NOLINTNEXTLINE(bugprone-easily-swappable-parameters): the form is libuv's */
 static void is_time(uv_poll_t *poll, int status, int events) {
   struct gather *gather = poll->data;
   uint64_t times;

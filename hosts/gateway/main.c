@@ -6,10 +6,6 @@
 #include <stdio.h>
 #include <stdlib.h>
 #include <string.h>
-#include <sys/socket.h>
-#include <sys/stat.h>
-#include <sys/un.h>
-#include <unistd.h>
 
 static const char USAGE[] =
     "gateway --tokens FILE (--unix PATH | --tcp PORT [--address ADDRESS]) [OPTION ..]\n"
@@ -22,13 +18,14 @@ static const char USAGE[] =
     "  --unix PATH        listen on a Unix socket, which its owner alone may use\n"
     "  --tcp PORT         listen on a TCP port, of 127.0.0.1 if no address is said\n"
     "  --stores FILE      lines of a name, a configuration and a database; else one store, `main`\n"
-    "  --patience SECONDS for a greeting, or the rest of a frame (10)\n"
+    "  --greeting SECONDS for a greeting (2)\n"
+    "  --patience SECONDS for the rest of a frame (10)\n"
     "  --silence SECONDS  for a client's answer to the server; 0 for ever (30)\n"
     "  --buffer BYTES     that may wait for one client (4194304)\n";
 
 struct words {
   const char *tokens, *stores, *address;
-  long tcp, make, patience, silence, buffer;
+  long tcp, make, greeting, patience, silence, buffer;
 };
 
 /* ---- its end ---- */
@@ -56,13 +53,8 @@ void gateway_stop(struct gateway *gateway, int status) {
   }
   gateway->is_stopping = true;
   gateway->status = status;
-  close_all((uv_handle_t *)&gateway->local, NULL);
-  close_all((uv_handle_t *)&gateway->remote, NULL);
-  struct connection *connection;
-  LIST_FOREACH(connection, &gateway->connections, others) {
-    if (connection->store == NULL) {
-      connection_cut(connection, NULL);
-    }
+  for (size_t at = 0; at < DOORS; at++) {
+    door_close(&gateway->doors[at]);
   }
   for (size_t at = 0; at < gateway->places.count; at++) {
     store_stop(&gateway->stores[at]);
@@ -86,78 +78,30 @@ static void before_wait(uv_prepare_t *prepare) {
   LIST_FOREACH(connection, &gateway->connections, others) { outgoing_send(&connection->out); }
 }
 
+bool gateway_waited(const struct gateway *gateway, uint64_t since, uint64_t most) {
+  return since != 0 && gateway->now - since > most;
+}
+
 static void tick(uv_timer_t *timer) {
   struct gateway *gateway = timer->data;
   struct connection *connection;
+  gateway->now += TICK;
+  for (size_t at = 0; at < DOORS; at++) {
+    door_tick(&gateway->doors[at]);
+  }
+  refused_tick(&gateway->refused, gateway->now);
   LIST_FOREACH(connection, &gateway->connections, others) { connection_tick(connection); }
   for (size_t at = 0; at < gateway->places.count && !gateway->is_stopping; at++) {
     store_tick(&gateway->stores[at]);
-  }
-  for (size_t at = 0; at < 2 && !gateway->is_stopping; at++) {
-    uv_stream_t *listener = gateway->unaccepted[at];
-    gateway->unaccepted[at] = NULL;
-    if (listener != NULL) {
-      connection_accept(listener, 0);
-    }
   }
 }
 
 /* ---- its beginning ---- */
 
-/* Takes a socket away that an ended gateway left, and nobody listens to. A file of another kind
- * refuses a connection too, and stays. */
-static void remove_left(const char *path) {
-  struct stat state;
-  struct sockaddr_un address = {.sun_family = AF_UNIX};
-  if (lstat(path, &state) != 0 || !S_ISSOCK(state.st_mode)) {
-    return;
-  }
-  memcpy(address.sun_path, path, strlen(path));
-  int fd = socket(AF_UNIX, SOCK_STREAM | SOCK_CLOEXEC | SOCK_NONBLOCK, 0);
-  if (fd >= 0 && connect(fd, (const struct sockaddr *)&address, sizeof address) != 0
-      && errno == ECONNREFUSED) {
-    unlink(path);
-  }
-  if (fd >= 0) {
-    close(fd);
-  }
-}
-
-/* Listens on a Unix socket. */
-static int listen_local(struct gateway *gateway) {
-  if (strlen(gateway->socket) >= sizeof((struct sockaddr_un *)0)->sun_path) {
-    return UV_ENAMETOOLONG; /* libuv would cut it */
-  }
-  remove_left(gateway->socket);
-  mode_t before = umask(0177);
-  int fault = uv_pipe_bind(&gateway->local, gateway->socket);
-  umask(before);
-  return fault != 0 ? fault : uv_listen((uv_stream_t *)&gateway->local, 128, connection_accept);
-}
-
-static int listen_remote(struct gateway *gateway, const char *address, long port) {
-  struct sockaddr_storage to;
-  int fault = uv_ip4_addr(address, (int)port, (struct sockaddr_in *)&to);
-  if (fault != 0) {
-    fault = uv_ip6_addr(address, (int)port, (struct sockaddr_in6 *)&to);
-  }
-  if (fault == 0) {
-    fault = uv_tcp_bind(&gateway->remote, (const struct sockaddr *)&to, 0);
-  }
-  return fault != 0 ? fault : uv_listen((uv_stream_t *)&gateway->remote, 128, connection_accept);
-}
-
 static bool listen_all(struct gateway *gateway, const struct words *words) {
-  int fault = gateway->socket != NULL ? listen_local(gateway) : 0;
-  if (fault != 0) {
-    complain("cannot listen on %s: %s", gateway->socket, uv_strerror(fault));
-    return false;
-  }
-  fault = words->tcp >= 0 ? listen_remote(gateway, words->address, words->tcp) : 0;
-  if (fault != 0) {
-    complain("cannot listen on %s port %ld: %s", words->address, words->tcp, uv_strerror(fault));
-  }
-  return fault == 0;
+  return (gateway->socket == NULL || door_open_local(&gateway->doors[LOCAL], gateway->socket))
+         && (words->tcp < 0
+             || door_open_remote(&gateway->doors[REMOTE], words->address, (int)words->tcp));
 }
 
 static void begin(struct gateway *gateway) {
@@ -165,13 +109,12 @@ static void begin(struct gateway *gateway) {
   signal(SIGPIPE, SIG_IGN);
   gateway->loop = uv_default_loop();
   LIST_INIT(&gateway->connections);
-  uv_pipe_init(gateway->loop, &gateway->local, 0);
-  uv_tcp_init(gateway->loop, &gateway->remote);
+  gateway->now = TICK;
+  doors_begin(gateway);
   uv_signal_init(gateway->loop, &gateway->terminate);
   uv_signal_init(gateway->loop, &gateway->interrupt);
   uv_prepare_init(gateway->loop, &gateway->prepare);
   uv_timer_init(gateway->loop, &gateway->tick);
-  gateway->local.data = gateway->remote.data = gateway;
   gateway->terminate.data = gateway->interrupt.data = gateway;
   gateway->prepare.data = gateway->tick.data = gateway;
   uv_signal_start(&gateway->terminate, signalled, SIGTERM);
@@ -210,25 +153,43 @@ static bool number_of(const char *text, long least, long *number) {
 
 static bool take_word(struct gateway *gateway, struct words *words, int which, const char *text) {
   switch (which) {
-    case 'k': words->tokens = text; return true;
-    case 's': words->stores = text; return true;
-    case 'a': words->address = text; return true;
-    case 'u': gateway->socket = text; return true;
-    case 't': return number_of(text, 1, &words->tcp) && words->tcp <= 65535;
-    case 'm': return number_of(text, 1, &words->make) && words->make <= MOST_CLIENTS;
-    case 'p': return number_of(text, 1, &words->patience) && words->patience <= 86400;
-    case 'l': return number_of(text, 0, &words->silence) && words->silence <= 86400;
-    case 'b': return number_of(text, 1, &words->buffer);
-    default: return false;
+    case 'k':
+      words->tokens = text;
+      return true;
+    case 's':
+      words->stores = text;
+      return true;
+    case 'a':
+      words->address = text;
+      return true;
+    case 'u':
+      gateway->socket = text;
+      return true;
+    case 't':
+      return number_of(text, 1, &words->tcp) && words->tcp <= 65535;
+    case 'm':
+      return number_of(text, 1, &words->make) && words->make <= MOST_CLIENTS;
+    case 'g':
+      return number_of(text, 1, &words->greeting) && words->greeting <= 86400;
+    case 'p':
+      return number_of(text, 1, &words->patience) && words->patience <= 86400;
+    case 'l':
+      return number_of(text, 0, &words->silence) && words->silence <= 86400;
+    case 'b':
+      return number_of(text, 1, &words->buffer);
+    default:
+      return false;
   }
 }
 
 /* Reads the words; how many of them there are before the first that is no option, or -1. */
 static int words_read(struct gateway *gateway, struct words *words, int count, char **text) {
   static const struct option options[] = {
-      {"tokens", 1, NULL, 'k'},  {"stores", 1, NULL, 's'},      {"address", 1, NULL, 'a'},
-      {"unix", 1, NULL, 'u'},    {"tcp", 1, NULL, 't'},         {"patience", 1, NULL, 'p'},
-      {"silence", 1, NULL, 'l'}, {"make-tokens", 1, NULL, 'm'}, {"buffer", 1, NULL, 'b'},
+      {"tokens", 1, NULL, 'k'},  {"stores", 1, NULL, 's'},
+      {"address", 1, NULL, 'a'}, {"unix", 1, NULL, 'u'},
+      {"tcp", 1, NULL, 't'},     {"patience", 1, NULL, 'p'},
+      {"silence", 1, NULL, 'l'}, {"make-tokens", 1, NULL, 'm'},
+      {"buffer", 1, NULL, 'b'},  {"greeting", 1, NULL, 'g'},
       {NULL, 0, NULL, 0},
   };
   for (;;) {
@@ -257,8 +218,12 @@ static bool rest_read(struct gateway *gateway, const struct words *words, char *
 
 int main(int count, char **text) {
   static struct gateway gateway;
-  struct words words = {
-      .tcp = -1, .address = "127.0.0.1", .patience = 10, .silence = 30, .buffer = 1 << 22};
+  struct words words = {.tcp = -1,
+                        .address = "127.0.0.1",
+                        .greeting = 2,
+                        .patience = 10,
+                        .silence = 30,
+                        .buffer = 1 << 22};
   int first = words_read(&gateway, &words, count, text);
   if (first >= 0 && words.make > 0) {
     return tokens_make(words.tokens, (unsigned)words.make) ? 0 : 2;
@@ -269,6 +234,7 @@ int main(int count, char **text) {
     fputs(USAGE, stderr);
     return 2;
   }
+  gateway.greeting = (uint64_t)words.greeting * 1000;
   gateway.patience = (uint64_t)words.patience * 1000;
   gateway.silence = (uint64_t)words.silence * 1000;
   gateway.buffer = (size_t)words.buffer;

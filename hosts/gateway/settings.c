@@ -1,8 +1,9 @@
 #include "settings.h"
 
+#include "log.h"
+
 #include <errno.h>
 #include <fcntl.h>
-#include <stdarg.h>
 #include <stdio.h>
 #include <stdlib.h>
 #include <string.h>
@@ -12,22 +13,13 @@
 
 enum { MOST_LINE = 4096 };
 
-void complain(const char *format, ...) {
-  va_list words;
-  va_start(words, format);
-  fputs("gateway: ", stderr);
-  vfprintf(stderr, format, words);
-  fputc('\n', stderr);
-  va_end(words);
-}
-
 /* Takes a line of a file; false where it is wrong. */
 typedef bool (*line_taker)(void *into, char *line);
 
 static FILE *opened(const char *path) {
   FILE *file = fopen(path, "re");
   if (file == NULL) {
-    complain("cannot read %s: %s", path, strerror(errno));
+    log_line(LEVEL_ERROR, "cannot read %s: %s", path, strerror(errno));
   }
   return file;
 }
@@ -43,11 +35,11 @@ static bool each_line(FILE *file, const char *path, line_taker take, void *into)
     char *text = line + strspn(line, " \t");
     right = whole && (*text == 0 || *text == '#' || take(into, text));
     if (!right) {
-      complain("%s: line %d is wrong", path, number);
+      log_line(LEVEL_ERROR, "%s: line %d is wrong", path, number);
     }
   }
   if (right && ferror(file)) {
-    complain("cannot read %s: %s", path, strerror(errno));
+    log_line(LEVEL_ERROR, "cannot read %s: %s", path, strerror(errno));
     right = false;
   }
   fclose(file);
@@ -73,7 +65,7 @@ static bool token_of(uint8_t *token, const char *text) {
     }
     token[place] = (uint8_t)(high << 4 | low);
   }
-  return text[2 * TOKEN] == 0;
+  return text[(size_t)2 * TOKEN] == 0;
 }
 
 static bool take_token(void *into, char *line) {
@@ -101,7 +93,7 @@ bool tokens_read(struct tokens *tokens, const char *path) {
     return false;
   }
   if (fstat(fileno(file), &state) != 0 || (state.st_mode & 077) != 0) {
-    complain("%s: others than its owner may use it: chmod 600", path);
+    log_line(LEVEL_ERROR, "%s: others than its owner may use it: chmod 600", path);
     fclose(file);
     return false;
   }
@@ -146,7 +138,7 @@ bool tokens_make(const char *path, unsigned count) {
     close(fd);
   }
   if (!made) {
-    complain("cannot make %s: %s", path, strerror(errno));
+    log_line(LEVEL_ERROR, "cannot make %s: %s", path, strerror(errno));
   }
   return made;
 }
@@ -214,7 +206,7 @@ static bool limits_read(struct limits *limits, const char *path) {
   }
   for (struct key *key = config.keys; key < config.keys + KEYS; key++) {
     if (key->is_required && !key->is_there) {
-      complain("%s: missing %s", path, key->name);
+      log_line(LEVEL_ERROR, "%s: missing %s", path, key->name);
       return false;
     }
   }
@@ -222,7 +214,7 @@ static bool limits_read(struct limits *limits, const char *path) {
   fill_in(&keys[KIN], keys[SLOTS].number / 4);
   fill_in(&keys[KOUT], keys[SLOTS].number / 2);
   if (keys[PAGE_SIZE].number % 16 != 0 || keys[KIN].number >= keys[SLOTS].number) {
-    complain("%s: page_size or kin is out of range", path);
+    log_line(LEVEL_ERROR, "%s: page_size or kin is out of range", path);
     return false;
   }
   *limits = (struct limits){keys[CLIENTS].number,   keys[PAGES].number, keys[PAGE_SIZE].number,
@@ -271,7 +263,7 @@ bool places_read(struct places *places, const char *path) {
     return false;
   }
   if (places->count == 0) {
-    complain("%s: it has no store", path);
+    log_line(LEVEL_ERROR, "%s: it has no store", path);
   }
   return places->count > 0;
 }

@@ -7,9 +7,6 @@
 
 enum { TOKEN = 32, MOST_STORES = 64, MOST_NAME = 63 };
 
-/* Says a line on the standard error. */
-__attribute__((format(printf, 1, 2))) void complain(const char *format, ...);
-
 /* The token of each client. */
 struct tokens {
   bool is_there[MOST_CLIENTS];

@@ -246,7 +246,7 @@ static void abandon(uv_timer_t *timer) {
 /* It had time enough. */
 static void kill_server(uv_timer_t *timer) {
   struct store *store = timer->data;
-  complain("store %s: its server doesn't end, and is killed", store->place->name);
+  log_line(LEVEL_WARNING, "store %s: its server doesn't end, and is killed", store->place->name);
   uv_process_kill(&store->process, SIGKILL);
 }
 
@@ -262,7 +262,8 @@ static void said(uv_stream_t *stream, ssize_t count, const uv_buf_t *buffer) {
     return;
   }
   if (count >= 0) {
-    complain("store %s: its server says no frames, or memory was refused", store->place->name);
+    log_line(LEVEL_ERROR, "store %s: its server says no frames, or memory was refused",
+             store->place->name);
   }
   go_down(store);
   if (!uv_is_closing((uv_handle_t *)&store->process)) {
@@ -273,8 +274,8 @@ static void said(uv_stream_t *stream, ssize_t count, const uv_buf_t *buffer) {
 static void exited(uv_process_t *process, int64_t status, int signal) {
   struct store *store = process->data;
   if (status != 0 || signal != 0 || !store->gateway->is_stopping) {
-    complain("store %s: its server ended with status %d, signal %d", store->place->name,
-             (int)status, signal);
+    log_line(LEVEL_WARNING, "store %s: its server ended with status %d, signal %d",
+             store->place->name, (int)status, signal);
   }
   if (store->gateway->is_stopping && (status != 0 || signal != 0)) {
     store->gateway->status = 1;
@@ -299,7 +300,7 @@ static bool is_locked(struct store *store) {
     return true;
   }
   if (!store->is_told) {
-    complain("store %s: %s: %s", store->place->name, path,
+    log_line(LEVEL_WARNING, "store %s: %s: %s", store->place->name, path,
              fd >= 0 ? "another server has it; waiting" : strerror(errno));
     store->is_told = true;
   }
@@ -390,8 +391,8 @@ static void start(uv_timer_t *timer) {
     uv_read_start((uv_stream_t *)&store->output, room_for, said);
     return;
   }
-  complain("store %s: cannot start %s: %s", store->place->name, store->gateway->serve[0],
-           uv_strerror(fault));
+  log_line(LEVEL_ERROR, "store %s: cannot start %s: %s", store->place->name,
+           store->gateway->serve[0], uv_strerror(fault));
   store->failures++;
   go_down(store);
 }

@@ -26,18 +26,35 @@ def frame(kind: int, client: int, incarnation: int, body: bytes = b"", version: 
 class Peer:
     """A raw connection."""
 
-    def __init__(self, gateway: Gateway, client: int | None = None) -> None:
-        self.socket = socket.socket(socket.AF_UNIX)
-        self.socket.connect(str(gateway.socket))
+    def __init__(
+        self, gateway: Gateway, client: int | None = None, source: str | None = None
+    ) -> None:
+        """A connection to the socket, or to the port from an address of this machine."""
+        if source is None:
+            self.socket = socket.socket(socket.AF_UNIX)
+            self.socket.connect(str(gateway.socket))
+        else:
+            to = ("127.0.0.1", gateway.port)
+            self.socket = socket.create_connection(to, 20, source_address=(source, 0))
         self.socket.settimeout(20)
         self.client = self.incarnation = 0
         if client is not None:
             answer = self.greeted(token_of(gateway, client))
             self.client, self.incarnation = struct.unpack(">HQ", answer[2:12])
 
+    def greeting(self, gateway: Gateway, client: int, store: bytes = b"main") -> bytes:
+        return b"rughvadi" + bytes([1, len(store)]) + token_of(gateway, client) + store
+
     def greeted(self, token: bytes, store: bytes = b"main") -> bytes:
         self.socket.sendall(b"rughvadi" + bytes([1, len(store)]) + token + store)
         return self.exactly(40)
+
+    def says(self, some: bytes) -> int:
+        """How many bytes went; 0 where the connection is closed."""
+        try:
+            return self.socket.send(some)
+        except OSError:
+            return 0
 
     def exactly(self, count: int) -> bytes:
         found = b""
@@ -293,38 +310,14 @@ def server_halts(gateway: Gateway) -> bool:
         return sent < 1 << 25 and gateway.size() < 500_000 and wrote(gateway, 2, 2)
 
 
-def begun_by_tcp(gateway: Gateway) -> tuple[subprocess.Popen, int]:
-    """A gateway at a port that was free; another one where somebody took it meanwhile."""
-    for _ in range(20):
-        with socket.socket() as free:
-            free.bind(("127.0.0.1", 0))
-            port = free.getsockname()[1]
-        words = [gateway.program, "--tokens", gateway.tokens, "--tcp", port]
-        words += [gateway.room / "config", gateway.room / "tcp.db", "--", gateway.play, "serve"]
-        begun = subprocess.Popen([str(it) for it in words], stdout=subprocess.PIPE)
-        if begun.stdout and begun.stdout.readline() == b"ready\n":
-            return begun, port
-        begun.communicate()
-    raise OSError("no port is free")
-
-
 def by_tcp(gateway: Gateway) -> bool:
     """A port of this machine serves as a socket does; at the machine's other addresses nobody
     listens."""
-    other, port = begun_by_tcp(gateway)
-    try:
-        with socket.socket() as elsewhere:
-            if elsewhere.connect_ex(("127.0.0.2", port)) == 0:
-                return False
-        with Peer(gateway) as peer:
-            peer.socket.close()
-            peer.socket = socket.create_connection(("127.0.0.1", port), timeout=20)
-            answer = peer.greeted(token_of(gateway, 3))
-            peer.client, peer.incarnation = struct.unpack(">HQ", answer[2:12])
-            return peer.welcome().client == 3
-    finally:
-        other.terminate()
-        other.communicate(timeout=60)
+    with socket.socket() as elsewhere:
+        if elsewhere.connect_ex(("127.0.0.2", gateway.port)) == 0:
+            return False
+    with Peer(gateway, 3, "127.0.0.1") as peer:
+        return peer.welcome().client == 3
 
 
 def server_dies(gateway: Gateway) -> bool:
@@ -442,7 +435,7 @@ SCENES = [
 def tried(tries, it) -> None:
     """Plays each scene at one gateway, and looks whether a sanitizer found something."""
     words = ["--patience", str(PATIENCE), "--silence", str(SILENCE), "--buffer", "262144"]
-    gateway = it.served("bad_input", *words, limits=(8, 64, 4096, 32, 1))
+    gateway = it.served("bad_input", *words, limits=(8, 64, 4096, 32, 1), has_port=True)
     patient = it.served("again", "--silence", "0", limits=(8, 64, 4096, 32, 0))
     for scene in [*SCENES, says_again]:
         at = patient if scene is says_again else gateway

@@ -9,6 +9,8 @@
   others, frames that are none, half a frame and then silence, floods, clients that don't read or
   don't answer, a server that dies, files that others may read. Each ends in a closed connection, a
   line or a status, while another client goes on.
+- Strangers at the gateway, beside clients that go on: connections that never greet, from one
+  address and from many, and floods of greetings that are none.
 - How many commits go together, by the gateway's own code over a clock that is no machine's.
 - A client of a wrapper that holds a page as the server becomes another: it is gone.
 - The host in C, `hosts/served.c`: copies of its store by sqlite3 while it serves, a kill, and
@@ -37,7 +39,7 @@ from pathlib import Path
 
 import building
 import serving
-from checks import bad_input, serve_host, serve_input
+from checks import bad_input, serve_gateway, serve_host, serve_input
 from checks.library import Tries
 from serving import Gateway, wait_for
 
@@ -375,6 +377,7 @@ def main(words: list[str]) -> int:
         run_gather(tries, it)
         serve_input.tried(tries, it)
         bad_input.tried(tries, it)
+        serve_gateway.tried(tries, it)
         run_gone(tries, it)
         serve_host.tried(tries, it)
         run_examples(tries, it)

@@ -1,0 +1,168 @@
+"""Strangers and faults at the gateway, for `scripts/check serve`: each scene has gateways of its
+own. Where no store is needed that keeps its promise, a program stands in for its server."""
+from __future__ import annotations
+
+import os
+import signal
+import struct
+import subprocess
+import sys
+import tempfile
+from dataclasses import dataclass, field
+from pathlib import Path
+
+import building
+from checks.bad_input import HELLO, Peer, frame
+from serving import Gateway, wait_for
+
+LIMITS = (8, 64, 256, 32, 1)
+STRANGERS = 200
+
+
+@dataclass
+class Scene:
+    """Where a scene begins its gateways, which end with it."""
+
+    room: Path
+    it: object
+    begun: list[Gateway] = field(default_factory=list)
+
+    def stand_in(self, *words: object) -> tuple[object, ...]:
+        return (sys.executable, building.PROGRAMS / "python/stand_in.py", *words)
+
+    def gateway(self, *words: str, command: tuple[object, ...] = (), **more) -> Gateway:
+        """A gateway with these options; over the stand-in, if no command is said."""
+        room = Path(tempfile.mkdtemp(dir=self.room))
+        more = {"limits": LIMITS, **more}
+        gateway = Gateway(room, self.it.gateway, self.it.play, words=words,
+                          command=command or self.stand_in(), **more)
+        self.begun.append(gateway)
+        gateway.start()
+        return gateway
+
+    def logs(self) -> str:
+        return "".join(each.log() for each in self.begun)
+
+    def end(self) -> None:
+        for each in self.begun:
+            each.stop()
+
+
+def is_served(gateway: Gateway, client: int, source: str | None = None) -> bool:
+    """Whether a client is welcomed by the server."""
+    with Peer(gateway, client, source) as peer:
+        return peer.welcome() is peer
+
+
+# ---- strangers ----
+
+
+def sources(count: int) -> list[str]:
+    """So many addresses of this machine."""
+    return [f"127.0.0.{2 + at}" for at in range(count)]
+
+
+def with_strangers(gateway: Gateway, addresses: list[str | None], client: int) -> bool:
+    """Connections that never greet come from these addresses: the next clients are welcomed, and
+    who had been goes on."""
+    strangers: list[Peer] = []
+    with Peer(gateway, client, addresses[0]) as before:
+        before.welcome()
+        try:
+            for at in range(STRANGERS):
+                strangers.append(Peer(gateway, None, addresses[at % len(addresses)]))
+            by_socket = is_served(gateway, client + 1)
+            by_port = is_served(gateway, client + 2, addresses[0]) and before.welcome() is before
+        finally:
+            for peer in strangers:
+                peer.socket.close()
+    return by_socket and by_port
+
+
+def strangers_at_the_port(scene: Scene) -> bool:
+    gateway = scene.gateway("--patience", "60", "--greeting", "60", has_port=True)
+    wait_for(lambda: comes(gateway), 60)
+    one = with_strangers(gateway, ["127.0.0.1"], 0)
+    return one and with_strangers(gateway, sources(32), 4)
+
+
+def strangers_at_the_socket(scene: Scene) -> bool:
+    gateway = scene.gateway("--patience", "60", "--greeting", "60")
+    wait_for(lambda: comes(gateway), 60)
+    return with_strangers(gateway, [None], 0)
+
+
+def comes(gateway: Gateway, client: int = 7) -> bool:
+    """Whether the store is served."""
+    try:
+        return is_served(gateway, client)
+    except (EOFError, OSError):
+        return False
+
+
+def greetings_that_are_there(scene: Scene) -> bool:
+    """Who has sent its greeting is welcomed, however many strangers come behind it before the
+    gateway looks."""
+    gateway = scene.gateway("--patience", "60", "--greeting", "60", has_port=True)
+    wait_for(lambda: comes(gateway), 60)
+    gateway.process.send_signal(signal.SIGSTOP)
+    peers = []
+    try:
+        first = Peer(gateway, None, "127.0.0.1")
+        first.socket.sendall(first.greeting(gateway, 1))
+        peers = [Peer(gateway, None, source) for source in 4 * sources(50)]
+    finally:
+        gateway.process.send_signal(signal.SIGCONT)
+    answer = first.exactly(40)
+    for peer in [first, *peers]:
+        peer.socket.close()
+    return answer[:2] == b"\x01\x00"
+
+
+def slow_greeting(scene: Scene) -> bool:
+    """A greeting has a time of its own, which no byte of it renews."""
+    gateway = scene.gateway("--greeting", "1", "--patience", "600")
+    with Peer(gateway) as silent, Peer(gateway) as slow:
+        greeting, said = slow.greeting(gateway, 1), 0
+        while said < len(greeting) and not slow.is_closed(0.4):
+            said += slow.says(greeting[said : said + 1])
+        return silent.is_closed() and said < len(greeting)
+
+
+def told_of_strangers(scene: Scene) -> bool:
+    """Lines name the address; a flood of bad greetings has a line a second, with a count."""
+    gateway = scene.gateway(has_port=True)
+    wait_for(lambda: comes(gateway), 60)
+    for _ in range(400):
+        with Peer(gateway, None, "127.0.0.9") as peer:
+            peer.greeted(bytes(32))
+    wait_for(lambda: " more connections refused" in gateway.log(), 20)
+    lines = [line for line in gateway.log().splitlines() if "127.0.0.9:" in line]
+    told = sum(int(line.split(" more ")[0].split()[-1]) if " more " in line else 1 for line in lines)
+    wait_for(lambda: False, 1.6)
+    return 0 < len(lines) < 100 and told <= 400 and "no such token" in lines[0]
+
+
+SCENES = [
+    strangers_at_the_port, strangers_at_the_socket, greetings_that_are_there, slow_greeting,
+    told_of_strangers,
+]
+
+
+def tried(tries, it) -> None:
+    """Plays each scene, and looks whether a sanitizer found something."""
+    room = it.room / "serve_gateway"
+    room.mkdir()
+    found = ""
+    for play in SCENES:
+        scene = Scene(room, it)
+        try:
+            right, why = play(scene), scene.logs()[-1000:]
+        except (OSError, EOFError, struct.error, subprocess.SubprocessError) as fault:
+            right, why = False, f"{scene.logs()[-1000:]}{fault!r}"
+        finally:
+            scene.end()
+        log = scene.logs()
+        if any(it in log for it in ("AddressSanitizer", "runtime error", "LeakSanitizer")):
+            right, why = False, log[-3000:]
+        tries.told(f"gateway: {play.__name__.replace('_', ' ')}", right, "" if right else why)

@@ -1,0 +1,98 @@
+"""stand_in.py [--floor NUMBER] [--wait PATH] [--mute PATH] [--hold PATH] CONFIG DATABASE: stands in
+for a server behind a gateway, where a check wants one that does what no real server does.
+
+Each page is zeros, each ask is granted at once and each Commit is done: so it keeps no promise.
+With --floor it announces that floor of its life once the file of --wait, if that is said, is there.
+While the file of --mute is there it reads and says nothing. With --hold a process of its own holds
+its output as long as that file is there.
+"""
+
+from __future__ import annotations
+
+import argparse
+import os
+import struct
+import sys
+import time
+import tomllib
+
+HEADER = struct.Struct(">BBHQI")
+HELLO, ASK_READ, ASK_WRITE, COMMIT = 1, 2, 3, 6
+WELCOME, GRANTED, MAY_WRITE, DONE = 65, 66, 67, 69
+
+
+def said(kind: int, client: int, incarnation: int, body: bytes = b"") -> bytes:
+    return HEADER.pack(2, kind, client, incarnation, len(body)) + body
+
+
+class Server:
+    def __init__(self, page_size: int) -> None:
+        self.page_size, self.grants, self.commits = page_size, 0, 0
+
+    def answer(self, kind: int, client: int, incarnation: int, body: bytes) -> bytes:
+        """What is said to a frame."""
+        if kind == HELLO:
+            return said(WELCOME, client, incarnation)
+        if kind == ASK_READ:
+            self.grants += 1
+            numbers = struct.pack(">QQI", self.grants, 0, self.page_size)
+            return said(GRANTED, client, incarnation, body[8:12] + numbers + bytes(self.page_size))
+        if kind == ASK_WRITE:
+            return said(MAY_WRITE, client, incarnation, body)
+        if kind == COMMIT:
+            self.commits += 1
+            return said(DONE, client, incarnation, body[:8] + struct.pack(">Q", self.commits))
+        return b""
+
+
+def wait_while(what) -> None:
+    while what():
+        time.sleep(0.02)
+
+
+def hold_output(path: str) -> None:
+    """A process of its own, which holds the output."""
+    if os.fork() == 0:
+        os.close(0)
+        wait_while(lambda: os.path.exists(path))
+        os._exit(0)
+
+
+def serve(server: Server, mute: str | None) -> None:
+    waiting = b""
+    while came := os.read(0, 1 << 20):
+        wait_while(lambda: mute and os.path.exists(mute))
+        waiting += came
+        answers = []
+        while len(waiting) >= HEADER.size:
+            _, kind, client, incarnation, size = HEADER.unpack(waiting[: HEADER.size])
+            if len(waiting) < HEADER.size + size:
+                break
+            body = waiting[HEADER.size : HEADER.size + size]
+            answers.append(server.answer(kind, client, incarnation, body))
+            waiting = waiting[HEADER.size + size :]
+        sys.stdout.buffer.write(b"".join(answers))
+        sys.stdout.buffer.flush()
+
+
+def main() -> None:
+    words = argparse.ArgumentParser()
+    words.add_argument("--floor", type=int)
+    for word in ("--wait", "--mute", "--hold"):
+        words.add_argument(word)
+    words.add_argument("config")
+    words.add_argument("database")
+    it = words.parse_args()
+    with open(it.config, "rb") as config:
+        page_size = tomllib.load(config)["page_size"]
+    wait_while(lambda: it.wait and not os.path.exists(it.wait))
+    if it.hold:
+        hold_output(it.hold)
+    if it.floor is not None:
+        sys.stdout.buffer.write(said(0, 0, it.floor))
+        sys.stdout.buffer.flush()
+    serve(Server(page_size), it.mute)
+
+
+if __name__ == "__main__":
+    main()
