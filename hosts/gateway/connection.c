@@ -11,6 +11,7 @@ static void freed(uv_handle_t *handle) {
   LIST_REMOVE(connection, others);
   outgoing_free(&connection->out);
   bytes_free(&connection->in);
+  owed_free(&connection->owed);
   free(connection);
   gateway_look(gateway);
 }
@@ -70,10 +71,9 @@ void connection_put(struct connection *connection, const uint8_t *frame, size_t 
   size_t waiting = outgoing_size(&connection->out);
   if (waiting > 0 && waiting + size > connection->gateway->buffer) {
     connection_cut(connection, "it reads too slowly");
-  } else if (!outgoing_put(&connection->out, frame, size)) {
+  } else if (!owed_by(&connection->owed, frame, connection->gateway->now)
+             || !outgoing_put(&connection->out, frame, size)) {
     connection_cut(connection, "memory was refused");
-  } else if (connection->asked == 0 && is_answered(header_at(frame).kind)) {
-    connection->asked = connection->gateway->now;
   }
 }
 
@@ -103,6 +103,7 @@ static size_t take_frame(struct connection *connection, const uint8_t *bytes, si
   if (left < size) {
     return 0;
   }
+  owed_answered(&connection->owed, bytes);
   if (!store_put(connection->store, bytes, size)) {
     connection_cut(connection, "memory was refused");
   }
@@ -122,27 +123,30 @@ static size_t take_frames(struct connection *connection, const uint8_t *bytes, s
   return at;
 }
 
-/* Takes the frames of what it has. */
-static void take_waiting(struct connection *connection) {
+/* Takes the frames of what it has; how many bytes they have. */
+static size_t take_waiting(struct connection *connection) {
   if (connection->door != NULL && !door_greet(connection)) {
-    return;
+    return 0;
   }
   size_t taken = take_frames(connection, connection->in.at, connection->in.size);
   bytes_cut(&connection->in, taken);
+  return taken;
 }
 
 void connection_take(struct connection *connection, const uint8_t *bytes, size_t size) {
+  bool is_new = connection->in.size == 0 || connection->door != NULL;
   size_t taken = connection->in.size == 0 ? take_frames(connection, bytes, size) : 0;
-  connection->asked = 0;
   if (!bytes_put(&connection->in, bytes + taken, size - taken)) {
     connection_cut(connection, "memory was refused");
     return;
   }
   if (taken == 0) {
-    take_waiting(connection);
+    taken = take_waiting(connection);
   }
-  if (connection->door == NULL) { /* a greeting's time goes on */
-    connection->began = connection->in.size == 0 ? 0 : connection->gateway->now;
+  if (connection->in.size == 0) {
+    connection->began = 0;
+  } else if (connection->door == NULL && (is_new || taken > 0)) {
+    connection->began = connection->gateway->now; /* its frame's first byte is new */
   }
 }
 
@@ -211,11 +215,11 @@ void connection_tick(struct connection *connection) {
   } else if (store->has_paused) {
     /* It isn't heard for now, whatever it says. */
     connection->began = connection->began == 0 ? 0 : gateway->now;
-    connection->asked = connection->asked == 0 ? 0 : gateway->now;
+    owed_put_off(&connection->owed, gateway->now);
   } else if (gateway_waited(gateway, connection->began, gateway->patience)) {
     connection_cut(connection, "half a frame, and no more");
   } else if (gateway->silence != 0
-             && gateway_waited(gateway, connection->asked, gateway->silence)) {
+             && gateway_waited(gateway, owed_since(&connection->owed), gateway->silence)) {
     connection_cut(connection, "it doesn't answer");
   }
 }

@@ -1,6 +1,6 @@
 #include "frame.h"
 
-enum { COMMIT_HEAD = 10, WELCOME = 65, GRANTED = 66, LAST_KIND = 71 };
+enum { COMMIT_HEAD = 10, LAST_KIND = 71 };
 
 struct header header_at(const uint8_t *bytes) {
   return (struct header){
@@ -40,11 +40,32 @@ bool is_of_client(const struct header *header, const struct limits *limits) {
 }
 
 bool is_of_server(const struct header *header, const struct limits *limits) {
-  return header->version == 2 && header->kind >= WELCOME && header->kind <= LAST_KIND
+  return header->version == 2 && header->kind >= KIND_WELCOME && header->kind <= LAST_KIND
          && header->client < limits->clients
-         && header->body <= (header->kind == GRANTED ? 24 + limits->page_size : 20);
+         && header->body <= (header->kind == KIND_GRANTED ? 24 + limits->page_size : 20);
 }
 
-bool is_answered(uint8_t kind) {
-  return kind == KIND_CALLBACK || kind == KIND_ABORT_NOW || kind == KIND_DOWNGRADE;
+struct named named_by(const uint8_t *frame) {
+  /* Where each stands in the frame, 0 where the kind has none. */
+  static const struct {
+    uint8_t txn, page, grant;
+  } places[LAST_KIND + 1] = {
+      [KIND_ASK_READ] = {16, 24, 0},   [KIND_ASK_WRITE] = {16, 24, 28},
+      [KIND_GIVE_BACK] = {0, 16, 20},  [KIND_IN_USE] = {16, 24, 28},
+      [KIND_COMMIT] = {16, 0, 0},      [KIND_DROP] = {16, 0, 0},
+      [KIND_DOWNGRADED] = {0, 16, 20}, [KIND_GRANTED] = {0, 16, 20},
+      [KIND_MAY_WRITE] = {16, 24, 28}, [KIND_CALLBACK] = {0, 16, 20},
+      [KIND_DONE] = {16, 0, 0},        [KIND_ABORT_NOW] = {16, 0, 0},
+      [KIND_DOWNGRADE] = {0, 16, 20},
+  };
+  struct named named = {.page = NO_PAGE};
+  uint8_t kind = frame[1];
+  if (kind > LAST_KIND) {
+    return named;
+  }
+  size_t txn = places[kind].txn, page = places[kind].page, grant = places[kind].grant;
+  named.txn = txn != 0 ? number_at(frame + txn, 8) : 0;
+  named.page = page != 0 ? (uint32_t)number_at(frame + page, 4) : NO_PAGE;
+  named.grant = grant != 0 ? number_at(frame + grant, 8) : 0;
+  return named;
 }

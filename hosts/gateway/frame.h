@@ -10,7 +10,16 @@ enum { HEADER = 16, MOST_CLIENTS = 32 };
 enum {
   KIND_AGAIN = 0,
   KIND_HELLO = 1,
+  KIND_ASK_READ = 2,
+  KIND_ASK_WRITE = 3,
+  KIND_GIVE_BACK = 4,
+  KIND_IN_USE = 5,
   KIND_COMMIT = 6,
+  KIND_DROP = 7,
+  KIND_DOWNGRADED = 8,
+  KIND_WELCOME = 65,
+  KIND_GRANTED = 66,
+  KIND_MAY_WRITE = 67,
   KIND_CALLBACK = 68,
   KIND_DONE = 69,
   KIND_ABORT_NOW = 70,
@@ -37,7 +46,16 @@ bool is_of_client(const struct header *header, const struct limits *limits);
 /* Whether a server's frame can begin so. */
 bool is_of_server(const struct header *header, const struct limits *limits);
 
-/* Whether whoever gets a frame of this kind has something to answer. */
-bool is_answered(uint8_t kind);
+/* What the body of a whole frame names: a transaction, a page and a grant. Where it has none of
+ * one, that is 0, and the page NO_PAGE. What a Downgrade or Downgraded names besides is a tag, and
+ * no transaction. */
+enum { NO_PAGE = 0xffff };
+
+struct named {
+  uint64_t txn, grant;
+  uint32_t page;
+};
+
+struct named named_by(const uint8_t *frame);
 
 #endif

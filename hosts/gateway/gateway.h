@@ -7,6 +7,7 @@
 #include "gather.h"
 #include "log.h"
 #include "outgoing.h"
+#include "owed.h"
 #include "settings.h"
 
 #include <sys/queue.h>
@@ -51,6 +52,7 @@ struct connection {
   } peer;
   struct outgoing out;
   struct bytes in;     /* what came and isn't handed on */
+  struct owed owed;    /* what it is to answer the server */
   struct door *door;   /* by which it came, while it is about to greet; then none */
   struct store *store; /* none until it has greeted, and once it was left */
   uint16_t client;

@@ -8,11 +8,12 @@ import struct
 import subprocess
 import sys
 import tempfile
+import time
 from dataclasses import dataclass, field
 from pathlib import Path
 
 import building
-from checks.bad_input import HELLO, Peer, frame
+from checks.bad_input import ASK_READ, ASK_WRITE, CALLBACK, HELLO, Peer, frame, number_of
 from serving import Gateway, wait_for
 
 LIMITS = (8, 64, 256, 32, 1)
@@ -143,9 +144,99 @@ def told_of_strangers(scene: Scene) -> bool:
     return 0 < len(lines) < 100 and told <= 400 and "no such token" in lines[0]
 
 
+# ---- silence ----
+
+GIVE_BACK, IN_USE, DROP, GRANTED, MAY_WRITE, ABORT_NOW = 4, 5, 7, 66, 67, 70
+SILENCE = 2
+
+
+def called_back(peer: Peer, page: int) -> bytes:
+    """It reads a page that is wanted back at once; the page and the grant, as bytes."""
+    peer.say(ASK_READ, number_of(1, page))
+    kinds = [peer.hear() for _ in range(2)]
+    assert [kind for kind, _ in kinds] == [GRANTED, CALLBACK]
+    return kinds[1][1]
+
+
+def goes_on_saying(peer: Peer, said: bytes, seconds: float) -> bool:
+    """It says that again and again: whether it is closed before the time is over."""
+    end = time.monotonic() + seconds
+    while time.monotonic() < end:
+        if peer.is_closed(0.2) or not peer.says(said):
+            return True
+    return False
+
+
+def bytes_are_no_answer(scene: Scene) -> bool:
+    """One that owes an answer is closed, whatever else it says: also answers of another page or
+    grant."""
+    gateway = scene.gateway("--silence", str(SILENCE), command=scene.stand_in("--recall"))
+    wait_for(lambda: comes(gateway), 60)
+    closed = []
+    for place in range(4):
+        with Peer(gateway, place) as peer:
+            named = called_back(peer.welcome(), 3)
+            other = named[:11] + bytes([named[11] ^ 1])
+            said = [
+                frame(HELLO, peer.client, peer.incarnation),
+                frame(GIVE_BACK, peer.client, peer.incarnation, b"\0\0\0\4" + named[4:]),
+                frame(GIVE_BACK, peer.client, peer.incarnation, other),
+                frame(ASK_READ, peer.client, peer.incarnation, number_of(1, 5)),
+            ][place]
+            closed.append(goes_on_saying(peer, said, 20))
+    return closed == 4 * [True] and gateway.log().count("it doesn't answer") == 4
+
+
+def answers_count(scene: Scene) -> bool:
+    """One that gave its answers may say nothing more: that a page is in use, that it goes, that a
+    transaction is dropped; and one that goes on with its next transaction."""
+    gateway = scene.gateway("--silence", str(SILENCE), command=scene.stand_in("--recall"))
+    wait_for(lambda: comes(gateway), 60)
+    peers = [Peer(gateway, client) for client in range(4)]
+    try:
+        for peer in peers:
+            named = called_back(peer.welcome(), 3)
+            peer.say(*[(GIVE_BACK, named), (IN_USE, struct.pack(">Q", 1) + named)][peer.client % 2])
+            if peer.client >= 2:
+                peer.say(ASK_WRITE, struct.pack(">Q", 1) + named)
+                if peer.hear()[0] != ABORT_NOW:
+                    return False
+                peer.say(*[(DROP, struct.pack(">Q", 1)), (ASK_WRITE, struct.pack(">Q", 2) + named)]
+                         [peer.client - 2])
+        peers[3].hear()
+        peers[3].say(DROP, struct.pack(">Q", 2))
+        stay = [not peers[0].is_closed(3 * SILENCE), *(not it.is_closed(0.1) for it in peers[1:])]
+        return all(stay)
+    finally:
+        for peer in peers:
+            peer.socket.close()
+
+
+def aborts_are_owed(scene: Scene) -> bool:
+    """One that is to abort and only says that it is alive is closed."""
+    gateway = scene.gateway("--silence", str(SILENCE), command=scene.stand_in("--recall"))
+    wait_for(lambda: comes(gateway), 60)
+    with Peer(gateway, 1) as peer:
+        peer.welcome().say(ASK_WRITE, number_of(1, 3) + bytes(7) + b"\1")
+        right = peer.hear()[0] == ABORT_NOW
+        return right and goes_on_saying(peer, frame(HELLO, peer.client, peer.incarnation), 20)
+
+
+def slow_frame(scene: Scene) -> bool:
+    """A frame has its time from its first byte: no later one renews it."""
+    gateway = scene.gateway("--patience", "2")
+    wait_for(lambda: comes(gateway), 60)
+    with Peer(gateway, 1) as peer:
+        said = frame(ASK_READ, peer.welcome().client, peer.incarnation, number_of(1, 3))
+        sent = 0
+        while sent < len(said) and not peer.is_closed(0.4):
+            sent += peer.says(said[sent : sent + 1])
+        return sent < len(said) and "half a frame" in gateway.log()
+
+
 SCENES = [
     strangers_at_the_port, strangers_at_the_socket, greetings_that_are_there, slow_greeting,
-    told_of_strangers,
+    told_of_strangers, bytes_are_no_answer, answers_count, aborts_are_owed, slow_frame,
 ]
 
 

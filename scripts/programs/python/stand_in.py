@@ -1,7 +1,9 @@
-"""stand_in.py [--floor NUMBER] [--wait PATH] [--mute PATH] [--hold PATH] CONFIG DATABASE: stands in
-for a server behind a gateway, where a check wants one that does what no real server does.
+"""stand_in.py [OPTION ..] CONFIG DATABASE: stands in for a server behind a gateway, where a check
+wants one that does what no real server does.
 
 Each page is zeros, each ask is granted at once and each Commit is done: so it keeps no promise.
+With --recall each page is called back as soon as it was granted, and each transaction that asks to
+write is to abort.
 With --floor it announces that floor of its life once the file of --wait, if that is said, is there.
 While the file of --mute is there it reads and says nothing. With --hold a process of its own holds
 its output as long as that file is there.
@@ -18,7 +20,7 @@ import tomllib
 
 HEADER = struct.Struct(">BBHQI")
 HELLO, ASK_READ, ASK_WRITE, COMMIT = 1, 2, 3, 6
-WELCOME, GRANTED, MAY_WRITE, DONE = 65, 66, 67, 69
+WELCOME, GRANTED, MAY_WRITE, CALLBACK, DONE, ABORT_NOW = 65, 66, 67, 68, 69, 70
 
 
 def said(kind: int, client: int, incarnation: int, body: bytes = b"") -> bytes:
@@ -26,8 +28,8 @@ def said(kind: int, client: int, incarnation: int, body: bytes = b"") -> bytes:
 
 
 class Server:
-    def __init__(self, page_size: int) -> None:
-        self.page_size, self.grants, self.commits = page_size, 0, 0
+    def __init__(self, page_size: int, recalls: bool) -> None:
+        self.page_size, self.recalls, self.grants, self.commits = page_size, recalls, 0, 0
 
     def answer(self, kind: int, client: int, incarnation: int, body: bytes) -> bytes:
         """What is said to a frame."""
@@ -35,8 +37,13 @@ class Server:
             return said(WELCOME, client, incarnation)
         if kind == ASK_READ:
             self.grants += 1
-            numbers = struct.pack(">QQI", self.grants, 0, self.page_size)
-            return said(GRANTED, client, incarnation, body[8:12] + numbers + bytes(self.page_size))
+            named = body[8:12] + struct.pack(">Q", self.grants)
+            page = struct.pack(">QI", 0, self.page_size) + bytes(self.page_size)
+            granted = said(GRANTED, client, incarnation, named + page)
+            recall = said(CALLBACK, client, incarnation, named) if self.recalls else b""
+            return granted + recall
+        if kind == ASK_WRITE and self.recalls:
+            return said(ABORT_NOW, client, incarnation, body[:8])
         if kind == ASK_WRITE:
             return said(MAY_WRITE, client, incarnation, body)
         if kind == COMMIT:
@@ -78,6 +85,7 @@ def serve(server: Server, mute: str | None) -> None:
 def main() -> None:
     words = argparse.ArgumentParser()
     words.add_argument("--floor", type=int)
+    words.add_argument("--recall", action="store_true")
     for word in ("--wait", "--mute", "--hold"):
         words.add_argument(word)
     words.add_argument("config")
@@ -91,7 +99,7 @@ def main() -> None:
     if it.floor is not None:
         sys.stdout.buffer.write(said(0, 0, it.floor))
         sys.stdout.buffer.flush()
-    serve(Server(page_size), it.mute)
+    serve(Server(page_size, it.recall), it.mute)
 
 
 if __name__ == "__main__":
