@@ -56,6 +56,7 @@ class Gateway:
     limits: tuple[int, ...] = (32, 64, 4096, 32, 1)
     env: dict[str, str] = field(default_factory=dict)
     command: tuple[object, ...] = ()  # what starts a server, if not `cb_play serve`
+    database_word: str = ""  # what stands in the file of stores, if not a path
     has_port: bool = False  # it listens at a port of this machine, too
     port: int = 0
     process: Optional[subprocess.Popen] = None
@@ -85,7 +86,8 @@ class Gateway:
         make = [self.program, "--make-tokens", "32", "--tokens", self.tokens]
         subprocess.run(make, check=True)
         (self.room / "config").write_text(CONFIG.format(*self.limits))
-        lines = [f"{it} {self.room}/config {self.database(it)}\n" for it in self.stores]
+        word = self.database_word
+        lines = [f"{it} {self.room}/config {word or self.database(it)}\n" for it in self.stores]
         (self.room / "stores").write_text("".join(lines))
 
     def begins(self) -> bool:

@@ -115,7 +115,7 @@ static void greeted(struct connection *connection, const uint8_t *greeting) {
     answer(connection, NO_STORE);
   } else if ((uint32_t)client >= store->place->limits.clients) {
     answer(connection, NO_CLIENT);
-  } else if (!store->is_up) {
+  } else if (!server_serves(&store->server)) {
     answer(connection, NOT_SERVED);
   } else {
     connection->client = (uint16_t)client;

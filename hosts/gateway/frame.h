@@ -6,6 +6,9 @@
 
 enum { HEADER = 16, MOST_CLIENTS = 32 };
 
+/* The greatest that an incarnation may be. */
+#define LAST_INCARNATION ((UINT64_C(1) << 62) - 1)
+
 /* The kinds that the gateway knows by name. */
 enum {
   KIND_AGAIN = 0,

@@ -8,6 +8,7 @@
 #include "log.h"
 #include "outgoing.h"
 #include "owed.h"
+#include "server.h"
 #include "settings.h"
 
 #include <sys/queue.h>
@@ -20,8 +21,7 @@ enum {
   ADDRESS_MOST = 16,   /* and so many of one address */
   ADDRESS = 16,        /* bytes of an address */
   NAME = 64,           /* what a peer's name may take, with its end */
-  BACKLOG = 1024,      /* connections that the system accepts beforehand */
-  TO_SERVER_MOST = 1 << 22 /* clients aren't read while a server hasn't taken so many bytes */
+  BACKLOG = 1024       /* connections that the system accepts beforehand */
 };
 
 /* Why a connection goes that hasn't greeted; the first ones are told it by these numbers. */
@@ -57,9 +57,10 @@ struct connection {
   struct store *store; /* none until it has greeted, and once it was left */
   uint16_t client;
   uint64_t incarnation;
-  uint64_t began;  /* since when a greeting or the rest of a frame is awaited; 0: none is */
-  uint64_t asked;  /* since when an answer to the server is awaited; 0: none is */
-  uint64_t ending; /* since when it is to be closed, once what waits is out; 0: it isn't */
+  bool is_welcomed; /* by the server */
+  uint64_t began;   /* since when a greeting or the rest of a frame is awaited; 0: none is */
+  uint64_t asked;   /* since when an answer to the server is awaited; 0: none is */
+  uint64_t ending;  /* since when it is to be closed, once what waits is out; 0: it isn't */
   uint8_t address[ADDRESS]; /* whose count it is in; zeros where none is kept */
   char name[NAME];          /* what a line of the log calls its peer */
   LIST_ENTRY(connection) others;
@@ -95,28 +96,17 @@ struct refused {
   uint64_t told; /* when the last line was said; 0: none was */
 };
 
-/* A store, and its server: a process, started again where it ends. */
+/* A store, its clients and its server. */
 struct store {
   struct gateway *gateway;
   const struct place *place;
   struct connection *clients[MOST_CLIENTS];
   uint64_t incarnations[MOST_CLIENTS]; /* the last that was given to each */
-  uint64_t
-      leaving[MOST_CLIENTS]; /* the server is to hear of this one, so that it leaves the former */
-  uv_process_t process;
-  uv_pipe_t input, output; /* the server's */
-  uv_timer_t timer;        /* until it is started, or until it must have ended */
+  uint64_t leaving[MOST_CLIENTS];      /* the server is to hear of it, so that the former is left */
   struct gather commits;
-  struct outgoing to_server;
-  struct bytes from_server;
-  int lock;          /* a file that is locked as long as the server runs; -1: not yet */
-  int handles;       /* how many of process, input and output are open */
-  bool is_up;        /* the server takes frames */
-  bool is_ending;    /* it is told no more, and is to end */
-  bool is_told;      /* that another server holds the store was said */
-  bool has_paused;   /* its clients aren't read */
-  unsigned failures; /* how often the server ended since it last said anything */
-  unsigned quiet;    /* pauses since its process ended or it said something */
+  struct server server;
+  bool has_paused; /* its clients aren't read */
+  bool is_done;    /* a Done came among what was heard last */
 };
 
 struct gateway {
@@ -131,12 +121,13 @@ struct gateway {
   struct store stores[MOST_STORES];
   struct connections connections;
   struct refused refused;
-  char **serve;       /* the words that start a server, NULL behind them */
-  const char *socket; /* the path of the Unix socket, or NULL */
-  uint64_t greeting;  /* milliseconds for a greeting, */
-  uint64_t patience;  /* and for a frame, from its first byte */
-  uint64_t silence;   /* milliseconds for an answer to the server; 0: for ever */
-  size_t buffer;      /* bytes that may wait for one client */
+  char **serve;            /* the words that start a server, NULL behind them */
+  uint64_t greeting;       /* milliseconds for a greeting, */
+  uint64_t patience;       /* and for a frame, from its first byte */
+  uint64_t silence;        /* milliseconds for an answer to the server; 0: for ever */
+  uint64_t server_silence; /* milliseconds for what a server owes; 0: for ever */
+  size_t buffer;           /* bytes that may wait for one client */
+  bool is_announced;       /* its servers announce their lives, and serve from then on */
   bool is_stopping;
   int status;
 };
@@ -197,8 +188,8 @@ void connection_tick(struct connection *connection);
 /* Makes a store ready, and starts its server. */
 void store_begin(struct store *store, struct gateway *gateway, const struct place *place);
 
-/* An incarnation that its client had none like: the clock's microseconds, or one more than the
- * last. */
+/* An incarnation for a client: one above the clock's microseconds, the floor of its server's life
+ * and the last that it had. */
 uint64_t store_incarnation(struct store *store, uint16_t client);
 
 /* Gives a place to a connection; one that had it before is cut. */
@@ -219,8 +210,24 @@ void store_tick(struct store *store);
 /* No more frames: the server is to write all and end. */
 void store_stop(struct store *store);
 
-/* Whether nothing of the server is left. */
-bool store_is_down(const struct store *store);
+/* A client that its server has welcomed, or NULL. */
+const struct connection *store_welcomed(const struct store *store);
+
+/* The server took some: clients are read, or not for now. */
+void store_moved(struct store *store);
+
+/* The server said a frame: it goes to its client, if that is there. */
+void store_hear(struct store *store, const uint8_t *frame, const struct header *header);
+
+/* All that came at once of the server was heard. */
+void store_heard(struct store *store);
+
+/* The server says nothing more: its clients hear what it said, and go. Unless all ends their
+ * connections are closed at once, whatever still waits for them. */
+void store_lose(struct store *store);
+
+/* Nothing of the server is left: what it was to be told is let go. */
+void store_clear(struct store *store);
 
 /* ---- main.c ---- */
 

@@ -1,32 +1,10 @@
 #include "gateway.h"
+#include "words.h"
 
-#include <errno.h>
-#include <getopt.h>
 #include <signal.h>
 #include <stdio.h>
 #include <stdlib.h>
 #include <string.h>
-
-static const char USAGE[] =
-    "gateway --tokens FILE (--unix PATH | --tcp PORT [--address ADDRESS]) [OPTION ..]\n"
-    "        (CONFIG DATABASE | --stores FILE) [-- SERVE ..]\n"
-    "gateway --make-tokens COUNT --tokens FILE\n"
-    "\n"
-    "Clients connect to it by the tokens of FILE, and it hands their frames to the server of the\n"
-    "store that each names: SERVE CONFIG DATABASE, `cb_play serve CONFIG DATABASE` if not said.\n"
-    "\n"
-    "  --unix PATH        listen on a Unix socket, which its owner alone may use\n"
-    "  --tcp PORT         listen on a TCP port, of 127.0.0.1 if no address is said\n"
-    "  --stores FILE      lines of a name, a configuration and a database; else one store, `main`\n"
-    "  --greeting SECONDS for a greeting (2)\n"
-    "  --patience SECONDS for the rest of a frame (10)\n"
-    "  --silence SECONDS  for a client's answer to the server; 0 for ever (30)\n"
-    "  --buffer BYTES     that may wait for one client (4194304)\n";
-
-struct words {
-  const char *tokens, *stores, *address;
-  long tcp, make, greeting, patience, silence, buffer;
-};
 
 /* ---- its end ---- */
 
@@ -40,7 +18,7 @@ static void close_all(uv_handle_t *handle, void *unused) {
 void gateway_look(struct gateway *gateway) {
   bool is_down = gateway->is_stopping && LIST_EMPTY(&gateway->connections);
   for (size_t at = 0; at < gateway->places.count; at++) {
-    is_down = is_down && store_is_down(&gateway->stores[at]);
+    is_down = is_down && server_is_down(&gateway->stores[at].server);
   }
   if (is_down) {
     uv_walk(gateway->loop, close_all, NULL);
@@ -99,7 +77,7 @@ static void tick(uv_timer_t *timer) {
 /* ---- its beginning ---- */
 
 static bool listen_all(struct gateway *gateway, const struct words *words) {
-  return (gateway->socket == NULL || door_open_local(&gateway->doors[LOCAL], gateway->socket))
+  return (words->socket == NULL || door_open_local(&gateway->doors[LOCAL], words->socket))
          && (words->tcp < 0
              || door_open_remote(&gateway->doors[REMOTE], words->address, (int)words->tcp));
 }
@@ -141,106 +119,30 @@ static int run(struct gateway *gateway, const struct words *words) {
   return gateway->status;
 }
 
-/* ---- words ---- */
-
-/* A number from `least` on; else the words are wrong. */
-static bool number_of(const char *text, long least, long *number) {
-  char *end;
-  errno = 0;
-  *number = strtol(text, &end, 10);
-  return errno == 0 && *text != 0 && *end == 0 && *number >= least;
-}
-
-static bool take_word(struct gateway *gateway, struct words *words, int which, const char *text) {
-  switch (which) {
-    case 'k':
-      words->tokens = text;
-      return true;
-    case 's':
-      words->stores = text;
-      return true;
-    case 'a':
-      words->address = text;
-      return true;
-    case 'u':
-      gateway->socket = text;
-      return true;
-    case 't':
-      return number_of(text, 1, &words->tcp) && words->tcp <= 65535;
-    case 'm':
-      return number_of(text, 1, &words->make) && words->make <= MOST_CLIENTS;
-    case 'g':
-      return number_of(text, 1, &words->greeting) && words->greeting <= 86400;
-    case 'p':
-      return number_of(text, 1, &words->patience) && words->patience <= 86400;
-    case 'l':
-      return number_of(text, 0, &words->silence) && words->silence <= 86400;
-    case 'b':
-      return number_of(text, 1, &words->buffer);
-    default:
-      return false;
-  }
-}
-
-/* Reads the words; how many of them there are before the first that is no option, or -1. */
-static int words_read(struct gateway *gateway, struct words *words, int count, char **text) {
-  static const struct option options[] = {
-      {"tokens", 1, NULL, 'k'},  {"stores", 1, NULL, 's'},
-      {"address", 1, NULL, 'a'}, {"unix", 1, NULL, 'u'},
-      {"tcp", 1, NULL, 't'},     {"patience", 1, NULL, 'p'},
-      {"silence", 1, NULL, 'l'}, {"make-tokens", 1, NULL, 'm'},
-      {"buffer", 1, NULL, 'b'},  {"greeting", 1, NULL, 'g'},
-      {NULL, 0, NULL, 0},
-  };
-  for (;;) {
-    int which = getopt_long(count, text, "+", options, NULL);
-    if (which == -1) {
-      return words->tokens != NULL ? optind : -1;
-    }
-    if (!take_word(gateway, words, which, optarg)) {
-      return -1;
-    }
-  }
-}
-
-/* The words behind the options: the one store, and what starts a server. */
-static bool rest_read(struct gateway *gateway, const struct words *words, char **rest) {
-  static char *usual[] = {"cb_play", "serve", NULL};
-  int count = 0;
-  while (rest[count] != NULL && strcmp(rest[count], "--") != 0) {
-    count++;
-  }
-  bool has_words = rest[count] != NULL;
-  gateway->serve = has_words ? rest + count + 1 : usual;
-  bool listens = gateway->socket != NULL || words->tcp >= 0;
-  return listens && gateway->serve[0] != NULL && count == (words->stores != NULL ? 0 : 2);
+/* Takes from the words how long it waits, and for what. */
+static void take_words(struct gateway *gateway, const struct words *words) {
+  gateway->serve = words->serve;
+  gateway->greeting = (uint64_t)words->greeting * 1000;
+  gateway->patience = (uint64_t)words->patience * 1000;
+  gateway->silence = (uint64_t)words->silence * 1000;
+  gateway->server_silence = (uint64_t)words->server_silence * 1000;
+  gateway->buffer = (size_t)words->buffer;
+  gateway->is_announced = words->is_announced;
 }
 
 int main(int count, char **text) {
   static struct gateway gateway;
-  struct words words = {.tcp = -1,
-                        .address = "127.0.0.1",
-                        .greeting = 2,
-                        .patience = 10,
-                        .silence = 30,
-                        .buffer = 1 << 22};
-  int first = words_read(&gateway, &words, count, text);
-  if (first >= 0 && words.make > 0) {
-    return tokens_make(words.tokens, (unsigned)words.make) ? 0 : 2;
-  }
-  /* getopt passes over a `--` that stands before the first word. */
-  bool is_served = first > 0 && strcmp(text[first - 1], "--") == 0;
-  if (first < 0 || !rest_read(&gateway, &words, text + first - is_served)) {
-    fputs(USAGE, stderr);
+  struct words words;
+  if (!words_read(&words, count, text)) {
     return 2;
   }
-  gateway.greeting = (uint64_t)words.greeting * 1000;
-  gateway.patience = (uint64_t)words.patience * 1000;
-  gateway.silence = (uint64_t)words.silence * 1000;
-  gateway.buffer = (size_t)words.buffer;
+  if (words.make > 0) {
+    return tokens_make(words.tokens, (unsigned)words.make) ? 0 : 2;
+  }
+  take_words(&gateway, &words);
   bool right =
       tokens_read(&gateway.tokens, words.tokens)
       && (words.stores != NULL ? places_read(&gateway.places, words.stores)
-                               : places_of_one(&gateway.places, text[first], text[first + 1]));
+                               : places_of_one(&gateway.places, words.config, words.database));
   return right ? run(&gateway, &words) : 2;
 }

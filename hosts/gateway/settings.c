@@ -225,6 +225,31 @@ static bool limits_read(struct limits *limits, const char *path) {
 
 /* ---- stores ---- */
 
+/* A URI has its scheme in front, a conninfo a key and `=`; with a `/` before it that is a path. */
+static bool is_file(const char *database) {
+  size_t key = strcspn(database, "=/");
+  return strstr(database, "://") == NULL && database[key] != '=';
+}
+
+/* Whether a password stands in a URI or conninfo: behind a URI's user, or as a key. */
+static bool has_password(const char *database) {
+  const char *host = strstr(database, "://");
+  if (host != NULL) {
+    size_t user = strcspn(host + 3, "@/");
+    if (host[3 + user] == '@' && memchr(host + 3, ':', user) != NULL) {
+      return true;
+    }
+  }
+  const char *key = database;
+  while ((key = strcasestr(key, "password")) != NULL) {
+    key += strlen("password");
+    if (key[strspn(key, " \t")] == '=') {
+      return true;
+    }
+  }
+  return false;
+}
+
 static bool add_place(struct places *places, const char *name, const char *config,
                       const char *database) {
   if (places->count == MOST_STORES || strlen(name) > MOST_NAME) {
@@ -234,6 +259,11 @@ static bool add_place(struct places *places, const char *name, const char *confi
   place->name = strdup(name);
   place->config = strdup(config);
   place->database = strdup(database);
+  place->is_file = is_file(database);
+  if (!place->is_file && has_password(database)) {
+    log_line(LEVEL_ERROR, "store %s: a password stands where others can read it: use a file", name);
+    return false;
+  }
   return place->name != NULL && place->config != NULL && place->database != NULL
          && limits_read(&place->limits, config);
 }
@@ -247,12 +277,28 @@ static bool is_named(const struct places *places, const char *name) {
   return false;
 }
 
+/* The next word of a line, which goes on behind it: up to a blank, or what stands in quotes, of
+ * either kind. NULL where there is none, or a quote without its end. */
+static char *next_word(char **line) {
+  char *word = *line + strspn(*line, " \t");
+  char quote[] = {*word, 0};
+  bool is_quoted = *word == '"' || *word == '\'';
+  word += is_quoted ? 1 : 0;
+  char *end = word + strcspn(word, is_quoted ? quote : " \t");
+  bool is_whole = is_quoted ? *end != 0 && strchr(" \t", end[1]) != NULL : end != word;
+  if (!is_whole) {
+    return NULL;
+  }
+  *line = *end == 0 ? end : end + 1;
+  *end = 0;
+  return word;
+}
+
 static bool take_place(void *into, char *line) {
-  char *rest;
-  const char *name = strtok_r(line, " \t", &rest);
-  const char *config = strtok_r(NULL, " \t", &rest);
-  const char *database = strtok_r(NULL, " \t", &rest);
-  bool three = database != NULL && strtok_r(NULL, " \t", &rest) == NULL;
+  const char *name = next_word(&line);
+  const char *config = name != NULL ? next_word(&line) : NULL;
+  const char *database = config != NULL ? next_word(&line) : NULL;
+  bool three = database != NULL && line[strspn(line, " \t")] == 0;
   return three && !is_named(into, name) && add_place(into, name, config, database);
 }
 

@@ -26,6 +26,7 @@ bool tokens_make(const char *path, unsigned count);
 /* A store: how it is called, and what its server is given. */
 struct place {
   char *name, *config, *database;
+  bool is_file; /* the database is a file's path, and no URI or conninfo */
   struct limits limits;
 };
 
@@ -34,8 +35,9 @@ struct places {
   size_t count;
 };
 
-/* Reads a file of stores: a line for each, with its name, configuration and database; and their
- * configurations. */
+/* Reads a file of stores: a line for each, with its name, configuration and database, each of which
+ * may stand in quotes; and their configurations. A database that is no path has no password in it:
+ * others could read it in the list of processes. */
 bool places_read(struct places *places, const char *path);
 
 /* One store, by the name `main`. */

@@ -10,8 +10,9 @@
   don't answer, a server that dies, files that others may read. Each ends in a closed connection, a
   line or a status, while another client goes on.
 - Strangers at the gateway, beside clients that go on: connections that never greet, from one
-  address and from many, and floods of greetings that are none. Clients that owe the server an answer
-  and say other things, or frames byte by byte.
+  address and from many, and floods of greetings that are none. Clients that owe the server an
+  answer and say other things, or frames byte by byte. Servers that announce their lives, or are
+  silent; stores that are no files.
 - How many commits go together, by the gateway's own code over a clock that is no machine's.
 - A client of a wrapper that holds a page as the server becomes another: it is gone.
 - The host in C, `hosts/served.c`: copies of its store by sqlite3 while it serves, a kill, and

@@ -13,7 +13,7 @@ from dataclasses import dataclass, field
 from pathlib import Path
 
 import building
-from checks.bad_input import ASK_READ, ASK_WRITE, CALLBACK, HELLO, Peer, frame, number_of
+from checks.bad_input import ASK_READ, ASK_WRITE, CALLBACK, HELLO, Peer, frame, number_of, token_of
 from serving import Gateway, wait_for
 
 LIMITS = (8, 64, 256, 32, 1)
@@ -139,9 +139,8 @@ def told_of_strangers(scene: Scene) -> bool:
             peer.greeted(bytes(32))
     wait_for(lambda: " more connections refused" in gateway.log(), 20)
     lines = [line for line in gateway.log().splitlines() if "127.0.0.9:" in line]
-    told = sum(int(line.split(" more ")[0].split()[-1]) if " more " in line else 1 for line in lines)
-    wait_for(lambda: False, 1.6)
-    return 0 < len(lines) < 100 and told <= 400 and "no such token" in lines[0]
+    counts = [line.split(" more ")[0].split()[-1] for line in lines if " more " in line]
+    return 0 < len(lines) < 100 and sum(map(int, counts)) > 0 and "no such token" in lines[0]
 
 
 # ---- silence ----
@@ -234,9 +233,105 @@ def slow_frame(scene: Scene) -> bool:
         return sent < len(said) and "half a frame" in gateway.log()
 
 
+# ---- servers that announce their lives, and silent ones ----
+
+
+def answer_to(gateway: Gateway, client: int) -> tuple[int, int]:
+    """What a greeting is answered, and the incarnation."""
+    with Peer(gateway) as peer:
+        answer = peer.greeted(token_of(gateway, client))
+        return answer[1], int.from_bytes(answer[4:12], "big")
+
+
+def announced_lives(scene: Scene) -> bool:
+    """Nobody is served before a server has announced its life; then each incarnation is above its
+    floor, the clock and the last one."""
+    answers = []
+    for floor in (1 << 61, 5):
+        wait = scene.room / f"wait_{floor}"
+        command = scene.stand_in("--floor", floor, "--wait", wait)
+        gateway = scene.gateway("--announced", command=command)
+        before = [answer_to(gateway, 1) for _ in range(3)]
+        clock = time.time_ns() // 1000
+        wait.touch()
+        wait_for(lambda: answer_to(gateway, 2)[0] == 0, 60)
+        served = [answer_to(gateway, 1) for _ in range(3)]
+        rise = [number for _, number in served]
+        answers.append(before == 3 * [(5, 0)] and {what for what, _ in served} == {0}
+                       and rise == sorted(set(rise)) and rise[0] > max(floor, clock)
+                       and (floor < clock or rise[0] < floor + 10))
+    return all(answers)
+
+
+def unannounced_servers(scene: Scene) -> bool:
+    """A server that says other things first isn't served, nor one that announces a life that has
+    no incarnation; and who isn't to announce and does ends."""
+    first = scene.gateway("--announced")
+    second = scene.gateway("--announced", command=scene.stand_in("--floor", (1 << 62) - 1))
+    third = scene.gateway(command=scene.stand_in("--floor", 5))
+    ends = all(wait_for(lambda: "says no frames" in each.log(), 60) for each in (second, third))
+    return ends and [answer_to(each, 1)[0] for each in (first, second)] == [5, 5]
+
+
+def stops_while_it_waits(scene: Scene) -> bool:
+    """A gateway whose server waits for its store ends at once."""
+    gateway = scene.gateway("--announced", command=scene.stand_in("--wait", scene.room / "never"))
+    begun = time.monotonic()
+    gateway.stop()
+    return time.monotonic() - begun < 20
+
+
+def silent_servers(scene: Scene) -> bool:
+    """A server that owes an answer and says nothing is ended, whether it owes a Welcome or
+    something else; an idle one isn't."""
+    mute = scene.room / "mute"
+    gateway = scene.gateway("--server-silence", "2", command=scene.stand_in("--mute", mute))
+    wait_for(lambda: comes(gateway), 60)
+    first = gateway.servers()
+    with Peer(gateway, 1) as peer:
+        if peer.welcome().is_closed(8) or gateway.servers() != first:
+            return False
+        mute.touch()
+        peer.say(ASK_READ, number_of(1, 3))
+        asked = peer.is_closed(30)
+    wait_for(lambda: gateway.servers() not in ([], first), 60)
+    second = gateway.servers()
+    with Peer(gateway, 2) as peer:
+        peer.say(HELLO)
+        greeted = peer.is_closed(30)
+    mute.unlink()
+    served = wait_for(lambda: comes(gateway), 60)
+    return asked and greeted and served and gateway.servers() not in (first, second)
+
+
+def databases_elsewhere(scene: Scene) -> bool:
+    """A URI or conninfo stands in quotes in a file of stores. No file is locked for it, and none
+    with a password is taken, nor said."""
+    note, seen = scene.room / "note", []
+    for database in ("host=a dbname='b c'", "postgresql://me@a,b:5432/c?x=y"):
+        how = {"command": scene.stand_in("--note", note), "database_word": f'"{database}"'}
+        gateway, other = scene.gateway(**how), scene.gateway(**how)
+        both = all(wait_for(lambda: comes(each), 60) for each in (gateway, other))
+        locks = [*gateway.room.glob("*.lock"), *other.room.glob("*.lock")]
+        seen.append(both and note.read_text() == database and not locks)
+    refused = []
+    for database in ("postgresql://me:secret@a/c", "host=a password = secret",
+                     "x://a/?PASSWORD=secret", "'postgresql://me@a/c' more", '"postgresql://me@a'):
+        quoted = database if database[0] in "'\"" else f"'{database}'"
+        (gateway.room / "stores").write_text(f"main {gateway.room}/config {quoted}\n")
+        words = [gateway.program, "--unix", gateway.room / "other", "--tokens", gateway.tokens]
+        words += ["--stores", gateway.room / "stores"]
+        done = subprocess.run(list(map(str, words)), capture_output=True, text=True, timeout=60,
+                              check=False)
+        refused.append(done.returncode == 2 and done.stderr and "secret" not in done.stderr)
+    return all(seen) and all(refused)
+
+
 SCENES = [
     strangers_at_the_port, strangers_at_the_socket, greetings_that_are_there, slow_greeting,
     told_of_strangers, bytes_are_no_answer, answers_count, aborts_are_owed, slow_frame,
+    announced_lives, unannounced_servers, stops_while_it_waits, silent_servers,
+    databases_elsewhere,
 ]
 
 

@@ -6,7 +6,7 @@ With --recall each page is called back as soon as it was granted, and each trans
 write is to abort.
 With --floor it announces that floor of its life once the file of --wait, if that is said, is there.
 While the file of --mute is there it reads and says nothing. With --hold a process of its own holds
-its output as long as that file is there.
+its output as long as that file is there. With --note the file of that name gets its DATABASE.
 """
 
 from __future__ import annotations
@@ -86,13 +86,16 @@ def main() -> None:
     words = argparse.ArgumentParser()
     words.add_argument("--floor", type=int)
     words.add_argument("--recall", action="store_true")
-    for word in ("--wait", "--mute", "--hold"):
+    for word in ("--wait", "--mute", "--hold", "--note"):
         words.add_argument(word)
     words.add_argument("config")
     words.add_argument("database")
     it = words.parse_args()
     with open(it.config, "rb") as config:
         page_size = tomllib.load(config)["page_size"]
+    if it.note:
+        with open(it.note, "w", encoding="utf-8") as note:
+            note.write(it.database)
     wait_while(lambda: it.wait and not os.path.exists(it.wait))
     if it.hold:
         hold_output(it.hold)
