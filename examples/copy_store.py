@@ -25,8 +25,9 @@ TABLES = """
 
 def write(path: str, limits: Limits, pages: list[bytes]) -> None:
     """Writes the tables of a store to a new file."""
+    os.umask(0o077)  # what is made is the owner's alone
     with open(path, "xb"):
-        os.chmod(path, 0o600)
+        pass
     tables = sqlite3.connect(path)
     tables.executescript(TABLES)
     with tables:

@@ -442,7 +442,6 @@ static void listen_on(struct host *host, const char *path) {
   }
   memcpy(address.sun_path, path, strlen(path));
   remove_left(&address);
-  umask(0177);
   host->listener = socket(AF_UNIX, SOCK_STREAM, 0);
   if (host->listener < 0 || bind(host->listener, (const struct sockaddr *)&address, sizeof address)
       || listen(host->listener, CONNECTIONS)) {
@@ -523,6 +522,7 @@ int main(int count, char **words) {
     return 2;
   }
   static struct host host;
+  umask(0177); /* the socket and the store's files are the owner's alone */
   begin(&host, words);
   while (!is_stopping) {
     round_of(&host);

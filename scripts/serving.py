@@ -99,7 +99,8 @@ class Gateway:
         with (self.room / "log").open("ab") as log:
             env = {**os.environ, **self.env}
             both = {"stdout": subprocess.PIPE, "stderr": log}
-            self.process = subprocess.Popen(list(map(str, words)), env=env, **both)
+            # What it makes isn't to rest on who starts it.
+            self.process = subprocess.Popen(list(map(str, words)), env=env, umask=0, **both)
         if self.process.stdout and self.process.stdout.readline() == b"ready\n":
             return True
         self.stop(signal.SIGKILL)

@@ -5,6 +5,7 @@
 #include <stdio.h>
 #include <stdlib.h>
 #include <string.h>
+#include <sys/stat.h>
 
 /* ---- its end ---- */
 
@@ -133,6 +134,7 @@ static void take_words(struct gateway *gateway, const struct words *words) {
 int main(int count, char **text) {
   static struct gateway gateway;
   struct words words;
+  umask(077); /* what it makes, and its servers make, is its owner's */
   if (!words_read(&words, count, text)) {
     return 2;
   }

@@ -92,8 +92,10 @@ bool tokens_read(struct tokens *tokens, const char *path) {
   if (file == NULL) {
     return false;
   }
-  if (fstat(fileno(file), &state) != 0 || (state.st_mode & 077) != 0) {
-    log_line(LEVEL_ERROR, "%s: others than its owner may use it: chmod 600", path);
+  bool is_known = fstat(fileno(file), &state) == 0;
+  if (!is_known || (state.st_mode & 077) != 0 || (state.st_uid != 0 && state.st_uid != geteuid())) {
+    log_line(LEVEL_ERROR, "%s: others than its owner may use it, or another owns it: chmod 600",
+             path);
     fclose(file);
     return false;
   }

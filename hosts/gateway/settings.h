@@ -13,8 +13,8 @@ struct tokens {
   uint8_t of[MOST_CLIENTS][TOKEN];
 };
 
-/* Reads a file of tokens, which none but its owner may use: a line for each client, with its
- * number and 64 hexadecimal digits. No two clients have one token. */
+/* Reads a file of tokens, which this user or root owns and none else may use: a line for each
+ * client, with its number and 64 hexadecimal digits. No two clients have one token. */
 bool tokens_read(struct tokens *tokens, const char *path);
 
 /* Whose token it is, or -1. It takes as long whatever the token. */

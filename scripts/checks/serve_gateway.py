@@ -4,6 +4,7 @@ from __future__ import annotations
 
 import os
 import signal
+import stat
 import struct
 import subprocess
 import sys
@@ -13,7 +14,9 @@ from dataclasses import dataclass, field
 from pathlib import Path
 
 import building
-from checks.bad_input import ASK_READ, ASK_WRITE, CALLBACK, HELLO, Peer, frame, number_of, token_of
+from checks.bad_input import (
+    ASK_READ, ASK_WRITE, CALLBACK, HELLO, Peer, frame, number_of, refused, token_of,
+)
 from serving import Gateway, wait_for
 
 LIMITS = (8, 64, 256, 32, 1)
@@ -327,11 +330,34 @@ def databases_elsewhere(scene: Scene) -> bool:
     return all(seen) and all(refused)
 
 
+# ---- files ----
+
+
+def owned_files(scene: Scene) -> bool:
+    """What a gateway or its server makes is its owner's alone, whoever's umask it was begun with;
+    tokens that another owns aren't taken."""
+    note = scene.room / "made_by_a_server"
+    gateway = scene.gateway(command=scene.stand_in("--note", note))
+    wait_for(lambda: comes(gateway), 60)
+    lock = Path(f"{gateway.database()}.lock")
+    private = [stat.S_IMODE(path.stat().st_mode) for path in (note, lock, gateway.socket)]
+    return private == 3 * [0o600] and (os.geteuid() != 0 or owner_counts(gateway))
+
+
+def owner_counts(gateway: Gateway) -> bool:
+    others = gateway.room / "others"
+    others.write_bytes(gateway.tokens.read_bytes())
+    others.chmod(0o600)
+    os.chown(others, 65534, -1)
+    status, said = refused(gateway, "--tokens", others, "--unix", gateway.room / "other")
+    return status == 2 and "another owns it" in said
+
+
 SCENES = [
     strangers_at_the_port, strangers_at_the_socket, greetings_that_are_there, slow_greeting,
     told_of_strangers, bytes_are_no_answer, answers_count, aborts_are_owed, slow_frame,
     announced_lives, unannounced_servers, stops_while_it_waits, silent_servers,
-    databases_elsewhere,
+    databases_elsewhere, owned_files,
 ]
 
 

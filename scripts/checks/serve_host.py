@@ -10,6 +10,7 @@ import contextlib
 import signal
 import socket
 import sqlite3
+import stat
 import subprocess
 from pathlib import Path
 
@@ -35,7 +36,8 @@ class Host:
     def start(self) -> subprocess.Popen:
         words = [self.program, self.socket, self.store, CLIENTS, PAGES, SIZE, 0]
         with (self.room / "log").open("ab") as log:
-            begun = subprocess.Popen(list(map(str, words)), stdout=subprocess.PIPE, stderr=log)
+            both = {"stdout": subprocess.PIPE, "stderr": log}
+            begun = subprocess.Popen(list(map(str, words)), umask=0, **both)
         if not begun.stdout or begun.stdout.readline() != b"ready\n":
             raise building.NotBuilt("served didn't start: " + self.log())
         return begun
@@ -143,12 +145,21 @@ def no_socket(it: Host) -> str:
     return "" if right and other.read_text() == "kept" else f"{done.returncode}, {done.stderr}"
 
 
+def owned_files(it: Host) -> str:
+    """What it makes is its owner's alone, whoever's umask it was begun with."""
+    server = it.start()
+    made = [it.store, Path(f"{it.store}.lock"), it.socket]
+    modes = [stat.S_IMODE(path.stat().st_mode) for path in made]
+    status = ended(server, signal.SIGTERM)
+    return "" if status == 0 and not any(mode & 0o077 for mode in modes) else f"{modes}, {status}"
+
+
 def tried(tries, it) -> None:
     """Tries the host."""
     room = it.room / "serve_host"
     room.mkdir()
     host = Host(room, it.library)
-    for scene in (copies, killed, wrong_frames, no_socket):
+    for scene in (copies, killed, wrong_frames, no_socket, owned_files):
         try:
             why = scene(host)
         except (OSError, EOFError, sqlite3.Error, subprocess.SubprocessError) as fault:
