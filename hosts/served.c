@@ -22,6 +22,7 @@
 #include <sys/socket.h>
 #include <sys/stat.h>
 #include <sys/un.h>
+#include <time.h>
 #include <unistd.h>
 
 enum {
@@ -32,6 +33,7 @@ enum {
   READ = 1 << 18,     /* bytes that are read at once */
   OUT_MOST = 1 << 22, /* bytes that may wait for one connection: one that reads slower is lost */
   AGAIN = 500,        /* milliseconds without a frame until what may be lost is said again */
+  SILENT = 5000,      /* milliseconds that a connection has for its first frame */
   BUSY = 5000         /* for so long it waits for others who use the database, as to copy it */
 };
 
@@ -213,7 +215,8 @@ static void write_page(struct store *store, const rughvadi_limits *limits, uint3
 
 struct connection {
   int socket;
-  int client; /* that it speaks for, or NOBODY */
+  int client;    /* that it speaks for, or NOBODY */
+  int64_t began; /* when it came, in milliseconds */
   bool is_lost;
   struct bytes in, out;
 };
@@ -377,17 +380,11 @@ static void send_waiting(struct connection *connection) {
 
 /* ---- connections come and go ---- */
 
-static void accept_one(struct host *host) {
-  int socket = accept(host->listener, NULL, NULL);
-  if (socket < 0) {
-    return;
-  }
-  if (host->count == CONNECTIONS) {
-    close(socket);
-    return;
-  }
-  fcntl(socket, F_SETFL, O_NONBLOCK);
-  host->connections[host->count++] = (struct connection){.socket = socket, .client = NOBODY};
+/* The milliseconds of a clock that nobody sets. */
+static int64_t now(void) {
+  struct timespec time;
+  clock_gettime(CLOCK_MONOTONIC, &time);
+  return (int64_t)time.tv_sec * 1000 + time.tv_nsec / 1000000;
 }
 
 /* Its client is left: else the others wait for what it holds. */
@@ -407,6 +404,33 @@ static void lose(struct host *host, struct connection *connection) {
       host->of[connection->client] = connection;
     }
   }
+}
+
+/* The one that speaks for nobody and came first, or NULL. */
+static struct connection *first_silent(struct host *host) {
+  struct connection *first = NULL;
+  for (size_t at = 0; at < host->count; at++) {
+    struct connection *each = &host->connections[at];
+    if (each->client == NOBODY && (first == NULL || each->began < first->began)) {
+      first = each;
+    }
+  }
+  return first;
+}
+
+/* Where all places are taken, the first that said nothing goes. */
+static void accept_one(struct host *host) {
+  int socket = accept(host->listener, NULL, NULL);
+  if (socket < 0) {
+    return;
+  }
+  struct connection *silent = host->count == CONNECTIONS ? first_silent(host) : NULL;
+  if (silent != NULL) {
+    lose(host, silent);
+  }
+  fcntl(socket, F_SETFL, O_NONBLOCK);
+  host->connections[host->count++] =
+      (struct connection){.socket = socket, .client = NOBODY, .began = now()};
 }
 
 /* ---- the loop ---- */
@@ -478,7 +502,8 @@ static void round_of(struct host *host) {
   for (size_t at = host->count; at > 0; at--) {
     struct connection *connection = &host->connections[at - 1];
     send_waiting(connection);
-    if (connection->is_lost) {
+    bool is_silent = connection->client == NOBODY && now() - connection->began > SILENT;
+    if (connection->is_lost || is_silent) {
       lose(host, connection);
     }
   }

@@ -1,5 +1,6 @@
 """What check and bench of a served store share: the programs, and a gateway with its files."""
 import os
+import resource
 import signal
 import socket
 import subprocess
@@ -57,6 +58,7 @@ class Gateway:
     env: dict[str, str] = field(default_factory=dict)
     command: tuple[object, ...] = ()  # what starts a server, if not `cb_play serve`
     database_word: str = ""  # what stands in the file of stores, if not a path
+    files: Optional[tuple[int, int]] = None  # how many it may have open: softly, and at most
     has_port: bool = False  # it listens at a port of this machine, too
     port: int = 0
     process: Optional[subprocess.Popen] = None
@@ -98,13 +100,18 @@ class Gateway:
         words += self.command or (self.play, "serve")
         with (self.room / "log").open("ab") as log:
             env = {**os.environ, **self.env}
-            both = {"stdout": subprocess.PIPE, "stderr": log}
+            both = {"stdout": subprocess.PIPE, "stderr": log, "preexec_fn": self.limit}
             # What it makes isn't to rest on who starts it.
             self.process = subprocess.Popen(list(map(str, words)), env=env, umask=0, **both)
         if self.process.stdout and self.process.stdout.readline() == b"ready\n":
             return True
         self.stop(signal.SIGKILL)
         return False
+
+    def limit(self) -> None:
+        """Before the program: its limit of open files."""
+        if self.files:
+            resource.setrlimit(resource.RLIMIT_NOFILE, self.files)
 
     def log(self) -> str:
         return (self.room / "log").read_text()

@@ -3,8 +3,8 @@
 #include <stdlib.h>
 #include <string.h>
 
-/* Room beyond this isn't kept by bytes that are empty. */
-enum { KEPT = 1 << 20 };
+/* So much room is kept. What is beyond it goes once no more than a quarter of the room is used. */
+enum { KEPT = 1 << 16 };
 
 bool bytes_put(struct bytes *bytes, const void *more, size_t count) {
   if (count > bytes->room - bytes->size) {
@@ -24,12 +24,23 @@ bool bytes_put(struct bytes *bytes, const void *more, size_t count) {
   return true;
 }
 
+/* Gives back the room that isn't used. */
+static void shrink(struct bytes *bytes) {
+  size_t room = 2 * bytes->size > KEPT ? 2 * bytes->size : KEPT;
+  uint8_t *smaller = realloc(bytes->at, room);
+  if (smaller != NULL) {
+    bytes->at = smaller;
+    bytes->room = room;
+  }
+}
+
 void bytes_cut(struct bytes *bytes, size_t count) {
   bytes->size -= count;
   if (bytes->size > 0 && count > 0) {
     memmove(bytes->at, bytes->at + count, bytes->size);
-  } else if (bytes->size == 0 && bytes->room > KEPT) {
-    bytes_free(bytes);
+  }
+  if (bytes->room > KEPT && bytes->size <= bytes->room / 4) {
+    shrink(bytes);
   }
 }
 

@@ -20,11 +20,12 @@ void header_to(uint8_t *bytes, const struct header *header) {
   put_32(bytes + 12, header->body);
 }
 
-/* Whether a commit can have so many bytes: its head, and some pages. */
+/* Whether a commit can have so many bytes: its head, and as many pages as a transaction writes. */
 static bool is_commit(const struct header *header, const struct limits *limits) {
   uint32_t page = limits->page_size + (header->version == 1 ? 14 : 16);
+  uint32_t most = limits->slots < limits->pages ? limits->slots : limits->pages;
   return header->body >= COMMIT_HEAD && (header->body - COMMIT_HEAD) % page == 0
-         && (header->body - COMMIT_HEAD) / page <= limits->pages;
+         && (header->body - COMMIT_HEAD) / page <= most;
 }
 
 bool is_of_client(const struct header *header, const struct limits *limits) {

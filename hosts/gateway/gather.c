@@ -21,6 +21,9 @@ static void arm(struct gather *gather, uint64_t nanoseconds) {
   gather->is_armed = timerfd_settime(gather->clock, 0, &time, NULL) == 0;
 }
 
+/* So long they may be out. */
+static uint64_t unanswered(const struct gather *gather) { return UNANSWERED + 4 * gather->took; }
+
 static uint32_t bit_of(const uint8_t *frame) {
   return UINT32_C(1) << header_at(frame).client % MOST_CLIENTS;
 }
@@ -63,7 +66,7 @@ static bool send_first(struct gather *gather) {
   gather->newest = first.whose;
   gather->is_out = true;
   gather->sent = uv_hrtime();
-  arm(gather, UNANSWERED + 4 * gather->took);
+  arm(gather, unanswered(gather));
   return true;
 }
 
@@ -160,6 +163,13 @@ static void is_time(uv_poll_t *poll, int status, int events) {
     end_wait(gather);
   }
   send_first(gather);
+}
+
+void gather_tick(struct gather *gather) {
+  if (gather->clock < 0 && gather->is_out && uv_hrtime() - gather->sent > unanswered(gather)) {
+    gather->is_out = false;
+    send_first(gather);
+  }
 }
 
 void gather_begin(struct gather *gather, uv_loop_t *loop) {

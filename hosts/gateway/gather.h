@@ -47,6 +47,9 @@ void gather_answered(struct gather *gather);
 /* That client won't commit again. */
 void gather_leave(struct gather *gather, uint16_t client);
 
+/* Where no clock could be had: looks whether those that are out were waited for long enough. */
+void gather_tick(struct gather *gather);
+
 /* All that wait go now. */
 void gather_send_all(struct gather *gather);
 

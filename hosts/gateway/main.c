@@ -3,9 +3,13 @@
 
 #include <signal.h>
 #include <stdio.h>
-#include <stdlib.h>
-#include <string.h>
+#include <sys/resource.h>
 #include <sys/stat.h>
+
+enum {
+  FILES = 32,        /* that the gateway itself has open, and a few to spare */
+  FILES_OF_STORE = 8 /* a lock, a clock, two pipes, and what is open as a server starts */
+};
 
 /* ---- its end ---- */
 
@@ -102,7 +106,26 @@ static void begin(struct gateway *gateway) {
   uv_timer_start(&gateway->tick, tick, TICK, TICK);
 }
 
+/* Lets so many files be open as listeners, stores and their clients need, or says that it can't. */
+static void raise_files(const struct places *places) {
+  struct rlimit limit;
+  rlim_t needed = FILES + DOORS * (UNGREETED_MOST + 1);
+  for (size_t at = 0; at < places->count; at++) {
+    needed += FILES_OF_STORE + places->at[at].limits.clients;
+  }
+  if (getrlimit(RLIMIT_NOFILE, &limit) != 0 || limit.rlim_cur >= needed) {
+    return;
+  }
+  limit.rlim_cur = needed < limit.rlim_max ? needed : limit.rlim_max;
+  setrlimit(RLIMIT_NOFILE, &limit);
+  if (limit.rlim_cur < needed) {
+    log_line(LEVEL_WARNING, "%ju files may be open, and all clients together may need %ju",
+             (uintmax_t)limit.rlim_cur, (uintmax_t)needed);
+  }
+}
+
 static int run(struct gateway *gateway, const struct words *words) {
+  raise_files(&gateway->places);
   begin(gateway);
   if (listen_all(gateway, words)) {
     for (size_t at = 0; at < gateway->places.count; at++) {

@@ -148,7 +148,10 @@ void store_begin(struct store *store, struct gateway *gateway, const struct plac
   server_begin(&store->server, store);
 }
 
-void store_tick(struct store *store) { server_tick(&store->server); }
+void store_tick(struct store *store) {
+  gather_tick(&store->commits);
+  server_tick(&store->server);
+}
 
 void store_stop(struct store *store) {
   for (size_t client = 0; client < MOST_CLIENTS; client++) {

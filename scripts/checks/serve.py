@@ -13,7 +13,9 @@
   address and from many, and floods of greetings that are none. Clients that owe the server an
   answer and say other things, or frames byte by byte. Servers that announce their lives, or are
   silent; stores that are no files.
-- How many commits go together, by the gateway's own code over a clock that is no machine's.
+- Commits of too many pages, too few open files, and the mode and owner of files.
+- How many commits go together, by the gateway's own code over a clock that is no machine's, also
+  without that clock; and how much room its buffers keep.
 - A client of a wrapper that holds a page as the server becomes another: it is gone.
 - The host in C, `hosts/served.c`: copies of its store by sqlite3 while it serves, a kill, and
   frames that are none.
@@ -368,6 +370,15 @@ def run_gather(tries: Tries, it: Built) -> None:
         done = subprocess.run([model, *map(str, words)], capture_output=True, text=True, check=True)
         name = f"commits of {words[0]} go together, syncs of {words[1]} us"
         tries.told(name, int(done.stdout.split()[0]) >= least, done.stdout.strip())
+    words = [model, "4", "150", "25", "30", "20", "clockless"]
+    done = subprocess.run(words, capture_output=True, text=True, check=True, timeout=60)
+    right = int(done.stdout.split()[0]) >= 5000
+    tries.told("commits go on without a clock, and one unanswered", right, done.stdout.strip())
+    room = building.in_c("room_model", it.room, *flags)
+    done = subprocess.run([room], capture_output=True, text=True, check=True)
+    first, second, third = map(int, done.stdout.split())
+    right = first <= 1 << 16 and second <= 1 << 16 and 5 << 20 <= third <= 20 << 20
+    tries.told("room that isn't used is given back", right, done.stdout.strip())
 
 
 def main(words: list[str]) -> int:

@@ -15,7 +15,7 @@ from pathlib import Path
 
 import building
 from checks.bad_input import (
-    ASK_READ, ASK_WRITE, CALLBACK, HELLO, Peer, frame, number_of, refused, token_of,
+    ASK_READ, ASK_WRITE, CALLBACK, COMMIT, HEADER, HELLO, Peer, frame, number_of, refused, token_of,
 )
 from serving import Gateway, wait_for
 
@@ -353,11 +353,49 @@ def owner_counts(gateway: Gateway) -> bool:
     return status == 2 and "another owns it" in said
 
 
+# ---- memory and places ----
+
+
+def commit_head(peer: Peer, pages: int) -> bytes:
+    size = 10 + pages * (16 + LIMITS[2])
+    return HEADER.pack(2, COMMIT, peer.client, peer.incarnation, size)
+
+
+def bounded_commits(scene: Scene) -> bool:
+    """A Commit of more pages than a transaction writes is refused by its header; one of as many
+    isn't."""
+    gateway = scene.gateway("--patience", "60")
+    wait_for(lambda: comes(gateway), 60)
+    with Peer(gateway, 1) as right, Peer(gateway, 2) as wrong:
+        right.says(commit_head(right.welcome(), LIMITS[3]))
+        wrong.says(commit_head(wrong.welcome(), LIMITS[3] + 1))
+        closed = wrong.is_closed() and not right.is_closed(0.5)
+    return closed and "a frame that is none" in gateway.log()
+
+
+def files_limit(gateway: Gateway) -> list[str]:
+    """How many files may be open, softly and at most."""
+    text = Path(f"/proc/{gateway.process.pid}/limits").read_text()
+    line = next(it for it in text.splitlines() if it.startswith("Max open files"))
+    return line.split()[3:5]
+
+
+def open_files(scene: Scene) -> bool:
+    """As many files may be open as stores and clients need, or it is said that they can't."""
+    found = []
+    for soft, most in ((64, 4096), (64, 128)):
+        limits = (32, *LIMITS[1:])
+        gateway = scene.gateway(stores=("main", "a", "b"), limits=limits, files=(soft, most))
+        wait_for(lambda: comes(gateway), 60)
+        found.append((int(files_limit(gateway)[0]), "files may be open" in gateway.log()))
+    return 3 * 32 + 128 < found[0][0] <= 4096 and not found[0][1] and found[1] == (128, True)
+
+
 SCENES = [
     strangers_at_the_port, strangers_at_the_socket, greetings_that_are_there, slow_greeting,
     told_of_strangers, bytes_are_no_answer, answers_count, aborts_are_owed, slow_frame,
     announced_lives, unannounced_servers, stops_while_it_waits, silent_servers,
-    databases_elsewhere, owned_files,
+    databases_elsewhere, owned_files, bounded_commits, open_files,
 ]
 
 

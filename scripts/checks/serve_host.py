@@ -145,6 +145,19 @@ def no_socket(it: Host) -> str:
     return "" if right and other.read_text() == "kept" else f"{done.returncode}, {done.stderr}"
 
 
+def strangers(it: Host) -> str:
+    """Connections that say nothing take no place of a client, and are closed after a while."""
+    server = it.start()
+    silent = [Caller(it, 1) for _ in range(100)]
+    with Caller(it, 2) as caller:
+        served = caller.welcome() is caller
+        closed = silent[-1].is_closed() and caller.welcome() is caller
+    for each in silent:
+        each.socket.close()
+    status = ended(server, signal.SIGTERM)
+    return "" if served and closed and status == 0 else f"{served}, {closed}, {status}: {it.log()}"
+
+
 def owned_files(it: Host) -> str:
     """What it makes is its owner's alone, whoever's umask it was begun with."""
     server = it.start()
@@ -159,7 +172,7 @@ def tried(tries, it) -> None:
     room = it.room / "serve_host"
     room.mkdir()
     host = Host(room, it.library)
-    for scene in (copies, killed, wrong_frames, no_socket, owned_files):
+    for scene in (copies, killed, wrong_frames, no_socket, strangers, owned_files):
         try:
             why = scene(host)
         except (OSError, EOFError, sqlite3.Error, subprocess.SubprocessError) as fault:

@@ -1,10 +1,12 @@
-/* gather_model CLIENTS SYNC EACH BETWEEN THINK: how many commits go together, by the gateway's own
+/* gather_model CLIENTS SYNC EACH BETWEEN THINK [CLOCKLESS]: how many commits go together, by the gateway's own
  * code (gather.c) over a clock of its own. A batch takes the server SYNC microseconds, however long
  * it is, and EACH more for each commit. After its answer its clients' next commits come BETWEEN
  * apart, each later by a drawn time whose mean is THINK. It prints how many commits there were a
- * second, and how many in a batch. Nothing in it rests on how busy the machine is. */
+ * second, and how many in a batch. With CLOCKLESS the gateway has no clock but its ticks, and what
+ * client 0 commits alone is never answered. Nothing in it rests on how busy the machine is. */
 #include <stdint.h>
 
+static int is_clockless;
 static uint64_t clock_now, timer_at;
 static uint64_t model_hrtime(void);
 static int model_settime(uint64_t nanoseconds);
@@ -13,7 +15,7 @@ static int model_settime(uint64_t nanoseconds);
 #include <unistd.h>
 #include <uv.h>
 #define uv_hrtime model_hrtime
-#define timerfd_create(clock, flags) 3
+#define timerfd_create(clock, flags) (is_clockless ? -1 : 3)
 #define timerfd_settime(fd, flags, time, old)                                                   \
   model_settime((uint64_t)(time)->it_value.tv_sec * 1000000000 + (uint64_t)(time)->it_value.tv_nsec)
 #define uv_poll_init(loop, poll, fd) 0
@@ -29,15 +31,18 @@ static uv_poll_cb is_due;
 #include <math.h>
 #include <stdio.h>
 
-enum { BODY = 4122 };
+enum { BODY = 4122, TICK = 500000000 };
 static const uint64_t NEVER = UINT64_MAX;
-static uint64_t next_of[MOST_CLIENTS], answer_at, sync_time, each_time;
+static uint64_t next_of[MOST_CLIENTS], answer_at, tick_at = TICK, sync_time, each_time;
 static unsigned out[MOST_CLIENTS], out_count;
 static uint64_t batches, commits;
 
 static uint64_t model_hrtime(void) { return clock_now; }
 
 static int model_settime(uint64_t nanoseconds) {
+  if (is_clockless) {
+    return -1;
+  }
   timer_at = clock_now + nanoseconds;
   return 0;
 }
@@ -50,6 +55,10 @@ static bool taken(void *owner, const uint8_t *bytes, size_t size) {
   batches++;
   commits += out_count;
   answer_at = clock_now + sync_time + each_time * out_count;
+  if (is_clockless && out_count == 1 && out[0] == 0) {
+    out_count = 0;
+    answer_at = NEVER;
+  }
   return true;
 }
 
@@ -82,7 +91,11 @@ static void step(struct gather *gather, unsigned clients, uint64_t between, uint
   for (unsigned client = 1; client < clients; client++) {
     first = next_of[client] < next_of[first] ? client : first;
   }
-  if (timer_at <= next_of[first] && timer_at <= answer_at) {
+  if (tick_at <= next_of[first] && tick_at <= timer_at && tick_at <= answer_at) {
+    clock_now = tick_at;
+    tick_at += TICK;
+    gather_tick(gather);
+  } else if (timer_at <= next_of[first] && timer_at <= answer_at) {
     clock_now = timer_at;
     timer_at = NEVER;
     is_due(&gather->poll, 0, UV_READABLE);
@@ -98,7 +111,8 @@ static void step(struct gather *gather, unsigned clients, uint64_t between, uint
 int main(int count, char **words) {
   struct gather gather = {.send = taken};
   uint64_t numbers[5];
-  if (count != 6) {
+  is_clockless = count == 7;
+  if (count != 6 && count != 7) {
     return 2;
   }
   for (int at = 0; at < 5; at++) {
