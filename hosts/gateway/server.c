@@ -13,7 +13,8 @@ enum {
   LOCK_PAUSE = 100,  /* milliseconds until a store that another server holds is tried again */
   START_PAUSE = 200, /* doubled for each failure, it is the wait for the next start */
   START_PAUSE_MOST = 10000,
-  PIPE = 1 << 20 /* bytes on their way to it */
+  PAUSES_MOST = 25, /* so many pauses the output of one that has ended is read */
+  PIPE = 1 << 20    /* bytes on their way to it */
 };
 
 static void start(uv_timer_t *timer);
@@ -62,25 +63,34 @@ static void go_down(struct server *server) {
   close_once(&server->output);
 }
 
-/* Its process has ended, and its output hasn't: nothing comes of it if nothing came in two pauses,
- * between which it was looked at. */
+/* Its process has ended, and its output hasn't, since a process of its own holds it: nothing comes of
+ * it if nothing came in two pauses, between which it was looked at. What comes for long isn't what
+ * the server said. */
 static void abandon(uv_timer_t *timer) {
   struct server *server = timer->data;
-  if (server->quiet++ > 0) {
+  if (server->quiet++ > 0 || server->pauses++ > PAUSES_MOST) {
     go_down(server);
   }
+}
+
+/* Whether its process hasn't ended: else its number may be another's by now. */
+static bool is_running(const struct server *server) {
+  return uv_is_active((const uv_handle_t *)&server->process);
 }
 
 /* It had time enough. */
 static void kill_server(uv_timer_t *timer) {
   struct server *server = timer->data;
-  log_line(LEVEL_WARNING, "store %s: its server doesn't end, and is killed", name_of(server));
-  uv_process_kill(&server->process, SIGKILL);
+  if (is_running(server)) {
+    log_line(LEVEL_WARNING, "store %s: its server doesn't end, and is killed", name_of(server));
+    uv_process_kill(&server->process, SIGKILL);
+  }
 }
 
-/* It is killed unless it ends in so many milliseconds. */
+/* It is killed unless it ends in so many milliseconds. Of one that has ended the output alone is
+ * waited for, by a timer that runs already. */
 static void end_in(struct server *server, uint64_t time) {
-  if (!uv_is_closing((uv_handle_t *)&server->process)) {
+  if (is_running(server)) {
     uv_timer_start(&server->timer, kill_server, time, 0);
   }
 }
@@ -105,7 +115,7 @@ static void exited(uv_process_t *process, int64_t status, int signal) {
   }
   server->failures++;
   /* What it said comes to its end now, unless a process of its own holds the stream. */
-  server->quiet = 0;
+  server->quiet = server->pauses = 0;
   uv_timer_start(&server->timer, abandon, START_PAUSE, START_PAUSE);
   close_once(process);
 }
@@ -160,7 +170,7 @@ static void look_for_silence(struct server *server) {
   if (gateway->server_silence == 0 || !server_serves(server) || server->is_ending) {
     return;
   }
-  if (gateway_waited(gateway, server->owes, gateway->server_silence)) {
+  if (gateway_waited(gateway, server->owes, gateway->server_silence) && is_running(server)) {
     log_line(LEVEL_ERROR, "store %s: its server is silent, and is killed", name_of(server));
     uv_process_kill(&server->process, SIGKILL);
   } else if (server->owes == 0 && server->is_asked
@@ -397,7 +407,7 @@ void server_stop(struct server *server) {
   if (!server->is_up) {
     return;
   }
-  if (!server->is_serving) { /* it waits for its store, and has nothing to write */
+  if (!server->is_serving && is_running(server)) { /* it waits for its store, and has nothing to write */
     uv_process_kill(&server->process, SIGTERM);
   }
   server->is_ending = true;

@@ -26,6 +26,7 @@ struct server {
   bool is_ending;    /* it is told no more, and is to end */
   bool is_told;      /* that another server holds the store was said */
   unsigned failures; /* how often it ended since it last said anything */
+  unsigned pauses;   /* since its process ended */
   unsigned quiet;    /* pauses since its process ended or it said something */
   uint64_t floor;    /* that of its life: incarnations are greater */
   bool is_asked;     /* clients told it something since it last said anything */

@@ -353,6 +353,40 @@ def owner_counts(gateway: Gateway) -> bool:
     return status == 2 and "another owns it" in said
 
 
+# ---- ends ----
+
+
+def with_held_output(scene: Scene, *words: str) -> tuple[Gateway, Path]:
+    """A gateway whose server was killed while a process of its own holds its output."""
+    hold = Path(tempfile.mkdtemp(dir=scene.room)) / "hold"
+    hold.touch()
+    gateway = scene.gateway(command=scene.stand_in("--hold", hold, *words))
+    wait_for(lambda: comes(gateway), 60)
+    for number in gateway.servers():
+        os.kill(number, signal.SIGKILL)
+    wait_for(lambda: "its server ended" in gateway.log(), 60)
+    return gateway, hold
+
+
+def held_outputs(scene: Scene) -> bool:
+    """A child that holds a server's output, or says frames on it, keeps neither the gateway from
+    ending nor the store from being served again."""
+    ends, serves = [], []
+    for words in ((), ("--chatter",)):
+        gateway, hold = with_held_output(scene, *words)
+        try:
+            # The server was killed, so that is its status.
+            ends.append(gateway.stop() == 0 and "doesn't end" not in gateway.log())
+        except subprocess.TimeoutExpired:
+            return False
+        finally:
+            hold.unlink()
+        gateway, hold = with_held_output(scene, *words)
+        serves.append(wait_for(lambda: comes(gateway), 30))
+        hold.unlink()
+    return all(ends) and all(serves)
+
+
 # ---- memory and places ----
 
 
@@ -395,7 +429,7 @@ SCENES = [
     strangers_at_the_port, strangers_at_the_socket, greetings_that_are_there, slow_greeting,
     told_of_strangers, bytes_are_no_answer, answers_count, aborts_are_owed, slow_frame,
     announced_lives, unannounced_servers, stops_while_it_waits, silent_servers,
-    databases_elsewhere, owned_files, bounded_commits, open_files,
+    databases_elsewhere, owned_files, held_outputs, bounded_commits, open_files,
 ]
 
 

@@ -6,7 +6,7 @@ With --recall each page is called back as soon as it was granted, and each trans
 write is to abort.
 With --floor it announces that floor of its life once the file of --wait, if that is said, is there.
 While the file of --mute is there it reads and says nothing. With --hold a process of its own holds
-its output as long as that file is there. With --note the file of that name gets its DATABASE.
+its output as long as that file is there; with --chatter it says frames meanwhile. With --note the file of that name gets its DATABASE.
 """
 
 from __future__ import annotations
@@ -57,11 +57,14 @@ def wait_while(what) -> None:
         time.sleep(0.02)
 
 
-def hold_output(path: str) -> None:
+def hold_output(path: str, chats: bool) -> None:
     """A process of its own, which holds the output."""
     if os.fork() == 0:
         os.close(0)
-        wait_while(lambda: os.path.exists(path))
+        while os.path.exists(path):
+            if chats:
+                os.write(1, said(WELCOME, 0, 1))
+            time.sleep(0.02)
         os._exit(0)
 
 
@@ -86,6 +89,7 @@ def main() -> None:
     words = argparse.ArgumentParser()
     words.add_argument("--floor", type=int)
     words.add_argument("--recall", action="store_true")
+    words.add_argument("--chatter", action="store_true")
     for word in ("--wait", "--mute", "--hold", "--note"):
         words.add_argument(word)
     words.add_argument("config")
@@ -98,7 +102,7 @@ def main() -> None:
             note.write(it.database)
     wait_while(lambda: it.wait and not os.path.exists(it.wait))
     if it.hold:
-        hold_output(it.hold)
+        hold_output(it.hold, it.chatter)
     if it.floor is not None:
         sys.stdout.buffer.write(said(0, 0, it.floor))
         sys.stdout.buffer.flush()
