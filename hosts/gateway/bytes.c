@@ -6,16 +6,24 @@
 /* So much room is kept. What is beyond it goes once no more than a quarter of the room is used. */
 enum { KEPT = 1 << 16 };
 
+bool bytes_reserve(struct bytes *bytes, size_t more) {
+  if (more <= bytes->room - bytes->size) {
+    return true;
+  }
+  size_t needed = bytes->size + more;
+  size_t room = needed > 2 * bytes->room ? needed : 2 * bytes->room;
+  uint8_t *larger = realloc(bytes->at, room);
+  if (larger == NULL) {
+    return false;
+  }
+  bytes->at = larger;
+  bytes->room = room;
+  return true;
+}
+
 bool bytes_put(struct bytes *bytes, const void *more, size_t count) {
-  if (count > bytes->room - bytes->size) {
-    size_t needed = bytes->size + count;
-    size_t room = needed > 2 * bytes->room ? needed : 2 * bytes->room;
-    uint8_t *larger = realloc(bytes->at, room);
-    if (larger == NULL) {
-      return false;
-    }
-    bytes->at = larger;
-    bytes->room = room;
+  if (!bytes_reserve(bytes, count)) {
+    return false;
   }
   if (count > 0) {
     memcpy(bytes->at + bytes->size, more, count);

@@ -11,6 +11,9 @@ struct bytes {
   size_t size, room;
 };
 
+/* Makes room for so many behind the others; false where memory was refused. */
+bool bytes_reserve(struct bytes *bytes, size_t more);
+
 /* Puts some behind the others; false, and nothing changes, where memory was refused. */
 bool bytes_put(struct bytes *bytes, const void *more, size_t count);
 

@@ -10,6 +10,7 @@
 #include "owed.h"
 #include "server.h"
 #include "settings.h"
+#include "window.h"
 
 #include <sys/queue.h>
 #include <uv.h>
@@ -103,6 +104,7 @@ struct store {
   struct connection *clients[MOST_CLIENTS];
   uint64_t incarnations[MOST_CLIENTS]; /* the last that was given to each */
   uint64_t leaving[MOST_CLIENTS];      /* the server is to hear of it, so that the former is left */
+  struct window window;
   struct gather commits;
   struct server server;
   bool has_paused; /* its clients aren't read */

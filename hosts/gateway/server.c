@@ -63,9 +63,9 @@ static void go_down(struct server *server) {
   close_once(&server->output);
 }
 
-/* Its process has ended, and its output hasn't, since a process of its own holds it: nothing comes of
- * it if nothing came in two pauses, between which it was looked at. What comes for long isn't what
- * the server said. */
+/* Its process has ended, and its output hasn't, since a process of its own holds it: nothing comes
+ * of it if nothing came in two pauses, between which it was looked at. What comes for long isn't
+ * what the server said. */
 static void abandon(uv_timer_t *timer) {
   struct server *server = timer->data;
   if (server->quiet++ > 0 || server->pauses++ > PAUSES_MOST) {
@@ -407,7 +407,7 @@ void server_stop(struct server *server) {
   if (!server->is_up) {
     return;
   }
-  if (!server->is_serving && is_running(server)) { /* it waits for its store, and has nothing to write */
+  if (!server->is_serving && is_running(server)) { /* it waits, and has nothing to write */
     uv_process_kill(&server->process, SIGTERM);
   }
   server->is_ending = true;

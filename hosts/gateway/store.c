@@ -21,14 +21,33 @@ void store_moved(struct store *store) {
   }
 }
 
-bool store_put(struct store *store, const uint8_t *frame, size_t size) {
-  if (!store->server.is_up) {
-    return true;
-  }
+/* A frame goes to the server, or to the commits that go there together. */
+static bool tell(struct store *store, const uint8_t *frame, size_t size) {
   bool put = header_at(frame).kind == KIND_COMMIT ? gather_put(&store->commits, frame, size)
                                                   : server_put(&store->server, frame, size);
   store_moved(store);
   return put;
+}
+
+bool store_put(struct store *store, const uint8_t *frame, size_t size) {
+  if (!store->server.is_up) {
+    return true;
+  }
+  if (window_take(&store->window, frame, size)) {
+    return tell(store, frame, size);
+  }
+  /* While it waits for its turn no commit of it comes. */
+  gather_leave(&store->commits, header_at(frame).client);
+  return true;
+}
+
+/* An ask that was held back goes. */
+static void let_in(void *owner, const uint8_t *ask, size_t size) {
+  struct store *store = owner;
+  struct connection *connection = store->clients[header_at(ask).client];
+  if (store->server.is_up && !tell(store, ask, size) && connection != NULL) {
+    connection_cut(connection, "memory was refused");
+  }
 }
 
 /* Commits that were gathered go. */
@@ -88,6 +107,7 @@ void store_leave(struct store *store, struct connection *connection) {
     say_leaving(store);
     gather_leave(&store->commits, client);
   }
+  window_leave(&store->window, client);
 }
 
 const struct connection *store_welcomed(const struct store *store) {
@@ -107,6 +127,7 @@ void store_hear(struct store *store, const uint8_t *frame, const struct header *
   store->is_done = store->is_done || header->kind == KIND_DONE;
   if (connection != NULL && connection->incarnation == header->incarnation) {
     connection->is_welcomed = connection->is_welcomed || header->kind == KIND_WELCOME;
+    window_hear(&store->window, frame);
     connection_put(connection, frame, HEADER + (size_t)header->body);
   }
 }
@@ -134,6 +155,7 @@ void store_lose(struct store *store) {
 
 void store_clear(struct store *store) {
   gather_clear(&store->commits);
+  window_clear(&store->window);
   store->has_paused = store->is_done = false;
 }
 
@@ -145,10 +167,14 @@ void store_begin(struct store *store, struct gateway *gateway, const struct plac
   store->commits.owner = store;
   store->commits.send = send_commits;
   gather_begin(&store->commits, gateway->loop);
+  store->window.owner = store;
+  store->window.let_in = let_in;
+  window_begin(&store->window, gateway->loop);
   server_begin(&store->server, store);
 }
 
 void store_tick(struct store *store) {
+  window_tick(&store->window);
   gather_tick(&store->commits);
   server_tick(&store->server);
 }

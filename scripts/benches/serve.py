@@ -8,7 +8,7 @@ gateway; `hosts/served.c`, the host in C; a plain server in C, where a page goes
 in a round are written in one SQLite transaction, and 8 bytes go out; and PostgreSQL
 (synchronous_commit on), where a connection updates a row with such a page. Then, with each sync
 five milliseconds longer: eight clients at one store, and at four stores eight each. It prints
-commits a second. With SYNC=MICROSECONDS each sync of all takes so much longer.
+commits a second. Last, clients that fight for two pages (serve_fights.py). With SYNC=MICROSECONDS each sync of all takes so much longer.
 
 It needs the library (that of LIBRARY, else installed by scripts/library, with what stands in
 crates/rughvadi/out if `--built` is said first), `cb_play` (that of PLAY, else built), libuv,
@@ -24,6 +24,7 @@ from pathlib import Path
 
 import building
 import serving
+from benches import serve_fights
 
 CLIENTS = [1, 4, 16, 32]
 SIZE, PAGES = 4096, 64
@@ -43,6 +44,7 @@ class Programs:
     served: Path
     plain: Path
     client: Path
+    fighters: Path
     slow_sync: Path
 
 
@@ -191,6 +193,7 @@ def main(words: list[str]) -> int:
             serving.in_c(building.TOP / "hosts/served.c", room, lib, "-lsqlite3"),
             building.in_c("plain_server", room, "-lsqlite3"),
             serving.in_c(building.PROGRAMS / "c/serve_client.c", room, lib),
+            serving.in_c(building.PROGRAMS / "c/fighters.c", room, lib),
             building.library_in_c("slow_sync", room, "-ldl"),
         )
         if slower := os.environ.get("SYNC"):
@@ -198,4 +201,5 @@ def main(words: list[str]) -> int:
         for number in range(1, int(turns) + 1):
             turn(number, it, room, float(seconds))
             several(number, it, room, float(seconds))
+            serve_fights.turn(number, it, room, float(seconds))
     return 0

@@ -22,6 +22,7 @@
 - The examples: a counter in C by four processes, transfers in Python, keys in Rust in one store and
   in four.
 - The same over datagrams of which a tenth is lost, repeated or late.
+- Clients that fight for the same two pages: few tries are in vain, and each client gets its turns.
 - Kills of the server, the gateway and clients at drawn moments: no commit that was answered is
   lost, no reader sees another sum, and the work goes on after each.
 - Copies by sqlite3's online backup, by `VACUUM INTO` and by a client that reads all pages, while
@@ -350,6 +351,26 @@ def run_copies(tries: Tries, it: Built) -> None:
     tries.told("copies: the store itself", not wrong and status == 0, "\n".join(wrong) or "right")
 
 
+# ---- clients that fight for pages ----
+
+
+def run_fights(tries: Tries, it: Built) -> None:
+    """Clients add to the counters of the same two pages, in one order and in opposite ones: each
+    gets its turns, and few tries are in vain."""
+    program = serving.in_c(building.PROGRAMS / "c/fighters.c", it.room, it.library)
+    for clients, order in ((8, "same"), (6, "opposite"), (32, "opposite")):
+        gateway = it.served(f"fights_{clients}_{order}", limits=(32, 64, 4096, 16, 0))
+        words = [program, gateway.socket, gateway.tokens, "main", clients, 6, order]
+        done = subprocess.run(list(map(str, words)), capture_output=True, text=True, check=False)
+        status = gateway.stop()
+        commits, tried, longest, least, most = map(int, (done.stdout or "0 0 0 0 0").split())
+        counters = [counter_of(gateway, page) for page in (0, 1)]
+        right = status == 0 and counters == [commits, commits] and tried <= 3 * commits
+        right = right and longest <= 20 and least > 0
+        said = f"{commits} commits, {tried} tries, {longest} at most; from {least} to {most} commits"
+        tries.told(f"{clients} clients fight, in {order} order", right, f"{counters}\n{said}")
+
+
 # ---- commits that go together ----
 
 # Clients, microseconds of a sync, of each commit at the server, between two that come and of a
@@ -392,6 +413,7 @@ def main(words: list[str]) -> int:
     with building.a_room() as room:
         it = build(room, built)
         run_gather(tries, it)
+        run_fights(tries, it)
         serve_input.tried(tries, it)
         bad_input.tried(tries, it)
         serve_gateway.tried(tries, it)
