@@ -1,15 +1,13 @@
 /* Listeners, and greetings. A stranger takes no place of those who have a token: who came first and
  * hasn't greeted goes where too many wait, unless his greeting is there to be read. */
 #include "gateway.h"
+#include "listen.h"
 
 #include <arpa/inet.h>
-#include <errno.h>
 #include <netinet/in.h>
+#include <stdio.h>
 #include <string.h>
 #include <sys/socket.h>
-#include <sys/stat.h>
-#include <sys/un.h>
-#include <unistd.h>
 
 /* The greeting, but for the store's name: 8 letters, the version, the name's length and a token. */
 enum { LETTERS = 8, NAME_SIZE_AT = 9, TOKEN_AT = 10, NAME_AT = TOKEN_AT + TOKEN, ANSWER = 40 };
@@ -273,40 +271,8 @@ void doors_begin(struct gateway *gateway) {
   }
 }
 
-/* Takes a socket away that an ended gateway left, and nobody listens to. A file of another kind
- * refuses a connection too, and stays. */
-static void remove_left(const char *path) {
-  struct stat state;
-  struct sockaddr_un address = {.sun_family = AF_UNIX};
-  if (lstat(path, &state) != 0 || !S_ISSOCK(state.st_mode)) {
-    return;
-  }
-  memcpy(address.sun_path, path, strlen(path));
-  int fd = socket(AF_UNIX, SOCK_STREAM | SOCK_CLOEXEC | SOCK_NONBLOCK, 0);
-  if (fd >= 0 && connect(fd, (const struct sockaddr *)&address, sizeof address) != 0
-      && errno == ECONNREFUSED) {
-    unlink(path);
-  }
-  if (fd >= 0) {
-    close(fd);
-  }
-}
-
-/* Binds a Unix socket that its owner alone may use. */
-static int bind_local(struct door *door, const char *path) {
-  if (strlen(path) >= sizeof((struct sockaddr_un *)0)->sun_path) {
-    return UV_ENAMETOOLONG; /* libuv would cut it */
-  }
-  remove_left(path);
-  mode_t before = umask(0177);
-  int fault = uv_pipe_bind(&door->listener.pipe, path);
-  umask(before);
-  return fault;
-}
-
 bool door_open_local(struct door *door, const char *path) {
-  int fault = bind_local(door, path);
-  fault = fault != 0 ? fault : uv_listen(&door->listener.stream, BACKLOG, came);
+  int fault = listen_local(&door->listener.pipe, path, came);
   if (fault != 0) {
     log_line(LEVEL_ERROR, "cannot listen on %s: %s", path, uv_strerror(fault));
   }
@@ -314,15 +280,7 @@ bool door_open_local(struct door *door, const char *path) {
 }
 
 bool door_open_remote(struct door *door, const char *address, int port) {
-  struct sockaddr_storage to;
-  int fault = uv_ip4_addr(address, port, (struct sockaddr_in *)&to);
-  if (fault != 0) {
-    fault = uv_ip6_addr(address, port, (struct sockaddr_in6 *)&to);
-  }
-  if (fault == 0) {
-    fault = uv_tcp_bind(&door->listener.tcp, (const struct sockaddr *)&to, 0);
-  }
-  fault = fault != 0 ? fault : uv_listen(&door->listener.stream, BACKLOG, came);
+  int fault = listen_remote(&door->listener.tcp, address, port, came);
   if (fault != 0) {
     log_line(LEVEL_ERROR, "cannot listen on %s port %d: %s", address, port, uv_strerror(fault));
   }

@@ -6,8 +6,10 @@
 
 #include "gather.h"
 #include "log.h"
+#include "metrics.h"
 #include "outgoing.h"
 #include "owed.h"
+#include "scrape.h"
 #include "server.h"
 #include "settings.h"
 #include "window.h"
@@ -21,8 +23,7 @@ enum {
   UNGREETED_MOST = 64, /* so many connections of a listener may be about to greet, */
   ADDRESS_MOST = 16,   /* and so many of one address */
   ADDRESS = 16,        /* bytes of an address */
-  NAME = 64,           /* what a peer's name may take, with its end */
-  BACKLOG = 1024       /* connections that the system accepts beforehand */
+  NAME = 64            /* what a peer's name may take, with its end */
 };
 
 /* Why a connection goes that hasn't greeted; the first ones are told it by these numbers. */
@@ -104,6 +105,7 @@ struct store {
   struct connection *clients[MOST_CLIENTS];
   uint64_t incarnations[MOST_CLIENTS]; /* the last that was given to each */
   uint64_t leaving[MOST_CLIENTS];      /* the server is to hear of it, so that the former is left */
+  struct metrics metrics;
   struct window window;
   struct gather commits;
   struct server server;
@@ -114,15 +116,17 @@ struct store {
 struct gateway {
   uv_loop_t *loop;
   struct door doors[DOORS];
-  uv_signal_t terminate, interrupt;
+  uv_signal_t terminate, interrupt, hangup;
   uv_prepare_t prepare;
   uv_timer_t tick;
   uint64_t now; /* milliseconds that it has run, in ticks, and never 0: what all waits go by */
+  const char *tokens_path;
   struct tokens tokens;
   struct places places;
   struct store stores[MOST_STORES];
   struct connections connections;
   struct refused refused;
+  struct scrape scrape;
   char **serve;            /* the words that start a server, NULL behind them */
   uint64_t greeting;       /* milliseconds for a greeting, */
   uint64_t patience;       /* and for a frame, from its first byte */
@@ -193,6 +197,9 @@ void store_begin(struct store *store, struct gateway *gateway, const struct plac
 /* An incarnation for a client: one above the clock's microseconds, the floor of its server's life
  * and the last that it had. */
 uint64_t store_incarnation(struct store *store, uint16_t client);
+
+/* Cuts each client whose token isn't the same any more. */
+void store_keep(struct store *store, const struct tokens *former);
 
 /* Gives a place to a connection; one that had it before is cut. */
 void store_enter(struct store *store, struct connection *connection);

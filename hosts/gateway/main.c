@@ -1,4 +1,5 @@
 #include "gateway.h"
+#include "notify.h"
 #include "words.h"
 
 #include <signal.h>
@@ -36,6 +37,8 @@ void gateway_stop(struct gateway *gateway, int status) {
   }
   gateway->is_stopping = true;
   gateway->status = status;
+  notify("STOPPING=1");
+  scrape_close(&gateway->scrape);
   for (size_t at = 0; at < DOORS; at++) {
     door_close(&gateway->doors[at]);
   }
@@ -43,6 +46,22 @@ void gateway_stop(struct gateway *gateway, int status) {
     store_stop(&gateway->stores[at]);
   }
   gateway_look(gateway);
+}
+
+/* Reads the tokens again: who has none any more goes. Where they are wrong the former ones stay. */
+static void reread(uv_signal_t *signal, int number) {
+  struct gateway *gateway = signal->data;
+  struct tokens former = gateway->tokens, read;
+  (void)number;
+  if (!tokens_read(&read, gateway->tokens_path)) {
+    log_line(LEVEL_ERROR, "%s: the tokens stay as they were", gateway->tokens_path);
+    return;
+  }
+  gateway->tokens = read;
+  for (size_t at = 0; at < gateway->places.count; at++) {
+    store_keep(&gateway->stores[at], &former);
+  }
+  log_line(LEVEL_INFO, "%s: the tokens were read again", gateway->tokens_path);
 }
 
 static void signalled(uv_signal_t *signal, int number) {
@@ -73,6 +92,7 @@ static void tick(uv_timer_t *timer) {
     door_tick(&gateway->doors[at]);
   }
   refused_tick(&gateway->refused, gateway->now);
+  scrape_tick(&gateway->scrape);
   LIST_FOREACH(connection, &gateway->connections, others) { connection_tick(connection); }
   for (size_t at = 0; at < gateway->places.count && !gateway->is_stopping; at++) {
     store_tick(&gateway->stores[at]);
@@ -83,6 +103,7 @@ static void tick(uv_timer_t *timer) {
 
 static bool listen_all(struct gateway *gateway, const struct words *words) {
   return (words->socket == NULL || door_open_local(&gateway->doors[LOCAL], words->socket))
+         && (words->metrics == NULL || scrape_begin(&gateway->scrape, gateway, words->metrics))
          && (words->tcp < 0
              || door_open_remote(&gateway->doors[REMOTE], words->address, (int)words->tcp));
 }
@@ -96,12 +117,14 @@ static void begin(struct gateway *gateway) {
   doors_begin(gateway);
   uv_signal_init(gateway->loop, &gateway->terminate);
   uv_signal_init(gateway->loop, &gateway->interrupt);
+  uv_signal_init(gateway->loop, &gateway->hangup);
   uv_prepare_init(gateway->loop, &gateway->prepare);
   uv_timer_init(gateway->loop, &gateway->tick);
-  gateway->terminate.data = gateway->interrupt.data = gateway;
+  gateway->terminate.data = gateway->interrupt.data = gateway->hangup.data = gateway;
   gateway->prepare.data = gateway->tick.data = gateway;
   uv_signal_start(&gateway->terminate, signalled, SIGTERM);
   uv_signal_start(&gateway->interrupt, signalled, SIGINT);
+  uv_signal_start(&gateway->hangup, reread, SIGHUP);
   uv_prepare_start(&gateway->prepare, before_wait);
   uv_timer_start(&gateway->tick, tick, TICK, TICK);
 }
@@ -133,6 +156,7 @@ static int run(struct gateway *gateway, const struct words *words) {
     }
     puts("ready");
     fflush(stdout);
+    notify("READY=1");
   } else {
     gateway->places.count = 0;
     gateway_stop(gateway, 1);
@@ -146,6 +170,7 @@ static int run(struct gateway *gateway, const struct words *words) {
 /* Takes from the words how long it waits, and for what. */
 static void take_words(struct gateway *gateway, const struct words *words) {
   gateway->serve = words->serve;
+  gateway->tokens_path = words->tokens;
   gateway->greeting = (uint64_t)words->greeting * 1000;
   gateway->patience = (uint64_t)words->patience * 1000;
   gateway->silence = (uint64_t)words->silence * 1000;
@@ -165,6 +190,7 @@ int main(int count, char **text) {
     return tokens_make(words.tokens, (unsigned)words.make) ? 0 : 2;
   }
   take_words(&gateway, &words);
+  notify_begin();
   bool right =
       tokens_read(&gateway.tokens, words.tokens)
       && (words.stores != NULL ? places_read(&gateway.places, words.stores)

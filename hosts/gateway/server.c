@@ -383,6 +383,7 @@ static void start(uv_timer_t *timer) {
   int fault = run(server);
   if (fault == 0) {
     server->is_up = true;
+    server->store->metrics.starts++;
     if (!gateway->is_announced) {
       serve(server, 0);
     }

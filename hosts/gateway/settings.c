@@ -114,6 +114,11 @@ int tokens_find(const struct tokens *tokens, const uint8_t *token) {
   return found;
 }
 
+bool tokens_agree(const struct tokens *first, const struct tokens *second, uint16_t client) {
+  return first->is_there[client] == second->is_there[client]
+         && memcmp(first->of[client], second->of[client], TOKEN) == 0;
+}
+
 /* Writes the lines of new tokens. */
 static bool put_tokens(FILE *file, unsigned count) {
   for (unsigned client = 0; client < count; client++) {

@@ -20,6 +20,9 @@ bool tokens_read(struct tokens *tokens, const char *path);
 /* Whose token it is, or -1. It takes as long whatever the token. */
 int tokens_find(const struct tokens *tokens, const uint8_t *token);
 
+/* Whether a client has the same token in both, or in neither one. */
+bool tokens_agree(const struct tokens *first, const struct tokens *second, uint16_t client);
+
 /* Writes a new file of so many tokens, drawn by the system. */
 bool tokens_make(const char *path, unsigned count);
 

@@ -33,9 +33,11 @@ bool store_put(struct store *store, const uint8_t *frame, size_t size) {
   if (!store->server.is_up) {
     return true;
   }
+  metrics_take(&store->metrics, frame, size);
   if (window_take(&store->window, frame, size)) {
     return tell(store, frame, size);
   }
+  metrics_hold(&store->metrics, frame);
   /* While it waits for its turn no commit of it comes. */
   gather_leave(&store->commits, header_at(frame).client);
   return true;
@@ -94,6 +96,7 @@ void store_enter(struct store *store, struct connection *connection) {
   connection->store = store;
   connection->incarnation = store_incarnation(store, client);
   store->clients[client] = connection;
+  store->metrics.of[client].is_seen = true;
   if (store->has_paused) {
     connection_pause(connection);
   }
@@ -108,6 +111,15 @@ void store_leave(struct store *store, struct connection *connection) {
     gather_leave(&store->commits, client);
   }
   window_leave(&store->window, client);
+  metrics_leave(&store->metrics, client);
+}
+
+void store_keep(struct store *store, const struct tokens *former) {
+  for (uint16_t client = 0; client < MOST_CLIENTS; client++) {
+    if (store->clients[client] != NULL && !tokens_agree(former, &store->gateway->tokens, client)) {
+      connection_cut(store->clients[client], "its token was taken back");
+    }
+  }
 }
 
 const struct connection *store_welcomed(const struct store *store) {
@@ -128,6 +140,7 @@ void store_hear(struct store *store, const uint8_t *frame, const struct header *
   if (connection != NULL && connection->incarnation == header->incarnation) {
     connection->is_welcomed = connection->is_welcomed || header->kind == KIND_WELCOME;
     window_hear(&store->window, frame);
+    metrics_hear(&store->metrics, frame, HEADER + (size_t)header->body);
     connection_put(connection, frame, HEADER + (size_t)header->body);
   }
 }

@@ -27,6 +27,8 @@ static const char USAGE[] =
     "  --silence SECONDS         for a client's answer to the server; 0 for ever (30)\n"
     "  --server-silence SECONDS  for a server's answer to a greeting; 0 for ever (60)\n"
     "  --announced               the servers say when they serve, and in which life\n"
+    "  --metrics PATH|PORT       answer what is counted, by HTTP, at a Unix socket or of "
+    "127.0.0.1\n"
     "  --buffer BYTES            that may wait for one client (4194304)\n";
 
 /* An option with a number, and where that goes. */
@@ -69,6 +71,7 @@ static bool take_option(struct words *words, int letter, const char *text) {
     case 's': words->stores = text; return true;
     case 'a': words->address = text; return true;
     case 'u': words->socket = text; return true;
+    case 'e': words->metrics = text; return true;
     case 'n': return words->is_announced = true;
     default: return text != NULL && take_number(words, letter, text);
   }
@@ -77,19 +80,11 @@ static bool take_option(struct words *words, int letter, const char *text) {
 /* Reads the options; how many words there are up to the first that is none, or -1. */
 static int take_options(struct words *words, int count, char **text) {
   static const struct option options[] = {
-      {"tokens", 1, NULL, 'k'},
-      {"stores", 1, NULL, 's'},
-      {"address", 1, NULL, 'a'},
-      {"unix", 1, NULL, 'u'},
-      {"tcp", 1, NULL, 't'},
-      {"greeting", 1, NULL, 'g'},
-      {"patience", 1, NULL, 'p'},
-      {"silence", 1, NULL, 'l'},
-      {"server-silence", 1, NULL, 'r'},
-      {"make-tokens", 1, NULL, 'm'},
-      {"buffer", 1, NULL, 'b'},
-      {"announced", 0, NULL, 'n'},
-      {NULL, 0, NULL, 0},
+      {"tokens", 1, NULL, 'k'},      {"stores", 1, NULL, 's'},  {"address", 1, NULL, 'a'},
+      {"unix", 1, NULL, 'u'},        {"tcp", 1, NULL, 't'},     {"greeting", 1, NULL, 'g'},
+      {"patience", 1, NULL, 'p'},    {"silence", 1, NULL, 'l'}, {"server-silence", 1, NULL, 'r'},
+      {"make-tokens", 1, NULL, 'm'}, {"buffer", 1, NULL, 'b'},  {"announced", 0, NULL, 'n'},
+      {"metrics", 1, NULL, 'e'},     {NULL, 0, NULL, 0},
   };
   for (;;) {
     int letter = getopt_long(count, text, "+", options, NULL);

@@ -5,7 +5,7 @@
 #include <stdbool.h>
 
 struct words {
-  const char *tokens, *stores, *address, *socket;
+  const char *tokens, *stores, *address, *socket, *metrics;
   long tcp, make, greeting, patience, silence, server_silence, buffer; /* tcp: -1 if not said */
   bool is_announced;
   const char *config, *database; /* of one store; none with `stores` */

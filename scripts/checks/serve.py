@@ -14,6 +14,8 @@
   answer and say other things, or frames byte by byte. Servers that announce their lives, or are
   silent; stores that are no files.
 - Commits of too many pages, too few open files, and the mode and owner of files.
+- What operators see and do: what is counted (with Debian's `promtool`, where it is there), lines of
+  the log, tokens that are read again, what the service manager is told, and its unit.
 - How many commits go together, by the gateway's own code over a clock that is no machine's, also
   without that clock; and how much room its buffers keep.
 - A client of a wrapper that holds a page as the server becomes another: it is gone.
@@ -45,7 +47,7 @@ from pathlib import Path
 
 import building
 import serving
-from checks import bad_input, serve_gateway, serve_host, serve_input
+from checks import bad_input, serve_gateway, serve_host, serve_input, serve_operators
 from checks.library import Tries
 from serving import Gateway, wait_for
 
@@ -417,6 +419,7 @@ def main(words: list[str]) -> int:
         serve_input.tried(tries, it)
         bad_input.tried(tries, it)
         serve_gateway.tried(tries, it)
+        serve_gateway.tried(tries, it, serve_operators.SCENES, "serve_operators")
         run_gone(tries, it)
         serve_host.tried(tries, it)
         run_examples(tries, it)

@@ -433,12 +433,11 @@ SCENES = [
 ]
 
 
-def tried(tries, it) -> None:
+def tried(tries, it, scenes=None, name: str = "serve_gateway") -> None:
     """Plays each scene, and looks whether a sanitizer found something."""
-    room = it.room / "serve_gateway"
+    room = it.room / name
     room.mkdir()
-    found = ""
-    for play in SCENES:
+    for play in scenes or SCENES:
         scene = Scene(room, it)
         try:
             right, why = play(scene), scene.logs()[-1000:]
