@@ -115,8 +115,9 @@ void store_leave(struct store *store, struct connection *connection) {
 }
 
 void store_keep(struct store *store, const struct tokens *former) {
-  for (uint16_t client = 0; client < MOST_CLIENTS; client++) {
-    if (store->clients[client] != NULL && !tokens_agree(former, &store->gateway->tokens, client)) {
+  for (unsigned client = 0; client < MOST_CLIENTS; client++) {
+    if (store->clients[client] != NULL
+        && !tokens_agree(former, &store->gateway->tokens, (uint16_t)client)) {
       connection_cut(store->clients[client], "its token was taken back");
     }
   }

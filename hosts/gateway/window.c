@@ -5,7 +5,7 @@
 enum { NOBODY = -1 };
 
 /* A turn has so many transactions; or fewer, if it lasts so long. */
-enum { TURN = 16, TURN_LEAST = 4 };
+enum { TURN = 16, TURN_LEAST = 6 };
 
 /* Nanoseconds. */
 #define MILLISECOND UINT64_C(1000000)

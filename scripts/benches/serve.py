@@ -202,4 +202,5 @@ def main(words: list[str]) -> int:
             turn(number, it, room, float(seconds))
             several(number, it, room, float(seconds))
             serve_fights.turn(number, it, room, float(seconds))
+            serve_fights.beside_strangers(number, it, room, float(seconds))
     return 0

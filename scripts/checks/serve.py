@@ -24,7 +24,8 @@
 - The examples: a counter in C by four processes, transfers in Python, keys in Rust in one store and
   in four.
 - The same over datagrams of which a tenth is lost, repeated or late.
-- Clients that fight for the same two pages: few tries are in vain, and each client gets its turns.
+- Clients that fight for the same two pages: few tries are in vain, and each client gets its turns;
+  by processes, and by the gateway's own code and the library over a clock that is no machine's.
 - Kills of the server, the gateway and clients at drawn moments: no commit that was answered is
   lost, no reader sees another sum, and the work goes on after each.
 - Copies by sqlite3's online backup, by `VACUUM INTO` and by a client that reads all pages, while
@@ -355,6 +356,39 @@ def run_copies(tries: Tries, it: Built) -> None:
 
 # ---- clients that fight for pages ----
 
+# How the turns are modelled: clients, order of the pages, microseconds of a sync, `keep_write`.
+TURNS = [
+    *((count, order, 150, 0) for order in ("same", "opposite") for count in (2, 6, 8, 32)),
+    (32, "same", 3000, 0), (8, "opposite", 30000, 0), (8, "same", 150, 1), (32, "opposite", 150, 1),
+]
+
+
+def run_turns(tries: Tries, it: Built) -> None:
+    """How clients fight, by the library and the gateway's own code over a clock that is no
+    machine's; and that without turns it would be worse."""
+    flags = [f"-I{building.TOP}/hosts/gateway"]
+    model = serving.in_c(building.PROGRAMS / "c/turns_model.c", it.room, it.library, *flags)
+
+    def counts(*words: object) -> list[int]:
+        done = subprocess.run([model, *map(str, words)], capture_output=True, text=True, check=True)
+        return list(map(int, done.stdout.split()))
+
+    def is_fair(clients: int, order: str, sync: int, keep: int, way: str) -> tuple[bool, str]:
+        one = counts(1, order, sync, keep, way)[0]
+        commits, tried, longest, least, _ = counts(clients, order, sync, keep, way)
+        right = commits >= 0.6 * one and tried <= 2 * commits and longest <= 20
+        said = f"{commits / one:.2f} of one client's commits, {tried / commits:.2f} tries a commit"
+        said += f", {longest} at most, the fewest {least * clients / commits:.2f} of a share"
+        return right and 3 * least * clients >= commits, said
+
+    for words in TURNS:
+        tries.told(f"turns: {' '.join(map(str, words))}", *is_fair(*words, "turns"))
+    for words in ((8, "same", 150, 0), (6, "opposite", 150, 0)):
+        right, said = is_fair(*words, "open")
+        tries.told(f"without turns: {' '.join(map(str, words))}", not right, said)
+    own = [counts(8, "own", 150, 0, way) for way in ("open", "turns")]
+    tries.told("turns: clients on pages of their own aren't slowed", own[0] == own[1], f"{own[1]}")
+
 
 def run_fights(tries: Tries, it: Built) -> None:
     """Clients add to the counters of the same two pages, in one order and in opposite ones: each
@@ -415,6 +449,7 @@ def main(words: list[str]) -> int:
     with building.a_room() as room:
         it = build(room, built)
         run_gather(tries, it)
+        run_turns(tries, it)
         run_fights(tries, it)
         serve_input.tried(tries, it)
         bad_input.tried(tries, it)
