@@ -8,7 +8,8 @@ gateway; `hosts/served.c`, the host in C; a plain server in C, where a page goes
 in a round are written in one SQLite transaction, and 8 bytes go out; and PostgreSQL
 (synchronous_commit on), where a connection updates a row with such a page. Then, with each sync
 five milliseconds longer: eight clients at one store, and at four stores eight each. It prints
-commits a second. Last, clients that fight for two pages (serve_fights.py). With SYNC=MICROSECONDS each sync of all takes so much longer.
+commits a second. Last, clients that fight for two pages (serve_fights.py). With SYNC=MICROSECONDS
+each sync of all takes so much longer.
 
 It needs the library (that of LIBRARY, else installed by scripts/library, with what stands in
 crates/rughvadi/out if `--built` is said first), `cb_play` (that of PLAY, else built), libuv,

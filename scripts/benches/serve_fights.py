@@ -17,7 +17,8 @@ from pathlib import Path
 
 import serving
 
-CASES = [(1, "same"), *((count, order) for order in ("same", "opposite") for count in (2, 6, 8, 32)),
+COUNTS = (2, 6, 8, 32)
+CASES = [(1, "same"), *((count, order) for order in ("same", "opposite") for count in COUNTS),
          (8, "own")]
 LIMITS = (32, 64, 4096, 16, 0)
 

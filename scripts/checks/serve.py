@@ -403,7 +403,7 @@ def run_fights(tries: Tries, it: Built) -> None:
         counters = [counter_of(gateway, page) for page in (0, 1)]
         right = status == 0 and counters == [commits, commits] and tried <= 3 * commits
         right = right and longest <= 20 and least > 0
-        said = f"{commits} commits, {tried} tries, {longest} at most; from {least} to {most} commits"
+        said = f"{commits} commits, {tried} tries, {longest} at most; {least} to {most} of each"
         tries.told(f"{clients} clients fight, in {order} order", right, f"{counters}\n{said}")
 
 

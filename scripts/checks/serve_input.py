@@ -363,6 +363,36 @@ def closed_outputs(it: Scene) -> bool:
     return all(right)
 
 
+def reader_goes(it: Scene) -> bool:
+    """Who reads its output is gone before a round: one of Commits alone is written, though no Done
+    goes out; one with something to answer isn't. A gateway that is killed leaves it so."""
+    ask = frame(ASK_READ, 0, 1, struct.pack(">QI", 3, 3))
+    right = []
+    for more, commits in ((b"", 6), (ask, 3)):
+        scene = Scene(it.room, it.play, more="keep_write = 1\n")
+        with subprocess.Popen(scene.words(), stdin=subprocess.PIPE, stdout=subprocess.PIPE,
+                              stderr=subprocess.PIPE) as process:
+            assert process.stdin and process.stdout and process.stderr
+            os.write(process.stdin.fileno(), scene.given(1))
+            frames: list = []
+            while sum(kind == DONE for kind, _, _ in frames) < CLIENTS:
+                frames += cut(frames_of(process.stdout.fileno()))[0]
+            process.stdout.close()
+            # Written at once, it is one round; and with a kept permission a Commit needs no ask.
+            second = b"".join(scene.commit(client, 2, client + 1) for client in range(CLIENTS))
+            os.write(process.stdin.fileno(), more + second)
+            process.stdin.close()
+            said = process.stderr.read()
+        right.append((process.returncode, said, scene.stored()[0]) == (5, b"", commits))
+    return right == [True, True]
+
+
+def frames_of(reader: int) -> bytes:
+    """The next bytes, up to the end of a frame."""
+    found = read_some(reader, HEADER.size)
+    return found + read_some(reader, HEADER.unpack(found)[4])
+
+
 def read_some(reader: int, count: int) -> bytes:
     found = b""
     while len(found) < count and (got := os.read(reader, count - len(found))):
@@ -422,7 +452,8 @@ def limits_of_memory(it: Scene) -> bool:
 
 SCENES = [
     whole_input, byte_by_byte, damaged_frames, strangers, no_header, cut_input, says_again,
-    kept_writes, wrong_configs, stores_that_refuse, full_disk, closed_outputs, unreadable_input,
+    kept_writes, wrong_configs, stores_that_refuse, full_disk, closed_outputs,
+    reader_goes, unreadable_input,
     refused_growths, limits_of_memory,
 ]
 

@@ -162,7 +162,7 @@ def told_manager(scene: Scene) -> bool:
 
 
 def lines_of_the_log(scene: Scene) -> bool:
-    """A line has its time and its level; to the journal the level alone, as the journal reads it."""
+    """A line has its time and its level; to the journal the level alone, as that reads it."""
     plain = scene.gateway()
     answer_to(plain, 20)
     pattern = r"\d{4}-\d\d-\d\dT\d\d:\d\d:\d\d\.\d{3}Z gateway (warning|error|info): .*"

@@ -3,14 +3,14 @@
     scripts/check storm [--built] [KILLS [SEED]]      300 kills without a number
 
 Six clients run transactions on six pages, whose values are all unlike. Meanwhile servers, gateways
-and clients are killed at drawn moments, and strangers come to the gateway: who never greet, who show
-wrong tokens, greet or say frames byte by byte, say half a frame, say what is none, don't read, or
-hold a page and don't answer. The gateway is built with ASan and UBSan. The first half of the kills is
-with kept write permissions, the second without. Then the logs are judged: by the commits' numbers
-each read has the value that the last commit before wrote, or one whose answer nobody heard; who
-ended before another began has the lower number; and the store has what was written last. It needs
-what `scripts/check serve` needs. KEEP names a folder that gets the logs. The status is 1 where
-something is wrong.
+and clients are killed at drawn moments, and strangers come to the gateway: who never greet, who
+show wrong tokens, greet or say frames byte by byte, say half a frame, say what is none, don't read,
+or hold a page and don't answer. The gateway is built with ASan and UBSan. The first half of the
+kills is with kept write permissions, the second without. Then the logs are judged: by the commits'
+numbers each read has the value that the last commit before wrote, or one whose answer nobody heard;
+who ended before another began has the lower number; and the store has what was written last. It
+needs what `scripts/check serve` needs. KEEP names a folder that gets the logs. The status is 1
+where something is wrong.
 """
 from __future__ import annotations
 

@@ -1,10 +1,10 @@
-/* fighters ADDRESS TOKENS STORE PROCESSES SECONDS ORDER [WAIT]: client processes that add one to the
- * counters of two pages in each transaction. By ORDER all take the same pages in the same order
- * (`same`), or every second one in the opposite order (`opposite`), or each has pages of its own
- * (`own`). With WAIT, microseconds, an aborted one waits for a drawn time up to WAIT before it tries
- * again, twice as long for each try in a row, up to 100 milliseconds. It prints how many commits
- * there were, and tries; the most tries of one commit; and the commits of the client with the fewest
- * and with the most. */
+/* fighters ADDRESS TOKENS STORE PROCESSES SECONDS ORDER [WAIT]: client processes that add one to
+ * the counters of two pages in each transaction. By ORDER all take the same pages in the same
+ * order (`same`), or every second one in the opposite order (`opposite`), or each has pages of its
+ * own (`own`). With WAIT, microseconds, an aborted one waits for a drawn time up to WAIT before it
+ * tries again, twice as long for each try in a row, up to 100 milliseconds. It prints how many
+ * commits there were, and tries; the most tries of one commit; and the commits of the client with
+ * the fewest and with the most. */
 #include <rughvadi_connect.h>
 
 #include <poll.h>

@@ -1,9 +1,10 @@
-/* gather_model CLIENTS SYNC EACH BETWEEN THINK [CLOCKLESS]: how many commits go together, by the gateway's own
- * code (gather.c) over a clock of its own. A batch takes the server SYNC microseconds, however long
- * it is, and EACH more for each commit. After its answer its clients' next commits come BETWEEN
- * apart, each later by a drawn time whose mean is THINK. It prints how many commits there were a
- * second, and how many in a batch. With CLOCKLESS the gateway has no clock but its ticks, and what
- * client 0 commits alone is never answered. Nothing in it rests on how busy the machine is. */
+/* gather_model CLIENTS SYNC EACH BETWEEN THINK [CLOCKLESS]: how many commits go together, by the
+ * gateway's own code (gather.c) over a clock of its own. A batch takes the server SYNC
+ * microseconds, however long it is, and EACH more for each commit. After its answer its clients'
+ * next commits come BETWEEN apart, each later by a drawn time whose mean is THINK. It prints how
+ * many commits there were a second, and how many in a batch. With CLOCKLESS the gateway has no
+ * clock but its ticks, and what client 0 commits alone is never answered. Nothing in it rests on
+ * how busy the machine is. */
 #include <stdint.h>
 
 static int is_clockless;

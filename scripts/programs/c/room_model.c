@@ -1,5 +1,6 @@
-/* room_model: how much room the gateway's bytes keep (bytes.c): once a megabyte came, then all but 100
- * bytes were taken; once those were, too; and once ten megabytes came and half of them was taken. */
+/* room_model: how much room the gateway's bytes keep (bytes.c): once a megabyte came, then all but
+ * 100 bytes were taken; once those were, too; and once ten megabytes came and half of them was
+ * taken. */
 #include "bytes.c"
 
 #include <stdio.h>

@@ -1,12 +1,12 @@
-/* turns_model CLIENTS ORDER SYNC KEEP WAY: clients that add one to two pages in each transaction, by
- * the library's server and clients and by the gateway's own code (window.c), over a clock of its own.
- * A frame takes 20 microseconds from a client to the gateway and from there to the server, a batch
- * SYNC microseconds, and a client as long as SLOW_STEP between its calls of the library. By ORDER all
- * take the same pages in one order (`same`), every second one in the opposite order (`opposite`), or
- * each has its own (`own`). KEEP is `keep_write`. By WAY the gateway lets them in by turns (`turns`)
- * or holds nothing back (`open`). It prints the commits of a second, tries, the most tries of one
- * commit, and the commits of the client with the fewest and with the most. Nothing in it rests on how
- * busy the machine is. */
+/* turns_model CLIENTS ORDER SYNC KEEP WAY: clients that add one to two pages in each transaction,
+ * by the library's server and clients and by the gateway's own code (window.c), over a clock of
+ * its own. A frame takes 20 microseconds from a client to the gateway and from there to the
+ * server, a batch SYNC microseconds, and a client as long as SLOW_STEP between its calls of the
+ * library. By ORDER all take the same pages in one order (`same`), every second one in the
+ * opposite order (`opposite`), or each has its own (`own`). KEEP is `keep_write`. By WAY the
+ * gateway lets them in by turns (`turns`) or holds nothing back (`open`). It prints the commits of
+ * a second, tries, the most tries of one commit, and the commits of the client with the fewest and
+ * with the most. Nothing in it rests on how busy the machine is. */
 #include <stdint.h>
 
 static uint64_t clock_now, timer_at = UINT64_MAX;

@@ -3,10 +3,10 @@ wants one that does what no real server does.
 
 Each page is zeros, each ask is granted at once and each Commit is done: so it keeps no promise.
 With --recall each page is called back as soon as it was granted, and each transaction that asks to
-write is to abort.
-With --floor it announces that floor of its life once the file of --wait, if that is said, is there.
-While the file of --mute is there it reads and says nothing. With --hold a process of its own holds
-its output as long as that file is there; with --chatter it says frames meanwhile. With --note the file of that name gets its DATABASE.
+write is to abort. With --floor it announces that floor of its life once the file of --wait, if that
+is said, is there. While the file of --mute is there it reads and says nothing. With --hold a
+process of its own holds its output as long as that file is there; with --chatter it says frames
+meanwhile. With --note the file of that name gets its DATABASE.
 """
 
 from __future__ import annotations

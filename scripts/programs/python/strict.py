@@ -1,12 +1,12 @@
 """strict.py ADDRESS TOKENS CLIENT PAGES SEED LOG: a client whose transactions can be judged from
 outside, until it is killed.
 
-Each transaction reads one to three of the first PAGES pages, and writes some of them, each time with
-a value that was never written before, repeated over the whole page. LOG gets a line of JSON before
-each commit and one behind it: when the transaction began and when it was answered (nanoseconds of
-the machine's clock), its commit's number (0 before it is answered, -1 where it was aborted), and
-what it did: page, `r` or `w`, and the value. It ends with status 3 where a page isn't one value
-repeated, and with 4 where a transaction doesn't read what it wrote.
+Each transaction reads one to three of the first PAGES pages, and writes some of them, each time
+with a value that was never written before, repeated over the whole page. LOG gets a line of JSON
+before each commit and one behind it: when the transaction began and when it was answered
+(nanoseconds of the machine's clock), its commit's number (0 before it is answered, -1 where it was
+aborted), and what it did: page, `r` or `w`, and the value. It ends with status 3 where a page isn't
+one value repeated, and with 4 where a transaction doesn't read what it wrote.
 """
 
 from __future__ import annotations
