@@ -128,7 +128,7 @@ def no_greeting(gateway: Gateway) -> bool:
         other.socket.sendall(b"GET / HTTP/1.1\r\n\r\n")
         closed = other.is_closed() and silent.is_closed() and half.is_closed()
     log = gateway.log()
-    return closed and "no greeting" in log and log.count("it doesn't greet") == 2
+    return closed and "no greeting" in log and "it doesn't greet" in log
 
 
 def wrong_tokens(gateway: Gateway) -> bool:

@@ -140,7 +140,7 @@ def told_of_strangers(scene: Scene) -> bool:
     for _ in range(400):
         with Peer(gateway, None, "127.0.0.9") as peer:
             peer.greeted(bytes(32))
-    wait_for(lambda: " more connections refused" in gateway.log(), 20)
+    wait_for(lambda: " more refused; " in gateway.log(), 20)
     lines = [line for line in gateway.log().splitlines() if "127.0.0.9:" in line]
     counts = [line.split(" more ")[0].split()[-1] for line in lines if " more " in line]
     return 0 < len(lines) < 100 and sum(map(int, counts)) > 0 and "no such token" in lines[0]

@@ -123,6 +123,39 @@ def judged(logs: list[Path], database: Path) -> tuple[list[str], str]:
     return wrong, f"{len(log.done)} commits, {reads} reads, {unheard} unheard writes, {seen} seen"
 
 
+ONE, TWO, THREE = "01" * 8, "02" * 8, "03" * 8
+
+# Lines of a log, what page 0 is stored as, and whether that is to be found wrong.
+HISTORIES = {
+    "a right one": ([[1, 2, 1, [[0, "w", ONE]]], [3, 4, 2, [[0, "r", ONE]]]], ONE, False),
+    "one that reads what was written over": (
+        [[1, 2, 1, [[0, "w", ONE]]], [3, 4, 2, [[0, "w", TWO]]], [5, 6, 3, [[0, "r", ONE]]]],
+        TWO, True),
+    "one that reads what nobody wrote": ([[1, 2, 1, [[0, "r", ONE]]]], ZERO, True),
+    "two commits of a number": (
+        [[1, 2, 1, [[0, "w", ONE]]], [3, 4, 1, [[1, "w", TWO]]]], ONE, True),
+    "one out of real time": ([[5, 6, 1, [[0, "w", ONE]]], [1, 2, 2, [[0, "r", ONE]]]], ONE, True),
+    "an answered commit that isn't stored": ([[1, 2, 1, [[0, "w", ONE]]]], ZERO, True),
+    "an aborted one that was read": (
+        [[1, None, -1, [[0, "w", ONE]]], [3, 4, 1, [[0, "r", ONE]]]], ZERO, True),
+    "an unheard one that was read": (
+        [[1, None, 0, [[0, "w", ONE]]], [3, 4, 2, [[0, "r", ONE]]]], ONE, False),
+    "an unheard one that is stored": ([[1, None, 0, [[0, "w", THREE]]]], THREE, False),
+}
+
+
+def try_the_judge(tries: Tries, room: Path) -> None:
+    """It finds what is wrong, and nothing else."""
+    for place, (name, (lines, stored, is_wrong)) in enumerate(HISTORIES.items()):
+        log, database = room / f"judged_{place}", room / f"judged_{place}.db"
+        log.write_text("".join(json.dumps(line) + "\n" for line in lines))
+        with contextlib.closing(sqlite3.connect(database)) as tables, tables:
+            tables.execute("CREATE TABLE part(no, place, body)")
+            tables.execute("INSERT INTO part VALUES (0, 0, ?)", (bytes.fromhex(stored),))
+        found, _ = judged([log], database)
+        tries.told(f"the judge: {name}", bool(found) == is_wrong, f"{found}")
+
+
 # ---- those who come ----
 
 
@@ -300,6 +333,7 @@ def main(words: list[str]) -> int:
     kills, seed = map(int, numbers + ["300", "1"][len(numbers) :])
     tries = Tries()
     with building.a_room() as room:
+        try_the_judge(tries, room)
         it = build(room, built)
         for keep in (1, 0):
             run(tries, it, keep, (kills + keep) // 2, seed)
