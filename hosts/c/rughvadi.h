@@ -10,7 +10,9 @@
  * takes it out again. A handle is never copied, and its fields are the library's: the host neither
  * reads nor writes them. One call at a time is made on a handle. It may go to another thread, with
  * what it holds, where the host orders the calls: by a lock, a thread's start or join, or a
- * sequentially consistent atomic.
+ * sequentially consistent atomic. A call that takes a const handle changes nothing that a call can
+ * show. It counts as a call all the same, and the handle itself is never const: the object is taken
+ * out of it and put back.
  *
  * What is said. A call may say frames: the server's answers, a client's asks. They are kept in the
  * handle until rughvadi_next has fetched each, the oldest first. Until then every call that may say
@@ -28,6 +30,13 @@
  * of length 0 may be any pointer that isn't null. The library keeps none of them after the call.
  *
  * Sizes. A frame has at most rughvadi_frame_most(&limits) bytes.
+ *
+ * Versions. RUGHVADI_VERSION is the version of these headers, and the number behind the shared
+ * object's name, librughvadi.so.1. While it stays, calls and numbers stay with what they mean, and
+ * structs with their sizes and fields. Calls and numbers may be added, and fields in place of
+ * `reserved` ones, where 0 asks for nothing new. So a program runs with each later library of the
+ * version that it was compiled for; it may meet numbers that it doesn't know. An earlier library
+ * may lack a call that it makes: the linker says so. What breaks this has another number.
  */
 #ifndef RUGHVADI_H
 #define RUGHVADI_H
@@ -233,11 +242,11 @@ uint32_t rughvadi_server_batch(rughvadi_handle *h, uint64_t *number, size_t *pag
 /* A page of the batch, by its place from 0: its number, its version, and its bytes, to the room.
  * OTHER_KIND. NOTHING: there is no batch, or no such place. ROOM: the room isn't as long as a
  * page. */
-uint32_t rughvadi_server_page(rughvadi_handle *h, size_t at, uint8_t *room, size_t len,
+uint32_t rughvadi_server_page(const rughvadi_handle *h, size_t at, uint8_t *room, size_t len,
                               uint32_t *page, uint64_t *version);
 
 /* Whether that commit was made and isn't on disk yet: then rughvadi_server_flushed takes it. */
-bool rughvadi_server_can_flush(rughvadi_handle *h, uint64_t number);
+bool rughvadi_server_can_flush(const rughvadi_handle *h, uint64_t number);
 
 /* The commits up to this number are on disk now, synced: their clients are told.
  * OTHER_KIND, UNFETCHED. RANGE: rughvadi_server_can_flush is false of it. MEMORY. */
@@ -259,7 +268,8 @@ uint32_t rughvadi_server_leave(rughvadi_handle *h, uint32_t client);
  * of since it was made. A server that was made anew has heard of none: then the host has to keep
  * the number, or take the clock.
  * OTHER_KIND. RANGE: as above. */
-uint32_t rughvadi_server_incarnation(rughvadi_handle *h, uint32_t client, uint64_t *incarnation);
+uint32_t rughvadi_server_incarnation(const rughvadi_handle *h, uint32_t client,
+                                     uint64_t *incarnation);
 
 /* ---- a client ---- */
 
@@ -310,19 +320,19 @@ uint32_t rughvadi_client_finish(rughvadi_handle *h);
 uint32_t rughvadi_client_drop(rughvadi_handle *h);
 
 /* What the client says of itself: RUGHVADI_STATUS_.. */
-uint32_t rughvadi_client_status(rughvadi_handle *h);
+uint32_t rughvadi_client_status(const rughvadi_handle *h);
 
 /* How the last transaction ended: RUGHVADI_ENDED_..; *number is its commit's number, else 0. */
-uint32_t rughvadi_client_last(rughvadi_handle *h, uint64_t *number);
+uint32_t rughvadi_client_last(const rughvadi_handle *h, uint64_t *number);
 
 /* The bytes of the client's copy of a page, also outside of a transaction. It is no read, and locks
  * nothing. They are the store's, or what this client's transaction wrote over them, until the
  * server restarts or is told that the client left.
  * OTHER_KIND, RANGE. NOTHING: it has none. ROOM: the room isn't as long as a page. */
-uint32_t rughvadi_client_peek(rughvadi_handle *h, uint32_t page, uint8_t *room, size_t len);
+uint32_t rughvadi_client_peek(const rughvadi_handle *h, uint32_t page, uint8_t *room, size_t len);
 
 /* Whether the open transaction may write the page now, without an ask. */
-bool rughvadi_client_may_write(rughvadi_handle *h, uint32_t page);
+bool rughvadi_client_may_write(const rughvadi_handle *h, uint32_t page);
 
 #ifdef __cplusplus
 }
