@@ -14,14 +14,16 @@ It installs the library in a folder of its own, by `scripts/library`, and runs, 
   a sum over all pages
 - the tests of the Rust crate and of the Python package
 - the examples in C, Rust and Python, at the same time at one server over SQLite
+- programs that are built in a fresh folder over the library after it was moved
+  (scripts/checks/library_hosts.py)
 - that each program in docs/EMBEDDING.md is the file that was run
 
 A line for each, with the last line that it wrote; of one that failed, its last lines. It needs a C
-compiler with the sanitizers, `cargo` and Python; CC, CARGO, RUSTC and RUSTDOC name others. Debian's
-cargo, /usr/bin/cargo, is taken where it is there: the crate is written for its rustc, 1.63. Which
-one was tried has a line of its own. The library is proved first (scripts/library); with --built the
-archive that stands in crates/rughvadi/out is taken. Once that is there it takes some minutes. The
-status is 1 where one failed.
+compiler with the sanitizers, pkg-config, `cargo` and Python; CC, CARGO, RUSTC and
+RUSTDOC name others. Debian's cargo, /usr/bin/cargo, is taken where it is there: the crate is
+written for its rustc, 1.63. Which one was tried has a line of its own. The library is proved first
+(scripts/library); with --built the archive that stands in crates/rughvadi/out is taken. Once that
+is there it takes some minutes. The status is 1 where one failed.
 """
 import os
 import sqlite3
@@ -33,7 +35,8 @@ from pathlib import Path
 from subprocess import DEVNULL
 
 import building
-from checks import docs
+from checks import docs, library_hosts
+from checks.library_hosts import of_rust
 
 FLAGS = ["-std=c11", "-D_GNU_SOURCE", "-g", "-O1", "-Wall", "-Wextra", "-Wpedantic", "-Werror"]
 SANITIZERS = ["-fsanitize=address,undefined", "-fno-sanitize-recover=all"]
@@ -106,12 +109,6 @@ def run_soaks(tries, it, seeds):
     tries.command("links at their end", it.room / "link")
     for seed in range(1, seeds + 1):
         tries.command(f"lossy frames, seed {seed}", it.room / "lossy", seed, 2000)
-
-
-def of_rust(name):
-    """The command: the one that its variable names, else Debian's, else the one in the path."""
-    debians = f"/usr/bin/{name}"
-    return os.environ.get(name.upper()) or (debians if os.path.exists(debians) else name)
 
 
 def run_wrappers(tries, it):
@@ -191,6 +188,7 @@ def tried(room, built, seeds):
         run_soaks(tries, it, seeds)
         run_wrappers(tries, it)
         run_examples(tries, it)
+        library_hosts.tried(tries, it)
         other = docs.other_programs()
         tries.told("programs in docs/EMBEDDING.md", not other, "\n".join(other) or "none differs")
     return tries
