@@ -5,15 +5,7 @@ use std::error::Error;
 use std::os::unix::net::UnixStream;
 use std::time::SystemTime;
 
-const LIMITS: Limits = Limits {
-    clients: 8,
-    pages: 16,
-    page_size: 64,
-    slots: 8,
-    kin: 2,
-    kout: 4,
-    keep_write: false,
-};
+const LIMITS: Limits = Limits::new(8, 16, 64, 8);
 
 /// In a transaction that is open; it is called anew where that is aborted.
 fn count(transaction: &mut Transaction<'_, UnixStream>) -> Result<u64> {
@@ -32,7 +24,7 @@ fn main() -> std::result::Result<(), Box<dyn Error>> {
     // An incarnation that no earlier one of this client had.
     let now = SystemTime::now().duration_since(SystemTime::UNIX_EPOCH)?;
     let stream = UnixStream::connect(&words[1])?;
-    let mut link = Link::open(&LIMITS, client, now.as_nanos() as u64, stream)?;
+    let mut link = Link::open_socket(&LIMITS, client, now.as_nanos() as u64, stream)?;
     for _ in 0..times {
         link.run(count)?;
     }

@@ -5,6 +5,7 @@ use crate::Limits;
 use std::fs;
 use std::io::{self, Read, Write};
 use std::net::TcpStream;
+use std::os::unix::io::{AsRawFd, RawFd};
 use std::os::unix::net::UnixStream;
 use std::path::Path;
 use std::time::Duration;
@@ -81,6 +82,15 @@ impl Stream {
         match self {
             Stream::Local(stream) => stream.set_read_timeout(most),
             Stream::Remote(stream) => stream.set_read_timeout(most),
+        }
+    }
+}
+
+impl AsRawFd for Stream {
+    fn as_raw_fd(&self) -> RawFd {
+        match self {
+            Stream::Local(stream) => stream.as_raw_fd(),
+            Stream::Remote(stream) => stream.as_raw_fd(),
         }
     }
 }
@@ -170,6 +180,7 @@ impl Link<Stream> {
         stream.set_read_timeout(Some(GREETING))?;
         let (client, incarnation, limits) = greet(&mut stream, token, store)?;
         stream.set_read_timeout(Some(TIME_OUT))?;
-        Ok((Link::open(&limits, client, incarnation, stream)?, limits))
+        let link = Link::open_socket(&limits, client, incarnation, stream)?;
+        Ok((link, limits))
     }
 }

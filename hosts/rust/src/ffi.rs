@@ -1,5 +1,5 @@
-//! The calls of `rughvadi.h`, as they are.
-use std::os::raw::c_void;
+//! The calls of `rughvadi.h`, as they are, and the system's `ppoll`.
+use std::os::raw::{c_int, c_long, c_short, c_ulong, c_void};
 
 #[repr(C)]
 pub struct Handle {
@@ -41,7 +41,29 @@ pub struct FrameHead {
     pub incarnation: u64,
 }
 
+#[repr(C)]
+pub struct PollFd {
+    pub fd: c_int,
+    pub events: c_short,
+    pub revents: c_short,
+}
+
+#[repr(C)]
+pub struct TimeSpec {
+    pub seconds: c_long,
+    pub nanoseconds: c_long,
+}
+
+/// That there is something to receive, as `poll.h` has it.
+pub const POLLIN: c_short = 1;
+
 extern "C" {
+    pub fn ppoll(
+        watched: *mut PollFd,
+        count: c_ulong,
+        most: *const TimeSpec,
+        signals: *const c_void,
+    ) -> c_int;
     pub fn rughvadi_version() -> u32;
     pub fn rughvadi_fault_text(fault: u32, room: *mut u8, len: usize, size: *mut usize) -> u32;
     pub fn rughvadi_frame_read(

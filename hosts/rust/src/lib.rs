@@ -30,6 +30,7 @@ mod ffi;
 mod link;
 mod object;
 mod server;
+mod socket;
 
 pub use client::{Client, Ended, Status};
 pub use connect::{read_token, Refusal, Stream, Token};
@@ -58,6 +59,35 @@ pub struct Limits {
 }
 
 impl Limits {
+    /// Limits of a store, where a client's pool has so many slots: `kin` is a quarter of them and
+    /// `kout` half of them, at least 1 each. No write permissions are kept.
+    pub const fn new(clients: u32, pages: u32, page_size: usize, slots: usize) -> Limits {
+        Limits {
+            clients,
+            pages,
+            page_size,
+            slots,
+            kin: if slots < 4 { 1 } else { slots / 4 },
+            kout: if slots < 2 { 1 } else { slots / 2 },
+            keep_write: false,
+        }
+    }
+
+    /// The same with this `kin`.
+    pub const fn with_kin(self, kin: usize) -> Limits {
+        Limits { kin, ..self }
+    }
+
+    /// The same with this `kout`.
+    pub const fn with_kout(self, kout: usize) -> Limits {
+        Limits { kout, ..self }
+    }
+
+    /// The same where clients keep write permissions between transactions, or don't.
+    pub const fn with_keep_write(self, keep_write: bool) -> Limits {
+        Limits { keep_write, ..self }
+    }
+
     fn as_c(&self) -> ffi::Limits {
         ffi::Limits {
             clients: u64::from(self.clients),

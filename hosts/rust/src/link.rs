@@ -1,9 +1,12 @@
 //! A client over a stream, for programs that may block.
 use crate::client::{Client, Ended, Status};
 use crate::error::{Error, Result};
+use crate::socket::comes;
 use crate::Limits;
 use std::fmt;
 use std::io::{ErrorKind, Read, Write};
+use std::os::unix::io::{AsRawFd, RawFd};
+use std::time::Instant;
 
 /// How often it says again what may be lost, before it gives up.
 const TRIES: u32 = 30;
@@ -17,18 +20,45 @@ const ROOM: usize = 65536;
 pub struct Link<S> {
     client: Client,
     stream: S,
+    /// The socket that the stream is, if it is one: it can be asked whether something came.
+    socket: Option<RawFd>,
     gone: bool,
     /// What came and isn't taken yet.
     came: Vec<u8>,
     room: Box<[u8]>,
 }
 
+impl<S: Read + Write + AsRawFd> Link<S> {
+    /// The same as [`Link::open`] over a socket, whose bytes are the link's alone. Such a link
+    /// takes what came as a transaction begins.
+    pub fn open_socket(
+        limits: &Limits,
+        client: u32,
+        incarnation: u64,
+        socket: S,
+    ) -> Result<Link<S>> {
+        let number = socket.as_raw_fd();
+        Link::greet(limits, client, incarnation, socket, Some(number))
+    }
+}
+
 impl<S: Read + Write> Link<S> {
-    /// Greets the server, and waits until the client is welcome.
+    /// Greets the server over a stream of any kind, and waits until the client is welcome.
     pub fn open(limits: &Limits, client: u32, incarnation: u64, stream: S) -> Result<Link<S>> {
+        Link::greet(limits, client, incarnation, stream, None)
+    }
+
+    fn greet(
+        limits: &Limits,
+        client: u32,
+        incarnation: u64,
+        stream: S,
+        socket: Option<RawFd>,
+    ) -> Result<Link<S>> {
         let mut link = Link {
             client: Client::new(limits, client, incarnation)?,
             stream,
+            socket,
             gone: false,
             came: Vec::new(),
             room: vec![0; ROOM].into_boxed_slice(),
@@ -48,11 +78,13 @@ impl<S: Read + Write> Link<S> {
         &self.stream
     }
 
-    /// Begins a transaction, which is dropped where it isn't committed. A program whose
-    /// transactions read held pages alone, and are dropped, receives nothing by them: it calls
-    /// [`Link::serve`] in between, since others may wait for these pages.
+    /// Begins a transaction, which is dropped where it isn't committed. A link over a socket takes
+    /// what came first. Over another stream, a program whose transactions read held pages alone,
+    /// and are dropped, receives nothing by them: it calls [`Link::serve`] in between, since others
+    /// may wait for these pages.
     pub fn transaction(&mut self) -> Result<Transaction<'_, S>> {
         self.check()?;
+        self.serve_until(Instant::now())?;
         self.client.begin()?;
         Ok(Transaction { link: self })
     }
@@ -87,6 +119,19 @@ impl<S: Read + Write> Link<S> {
     fn check(&self) -> Result<()> {
         if self.gone {
             return Err(Error::Closed);
+        }
+        Ok(())
+    }
+
+    /// Takes what comes until that moment; nothing without a socket.
+    fn serve_until(&mut self, until: Instant) -> Result<()> {
+        while let Some(socket) = self.socket {
+            let ready = comes(socket, until);
+            self.gone |= ready.is_err();
+            if !ready? {
+                break;
+            }
+            self.receive()?;
         }
         Ok(())
     }

@@ -214,6 +214,20 @@ fn faults_have_names_and_texts() {
 }
 
 #[test]
+fn limits_have_defaults_that_every_pool_takes() {
+    for slots in [2, 3, 4, 7, 8, 1024] {
+        let limits = Limits::new(8, 16, 64, slots);
+        assert_eq!(limits.kin, (slots / 4).max(1));
+        assert_eq!(limits.kout, (slots / 2).max(1));
+        assert!(!limits.keep_write);
+        assert!(Client::new(&limits, 7, 1).is_ok());
+    }
+    let limits = Limits::new(8, 16, 64, 8).with_kin(3).with_kout(5);
+    assert_eq!((limits.kin, limits.kout), (3, 5));
+    assert!(limits.with_keep_write(true).keep_write);
+}
+
+#[test]
 fn a_client_that_went_away_is_left() {
     let host = Host::new();
     let mut link = open(&host, 1);
