@@ -1,12 +1,10 @@
 #include "rughvadi_link.h"
 
-#include <errno.h>
-#include <limits.h>
-#include <poll.h>
+#include "waiting.h"
+
 #include <stdlib.h>
 #include <string.h>
 #include <sys/socket.h>
-#include <time.h>
 
 /* Makes a buffer at least so large; false where memory was refused. */
 static bool make_room(uint8_t **buffer, size_t *size, size_t needed) {
@@ -22,21 +20,6 @@ static bool make_room(uint8_t **buffer, size_t *size, size_t needed) {
   return true;
 }
 
-static uint32_t send_bytes(int socket, const uint8_t *bytes, size_t len) {
-  while (len > 0) {
-    ssize_t sent = send(socket, bytes, len, MSG_NOSIGNAL);
-    if (sent < 0 && errno == EINTR) {
-      continue;
-    }
-    if (sent < 0) {
-      return errno == EPIPE || errno == ECONNRESET ? RUGHVADI_LINK_CLOSED : RUGHVADI_LINK_SYSTEM;
-    }
-    bytes += sent;
-    len -= (size_t)sent;
-  }
-  return RUGHVADI_DONE;
-}
-
 /* Whether the connection is of no use after this fault. */
 static bool is_last(uint32_t fault) {
   return fault == RUGHVADI_LINK_SYSTEM || fault == RUGHVADI_LINK_CLOSED
@@ -49,84 +32,124 @@ static uint32_t noted(rughvadi_link *link, uint32_t fault) {
   return fault;
 }
 
-/* Fetches and sends all that the client said. */
-static uint32_t send_said(rughvadi_link *link) {
-  for (;;) {
-    size_t size = 0;
-    uint32_t client = 0;
-    uint32_t fault = rughvadi_next(&link->client, link->out, link->out_size, &size, &client);
-    if (fault == RUGHVADI_NOTHING) {
-      return RUGHVADI_DONE;
-    }
-    if (fault == RUGHVADI_ROOM) {
-      if (!make_room(&link->out, &link->out_size, size)) {
-        return RUGHVADI_MEMORY;
-      }
-      continue;
-    }
-    if (fault != RUGHVADI_DONE) {
-      return fault;
-    }
-    fault = send_bytes(link->socket, link->out, size);
-    if (fault != RUGHVADI_DONE) {
-      return noted(link, fault);
+/* Until when the other end may do nothing. */
+static moment patience(const rughvadi_link *link) {
+  bool endless = link->wait_ms < 0 || link->tries < 0;
+  return in_ms(endless ? -1 : ((int64_t)link->tries + 1) * link->wait_ms);
+}
+
+/* Waits until the socket takes bytes again, no longer than for an answer: ETIMEDOUT. */
+static uint32_t await_room(const rughvadi_link *link) {
+  struct pollfd watched = {.fd = link->socket, .events = POLLOUT};
+  int ready = watch_on(&watched, patience(link));
+  if (ready == 0) {
+    errno = ETIMEDOUT;
+  }
+  return ready > 0 ? RUGHVADI_DONE : RUGHVADI_LINK_SYSTEM;
+}
+
+/* Sends so many bytes of the frame that was fetched. */
+static uint32_t send_frame(const rughvadi_link *link, size_t len) {
+  uint32_t fault = RUGHVADI_DONE;
+  for (size_t at = 0; at < len && fault == RUGHVADI_DONE;) {
+    ssize_t sent = send(link->socket, link->out + at, len - at, MSG_NOSIGNAL | MSG_DONTWAIT);
+    if (sent >= 0) {
+      at += (size_t)sent;
+    } else if (errno == EAGAIN || errno == EWOULDBLOCK) {
+      fault = await_room(link);
+    } else if (errno == EPIPE || errno == ECONNRESET) {
+      fault = RUGHVADI_LINK_CLOSED;
+    } else if (errno != EINTR) {
+      fault = RUGHVADI_LINK_SYSTEM;
     }
   }
+  return fault;
+}
+
+/* Fetches the oldest frame that was said, and sends it: RUGHVADI_NOTHING where all is sent. From
+ * before it is fetched until it is sent whole the link is gone. So it stays, whatever ends this
+ * early: a jump out of a signal's handler and the thread's end, too. */
+static uint32_t send_oldest(rughvadi_link *link) {
+  if (link->gone) {
+    return RUGHVADI_LINK_CLOSED;
+  }
+  size_t size = 0;
+  uint32_t client = 0;
+  link->gone = true;
+  uint32_t fault = rughvadi_next(&link->client, link->out, link->out_size, &size, &client);
+  if (fault == RUGHVADI_DONE) {
+    fault = send_frame(link, size);
+  }
+  link->gone = is_last(fault);
+  if (fault != RUGHVADI_ROOM) {
+    return fault;
+  }
+  return make_room(&link->out, &link->out_size, size) ? RUGHVADI_DONE : RUGHVADI_MEMORY;
+}
+
+/* Fetches and sends all that the client said. */
+static uint32_t send_said(rughvadi_link *link) {
+  uint32_t fault;
+  do {
+    fault = send_oldest(link);
+  } while (fault == RUGHVADI_DONE);
+  return fault == RUGHVADI_NOTHING ? RUGHVADI_DONE : fault;
 }
 
 /* Takes each whole frame that came, and sends what is said to it. */
 static uint32_t take_frames(rughvadi_link *link) {
   size_t at = 0;
   uint32_t fault = RUGHVADI_DONE;
-  while (at < link->in_len) {
+  while (at < link->in_len && fault == RUGHVADI_DONE) {
     size_t used = 0;
     fault = rughvadi_take(&link->client, link->in + at, link->in_len - at, &used);
-    if (fault != RUGHVADI_DONE) {
-      break;
-    }
     at += used;
-    fault = send_said(link);
-    if (fault != RUGHVADI_DONE) {
-      break;
+    if (fault == RUGHVADI_DONE) {
+      fault = send_said(link);
     }
   }
-  memmove(link->in, link->in + at, link->in_len - at);
-  link->in_len -= at;
+  if (at > 0) {
+    memmove(link->in, link->in + at, link->in_len - at);
+    link->in_len -= at;
+  }
   return fault == RUGHVADI_FRAME_SHORT ? RUGHVADI_DONE : noted(link, fault);
 }
 
-/* The milliseconds of a clock that nobody sets. */
-static int64_t now_ms(void) {
-  struct timespec now;
-  clock_gettime(CLOCK_MONOTONIC, &now);
-  return (int64_t)now.tv_sec * 1000 + now.tv_nsec / 1000000;
-}
-
-/* Whether there is something to receive within so many milliseconds, or until a signal comes; below
- * 0: an error. */
-static int comes(int socket, int wait_ms) {
-  struct pollfd watched = {.fd = socket, .events = POLLIN};
-  int ready = poll(&watched, 1, wait_ms);
-  return ready < 0 && errno == EINTR ? 0 : ready;
-}
-
-/* Receives what is there and takes it. */
+/* Receives what is there and takes it. What was received has to be noted, as a frame that was
+ * fetched has to be sent: until then the link is gone. */
 static uint32_t receive(rughvadi_link *link) {
+  if (link->gone) {
+    return RUGHVADI_LINK_CLOSED;
+  }
   if (!make_room(&link->in, &link->in_size, link->in_len + 65536)) {
     return RUGHVADI_MEMORY;
   }
-  ssize_t got = recv(link->socket, link->in + link->in_len, link->in_size - link->in_len, 0);
-  if (got < 0 && (errno == EINTR || errno == EAGAIN || errno == EWOULDBLOCK)) {
-    return RUGHVADI_DONE;
+  link->gone = true;
+  ssize_t got = recv(link->socket, link->in + link->in_len, link->in_size - link->in_len,
+                     MSG_DONTWAIT);
+  if (got == 0 || (got < 0 && errno == ECONNRESET)) {
+    return RUGHVADI_LINK_CLOSED;
   }
-  if (got < 0 && errno != ECONNRESET) {
-    return noted(link, RUGHVADI_LINK_SYSTEM);
+  if (got < 0 && errno != EINTR && errno != EAGAIN && errno != EWOULDBLOCK) {
+    return RUGHVADI_LINK_SYSTEM;
   }
-  if (got <= 0) {
-    return noted(link, RUGHVADI_LINK_CLOSED);
+  link->in_len += got > 0 ? (size_t)got : 0;
+  link->gone = false;
+  return got > 0 ? take_frames(link) : RUGHVADI_DONE;
+}
+
+/* Receives all that comes until then; a signal ends the wait where nothing came yet. */
+static uint32_t receive_all(rughvadi_link *link, moment until) {
+  struct pollfd watched = {.fd = link->socket, .events = POLLIN};
+  int ready = watch(&watched, until);
+  while (ready > 0) {
+    uint32_t fault = receive(link);
+    if (fault != RUGHVADI_DONE) {
+      return fault;
+    }
+    ready = watch(&watched, 0);
   }
-  link->in_len += (size_t)got;
-  return take_frames(link);
+  return ready < 0 ? noted(link, RUGHVADI_LINK_SYSTEM) : RUGHVADI_DONE;
 }
 
 uint32_t rughvadi_link_serve(rughvadi_link *link, int wait_ms) {
@@ -134,33 +157,17 @@ uint32_t rughvadi_link_serve(rughvadi_link *link, int wait_ms) {
     return RUGHVADI_LINK_CLOSED;
   }
   uint32_t fault = send_said(link);
-  if (fault != RUGHVADI_DONE) {
-    return fault;
+  if (fault == RUGHVADI_DONE) {
+    /* What a growth was refused for stays, and is taken now. */
+    fault = take_frames(link);
   }
-  /* What a growth was refused for stays, and is taken now. */
-  fault = take_frames(link);
-  if (fault != RUGHVADI_DONE) {
-    return fault;
-  }
-  int ready = comes(link->socket, wait_ms);
-  while (ready > 0) {
-    fault = receive(link);
-    if (fault != RUGHVADI_DONE) {
-      return fault;
-    }
-    ready = comes(link->socket, 0);
-  }
-  return ready < 0 ? noted(link, RUGHVADI_LINK_SYSTEM) : RUGHVADI_DONE;
+  return fault != RUGHVADI_DONE ? fault : receive_all(link, in_ms(wait_ms));
 }
 
-/* Receives once until that time; *came says whether something came. A signal ends no wait. */
-static uint32_t receive_until(rughvadi_link *link, int64_t until, bool *came) {
-  int ready;
-  int64_t left = until - now_ms();
-  do {
-    ready = comes(link->socket, left <= 0 ? 0 : left < INT_MAX ? (int)left : INT_MAX);
-    left = until - now_ms();
-  } while (ready == 0 && left > 0);
+/* Receives once until then; *came says whether something came. A signal ends no wait. */
+static uint32_t receive_until(rughvadi_link *link, moment until, bool *came) {
+  struct pollfd watched = {.fd = link->socket, .events = POLLIN};
+  int ready = watch_on(&watched, until);
   *came = ready > 0;
   if (ready < 0) {
     return noted(link, RUGHVADI_LINK_SYSTEM);
@@ -171,7 +178,7 @@ static uint32_t receive_until(rughvadi_link *link, int64_t until, bool *came) {
 /* Waits while the client has that status, and says again what may be lost. */
 static uint32_t wait_while(rughvadi_link *link, uint32_t status) {
   for (int silent = 0; rughvadi_client_status(&link->client) == status;) {
-    int64_t until = link->wait_ms < 0 ? INT64_MAX : now_ms() + link->wait_ms;
+    moment until = in_ms(link->wait_ms);
     bool came = false;
     uint32_t fault = send_said(link);
     if (fault == RUGHVADI_DONE) {

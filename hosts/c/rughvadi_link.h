@@ -4,7 +4,9 @@
  * A link is used by one thread at a time, as a handle is. Each call answers RUGHVADI_DONE, a fault
  * of rughvadi.h, or one of the faults below. After RUGHVADI_LINK_SYSTEM, _CLOSED and
  * RUGHVADI_FRAME_.. the client is gone: each later call answers RUGHVADI_LINK_CLOSED, also of a
- * page that it holds. Close the link, and open another one in the client's next incarnation.
+ * page that it holds. It is gone, too, where a frame was sent in part when a call was left, as by a
+ * jump out of a signal's handler. Close the link, and open another one in the client's next
+ * incarnation.
  */
 #ifndef RUGHVADI_LINK_H
 #define RUGHVADI_LINK_H
@@ -16,7 +18,8 @@ extern "C" {
 #endif
 
 enum {
-  RUGHVADI_LINK_SYSTEM = 0x401,  /* a system call failed: errno says how */
+  RUGHVADI_LINK_SYSTEM = 0x401,  /* a system call failed: errno says how; ETIMEDOUT where the other
+                                    end took no byte for as long as an answer is awaited */
   RUGHVADI_LINK_CLOSED = 0x402,  /* the server closed the connection */
   RUGHVADI_LINK_ABORTED = 0x403, /* the transaction was the victim of a deadlock: begin again */
   RUGHVADI_LINK_SILENT = 0x404   /* no answer came, however often it was asked */

@@ -1,22 +1,14 @@
 /* link: a link at a gateway and at a server, each a process: the greeting and its refusals, tokens,
- * signals, an answer that comes late, and what is left of a client whose connection ended, also of
- * a page that it holds. */
-#include "parties.h"
-#include "rughvadi_connect.h"
+ * signals, an answer that comes late, an end that reads nothing, and what is left of a client whose
+ * connection ended, also of a page that it holds. */
+#include "processes.h"
 
+#include <errno.h>
 #include <sched.h>
-#include <signal.h>
 #include <sys/resource.h>
-#include <sys/socket.h>
-#include <sys/wait.h>
-#include <unistd.h>
 
-enum { SIZE = 64, GREETING = 8 + 1 + 1 + RUGHVADI_TOKEN + 4, ANSWER = 40 };
-
-static const rughvadi_limits limits = {2, 4, SIZE, 4, 1, 4, 0};
 static int ours, theirs;
-static bool disturbs;
-static int goes_on = -1; /* the server waits there for a byte once it has welcomed a client */
+static int goes_on; /* the server waits there for a byte once it has welcomed a client */
 static volatile sig_atomic_t signals;
 
 static void count_signal(int signal) {
@@ -34,53 +26,10 @@ static void disturb(void) {
   }
 }
 
-/* Sends what the server says. */
-static void send_said(rughvadi_handle *server) {
-  uint8_t room[1024];
-  size_t size;
-  uint32_t client;
-  if (disturbs) {
-    disturb();
-  }
-  while (rughvadi_next(server, room, sizeof room, &size, &client) == RUGHVADI_DONE) {
-    HOLD(send(theirs, room, size, MSG_NOSIGNAL) == (ssize_t)size);
-  }
-}
-
-/* A server with no disk, until the connection ends. */
-static void serve(void) {
-  rughvadi_handle server = RUGHVADI_EMPTY;
-  uint8_t came[4096];
-  size_t count = 0, used;
-  WANT(rughvadi_server_new(&limits, &server));
-  for (ssize_t got = 1; got > 0; count += got > 0 ? (size_t)got : 0) {
-    while (rughvadi_take(&server, came, count, &used) == RUGHVADI_DONE) {
-      count -= used;
-      memmove(came, came + used, count);
-      send_said(&server);
-      char byte;
-      HOLD(goes_on < 0 || read(goes_on, &byte, 1) == 1);
-      goes_on = -1;
-    }
-    got = read(theirs, came + count, sizeof came - count);
-  }
-  rughvadi_free(&server);
-}
-
-/* A gateway that answers a greeting, with so many bytes of the answer. */
-static void answer(uint8_t version, uint8_t what, size_t count) {
-  uint8_t greeting[GREETING], bytes[ANSWER] = {version, what, 0, 1};
-  HOLD(recv(theirs, greeting, sizeof greeting, MSG_WAITALL) == GREETING);
-  HOLD(memcmp(greeting, "rughvadi\1\4", 10) == 0 && memcmp(greeting + 42, "main", 4) == 0);
-  for (int place = 0; place < RUGHVADI_TOKEN; place++) {
-    HOLD(greeting[10 + place] == 7);
-  }
-  static const uint8_t numbers[] = {2, 4, SIZE, 4, 1, 4, 0};
-  for (int place = 0; place < 7 && what == 0; place++) {
-    bytes[15 + 4 * place] = numbers[place];
-  }
-  bytes[11] = what == 0 ? 9 : 0;
-  HOLD(send(theirs, bytes, count, MSG_NOSIGNAL) == (ssize_t)count);
+static void wait_once(void) {
+  char byte;
+  HOLD(read(goes_on, &byte, 1) == 1);
+  behind_frame = NULL;
 }
 
 /* ---- this end ---- */
@@ -90,8 +39,7 @@ static pid_t forked(void) {
   HOLD(socketpair(AF_UNIX, SOCK_STREAM, 0, pair) == 0);
   ours = pair[0];
   theirs = pair[1];
-  pid_t child = fork();
-  HOLD(child >= 0);
+  pid_t child = process();
   if (child == 0) {
     close(ours);
   }
@@ -99,19 +47,18 @@ static pid_t forked(void) {
 }
 
 static void ended(pid_t child) {
-  int status;
   close(ours);
   close(theirs);
-  HOLD(waitpid(child, &status, 0) == child && status == 0);
+  ended_well(child);
 }
 
-static void greet(uint8_t version, uint8_t what, size_t count, uint32_t wanted) {
+static void greet(const uint8_t what[2], size_t count, uint32_t wanted) {
   uint8_t token[RUGHVADI_TOKEN];
   rughvadi_seat seat = {0};
   memset(token, 7, sizeof token);
   pid_t child = forked();
   if (child == 0) {
-    answer(version, what, count);
+    answer(theirs, what, count);
     exit(0);
   }
   close(theirs);
@@ -124,15 +71,15 @@ static void greet(uint8_t version, uint8_t what, size_t count, uint32_t wanted) 
 }
 
 static void greetings(void) {
-  greet(1, 0, ANSWER, RUGHVADI_DONE);
-  greet(1, 1, ANSWER, RUGHVADI_CONNECT_GREETING);
-  greet(1, 2, ANSWER, RUGHVADI_CONNECT_TOKEN);
-  greet(1, 3, ANSWER, RUGHVADI_CONNECT_STORE);
-  greet(1, 4, ANSWER, RUGHVADI_CONNECT_CLIENT);
-  greet(1, 5, ANSWER, RUGHVADI_CONNECT_DOWN);
-  greet(1, 6, ANSWER, RUGHVADI_CONNECT_GREETING);
-  greet(2, 0, ANSWER, RUGHVADI_CONNECT_GREETING);
-  greet(1, 0, ANSWER - 1, RUGHVADI_CONNECT_CLOSED);
+  static const uint32_t wanted[] = {
+      RUGHVADI_DONE,           RUGHVADI_CONNECT_GREETING, RUGHVADI_CONNECT_TOKEN,
+      RUGHVADI_CONNECT_STORE,  RUGHVADI_CONNECT_CLIENT,   RUGHVADI_CONNECT_DOWN,
+      RUGHVADI_CONNECT_GREETING};
+  for (uint8_t what = 0; what < 7; what++) {
+    greet((const uint8_t[]){1, what}, ANSWER, wanted[what]);
+  }
+  greet((const uint8_t[]){2, 0}, ANSWER, RUGHVADI_CONNECT_GREETING);
+  greet((const uint8_t[]){1, 0}, ANSWER - 1, RUGHVADI_CONNECT_CLOSED);
 }
 
 static void put_digits(FILE *file, const char *two, int count) {
@@ -167,7 +114,7 @@ static void tokens(void) {
 static void gone(bool fails) {
   pid_t child = forked();
   if (child == 0) {
-    serve();
+    serve(theirs);
     exit(0);
   }
   rughvadi_link link;
@@ -208,8 +155,8 @@ static void disturbed(void) {
   HOLD(sigaction(SIGUSR1, &told, NULL) == 0);
   pid_t child = forked();
   if (child == 0) {
-    disturbs = true;
-    serve();
+    before_sends = disturb;
+    serve(theirs);
     exit(0);
   }
   rughvadi_link link;
@@ -232,7 +179,8 @@ static void silent(void) {
   pid_t child = forked();
   if (child == 0) {
     goes_on = pair[0];
-    serve();
+    behind_frame = wait_once;
+    serve(theirs);
     exit(0);
   }
   rughvadi_link link;
@@ -254,6 +202,35 @@ static void silent(void) {
   ended(child);
 }
 
+/* The other end reads no more: what was begun can't be sent whole. */
+static void stuffed(void) {
+  int pair[2];
+  HOLD(pipe(pair) == 0);
+  pid_t child = forked();
+  if (child == 0) {
+    goes_on = pair[0];
+    behind_frame = wait_once;
+    serve(theirs);
+    exit(0);
+  }
+  rughvadi_link link;
+  WANT(rughvadi_link_open(&link, &limits, 1, 9, ours));
+  link.wait_ms = link.tries = 1;
+  /* The server waits, and what it doesn't read fills the socket, until no frame fits any more. */
+  uint32_t fault;
+  do {
+    fault = rughvadi_link_begin(&link);
+    fault = fault == RUGHVADI_DONE ? rughvadi_link_drop(&link) : fault;
+  } while (fault == RUGHVADI_DONE);
+  HOLD(fault == RUGHVADI_LINK_SYSTEM && errno == ETIMEDOUT);
+  HOLD(rughvadi_link_begin(&link) == RUGHVADI_LINK_CLOSED);
+  rughvadi_link_close(&link);
+  HOLD(write(pair[1], "", 1) == 1);
+  close(pair[0]);
+  close(pair[1]);
+  ended(child);
+}
+
 int main(void) {
   greetings();
   tokens();
@@ -261,6 +238,7 @@ int main(void) {
   gone(true);
   disturbed();
   silent();
-  puts("nine greetings, tokens, signals, a late answer, and a held page that is gone");
+  stuffed();
+  puts("greetings, tokens, signals, a late answer, a stuffed socket, a held page that is gone");
   return 0;
 }

@@ -16,6 +16,9 @@ const TIME_OUT: Duration = Duration::from_secs(1);
 /// For so long the answer to a greeting is awaited.
 const GREETING: Duration = Duration::from_secs(30);
 
+/// For so long the other end may take no byte of a frame.
+const SEND: Duration = Duration::from_secs(30);
+
 /// What a client shows as it connects.
 pub type Token = [u8; 32];
 
@@ -82,6 +85,14 @@ impl Stream {
         match self {
             Stream::Local(stream) => stream.set_read_timeout(most),
             Stream::Remote(stream) => stream.set_read_timeout(most),
+        }
+    }
+
+    /// For so long a write waits while no byte goes.
+    pub fn set_write_timeout(&self, most: Option<Duration>) -> io::Result<()> {
+        match self {
+            Stream::Local(stream) => stream.set_write_timeout(most),
+            Stream::Remote(stream) => stream.set_write_timeout(most),
         }
     }
 }
@@ -180,6 +191,7 @@ impl Link<Stream> {
         stream.set_read_timeout(Some(GREETING))?;
         let (client, incarnation, limits) = greet(&mut stream, token, store)?;
         stream.set_read_timeout(Some(TIME_OUT))?;
+        stream.set_write_timeout(Some(SEND))?;
         let link = Link::open_socket(&limits, client, incarnation, stream)?;
         Ok((link, limits))
     }

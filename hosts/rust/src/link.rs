@@ -16,7 +16,8 @@ const ROOM: usize = 65536;
 /// A client over a connected stream, which blocks. Where the stream has a time-out for reads, what
 /// may be lost is said again after each. Once the stream failed or ended, or gave what can't be
 /// taken, the client is gone: each later call answers [`Error::Closed`], also of a page that it
-/// holds.
+/// holds. So it is, too, where a frame was sent in part: where the stream's time-out for writes
+/// passed, or a panic left a call of the stream.
 pub struct Link<S> {
     client: Client,
     stream: S,
@@ -136,34 +137,46 @@ impl<S: Read + Write> Link<S> {
         Ok(())
     }
 
-    /// What the stream answered: after a fault of its own it is of no use.
-    fn streamed<T>(&mut self, answer: std::io::Result<T>) -> Result<T> {
-        self.gone |= answer.is_err();
-        Ok(answer?)
-    }
-
+    /// Sends all that the client said. From when a frame is fetched until it is sent whole the link
+    /// is gone. So it stays, whatever ends this early: an error, or a panic of the stream's.
     fn send_said(&mut self) -> Result<()> {
+        self.check()?;
         while let Some(frame) = self.client.next_frame()? {
-            let sent = self.stream.write_all(&frame);
-            self.streamed(sent)?;
+            self.gone = true;
+            self.stream.write_all(&frame)?;
+            self.gone = false;
         }
-        let flushed = self.stream.flush();
-        self.streamed(flushed)
+        self.gone = true;
+        self.stream.flush()?;
+        self.gone = false;
+        Ok(())
     }
 
     /// Receives once, and takes each whole frame; `false` where nothing came in time.
     fn receive(&mut self) -> Result<bool> {
-        let got = match self.stream.read(&mut self.room) {
-            Ok(got) => got,
-            Err(error) => match error.kind() {
-                ErrorKind::WouldBlock | ErrorKind::TimedOut => return Ok(false),
-                ErrorKind::Interrupted => return Ok(true),
-                _ => return self.streamed(Err(error)),
-            },
-        };
-        self.gone = got == 0;
         self.check()?;
+        self.gone = true;
+        let got = match self.stream.read(&mut self.room) {
+            Ok(0) => return Err(Error::Closed),
+            Ok(got) => got,
+            Err(error) => {
+                let kind = error.kind();
+                let is_late = matches!(kind, ErrorKind::WouldBlock | ErrorKind::TimedOut);
+                if !is_late && kind != ErrorKind::Interrupted {
+                    return Err(error.into());
+                }
+                self.gone = false;
+                return Ok(!is_late);
+            }
+        };
+        self.gone = false;
         self.came.extend_from_slice(&self.room[..got]);
+        self.take_frames()?;
+        Ok(true)
+    }
+
+    /// Takes each whole frame that came, and sends what is said to it.
+    fn take_frames(&mut self) -> Result<()> {
         let mut at = 0;
         while at < self.came.len() {
             match self.client.take(&self.came[at..]) {
@@ -177,7 +190,7 @@ impl<S: Read + Write> Link<S> {
             self.send_said()?;
         }
         self.came.drain(..at);
-        Ok(true)
+        Ok(())
     }
 
     /// Waits while the client has that status, and says again what may be lost.

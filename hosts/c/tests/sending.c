@@ -1,0 +1,143 @@
+/* sending: whatever ends the sending of a frame early, the link is gone and sends nothing more. A
+ * scene has each kind of frame that a client says. It is played anew for each of them and for each
+ * count of its bytes: the sending ends there by a jump, as out of a signal's handler, by a system
+ * call that fails, and by an end that takes nothing for as long as an answer is awaited. */
+#include "inside.h"
+
+#include <setjmp.h>
+
+enum { WAIT_MS = 70, TRIES = 2, KINDS = RUGHVADI_KIND_DOWNGRADED };
+enum how { BY_JUMP, BY_ERROR, BY_END, BY_SILENCE, WAYS };
+
+static enum how how;
+static uint32_t kind; /* of the frame whose sending ends early */
+static size_t most;   /* how many of its bytes go before that */
+static bool ended, more;
+static jmp_buf out;
+
+/* The kind of a frame stands in its second byte. */
+static ssize_t end_early(const uint8_t *bytes, size_t len, size_t before) {
+  if (ended) {
+    more = true;
+    return (ssize_t)len;
+  }
+  uint8_t its = before > 1 ? sent[1] : bytes[1 - before];
+  if (its != kind) {
+    return (ssize_t)len;
+  }
+  if (before < most) {
+    return (ssize_t)(most - before);
+  }
+  ended = how != BY_SILENCE;
+  if (how == BY_JUMP) {
+    longjmp(out, 1);
+  }
+  errno = how == BY_ERROR ? EIO : how == BY_END ? EPIPE : EAGAIN;
+  return -1;
+}
+
+#define DO(call)                   \
+  do {                             \
+    uint32_t fault_ = (call);      \
+    if (fault_ != RUGHVADI_DONE) { \
+      return fault_;               \
+    }                              \
+  } while (0)
+
+/* The other client wants to write page 2, which the link read in a transaction that is open. */
+static uint32_t use_a_page(rughvadi_link *link, uint8_t page[SIZE]) {
+  DO(rughvadi_link_begin(link));
+  DO(rughvadi_link_fetch(link, 2, page, SIZE));
+  other_reads(2);
+  other_wants(2);
+  DO(rughvadi_link_serve(link, 0));
+  DO(rughvadi_link_drop(link));
+  other_drops();
+  return RUGHVADI_DONE;
+}
+
+/* Sends a frame of each kind. */
+static uint32_t play(rughvadi_link *link) {
+  uint8_t page[SIZE] = {0};
+  uint64_t number;
+  DO(rughvadi_link_open(link, &limits, OURS, 1, ours));
+  link->wait_ms = WAIT_MS;
+  link->tries = TRIES;
+  DO(rughvadi_link_begin(link));
+  DO(rughvadi_link_fetch(link, 1, page, SIZE));
+  DO(rughvadi_link_put(link, 1, page, SIZE));
+  DO(rughvadi_link_commit(link, &number));
+  /* The permission to write page 1 was kept: the other one reads it, and then wants to write it. */
+  other_reads(1);
+  DO(rughvadi_link_serve(link, 0));
+  other_wants(1);
+  DO(rughvadi_link_serve(link, 0));
+  other_drops();
+  return use_a_page(link, page);
+}
+
+/* Each later call says that the link is gone, and none sends anything. */
+static void hold_gone(rughvadi_link *link) {
+  uint8_t page[SIZE];
+  uint64_t number;
+  HOLD(rughvadi_link_fetch(link, 1, page, SIZE) == RUGHVADI_LINK_CLOSED);
+  HOLD(rughvadi_link_put(link, 1, page, SIZE) == RUGHVADI_LINK_CLOSED);
+  HOLD(rughvadi_link_commit(link, &number) == RUGHVADI_LINK_CLOSED);
+  HOLD(rughvadi_link_drop(link) == RUGHVADI_LINK_CLOSED);
+  HOLD(rughvadi_link_serve(link, 0) == RUGHVADI_LINK_CLOSED);
+  HOLD(rughvadi_link_begin(link) == RUGHVADI_LINK_CLOSED);
+  HOLD(!more);
+}
+
+/* The fault that the call answers whose sending ends so. */
+static void hold_fault(uint32_t fault, int why, int64_t waited) {
+  HOLD(fault == (how == BY_END ? RUGHVADI_LINK_CLOSED : RUGHVADI_LINK_SYSTEM));
+  HOLD(how != BY_SILENCE || (why == ETIMEDOUT && waited >= (TRIES + 1) * WAIT_MS * 1000000ll));
+}
+
+static void play_ended(void) {
+  static rughvadi_link link;
+  ended = more = false;
+  begin_inside();
+  on_send = end_early;
+  if (setjmp(out) == 0) {
+    errno = 0;
+    int64_t began = clock_ns;
+    uint32_t fault = play(&link);
+    int why = errno;
+    hold_fault(fault, why, clock_ns - began);
+    HOLD(how != BY_JUMP);
+  }
+  ended = true;
+  hold_gone(&link);
+  end_inside(&link);
+}
+
+/* How many sendings were ended early. */
+static int end_each(const size_t whole[KINDS + 1]) {
+  int count = 0;
+  for (kind = 1; kind <= KINDS; kind++) {
+    HOLD(whole[kind] > 0);
+    for (most = 0; most < whole[kind]; most++) {
+      play_ended();
+      count++;
+    }
+  }
+  return count;
+}
+
+int main(void) {
+  static rughvadi_link link;
+  begin_inside();
+  WANT(play(&link));
+  end_inside(&link);
+  size_t whole[KINDS + 1];
+  memcpy(whole, lengths, sizeof whole);
+  int count = 0;
+  for (int way = 0; way < WAYS; way++) {
+    how = (enum how)way;
+    count += end_each(whole);
+  }
+  printf("%d sendings of %d kinds of frames ended early, and the link was gone\n", count, KINDS);
+  return 0;
+}
