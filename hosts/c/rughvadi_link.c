@@ -4,7 +4,11 @@
 
 #include <stdlib.h>
 #include <string.h>
+#include <sys/random.h>
 #include <sys/socket.h>
+
+/* Between two tries of a job at most so many nanoseconds pass, at first and in the end. */
+enum { FIRST_PAUSE = 500000, LONGEST_PAUSE = 100000000 };
 
 /* Makes a buffer at least so large; false where memory was refused. */
 static bool make_room(uint8_t **buffer, size_t *size, size_t needed) {
@@ -202,10 +206,19 @@ static uint32_t aborted_or(rughvadi_link *link, uint32_t fault) {
   return gone ? RUGHVADI_LINK_ABORTED : fault;
 }
 
+/* Where the numbers begin that a link draws its pauses from: other than 0, and of its own. */
+static uint64_t first_draw(void) {
+  uint64_t drawn = 0;
+  if (getrandom(&drawn, sizeof drawn, GRND_NONBLOCK) != (ssize_t)sizeof drawn) {
+    drawn = (uint64_t)now();
+  }
+  return drawn | 1;
+}
+
 uint32_t rughvadi_link_open(rughvadi_link *link, const rughvadi_limits *limits, uint32_t client,
                             uint64_t incarnation, int socket) {
   *link = (rughvadi_link){.socket = socket, .wait_ms = 1000, .tries = 30,
-                          .page_size = (size_t)limits->page_size};
+                          .page_size = (size_t)limits->page_size, .draws = first_draw()};
   uint32_t fault = rughvadi_client_new(limits, client, incarnation, &link->client);
   if (fault == RUGHVADI_DONE && !make_room(&link->out, &link->out_size, 64)) {
     fault = RUGHVADI_MEMORY;
@@ -329,21 +342,65 @@ uint32_t rughvadi_link_drop(rughvadi_link *link) {
   return aborted_or(link, fault) == RUGHVADI_LINK_ABORTED ? RUGHVADI_DONE : fault;
 }
 
-uint32_t rughvadi_link_run(rughvadi_link *link, rughvadi_link_job job, void *context,
-                           uint64_t *number) {
-  for (;;) {
-    uint32_t fault = rughvadi_link_begin(link);
+/* Does the job once, in a transaction that ends with it. */
+static uint32_t try_job(rughvadi_link *link, rughvadi_link_job job, void *context,
+                        uint64_t *number) {
+  uint32_t fault = rughvadi_link_begin(link);
+  if (fault != RUGHVADI_DONE) {
+    return fault;
+  }
+  fault = job(link, context);
+  if (fault == RUGHVADI_DONE) {
+    return rughvadi_link_commit(link, number);
+  }
+  rughvadi_link_drop(link);
+  return fault;
+}
+
+/* The next of numbers that look random. */
+static uint64_t drawn(rughvadi_link *link) {
+  link->draws ^= link->draws << 13;
+  link->draws ^= link->draws >> 7;
+  return link->draws ^= link->draws << 17;
+}
+
+/* When the next try begins, after so many of them were aborted: within a bound that doubles with
+ * each, and any moment within it is as likely as another. So those who aborted each other part. */
+static moment next_try(rughvadi_link *link, uint32_t aborted) {
+  uint64_t most = aborted < 9 ? (uint64_t)FIRST_PAUSE << (aborted - 1) : LONGEST_PAUSE;
+  return now() + (moment)(drawn(link) % (most + 1));
+}
+
+/* Takes what comes until then: others wait for the pages that the client holds. */
+static uint32_t pause_until(rughvadi_link *link, moment until) {
+  uint32_t fault;
+  bool came;
+  do {
+    fault = receive_until(link, until, &came);
+  } while (fault == RUGHVADI_DONE && now() < until);
+  return fault;
+}
+
+uint32_t rughvadi_link_run_within(rughvadi_link *link, rughvadi_link_job job, void *context,
+                                  const rughvadi_link_bound *bound, uint64_t *number) {
+  moment end = bound->time_ms == 0 ? NEVER : in_ms(bound->time_ms);
+  for (uint32_t tries = 1;; tries++) {
+    uint32_t fault = try_job(link, job, context, number);
+    if (fault != RUGHVADI_LINK_ABORTED || tries == bound->tries) {
+      return fault;
+    }
+    moment next = next_try(link, tries);
+    if (next > end) {
+      return fault;
+    }
+    fault = pause_until(link, next);
     if (fault != RUGHVADI_DONE) {
       return fault;
     }
-    fault = job(link, context);
-    if (fault == RUGHVADI_DONE) {
-      fault = rughvadi_link_commit(link, number);
-    } else if (fault != RUGHVADI_LINK_ABORTED) {
-      rughvadi_link_drop(link);
-    }
-    if (fault != RUGHVADI_LINK_ABORTED) {
-      return fault;
-    }
   }
+}
+
+uint32_t rughvadi_link_run(rughvadi_link *link, rughvadi_link_job job, void *context,
+                           uint64_t *number) {
+  return rughvadi_link_run_within(link, job, context, &(rughvadi_link_bound){0}, number);
 }

@@ -37,6 +37,7 @@ typedef struct {
   size_t out_size;
   uint8_t *in; /* what came and isn't taken yet */
   size_t in_size, in_len;
+  uint64_t draws; /* that pauses are drawn from */
 } rughvadi_link;
 
 /* Opens a link over a connected socket, greets the server and waits until the client is welcome.
@@ -74,10 +75,23 @@ uint32_t rughvadi_link_serve(rughvadi_link *link, int wait_ms);
 /* What a job does in a transaction that is open: RUGHVADI_DONE where it is to be committed. */
 typedef uint32_t (*rughvadi_link_job)(rughvadi_link *link, void *context);
 
-/* Begins a transaction, does the job in it and commits; all anew as often as it is aborted. Where
- * the job answers another fault the transaction is dropped, and the fault is answered. */
+/* Begins a transaction, does the job in it and commits; all anew as often as it is aborted, and as
+ * the job answers RUGHVADI_LINK_ABORTED. Between two tries a moment passes, in which the link takes
+ * what comes. It is drawn evenly from nothing to a bound, which is half a millisecond at first and
+ * twice as long after each try, up to a tenth of a second. Where the job answers another fault the
+ * transaction is dropped, and the fault is answered. */
 uint32_t rughvadi_link_run(rughvadi_link *link, rughvadi_link_job job, void *context,
                            uint64_t *number);
+
+/* How far rughvadi_link_run_within goes on; 0: there is no such bound. */
+typedef struct {
+  uint32_t tries;   /* so many tries at most */
+  uint32_t time_ms; /* no try but the first begins later than so many milliseconds after the call */
+} rughvadi_link_bound;
+
+/* The same within a bound: RUGHVADI_LINK_ABORTED where it is reached. Nothing is committed then. */
+uint32_t rughvadi_link_run_within(rughvadi_link *link, rughvadi_link_job job, void *context,
+                                  const rughvadi_link_bound *bound, uint64_t *number);
 
 #ifdef __cplusplus
 }

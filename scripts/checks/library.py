@@ -8,7 +8,7 @@ It installs the library in a folder of its own, by `scripts/library`, and runs, 
 - a million random calls, with damaged frames, by a program that is built with ASan and UBSan; after
   each that is refused all is as it was
 - a link in C: greetings that are answered and refused, signals, and that it is gone with its
-  connection, and wherever the sending of a frame ends early
+  connection, and wherever the sending of a frame ends early; the tries of a job
 - a server and two clients in one process, over frames of which a tenth is lost, repeated or late,
   for so many seeds (10 if not said; an odd one keeps write permissions): each transaction checks
   a sum over all pages
@@ -41,7 +41,7 @@ from checks.library_hosts import of_rust
 FLAGS = ["-std=c11", "-D_GNU_SOURCE", "-g", "-O1", "-Wall", "-Wextra", "-Wpedantic", "-Werror"]
 SANITIZERS = ["-fsanitize=address,undefined", "-fno-sanitize-recover=all"]
 HOSTS = building.TOP / "hosts"
-SOAKS = ["lossy", "random_calls", "refused_growths", "link", "sending"]
+SOAKS = ["lossy", "random_calls", "refused_growths", "link", "sending", "tries"]
 EACH = 100
 
 
@@ -108,6 +108,7 @@ def run_soaks(tries, it, seeds):
     tries.command("random calls", it.room / "random_calls", 1, 1_000_000)
     tries.command("links at their end", it.room / "link")
     tries.command("sendings that end early", it.room / "sending")
+    tries.command("tries of a job", it.room / "tries")
     for seed in range(1, seeds + 1):
         tries.command(f"lossy frames, seed {seed}", it.room / "lossy", seed, 2000)
 

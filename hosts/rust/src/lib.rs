@@ -35,7 +35,7 @@ mod socket;
 pub use client::{Client, Ended, Status};
 pub use connect::{read_token, Refusal, Stream, Token};
 pub use error::{Error, Result};
-pub use link::{Link, Transaction};
+pub use link::{Bound, Link, Transaction};
 pub use server::{Batch, BatchPage, Server};
 
 /// The limits of one store. Its server and its clients have all but `slots`, `kin` and `kout` in

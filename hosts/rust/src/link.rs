@@ -3,15 +3,38 @@ use crate::client::{Client, Ended, Status};
 use crate::error::{Error, Result};
 use crate::socket::comes;
 use crate::Limits;
+use std::collections::hash_map::RandomState;
 use std::fmt;
+use std::hash::{BuildHasher, Hasher};
 use std::io::{ErrorKind, Read, Write};
 use std::os::unix::io::{AsRawFd, RawFd};
-use std::time::Instant;
+use std::time::{Duration, Instant};
 
 /// How often it says again what may be lost, before it gives up.
 const TRIES: u32 = 30;
 /// How many bytes are received at once.
 const ROOM: usize = 65536;
+
+/// Between two tries of a job no more than this passes, after the first and in the end.
+const FIRST_PAUSE: Duration = Duration::from_micros(500);
+const LONGEST_PAUSE: Duration = Duration::from_millis(100);
+
+/// How far [`Link::run_within`] goes on; `None`: there is no such bound.
+#[derive(Clone, Copy, Debug, Default, PartialEq, Eq)]
+pub struct Bound {
+    /// So many tries at most.
+    pub tries: Option<u32>,
+    /// No try but the first begins later than this after the call.
+    pub time: Option<Duration>,
+}
+
+impl Bound {
+    /// Whether no try begins at that moment, after so many of them.
+    fn is_reached(&self, tries: u32, after: Duration) -> bool {
+        self.tries.map_or(false, |most| tries >= most)
+            || self.time.map_or(false, |most| after > most)
+    }
+}
 
 /// A client over a connected stream, which blocks. Where the stream has a time-out for reads, what
 /// may be lost is said again after each. Once the stream failed or ended, or gave what can't be
@@ -27,11 +50,13 @@ pub struct Link<S> {
     /// What came and isn't taken yet.
     came: Vec<u8>,
     room: Box<[u8]>,
+    /// What pauses are drawn from; not 0.
+    draws: u64,
 }
 
 impl<S: Read + Write + AsRawFd> Link<S> {
     /// The same as [`Link::open`] over a socket, whose bytes are the link's alone. Such a link
-    /// takes what came as a transaction begins.
+    /// takes what came as a transaction begins, and between the tries of a job.
     pub fn open_socket(
         limits: &Limits,
         client: u32,
@@ -63,6 +88,7 @@ impl<S: Read + Write> Link<S> {
             gone: false,
             came: Vec::new(),
             room: vec![0; ROOM].into_boxed_slice(),
+            draws: RandomState::new().build_hasher().finish() | 1,
         };
         link.client.hello()?;
         link.wait_while(Status::NotWelcome)?;
@@ -90,23 +116,61 @@ impl<S: Read + Write> Link<S> {
         Ok(Transaction { link: self })
     }
 
-    /// Does the job in a transaction and commits it, all anew as often as it is aborted; what the
-    /// job answered, and the commit's number.
+    /// Does the job in a transaction and commits it, all anew as often as it is aborted, and as the
+    /// job answers [`Error::Aborted`]; what the job answered, and the commit's number. Over a
+    /// socket a moment passes between two tries, in which the link takes what comes. It is drawn
+    /// evenly from nothing to a bound, which is half a millisecond at first and twice as long after
+    /// each try, up to a tenth of a second.
     pub fn run<T>(
         &mut self,
+        job: impl FnMut(&mut Transaction<'_, S>) -> Result<T>,
+    ) -> Result<(T, u64)> {
+        self.run_within(Bound::default(), job)
+    }
+
+    /// The same within a bound: [`Error::Aborted`] where it is reached. Nothing is committed then.
+    pub fn run_within<T>(
+        &mut self,
+        bound: Bound,
         mut job: impl FnMut(&mut Transaction<'_, S>) -> Result<T>,
     ) -> Result<(T, u64)> {
+        let begun = Instant::now();
+        let mut tries = 0;
         loop {
-            let mut transaction = self.transaction()?;
-            let ended = match job(&mut transaction) {
-                Ok(answer) => transaction.commit().map(|number| (answer, number)),
-                Err(error) => Err(error),
-            };
-            match ended {
-                Err(Error::Aborted) => {}
-                other => return other,
+            let ended = self.try_job(&mut job);
+            if !matches!(ended, Err(Error::Aborted)) {
+                return ended;
             }
+            tries += 1;
+            let next = Instant::now() + self.pause(tries);
+            if bound.is_reached(tries, next - begun) {
+                return ended;
+            }
+            self.serve_until(next)?;
         }
+    }
+
+    fn try_job<T>(
+        &mut self,
+        job: &mut impl FnMut(&mut Transaction<'_, S>) -> Result<T>,
+    ) -> Result<(T, u64)> {
+        let mut transaction = self.transaction()?;
+        let answer = job(&mut transaction)?;
+        Ok((answer, transaction.commit()?))
+    }
+
+    /// How long the next try waits, after so many of them were aborted. Those who aborted each
+    /// other part so. Without a socket it would hold others up meanwhile: it doesn't wait.
+    fn pause(&mut self, aborted: u32) -> Duration {
+        if self.socket.is_none() {
+            return Duration::ZERO;
+        }
+        self.draws ^= self.draws << 13;
+        self.draws ^= self.draws >> 7;
+        self.draws ^= self.draws << 17;
+        let most = FIRST_PAUSE.saturating_mul(1 << (aborted - 1).min(16));
+        let most = most.min(LONGEST_PAUSE).as_nanos() as u64;
+        Duration::from_nanos(self.draws % (most + 1))
     }
 
     /// Takes what the stream gives next: others wait for the pages that the client holds until it
