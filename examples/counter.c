@@ -1,8 +1,9 @@
-/* counter ADDRESS TOKENS CLIENT TIMES: adds one to a counter that many processes share, so often.
+/* counter ADDRESSES TOKENS CLIENT TIMES: adds one to a counter that many processes share, so often.
  *
- * Page 0 of the store has the counter, and behind it how often each client has added to it. By its
- * own number a client that had to connect anew knows whether its last commit was done, though no
- * answer came. So the counter is right whatever is killed meanwhile.
+ * ADDRESSES are those of the store's gateways, with commas between them: where a connection ends it
+ * goes on at the next one. Page 0 of the store has the counter, and behind it how often each client
+ * has added to it. By its own number a client that had to connect anew knows whether its last commit
+ * was done, though no answer came. So the counter is right whatever is killed meanwhile.
  */
 #include <rughvadi_connect.h>
 
@@ -10,7 +11,6 @@
 #include <stdlib.h>
 #include <string.h>
 #include <time.h>
-#include <unistd.h>
 
 enum { PAGE = 0, MOST_SIZE = 65536 };
 
@@ -65,11 +65,11 @@ static uint32_t add_all(rughvadi_link *link, struct work *work, uint64_t times) 
 }
 
 /* Connects once, and adds. */
-static uint32_t visit(const char *address, const uint8_t *token, struct work *work,
+static uint32_t visit(rughvadi_gateways *gateways, const uint8_t *token, struct work *work,
                       uint64_t times) {
   rughvadi_link link;
   rughvadi_seat seat;
-  uint32_t fault = rughvadi_link_connect(&link, address, token, "main", &seat);
+  uint32_t fault = rughvadi_link_connect_next(&link, gateways, token, "main", &seat);
   if (fault != RUGHVADI_DONE) {
     return fault;
   }
@@ -81,30 +81,30 @@ static uint32_t visit(const char *address, const uint8_t *token, struct work *wo
     fault = add_all(&link, work, times);
   }
   rughvadi_link_close(&link);
-  close(link.socket);
   return fault;
 }
 
-/* Whether the server may be there again in a moment. */
+/* Whether a server may be there in a moment, here or at another address. */
 static bool is_gone(uint32_t fault) {
   return fault == RUGHVADI_LINK_CLOSED || fault == RUGHVADI_LINK_SYSTEM
-         || fault == RUGHVADI_CONNECT_DOWN;
+         || fault == RUGHVADI_LINK_SILENT || fault == RUGHVADI_CONNECT_DOWN;
 }
 
 int main(int count, char **words) {
   if (count != 5) {
-    fputs("counter ADDRESS TOKENS CLIENT TIMES\n", stderr);
+    fputs("counter ADDRESSES TOKENS CLIENT TIMES\n", stderr);
     return 2;
   }
   uint8_t token[RUGHVADI_TOKEN];
   struct work work = {0};
+  rughvadi_gateways gateways = {.addresses = words[1]};
   uint32_t fault = rughvadi_token_read(words[2], (uint32_t)atoi(words[3]), token);
   for (int tries = 0; fault == RUGHVADI_DONE; tries++) {
-    fault = visit(words[1], token, &work, strtoull(words[4], NULL, 10));
+    fault = visit(&gateways, token, &work, strtoull(words[4], NULL, 10));
     if (!is_gone(fault) || tries == 100) {
       break;
     }
-    nanosleep(&(struct timespec){.tv_nsec = 100 * 1000 * 1000}, NULL);
+    nanosleep(&(struct timespec){.tv_nsec = 100000000}, NULL);
     fault = RUGHVADI_DONE;
   }
   if (fault != RUGHVADI_DONE) {

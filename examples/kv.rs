@@ -1,4 +1,7 @@
-//! kv ADDRESS TOKENS CLIENT STORE[,STORE..] (put KEY VALUE | get KEY | delete KEY | fill COUNT)
+//! kv ADDRESSES TOKENS CLIENT STORE[,STORE..] (put KEY VALUE | get KEY | delete KEY | fill COUNT)
+//!
+//! ADDRESSES are those of the stores' gateways, with commas between them: where a connection ends
+//! it goes on at the next one.
 //!
 //! Values by keys, on pages: a hash of one level. A key's hash says in which of the stores it is,
 //! and on which page there; a page has its entries one after another. `fill` puts the keys k0, k1,
@@ -6,7 +9,7 @@
 //!
 //! Each store has a thread of its own. It goes on to answer the store's server while the others
 //! wait: a client that holds pages of one store and waits at another would else hold up everybody.
-use rughvadi::{read_token, Error, Limits, Link, Refusal, Result, Stream, Token};
+use rughvadi::{read_token, Error, Gateways, Limits, Link, Refusal, Result, Stream, Token};
 use std::env;
 use std::process::exit;
 use std::sync::mpsc::{channel, Receiver, RecvTimeoutError, Sender};
@@ -94,9 +97,7 @@ struct Request {
 
 /// A store, and the link to it while there is one.
 struct Store {
-    address: String,
-    token: Token,
-    name: String,
+    gateways: Gateways,
     link: Option<(Link<Stream>, Limits)>,
 }
 
@@ -143,7 +144,7 @@ impl Store {
 
     fn try_answer(&mut self, key: &str, what: &What) -> Result<Option<String>> {
         if self.link.is_none() {
-            self.link = Some(Link::connect(&self.address, &self.token, &self.name)?);
+            self.link = Some(self.gateways.connect()?);
         }
         let (link, limits) = self.link.as_mut().ok_or(Error::Closed)?;
         let page = (hash(key) >> 32) as u32 % limits.pages;
@@ -178,12 +179,10 @@ struct Map {
 }
 
 impl Map {
-    fn new(address: &str, token: Token, names: &str) -> Map {
+    fn new(addresses: &str, token: &Token, names: &str) -> Map {
         let begun = |name: &str| {
             let store = Store {
-                address: address.to_string(),
-                token,
-                name: name.to_string(),
+                gateways: Gateways::new(addresses, token, name),
                 link: None,
             };
             let (sender, receiver) = channel();
@@ -232,12 +231,12 @@ fn fill(map: &Map, count: u64) -> Result<bool> {
 }
 
 fn run(words: &[&str]) -> Result<bool> {
-    let (address, tokens, client, stores, what) = match words {
-        [address, tokens, client, stores, what @ ..] => (address, tokens, client, stores, what),
+    let (addresses, tokens, client, stores, what) = match words {
+        [addresses, tokens, client, stores, what @ ..] => (addresses, tokens, client, stores, what),
         _ => return Ok(false),
     };
     let token = read_token(tokens, client.parse().unwrap_or(u32::MAX))?;
-    let map = Map::new(address, token, stores);
+    let map = Map::new(addresses, &token, stores);
     match what {
         ["put", key, value] if !key.is_empty() && key.len() < MOST && value.len() < MOST => {
             awaited(&map.ask(key, What::Put(value.to_string())))?;

@@ -1,10 +1,10 @@
 #include "rughvadi_connect.h"
 
-#include <errno.h>
+#include "waiting.h"
+
 #include <netdb.h>
 #include <netinet/in.h>
 #include <netinet/tcp.h>
-#include <poll.h>
 #include <stdio.h>
 #include <stdlib.h>
 #include <string.h>
@@ -14,9 +14,13 @@
 
 /* The greeting, but for the store's name: 8 letters, the version, the name's length and a token. */
 enum { LETTERS = 8, VERSION = 1, TOKEN_AT = 10, NAME_AT = TOKEN_AT + RUGHVADI_TOKEN, NAME = 63 };
-enum { ANSWER = 40, ANSWERS = 6 };
-/* For so long each part of the answer is awaited. */
-enum { WAIT_MS = 30000 };
+enum { ANSWER = 40, ANSWERS = 6, DIGITS = 2 * RUGHVADI_TOKEN };
+/* For so long a connection and the answer to a greeting are awaited. */
+enum { CONNECT_MS = 5000, GREETING_MS = 10000 };
+/* After so many seconds of silence the other end is asked whether it is there, and so often. */
+enum { ASK_AFTER = 5, ASKS = 3 };
+/* A host, a port, or a path has no more bytes than this. */
+enum { ADDRESS = 256 };
 
 static uint64_t number_at(const uint8_t *at, size_t count) {
   uint64_t number = 0;
@@ -31,11 +35,11 @@ static uint64_t number_at(const uint8_t *at, size_t count) {
 /* A token from its digits, which are hexadecimal and no more than it has. */
 static bool token_of(uint8_t token[RUGHVADI_TOKEN], const char *digits) {
   static const char known[] = "0123456789abcdef0123456789ABCDEF";
-  if (strlen(digits) != 2 * RUGHVADI_TOKEN) {
+  if (strlen(digits) != DIGITS) {
     return false;
   }
   memset(token, 0, RUGHVADI_TOKEN);
-  for (size_t place = 0; place < 2 * RUGHVADI_TOKEN; place++) {
+  for (size_t place = 0; place < DIGITS; place++) {
     const char *digit = strchr(known, digits[place]);
     if (digit == NULL) {
       return false;
@@ -50,7 +54,7 @@ uint32_t rughvadi_token_read(const char *path, uint32_t client, uint8_t token[RU
   if (file == NULL) {
     return RUGHVADI_CONNECT_SYSTEM;
   }
-  char line[256], digits[2 * RUGHVADI_TOKEN + 2];
+  char line[256], digits[DIGITS + 2];
   unsigned number;
   bool found = false;
   while (!found && fgets(line, sizeof line, file) != NULL) {
@@ -63,63 +67,130 @@ uint32_t rughvadi_token_read(const char *path, uint32_t client, uint8_t token[RU
 
 /* ---- sockets ---- */
 
-static int dial_local(const char *path) {
+/* Closes a socket, and leaves errno as it was. */
+static void let_go(int socket) {
+  int fault = errno;
+  close(socket);
+  errno = fault;
+}
+
+static bool set(int socket, int level, int option, int value) {
+  return setsockopt(socket, level, option, &value, sizeof value) == 0;
+}
+
+/* Bounds what the system waits for as it connects or sends; 0: there is no bound. */
+static bool bound_sends(int socket, struct timespec most) {
+  struct timeval bound = {.tv_sec = most.tv_sec, .tv_usec = most.tv_nsec / 1000};
+  return setsockopt(socket, SOL_SOCKET, SO_SNDTIMEO, &bound, sizeof bound) == 0;
+}
+
+/* What is left until then, and never so little that it would be no bound. */
+static struct timespec bound_until(moment until) {
+  struct timespec left = left_until(until);
+  left.tv_nsec += left.tv_sec == 0 && left.tv_nsec < 1000 ? 1000 : 0;
+  return until == NEVER ? (struct timespec){0} : left;
+}
+
+/* Connects the socket within so many milliseconds: ETIMEDOUT. */
+static bool connects(int socket, const struct addrinfo *to, int most_ms) {
+  moment until = in_ms(most_ms);
+  bool done;
+  do {
+    /* A signal ends the call, and the connection is made meanwhile: it is waited for again. */
+    done = bound_sends(socket, bound_until(until))
+           && connect(socket, to->ai_addr, to->ai_addrlen) == 0;
+  } while (!done && errno == EINTR);
+  if (!done && (errno == EAGAIN || errno == EINPROGRESS || errno == EALREADY)) {
+    errno = ETIMEDOUT;
+  }
+  return done && bound_sends(socket, (struct timespec){0});
+}
+
+/* A socket that is connected; below 0 where it isn't. */
+static int connected(const struct addrinfo *to, int most_ms) {
+  int fd = socket(to->ai_family, SOCK_STREAM | SOCK_CLOEXEC, 0);
+  if (fd >= 0 && !connects(fd, to, most_ms)) {
+    let_go(fd);
+    return -1;
+  }
+  return fd;
+}
+
+static int dial_local(const char *path, int most_ms) {
   struct sockaddr_un address = {.sun_family = AF_UNIX};
   if (strlen(path) >= sizeof address.sun_path) {
     errno = ENAMETOOLONG;
     return -1;
   }
-  memcpy(address.sun_path, path, strlen(path));
-  int fd = socket(AF_UNIX, SOCK_STREAM | SOCK_CLOEXEC, 0);
-  if (fd >= 0 && connect(fd, (const struct sockaddr *)&address, sizeof address) != 0) {
-    int fault = errno;
-    close(fd);
-    errno = fault;
-    return -1;
-  }
-  return fd;
+  memcpy(address.sun_path, path, strlen(path) + 1);
+  struct addrinfo to = {.ai_family = AF_UNIX,
+                        .ai_addr = (struct sockaddr *)&address,
+                        .ai_addrlen = sizeof address};
+  return connected(&to, most_ms);
 }
 
 /* Connects to the first of these that answers. */
-static int dial_first(const struct addrinfo *found) {
+static int dial_first(const struct addrinfo *found, int most_ms) {
   int fd = -1;
   for (; found != NULL && fd < 0; found = found->ai_next) {
-    fd = socket(found->ai_family, SOCK_STREAM | SOCK_CLOEXEC, 0);
-    if (fd >= 0 && connect(fd, found->ai_addr, found->ai_addrlen) != 0) {
-      int fault = errno;
-      close(fd);
-      errno = fault;
-      fd = -1;
-    }
-  }
-  if (fd >= 0) {
-    setsockopt(fd, IPPROTO_TCP, TCP_NODELAY, &(int){1}, sizeof(int));
+    fd = connected(found, most_ms);
   }
   return fd;
 }
 
-static int dial_remote(const char *address) {
-  char host[256];
-  const char *port = strrchr(address, ':');
-  if (port == NULL || (size_t)(port - address) >= sizeof host) {
+/* Nothing that is sent waits for more; that the other end is gone is found though nothing comes. */
+static bool set_remote(int socket) {
+  return set(socket, IPPROTO_TCP, TCP_NODELAY, 1) && set(socket, SOL_SOCKET, SO_KEEPALIVE, 1)
+         && set(socket, IPPROTO_TCP, TCP_KEEPIDLE, ASK_AFTER)
+         && set(socket, IPPROTO_TCP, TCP_KEEPINTVL, ASK_AFTER)
+         && set(socket, IPPROTO_TCP, TCP_KEEPCNT, ASKS)
+         && set(socket, IPPROTO_TCP, TCP_USER_TIMEOUT, (1 + ASKS) * ASK_AFTER * 1000);
+}
+
+/* The host's name and its port from HOST:PORT or [HOST]:PORT; false where it is neither. */
+static bool split(const char *address, char host[ADDRESS], const char **port) {
+  const char *colon = strrchr(address, ':');
+  if (colon == NULL || colon - address >= ADDRESS) {
     errno = EINVAL;
+    return false;
+  }
+  size_t size = (size_t)(colon - address);
+  bool has_brackets = size > 2 && address[0] == '[' && colon[-1] == ']';
+  size -= has_brackets ? 2 : 0;
+  memcpy(host, address + (has_brackets ? 1 : 0), size);
+  host[size] = 0;
+  *port = colon + 1;
+  return true;
+}
+
+static int dial_remote(const char *address, int most_ms) {
+  char host[ADDRESS];
+  const char *port;
+  if (!split(address, host, &port)) {
     return -1;
   }
-  memcpy(host, address, (size_t)(port - address));
-  host[port - address] = 0;
   struct addrinfo wanted = {.ai_socktype = SOCK_STREAM}, *found;
-  if (getaddrinfo(host, port + 1, &wanted, &found) != 0) {
+  if (getaddrinfo(host, port, &wanted, &found) != 0) {
     errno = EADDRNOTAVAIL;
     return -1;
   }
-  int fd = dial_first(found);
+  int fd = dial_first(found, most_ms);
   freeaddrinfo(found);
+  if (fd >= 0 && !set_remote(fd)) {
+    let_go(fd);
+    return -1;
+  }
   return fd;
 }
 
-uint32_t rughvadi_dial(const char *address, int *socket) {
-  *socket = strchr(address, '/') != NULL ? dial_local(address) : dial_remote(address);
+uint32_t rughvadi_dial_within(const char *address, int connect_ms, int *socket) {
+  bool is_local = strchr(address, '/') != NULL;
+  *socket = is_local ? dial_local(address, connect_ms) : dial_remote(address, connect_ms);
   return *socket >= 0 ? RUGHVADI_DONE : RUGHVADI_CONNECT_SYSTEM;
+}
+
+uint32_t rughvadi_dial(const char *address, int *socket) {
+  return rughvadi_dial_within(address, CONNECT_MS, socket);
 }
 
 /* ---- the greeting ---- */
@@ -129,37 +200,53 @@ static uint32_t failed(void) {
   return errno == EPIPE || errno == ECONNRESET ? RUGHVADI_CONNECT_CLOSED : RUGHVADI_CONNECT_SYSTEM;
 }
 
-static uint32_t send_all(int socket, const uint8_t *bytes, size_t count) {
-  while (count > 0) {
-    ssize_t sent = send(socket, bytes, count, MSG_NOSIGNAL);
-    if (sent < 0 && errno != EINTR) {
-      return failed();
-    }
+/* A socket, and until when its other end is waited for. */
+struct talk {
+  int socket;
+  moment until;
+};
+
+/* Waits for such an event: ETIMEDOUT. */
+static uint32_t await(const struct talk *talk, short events) {
+  struct pollfd watched = {.fd = talk->socket, .events = events};
+  int ready = watch_on(&watched, talk->until);
+  if (ready == 0) {
+    errno = ETIMEDOUT;
+  }
+  return ready > 0 ? RUGHVADI_DONE : RUGHVADI_CONNECT_SYSTEM;
+}
+
+/* After a call that moved nothing: the fault, or none where it is to be made again. */
+static uint32_t moved_none(const struct talk *talk, short events) {
+  if (errno == EINTR) {
+    return RUGHVADI_DONE;
+  }
+  return errno == EAGAIN || errno == EWOULDBLOCK ? await(talk, events) : failed();
+}
+
+static uint32_t send_all(const struct talk *talk, const uint8_t *bytes, size_t count) {
+  uint32_t fault = RUGHVADI_DONE;
+  while (count > 0 && fault == RUGHVADI_DONE) {
+    ssize_t sent = send(talk->socket, bytes, count, MSG_NOSIGNAL | MSG_DONTWAIT);
+    fault = sent < 0 ? moved_none(talk, POLLOUT) : RUGHVADI_DONE;
     bytes += sent > 0 ? sent : 0;
     count -= sent > 0 ? (size_t)sent : 0;
   }
-  return RUGHVADI_DONE;
+  return fault;
 }
 
-static uint32_t receive_all(int socket, uint8_t *bytes, size_t count) {
-  struct pollfd watched = {.fd = socket, .events = POLLIN};
-  while (count > 0) {
-    int ready = poll(&watched, 1, WAIT_MS);
-    if (ready == 0) {
-      errno = ETIMEDOUT;
-      return RUGHVADI_CONNECT_SYSTEM;
-    }
-    ssize_t got = ready < 0 ? -1 : recv(socket, bytes, count, 0);
+static uint32_t receive_all(const struct talk *talk, uint8_t *bytes, size_t count) {
+  uint32_t fault = RUGHVADI_DONE;
+  while (count > 0 && fault == RUGHVADI_DONE) {
+    ssize_t got = recv(talk->socket, bytes, count, MSG_DONTWAIT);
     if (got == 0) {
       return RUGHVADI_CONNECT_CLOSED;
     }
-    if (got < 0 && errno != EINTR) {
-      return failed();
-    }
+    fault = got < 0 ? moved_none(talk, POLLIN) : RUGHVADI_DONE;
     bytes += got > 0 ? got : 0;
     count -= got > 0 ? (size_t)got : 0;
   }
-  return RUGHVADI_DONE;
+  return fault;
 }
 
 static rughvadi_seat seat_of(const uint8_t *answer) {
@@ -175,9 +262,10 @@ static rughvadi_seat seat_of(const uint8_t *answer) {
   };
 }
 
-uint32_t rughvadi_greet(int socket, const uint8_t token[RUGHVADI_TOKEN], const char *store,
-                        rughvadi_seat *seat) {
+uint32_t rughvadi_greet_within(int socket, const uint8_t token[RUGHVADI_TOKEN], const char *store,
+                               int greeting_ms, rughvadi_seat *seat) {
   uint8_t greeting[NAME_AT + NAME] = "rughvadi", answer[ANSWER];
+  struct talk talk = {.socket = socket, .until = in_ms(greeting_ms)};
   size_t size = strlen(store);
   if (size > NAME) {
     return RUGHVADI_CONNECT_GREETING;
@@ -185,10 +273,11 @@ uint32_t rughvadi_greet(int socket, const uint8_t token[RUGHVADI_TOKEN], const c
   greeting[LETTERS] = VERSION;
   greeting[LETTERS + 1] = (uint8_t)size;
   memcpy(greeting + TOKEN_AT, token, RUGHVADI_TOKEN);
+  /* NOLINTNEXTLINE(bugprone-not-null-terminated-result): its length stands before it */
   memcpy(greeting + NAME_AT, store, size);
-  uint32_t fault = send_all(socket, greeting, NAME_AT + size);
+  uint32_t fault = send_all(&talk, greeting, NAME_AT + size);
   if (fault == RUGHVADI_DONE) {
-    fault = receive_all(socket, answer, ANSWER);
+    fault = receive_all(&talk, answer, ANSWER);
   }
   if (fault != RUGHVADI_DONE) {
     return fault;
@@ -203,20 +292,83 @@ uint32_t rughvadi_greet(int socket, const uint8_t token[RUGHVADI_TOKEN], const c
   return RUGHVADI_DONE;
 }
 
-uint32_t rughvadi_link_connect(rughvadi_link *link, const char *address,
-                               const uint8_t token[RUGHVADI_TOKEN], const char *store,
-                               rughvadi_seat *seat) {
-  int socket;
-  uint32_t fault = rughvadi_dial(address, &socket);
-  if (fault != RUGHVADI_DONE) {
-    return fault;
+uint32_t rughvadi_greet(int socket, const uint8_t token[RUGHVADI_TOKEN], const char *store,
+                        rughvadi_seat *seat) {
+  return rughvadi_greet_within(socket, token, store, GREETING_MS, seat);
+}
+
+/* ---- links ---- */
+
+/* How many addresses a list has. */
+static uint32_t count_of(const char *addresses) {
+  uint32_t count = 1;
+  for (const char *comma = strchr(addresses, ','); comma != NULL; count++) {
+    comma = strchr(comma + 1, ',');
   }
-  fault = rughvadi_greet(socket, token, store, seat);
+  return count;
+}
+
+/* The address at this place of a list; false where it is longer than any. */
+static bool address_at(const char *addresses, uint32_t place, char room[ADDRESS]) {
+  for (; place > 0; place--) {
+    addresses = strchr(addresses, ',') + 1;
+  }
+  size_t size = strcspn(addresses, ",");
+  if (size >= ADDRESS) {
+    errno = ENAMETOOLONG;
+    return false;
+  }
+  memcpy(room, addresses, size);
+  room[size] = 0;
+  return true;
+}
+
+/* Whether the store may be served at another address after this fault. */
+static bool goes_on(uint32_t fault) {
+  return fault == RUGHVADI_CONNECT_SYSTEM || fault == RUGHVADI_CONNECT_CLOSED
+         || fault == RUGHVADI_CONNECT_DOWN || fault == RUGHVADI_LINK_SILENT;
+}
+
+/* Greets over a socket that is connected, and opens a link that owns it; else it is closed. */
+static uint32_t open_over(rughvadi_link *link, int socket, const rughvadi_gateways *gateways,
+                          const uint8_t token[RUGHVADI_TOKEN], const char *store,
+                          rughvadi_seat *seat) {
+  int greeting_ms = gateways->greeting_ms != 0 ? gateways->greeting_ms : GREETING_MS;
+  uint32_t fault = rughvadi_greet_within(socket, token, store, greeting_ms, seat);
   if (fault == RUGHVADI_DONE) {
     fault = rughvadi_link_open(link, &seat->limits, seat->client, seat->incarnation, socket);
   }
+  link->owns = fault == RUGHVADI_DONE;
   if (fault != RUGHVADI_DONE) {
-    close(socket);
+    let_go(socket);
   }
   return fault;
+}
+
+uint32_t rughvadi_link_connect_next(rughvadi_link *link, rughvadi_gateways *gateways,
+                                    const uint8_t token[RUGHVADI_TOKEN], const char *store,
+                                    rughvadi_seat *seat) {
+  char address[ADDRESS];
+  uint32_t count = count_of(gateways->addresses), fault = RUGHVADI_CONNECT_SYSTEM;
+  int connect_ms = gateways->connect_ms != 0 ? gateways->connect_ms : CONNECT_MS;
+  *link = (rughvadi_link){.socket = -1, .gone = true};
+  for (uint32_t tries = 0; tries < count && goes_on(fault); tries++) {
+    uint32_t place = gateways->next % count;
+    int socket = -1;
+    gateways->next = (place + 1) % count;
+    fault = address_at(gateways->addresses, place, address)
+                ? rughvadi_dial_within(address, connect_ms, &socket)
+                : RUGHVADI_CONNECT_SYSTEM;
+    if (fault == RUGHVADI_DONE) {
+      fault = open_over(link, socket, gateways, token, store, seat);
+    }
+  }
+  return fault;
+}
+
+uint32_t rughvadi_link_connect(rughvadi_link *link, const char *addresses,
+                               const uint8_t token[RUGHVADI_TOKEN], const char *store,
+                               rughvadi_seat *seat) {
+  rughvadi_gateways gateways = {.addresses = addresses};
+  return rughvadi_link_connect_next(link, &gateways, token, store, seat);
 }

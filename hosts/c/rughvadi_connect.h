@@ -35,20 +35,50 @@ typedef struct {
  * CONNECT_SYSTEM, CONNECT_TOKEN. */
 uint32_t rughvadi_token_read(const char *path, uint32_t client, uint8_t token[RUGHVADI_TOKEN]);
 
-/* Connects a socket, to ADDRESS:PORT, or to the path of a Unix socket: a name with a '/' in it.
- * The socket is the caller's, to be closed after the link. CONNECT_SYSTEM. */
+/* Connects a socket, to HOST:PORT, where an IPv6 address may stand in brackets, or to the path of a
+ * Unix socket: a name with a '/' in it. It is the caller's, to be closed after the link. Over TCP
+ * it is found within 20 seconds that the other end is gone, also where nothing is sent: the next
+ * call then answers RUGHVADI_LINK_SYSTEM.
+ * CONNECT_SYSTEM; with ETIMEDOUT where an IP address or a path is silent for five seconds. */
 uint32_t rughvadi_dial(const char *address, int *socket);
 
+/* The same, within so many milliseconds at each IP address; below 0: as long as the system waits.
+ * How long a name is looked up isn't bounded. */
+uint32_t rughvadi_dial_within(const char *address, int connect_ms, int *socket);
+
 /* Greets a gateway. Where it is refused the socket is of no use any more.
- * CONNECT_..; CONNECT_SYSTEM with ETIMEDOUT where no answer came for half a minute. */
+ * CONNECT_..; CONNECT_SYSTEM with ETIMEDOUT where the answer isn't whole after ten seconds. */
 uint32_t rughvadi_greet(int socket, const uint8_t token[RUGHVADI_TOKEN], const char *store,
                         rughvadi_seat *seat);
 
-/* All in one: dials, greets and opens a link; link->socket is to be closed after the link.
+/* The same, within so many milliseconds; below 0: forever. */
+uint32_t rughvadi_greet_within(int socket, const uint8_t token[RUGHVADI_TOKEN], const char *store,
+                               int greeting_ms, rughvadi_seat *seat);
+
+/* All in one: dials, greets and opens a link, which closes the socket. Several addresses have
+ * commas between them, and are tried in turn from the first on: the next one where nobody answers
+ * in time, the connection ends, or the store isn't served there (CONNECT_DOWN, LINK_SILENT). What
+ * was answered last is the fault. After each fault the link is empty.
  * CONNECT_.., and what rughvadi_link_open answers. */
-uint32_t rughvadi_link_connect(rughvadi_link *link, const char *address,
+uint32_t rughvadi_link_connect(rughvadi_link *link, const char *addresses,
                                const uint8_t token[RUGHVADI_TOKEN], const char *store,
                                rughvadi_seat *seat);
+
+/* Where a store is served, for a program that connects anew when its link is gone. Its fields but
+ * the first are 0 at first. */
+typedef struct {
+  const char *addresses; /* as above; it is read by each call */
+  uint32_t next;         /* the place in the list, from 0, of the address that is tried next */
+  int connect_ms;        /* for rughvadi_dial_within; 0: as rughvadi_dial */
+  int greeting_ms;       /* for rughvadi_greet_within; 0: as rughvadi_greet */
+  uint32_t reserved[4];
+} rughvadi_gateways;
+
+/* The same, each address once: first the one behind that which was tried last. So after a link is
+ * gone the program goes on at the next address. */
+uint32_t rughvadi_link_connect_next(rughvadi_link *link, rughvadi_gateways *gateways,
+                                    const uint8_t token[RUGHVADI_TOKEN], const char *store,
+                                    rughvadi_seat *seat);
 
 #ifdef __cplusplus
 }

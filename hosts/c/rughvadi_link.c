@@ -6,6 +6,7 @@
 #include <string.h>
 #include <sys/random.h>
 #include <sys/socket.h>
+#include <unistd.h>
 
 /* Between two tries of a job at most so many nanoseconds pass, at first and in the end. */
 enum { FIRST_PAUSE = 500000, LONGEST_PAUSE = 100000000 };
@@ -216,6 +217,7 @@ static uint64_t first_draw(void) {
 }
 
 uint32_t rughvadi_link_open(rughvadi_link *link, const rughvadi_limits *limits, uint32_t client,
+                            /* NOLINTNEXTLINE(bugprone-easily-swappable-parameters): it is public */
                             uint64_t incarnation, int socket) {
   *link = (rughvadi_link){.socket = socket, .wait_ms = 1000, .tries = 30,
                           .page_size = (size_t)limits->page_size, .draws = first_draw()};
@@ -230,7 +232,10 @@ uint32_t rughvadi_link_open(rughvadi_link *link, const rughvadi_limits *limits, 
     fault = wait_while(link, RUGHVADI_STATUS_NOT_WELCOME);
   }
   if (fault != RUGHVADI_DONE) {
+    int why = errno;
     rughvadi_link_close(link);
+    link->socket = -1;
+    errno = why;
   }
   return fault;
 }
@@ -239,8 +244,12 @@ void rughvadi_link_close(rughvadi_link *link) {
   rughvadi_free(&link->client);
   free(link->out);
   free(link->in);
-  link->out = link->in = NULL;
-  link->out_size = link->in_size = link->in_len = 0;
+  int socket = link->socket;
+  if (link->owns) {
+    close(socket);
+    socket = -1;
+  }
+  *link = (rughvadi_link){.socket = socket, .gone = true};
 }
 
 uint32_t rughvadi_link_begin(rughvadi_link *link) {

@@ -7,6 +7,9 @@
  * page that it holds. It is gone, too, where a frame was sent in part when a call was left, as by a
  * jump out of a signal's handler. Close the link, and open another one in the client's next
  * incarnation.
+ *
+ * A link that couldn't be opened is empty, as after rughvadi_link_close: it holds nothing, each
+ * call answers RUGHVADI_LINK_CLOSED, and to close it does nothing.
  */
 #ifndef RUGHVADI_LINK_H
 #define RUGHVADI_LINK_H
@@ -37,15 +40,18 @@ typedef struct {
   size_t out_size;
   uint8_t *in; /* what came and isn't taken yet */
   size_t in_size, in_len;
+  bool owns;      /* the socket is closed with the link */
   uint64_t draws; /* that pauses are drawn from */
+  uint64_t reserved[4];
 } rughvadi_link;
 
 /* Opens a link over a connected socket, greets the server and waits until the client is welcome.
- * The socket stays the caller's, to be closed after the link. Where it fails nothing is held. */
+ * The socket stays the caller's, to be closed after the link. Where it fails the link is empty. */
 uint32_t rughvadi_link_open(rughvadi_link *link, const rughvadi_limits *limits, uint32_t client,
                             uint64_t incarnation, int socket);
 
-/* Lets all go but the socket. */
+/* Lets all go, and closes a socket that rughvadi_link_connect opened; the link is empty then. One
+ * that the caller opened stays in link->socket. */
 void rughvadi_link_close(rughvadi_link *link);
 
 /* Begins a transaction. */

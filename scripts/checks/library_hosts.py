@@ -3,15 +3,23 @@
 - The shared object has its version in its name, and a program over it names that.
 - The installed folder is moved, and programs in C are built over it in a folder of their own,
   without a variable but PATH, as docs/EMBEDDING.md says.
+- The examples `counter` and `kv` go on at the next of two addresses, each time that their
+  connection ends there: scripts/programs/python/two_gateways.py serves a store at both, by turns.
 """
 import os
 import shutil
 import subprocess
+import sys
+from contextlib import contextmanager
 from pathlib import Path
 
 import building
 
 C = building.TOP / "hosts/c"
+# Clients, pages, bytes of a page, slots, kin, kout and whether write permissions are kept.
+LIMITS = ["8", "64", "1024", "16", "4", "8", "0"]
+# After so many bytes the store is served at the other address, so often at least.
+TURN, TURNS = "60000", 3
 
 
 def said(*words, env=None, cwd=None):
@@ -65,7 +73,60 @@ def build_in_c(tries, fresh):
     tries.told("moved: C over the archive", *fresh.in_c("alone", *words))
 
 
+@contextmanager
+def running(*words):
+    """A program that runs meanwhile, and what it writes."""
+    words = list(map(str, words))
+    with subprocess.Popen(words, stdout=subprocess.PIPE, text=True) as process:
+        try:
+            yield process
+        finally:
+            process.kill()
+
+
+def by_turns(room, clients):
+    """Runs clients, as words behind which their addresses come, at a store that two gateways serve
+    by turns: whether they ended well, what they wrote, and how often the turn changed."""
+    room.mkdir()
+    sockets = [room / name for name in ("served", "one", "two")]
+    relay = building.PROGRAMS / "python/two_gateways.py"
+    with running(room.parent / "served", sockets[0], room / "db", *LIMITS[:3]) as served:
+        served.stdout.readline()
+        words = [sys.executable, relay, *sockets, TURN, *LIMITS]
+        with running(*words) as gateways:
+            gateways.stdout.readline()
+            gateways.stdout.readline()
+            addresses = f"{sockets[1]},{sockets[2]}"
+            both = {"stdout": subprocess.PIPE, "stderr": subprocess.STDOUT, "text": True}
+            begun = [subprocess.Popen([it[0], addresses, *it[1:]], **both) for it in clients]
+            text = "".join(each.communicate()[0] for each in begun)
+            gateways.kill()
+            turns = gateways.stdout.read().count("turn")
+    return not any(each.returncode for each in begun), text, turns
+
+
+def go_on(tries, it):
+    """The examples at two addresses."""
+    room = it.room / "turns"
+    room.mkdir()
+    words = ["make", "-s", "-C", building.TOP / "examples", f"LIBRARY={it.top}", f"OUT={room}"]
+    tries.command("build the examples", *words, f"RUSTC={of_rust('rustc')}")
+    flags = ["-O2", f"-I{it.top}/include", it.archive, "-lsqlite3", "-o", room / "served"]
+    tries.command("build served", os.environ.get("CC", "cc"), C.parent / "served.c", *flags)
+    tokens = room / "tokens"
+    tokens.write_text("".join(f"{client} {client:02x}{'00' * 31}\n" for client in range(8)))
+    counters = [[str(room / "counter"), str(tokens), str(client), "100"] for client in range(4)]
+    right, text, turns = by_turns(room / "counters", counters)
+    right = right and "the counter is 400" in text and turns >= TURNS
+    tries.told("counter goes on at the next address", right, f"{text}{turns} turns")
+    keys = ["main", "fill", "60"]
+    fills = [[str(room / "kv"), str(tokens), str(client), *keys] for client in range(2)]
+    right, text, turns = by_turns(room / "keys", fills)
+    tries.told("kv goes on at the next address", right and turns >= TURNS, f"{text}{turns} turns")
+
+
 def tried(tries, it):
     """All of it."""
     fresh = Fresh(it)
     build_in_c(tries, fresh)
+    go_on(tries, it)

@@ -231,9 +231,31 @@ static void stuffed(void) {
   ended(child);
 }
 
+/* A link that can't be opened is empty, and the socket stays the caller's. */
+static void unopened(void) {
+  rughvadi_limits none = limits;
+  rughvadi_link link;
+  uint64_t number;
+  int pair[2];
+  none.pages = 0;
+  HOLD(socketpair(AF_UNIX, SOCK_STREAM, 0, pair) == 0);
+  memset(&link, 0xa5, sizeof link);
+  HOLD(rughvadi_link_open(&link, &none, 1, 9, pair[0]) == RUGHVADI_LIMIT_PAGES);
+  HOLD(link.socket == -1 && link.out == NULL && link.in == NULL);
+  HOLD(rughvadi_link_begin(&link) == RUGHVADI_LINK_CLOSED);
+  HOLD(rughvadi_link_commit(&link, &number) == RUGHVADI_LINK_CLOSED);
+  rughvadi_link_close(&link);
+  close(pair[1]);
+  memset(&link, 0xa5, sizeof link);
+  HOLD(rughvadi_link_open(&link, &limits, 1, 9, pair[0]) == RUGHVADI_LINK_CLOSED);
+  HOLD(link.socket == -1 && rughvadi_link_serve(&link, 0) == RUGHVADI_LINK_CLOSED);
+  HOLD(close(pair[0]) == 0);
+}
+
 int main(void) {
   greetings();
   tokens();
+  unopened();
   gone(false);
   gone(true);
   disturbed();

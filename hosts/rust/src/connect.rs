@@ -1,23 +1,32 @@
 //! Connecting to a gateway, which serves stores by name.
 use crate::error::{Error, Result};
 use crate::link::Link;
-use crate::Limits;
+use crate::{ffi, Limits};
+use std::ffi::CString;
+use std::fmt;
 use std::fs;
 use std::io::{self, Read, Write};
 use std::net::TcpStream;
-use std::os::unix::io::{AsRawFd, RawFd};
+use std::os::raw::c_int;
+use std::os::unix::io::{AsRawFd, FromRawFd, RawFd};
 use std::os::unix::net::UnixStream;
 use std::path::Path;
 use std::time::Duration;
 
-const VERSION: u8 = 1;
-/// For so long an answer is awaited, before what may be lost is said again.
-const TIME_OUT: Duration = Duration::from_secs(1);
+/// For so long a connection is awaited.
+const CONNECT: Duration = Duration::from_secs(5);
 /// For so long the answer to a greeting is awaited.
-const GREETING: Duration = Duration::from_secs(30);
-
+const GREETING: Duration = Duration::from_secs(10);
+/// For so long an answer is awaited, before what may be lost is said again.
+const ANSWER: Duration = Duration::from_secs(1);
 /// For so long the other end may take no byte of a frame.
 const SEND: Duration = Duration::from_secs(30);
+/// The name of a store has no more bytes.
+const NAME: usize = 63;
+/// The numbers of `rughvadi_connect.h`: behind the last one, the gateway's answers.
+const SYSTEM: u32 = 0x401;
+const CLOSED: u32 = 0x402;
+const ANSWERS: u32 = 0x500;
 
 /// What a client shows as it connects.
 pub type Token = [u8; 32];
@@ -39,7 +48,7 @@ pub enum Refusal {
 }
 
 impl Refusal {
-    fn of(answer: u8) -> Refusal {
+    fn of(answer: u32) -> Refusal {
         match answer {
             2 => Refusal::Token,
             3 => Refusal::Store,
@@ -70,14 +79,30 @@ pub enum Stream {
 }
 
 impl Stream {
-    /// Connects to HOST:PORT, or to the path of a Unix socket: a name with a `/` in it.
+    /// Connects to HOST:PORT, or to the path of a Unix socket: a name with a `/` in it. An address
+    /// that is silent for five seconds answers `TimedOut`.
     pub fn dial(address: &str) -> io::Result<Stream> {
-        if address.contains('/') {
-            return UnixStream::connect(address).map(Stream::Local);
+        Stream::dial_within(address, CONNECT)
+    }
+
+    /// The same, within that time at each IP address. Over TCP it is found within 20 seconds that
+    /// the other end is gone, also where nothing is sent: the next read or write says so.
+    pub fn dial_within(address: &str, most: Duration) -> io::Result<Stream> {
+        let name = CString::new(address)?;
+        let mut socket = -1;
+        // SAFETY: the name ends with a 0.
+        let fault = unsafe { ffi::rughvadi_dial_within(name.as_ptr(), in_ms(most), &mut socket) };
+        if fault != 0 {
+            return Err(io::Error::last_os_error());
         }
-        let stream = TcpStream::connect(address)?;
-        stream.set_nodelay(true)?;
-        Ok(Stream::Remote(stream))
+        // SAFETY: the socket is open, and nobody else has it. It is of this kind by its address.
+        Ok(unsafe {
+            if address.contains('/') {
+                Stream::Local(UnixStream::from_raw_fd(socket))
+            } else {
+                Stream::Remote(TcpStream::from_raw_fd(socket))
+            }
+        })
     }
 
     /// For so long a read waits.
@@ -104,6 +129,11 @@ impl AsRawFd for Stream {
             Stream::Remote(stream) => stream.as_raw_fd(),
         }
     }
+}
+
+/// So many milliseconds, at least.
+fn in_ms(most: Duration) -> c_int {
+    c_int::try_from(most.as_nanos().div_euclid(1_000_000) + 1).unwrap_or(c_int::MAX)
 }
 
 impl Read for Stream {
@@ -154,45 +184,133 @@ pub fn read_token(path: impl AsRef<Path>, client: u32) -> Result<Token> {
 }
 
 /// Shows a token: the client's number, its incarnation and the limits.
-fn greet(stream: &mut Stream, token: &Token, store: &str) -> Result<(u32, u64, Limits)> {
-    let length = u8::try_from(store.len()).map_err(|_| Error::Refused(Refusal::Store))?;
-    let mut greeting = b"rughvadi".to_vec();
-    greeting.extend_from_slice(&[VERSION, length]);
-    greeting.extend_from_slice(token);
-    greeting.extend_from_slice(store.as_bytes());
-    stream.write_all(&greeting)?;
-    let mut answer = [0u8; 40];
-    stream.read_exact(&mut answer)?;
-    if answer[0] != VERSION || answer[1] != 0 {
-        let refused = if answer[0] == VERSION { answer[1] } else { 1 };
-        return Err(Error::Refused(Refusal::of(refused)));
+fn greet(
+    stream: &Stream,
+    token: &Token,
+    store: &str,
+    most: Duration,
+) -> Result<(u32, u64, Limits)> {
+    let name = match CString::new(store) {
+        Ok(name) if store.len() <= NAME => name,
+        _ => return Err(Error::Refused(Refusal::Store)),
+    };
+    let mut seat = ffi::Seat::default();
+    let socket = stream.as_raw_fd();
+    // SAFETY: the socket is open, the token as long as it has to be, and the name ends with a 0.
+    let fault = unsafe {
+        ffi::rughvadi_greet_within(
+            socket,
+            token.as_ptr(),
+            name.as_ptr(),
+            in_ms(most),
+            &mut seat,
+        )
+    };
+    match fault {
+        0 => Ok((seat.client, seat.incarnation, Limits::from_c(&seat.limits))),
+        SYSTEM => Err(io::Error::last_os_error().into()),
+        CLOSED => Err(Error::Closed),
+        refused => Err(Error::Refused(Refusal::of(refused.wrapping_sub(ANSWERS)))),
     }
-    let number = |at: usize, count: usize| {
-        let bytes = answer[at..at + count].iter();
-        bytes.fold(0, |number: u64, byte| number << 8 | u64::from(*byte))
-    };
-    let limits = Limits {
-        clients: number(12, 4) as u32,
-        pages: number(16, 4) as u32,
-        page_size: number(20, 4) as usize,
-        slots: number(24, 4) as usize,
-        kin: number(28, 4) as usize,
-        kout: number(32, 4) as usize,
-        keep_write: number(36, 4) != 0,
-    };
-    Ok((number(2, 2) as u32, number(4, 8), limits))
+}
+
+/// Where a store is served, and how long its client waits for what. A program that connects anew
+/// where its link is gone keeps it, since each call of [`Gateways::connect`] begins behind the
+/// address that was tried last.
+#[derive(Clone)]
+pub struct Gateways {
+    addresses: Vec<String>,
+    /// The place of the address that is tried next.
+    next: usize,
+    token: Token,
+    store: String,
+    connect: Duration,
+    greeting: Duration,
+    answer: Duration,
+    send: Duration,
+}
+
+impl Gateways {
+    /// The gateways at these addresses, with commas between them: each HOST:PORT, or the path of a
+    /// Unix socket, with a `/` in it.
+    pub fn new(addresses: &str, token: &Token, store: &str) -> Gateways {
+        Gateways {
+            addresses: addresses.split(',').map(str::to_string).collect(),
+            next: 0,
+            token: *token,
+            store: store.to_string(),
+            connect: CONNECT,
+            greeting: GREETING,
+            answer: ANSWER,
+            send: SEND,
+        }
+    }
+
+    /// For so long a connection is awaited at each address (5 seconds at first).
+    pub fn connect_timeout(self, connect: Duration) -> Gateways {
+        Gateways { connect, ..self }
+    }
+
+    /// For so long the whole answer to the greeting is awaited (10 seconds at first).
+    pub fn greeting_timeout(self, greeting: Duration) -> Gateways {
+        Gateways { greeting, ..self }
+    }
+
+    /// For so long a link awaits an answer, before it says again what may be lost, 30 times at most
+    /// (1 second at first; not zero).
+    pub fn answer_timeout(self, answer: Duration) -> Gateways {
+        Gateways { answer, ..self }
+    }
+
+    /// For so long the other end may take no byte of a frame, before the link is gone (30 seconds
+    /// at first; not zero).
+    pub fn send_timeout(self, send: Duration) -> Gateways {
+        Gateways { send, ..self }
+    }
+
+    /// A link to the store, and the store's limits. Each address is tried once: the next one where
+    /// nobody answers in time, the connection fails or ends, or the store isn't served there
+    /// ([`Refusal::Down`]). What was answered last is the error.
+    pub fn connect(&mut self) -> Result<(Link<Stream>, Limits)> {
+        let mut answer = Err(Error::Closed);
+        for _ in 0..self.addresses.len() {
+            let place = self.next;
+            self.next = (place + 1) % self.addresses.len();
+            answer = self.connect_to(&self.addresses[place]);
+            match &answer {
+                Err(Error::Closed | Error::Io(_) | Error::Refused(Refusal::Down)) => {}
+                _ => break,
+            }
+        }
+        answer
+    }
+
+    fn connect_to(&self, address: &str) -> Result<(Link<Stream>, Limits)> {
+        let stream = Stream::dial_within(address, self.connect)?;
+        let (client, incarnation, limits) =
+            greet(&stream, &self.token, &self.store, self.greeting)?;
+        stream.set_read_timeout(Some(self.answer))?;
+        stream.set_write_timeout(Some(self.send))?;
+        let link = Link::open_socket(&limits, client, incarnation, stream)?;
+        Ok((link, limits))
+    }
+}
+
+impl fmt::Debug for Gateways {
+    /// Without the token, which is a secret.
+    fn fmt(&self, f: &mut fmt::Formatter<'_>) -> fmt::Result {
+        f.debug_struct("Gateways")
+            .field("addresses", &self.addresses)
+            .field("next", &self.next)
+            .field("store", &self.store)
+            .finish_non_exhaustive()
+    }
 }
 
 impl Link<Stream> {
-    /// A link to a store of a gateway, which listens at HOST:PORT or on a Unix socket, whose path
-    /// has a `/` in it; and the store's limits.
-    pub fn connect(address: &str, token: &Token, store: &str) -> Result<(Link<Stream>, Limits)> {
-        let mut stream = Stream::dial(address)?;
-        stream.set_read_timeout(Some(GREETING))?;
-        let (client, incarnation, limits) = greet(&mut stream, token, store)?;
-        stream.set_read_timeout(Some(TIME_OUT))?;
-        stream.set_write_timeout(Some(SEND))?;
-        let link = Link::open_socket(&limits, client, incarnation, stream)?;
-        Ok((link, limits))
+    /// A link to a store of one of the gateways at these addresses, and the store's limits:
+    /// [`Gateways::connect`], once.
+    pub fn connect(addresses: &str, token: &Token, store: &str) -> Result<(Link<Stream>, Limits)> {
+        Gateways::new(addresses, token, store).connect()
     }
 }

@@ -1,5 +1,5 @@
-//! The calls of `rughvadi.h`, as they are, and the system's `ppoll`.
-use std::os::raw::{c_int, c_long, c_short, c_ulong, c_void};
+//! The calls of `rughvadi.h` and `rughvadi_connect.h`, as they are, and the system's `ppoll`.
+use std::os::raw::{c_char, c_int, c_long, c_short, c_ulong, c_void};
 
 #[repr(C)]
 pub struct Handle {
@@ -21,7 +21,7 @@ impl Handle {
 }
 
 #[repr(C)]
-#[derive(Clone, Copy)]
+#[derive(Clone, Copy, Default)]
 pub struct Limits {
     pub clients: u64,
     pub pages: u64,
@@ -39,6 +39,15 @@ pub struct FrameHead {
     pub client: u32,
     pub kind: u32,
     pub incarnation: u64,
+}
+
+/// What a client is told as it connects.
+#[repr(C)]
+#[derive(Default)]
+pub struct Seat {
+    pub client: u32,
+    pub incarnation: u64,
+    pub limits: Limits,
 }
 
 #[repr(C)]
@@ -64,6 +73,18 @@ extern "C" {
         most: *const TimeSpec,
         signals: *const c_void,
     ) -> c_int;
+    pub fn rughvadi_dial_within(
+        address: *const c_char,
+        connect_ms: c_int,
+        socket: *mut c_int,
+    ) -> u32;
+    pub fn rughvadi_greet_within(
+        socket: c_int,
+        token: *const u8,
+        store: *const c_char,
+        greeting_ms: c_int,
+        seat: *mut Seat,
+    ) -> u32;
     pub fn rughvadi_version() -> u32;
     pub fn rughvadi_fault_text(fault: u32, room: *mut u8, len: usize, size: *mut usize) -> u32;
     pub fn rughvadi_frame_read(

@@ -4,7 +4,7 @@
 //!
 //! [`Server`] and [`Client`] do no input or output: frames are handed in ([`Client::take`]) and
 //! fetched ([`Client::next_frame`]). [`Link`] is a client over a stream, for programs that may
-//! block; [`Link::connect`] makes one to a store of a gateway.
+//! block; [`Gateways::connect`] makes one to a store of a gateway.
 //!
 //! Each may move to another thread, with all that it holds, and is used by one thread at a time:
 //!
@@ -33,7 +33,7 @@ mod server;
 mod socket;
 
 pub use client::{Client, Ended, Status};
-pub use connect::{read_token, Refusal, Stream, Token};
+pub use connect::{read_token, Gateways, Refusal, Stream, Token};
 pub use error::{Error, Result};
 pub use link::{Bound, Link, Transaction};
 pub use server::{Batch, BatchPage, Server};
@@ -86,6 +86,18 @@ impl Limits {
     /// The same where clients keep write permissions between transactions, or don't.
     pub const fn with_keep_write(self, keep_write: bool) -> Limits {
         Limits { keep_write, ..self }
+    }
+
+    fn from_c(limits: &ffi::Limits) -> Limits {
+        Limits {
+            clients: limits.clients as u32,
+            pages: limits.pages as u32,
+            page_size: limits.page_size as usize,
+            slots: limits.slots as usize,
+            kin: limits.kin as usize,
+            kout: limits.kout as usize,
+            keep_write: limits.keep_write != 0,
+        }
     }
 
     fn as_c(&self) -> ffi::Limits {
