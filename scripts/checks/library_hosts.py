@@ -1,8 +1,10 @@
 """What scripts/check library tries in C and Rust beside the programs of hosts/c/tests.
 
 - The shared object has its version in its name, and a program over it names that.
-- The installed folder is moved, and programs in C are built over it in a folder of their own,
-  without a variable but PATH, as docs/EMBEDDING.md says.
+- The installed folder is moved, and programs in C and Rust are built over it in a folder of their
+  own, without a variable but PATH, as docs/EMBEDDING.md says. The crate also finds the library by
+  pkg-config; where there is none, it says in one line what to do.
+- Eight of these programs count at the same time at the server over threads, in Rust.
 - The examples `counter` and `kv` go on at the next of two addresses, each time that their
   connection ends there: scripts/programs/python/two_gateways.py serves a store at both, by turns.
 """
@@ -16,6 +18,8 @@ from pathlib import Path
 import building
 
 C = building.TOP / "hosts/c"
+WANTED = "set RUGHVADI_LIB_DIR to the folder of librughvadi.a, or PKG_CONFIG_PATH to that of"
+EACH = 50
 # Clients, pages, bytes of a page, slots, kin, kout and whether write permissions are kept.
 LIMITS = ["8", "64", "1024", "16", "4", "8", "0"]
 # After so many bytes the store is served at the other address, so often at least.
@@ -54,6 +58,24 @@ class Fresh:
         source = C / "examples/counter.c"
         return said(compiler, source, *words, "-o", self.room / name, env=self.env, cwd=self.room)
 
+    def package(self, name, crate):
+        """A new package, whose program is the counter in Rust, over the crate in that folder."""
+        folder = self.room / name
+        (folder / "src").mkdir(parents=True)
+        shutil.copy(crate / "examples/counter.rs", folder / "src/main.rs")
+        (folder / "Cargo.toml").write_text(
+            f"[package]\nname = '{name}'\nversion = '0.1.0'\nedition = '2021'\n"
+            f"[dependencies]\nrughvadi = {{ path = '{crate}' }}\n"
+        )
+        return folder
+
+    def build(self, folder, *words, **variables):
+        """Builds a package; how it went."""
+        rust = {"RUSTC": of_rust("rustc")}
+        env = {**self.env, **rust, **{key: str(value) for key, value in variables.items()}}
+        words = [of_rust("cargo"), "build", "--offline", "--quiet", *words]
+        return said(*words, env=env, cwd=folder)
+
 
 def build_in_c(tries, fresh):
     """The shared object by pkg-config, and the archive."""
@@ -71,6 +93,59 @@ def build_in_c(tries, fresh):
     tries.told("moved: the shared object has its version", right, text)
     words = [f"-I{fresh.top}/include", fresh.top / "lib/librughvadi.a"]
     tries.told("moved: C over the archive", *fresh.in_c("alone", *words))
+
+
+def build_in_rust(tries, fresh):
+    """The crate beside the library; elsewhere, by pkg-config; and where there is no library."""
+    beside = fresh.top / "share/rughvadi/rust"
+    tries.told("moved: Rust", *fresh.build(fresh.package("in_rust", beside)))
+    elsewhere = fresh.room / "elsewhere"
+    shutil.copytree(beside, elsewhere)
+    found = fresh.package("by_pkg_config", elsewhere)
+    pc = fresh.top / "lib/pkgconfig"
+    right, text = fresh.build(found, PKG_CONFIG_PATH=pc)
+    tries.told("moved: Rust by pkg-config", right, text)
+    lost = fresh.package("without", elsewhere)
+    built, text = fresh.build(lost)
+    lines = [line for line in text.splitlines() if WANTED in line]
+    tries.told("Rust without the library", not built and len(lines) == 1, text)
+    right, text = fresh.build(lost, RUGHVADI_LIB_DIR=fresh.top / "lib")
+    tries.told("moved: Rust by the variable", right, text)
+
+
+def counted(fresh, server):
+    """Eight programs in C and Rust count at the server; what failed."""
+    socket, clients = fresh.room / "socket", []
+    programs = ["shared", "alone", "in_rust/target/debug/in_rust"]
+    if server.stdout.readline() != "ready\n":
+        return "the server ended"
+    for client in range(8):
+        words = [fresh.room / programs[client % 3], socket, str(client), str(EACH)]
+        clients.append(subprocess.Popen(words, env=fresh.env, stdout=subprocess.DEVNULL))
+    ended = [each.wait() for each in clients]
+    if any(ended) or server.poll() is not None:
+        return f"the clients ended with {ended}, the server with {server.poll()}"
+    stored = (fresh.room / "pages").read_bytes()
+    number, page = stored[:8], stored[8 + 5 * 72 + 8 :]
+    found = [int.from_bytes(it[:8], "little") for it in (number, page)]
+    return "" if found == [8 * EACH, 8 * EACH] else f"last commit and counter: {found}"
+
+
+def count_by_eight(tries, fresh):
+    """The server over threads, and its clients."""
+    crate = fresh.top / "share/rughvadi/rust"
+    target = fresh.room / "examples"
+    right, text = fresh.build(crate, "--examples", "--target-dir", target)
+    if right:
+        words = [target / "debug/examples/server", fresh.room / "socket", fresh.room / "pages"]
+        both = {"stdout": subprocess.PIPE, "text": True, "env": fresh.env}
+        with subprocess.Popen(words, **both) as server:
+            try:
+                text = counted(fresh, server)
+            finally:
+                server.terminate()
+        right = not text
+    tries.told("eight clients at a server over threads", right, text)
 
 
 @contextmanager
@@ -129,4 +204,6 @@ def tried(tries, it):
     """All of it."""
     fresh = Fresh(it)
     build_in_c(tries, fresh)
+    build_in_rust(tries, fresh)
+    count_by_eight(tries, fresh)
     go_on(tries, it)
