@@ -22,6 +22,7 @@ __attribute__((weak)) rattle_tried rattle_alloc(size_t size, size_t align) {
 }
 
 /* Where it is refused the old block is as it was. */
+/* NOLINTNEXTLINE(bugprone-easily-swappable-parameters): the library calls it so */
 __attribute__((weak)) rattle_tried rattle_realloc(void *old, size_t kept, size_t size,
                                                   size_t align) {
   (void)kept;

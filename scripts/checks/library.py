@@ -15,12 +15,12 @@ It installs the library in a folder of its own, by `scripts/library`, and runs, 
   a sum over all pages
 - the tests of the Rust crate and of the Python package
 - the examples in C, Rust and Python, at the same time at one server over SQLite
-- programs that are built in a fresh folder over the library after it was moved
-  (scripts/checks/library_hosts.py)
+- what analysers say of the sources in C, and programs that are built in a fresh folder over the
+  library after it was moved (scripts/checks/library_hosts.py)
 - that each program in docs/EMBEDDING.md is the file that was run
 
 A line for each, with the last line that it wrote; of one that failed, its last lines. It needs a C
-compiler with the sanitizers, pkg-config, `cargo` and Python; CC, CARGO, RUSTC and
+compiler with the sanitizers, gcc, clang-tidy, pkg-config, `cargo` and Python; CC, CARGO, RUSTC and
 RUSTDOC name others. Debian's cargo, /usr/bin/cargo, is taken where it is there: the crate is
 written for its rustc, 1.63. Which one was tried has a line of its own. The library is proved first
 (scripts/library); with --built the archive that stands in crates/rughvadi/out is taken. Once that

@@ -1,5 +1,7 @@
 """What scripts/check library tries in C and Rust beside the programs of hosts/c/tests.
 
+- Analysers are silent about the sources in C: `gcc -fanalyzer -Wconversion` and the checks of
+  clang-tidy whose names begin with bugprone. The headers are C++ as well.
 - The shared object has its version in its name, and a program over it names that.
 - The installed folder is moved, and programs in C and Rust are built over it in a folder of their
   own, without a variable but PATH, as docs/EMBEDDING.md says. The crate also finds the library by
@@ -18,6 +20,13 @@ from pathlib import Path
 import building
 
 C = building.TOP / "hosts/c"
+FLAGS = ["-std=c11", "-D_GNU_SOURCE", "-O2", "-Wall", "-Wextra", "-Wpedantic"]
+SOURCES = [
+    *(C / f"{name}.c" for name in ("heap", "rughvadi_link", "rughvadi_connect")),
+    C / "examples/counter.c",
+    building.TOP / "examples/counter.c",
+]
+HEADERS = ["rughvadi", "rughvadi_link", "rughvadi_connect"]
 WANTED = "set RUGHVADI_LIB_DIR to the folder of librughvadi.a, or PKG_CONFIG_PATH to that of"
 EACH = 50
 # Clients, pages, bytes of a page, slots, kin, kout and whether write permissions are kept.
@@ -34,6 +43,22 @@ def said(*words, env=None, cwd=None):
     except FileNotFoundError as why:
         return False, str(why)
     return done.returncode == 0, done.stdout
+
+
+def analyse(tries, it):
+    """The analysers, file by file."""
+    for source in SOURCES:
+        name = source.relative_to(building.TOP)
+        flags = [*FLAGS, f"-I{C}"]
+        words = ["gcc", *flags, "-Wconversion", "-fanalyzer", "-Werror", "-c", source]
+        tries.command(f"gcc on {name}", *words, "-o", it.room / "analysed.o")
+        words = ["clang-tidy", "--quiet", "--checks=-*,bugprone-*", "--warnings-as-errors=*"]
+        right, text = said(*words, source, "--", *flags)
+        tries.told(f"clang-tidy on {name}", right, "" if right else text)
+    text = "".join(f'#include "{name}.h"\n' for name in HEADERS)
+    (it.room / "headers.cc").write_text(text)
+    words = ["c++", "-std=c++11", *FLAGS[2:], "-Werror", f"-I{it.top}/include"]
+    tries.command("headers in C++", *words, "-c", it.room / "headers.cc", "-o", it.room / "headers")
 
 
 def of_rust(name):
@@ -202,6 +227,7 @@ def go_on(tries, it):
 
 def tried(tries, it):
     """All of it."""
+    analyse(tries, it)
     fresh = Fresh(it)
     build_in_c(tries, fresh)
     build_in_rust(tries, fresh)
