@@ -6,7 +6,7 @@ use crate::Limits;
 use std::collections::hash_map::RandomState;
 use std::fmt;
 use std::hash::{BuildHasher, Hasher};
-use std::io::{ErrorKind, Read, Write};
+use std::io::{self, ErrorKind, Read, Write};
 use std::os::unix::io::{AsRawFd, RawFd};
 use std::time::{Duration, Instant};
 
@@ -18,6 +18,16 @@ const ROOM: usize = 65536;
 /// Between two tries of a job no more than this passes, after the first and in the end.
 const FIRST_PAUSE: Duration = Duration::from_micros(500);
 const LONGEST_PAUSE: Duration = Duration::from_millis(100);
+
+/// Whether a read waited for as long as the stream lets it. A socket says so by `WouldBlock`: its
+/// `TimedOut` says that TCP gave the connection up.
+fn is_late(error: &io::Error) -> bool {
+    match error.kind() {
+        ErrorKind::WouldBlock => true,
+        ErrorKind::TimedOut => error.raw_os_error().is_none(),
+        _ => false,
+    }
+}
 
 /// How far [`Link::run_within`] goes on; `None`: there is no such bound.
 #[derive(Clone, Copy, Debug, Default, PartialEq, Eq)]
@@ -224,13 +234,12 @@ impl<S: Read + Write> Link<S> {
             Ok(0) => return Err(Error::Closed),
             Ok(got) => got,
             Err(error) => {
-                let kind = error.kind();
-                let is_late = matches!(kind, ErrorKind::WouldBlock | ErrorKind::TimedOut);
-                if !is_late && kind != ErrorKind::Interrupted {
+                let is_interrupted = error.kind() == ErrorKind::Interrupted;
+                if !is_interrupted && !is_late(&error) {
                     return Err(error.into());
                 }
                 self.gone = false;
-                return Ok(!is_late);
+                return Ok(is_interrupted);
             }
         };
         self.gone = false;

@@ -1,8 +1,10 @@
 //! What is left of a client whose stream ended: each call says so, also of a page that it holds.
 use rughvadi::{Error, Limits, Link, Server};
-use std::io::{Read, Write};
+use std::cell::Cell;
+use std::io::{self, ErrorKind, Read, Write};
 use std::net::Shutdown;
 use std::os::unix::net::UnixStream;
+use std::rc::Rc;
 use std::thread::{self, JoinHandle};
 
 const LIMITS: Limits = Limits {
@@ -82,5 +84,54 @@ fn an_open_transaction_is_gone_with_the_stream() {
     assert!(is_closed(transaction.ask_to_write(2)));
     assert!(is_closed(transaction.write(2, &page)));
     assert!(is_closed(transaction.commit()));
+    server.join().expect("the server's thread");
+}
+
+/// A stream whose reads fail by this number of the system's, or by a time-out of its own at 0.
+struct Failing {
+    stream: UnixStream,
+    fails: Rc<Cell<Option<i32>>>,
+}
+
+impl Read for Failing {
+    fn read(&mut self, room: &mut [u8]) -> io::Result<usize> {
+        match self.fails.get() {
+            None => self.stream.read(room),
+            Some(0) => Err(ErrorKind::TimedOut.into()),
+            Some(number) => Err(io::Error::from_raw_os_error(number)),
+        }
+    }
+}
+
+impl Write for Failing {
+    fn write(&mut self, bytes: &[u8]) -> io::Result<usize> {
+        self.stream.write(bytes)
+    }
+
+    fn flush(&mut self) -> io::Result<()> {
+        Ok(())
+    }
+}
+
+#[test]
+fn a_wait_that_passed_is_no_end_and_a_connection_that_tcp_gave_up_is() {
+    const AGAIN: i32 = 11;
+    const TIMED_OUT: i32 = 110;
+    let (stream, theirs) = UnixStream::pair().expect("a pair");
+    let server = thread::spawn(move || serve(theirs));
+    let fails = Rc::new(Cell::new(None));
+    let failing = Failing {
+        stream,
+        fails: Rc::clone(&fails),
+    };
+    let mut link = Link::open(&LIMITS, 0, 1, failing).expect("a link");
+    for late in [0, AGAIN] {
+        fails.set(Some(late));
+        assert!(!link.serve().expect("it is late"));
+    }
+    fails.set(Some(TIMED_OUT));
+    assert!(matches!(link.serve(), Err(Error::Io(_))));
+    assert!(is_closed(link.serve()));
+    drop(link);
     server.join().expect("the server's thread");
 }
