@@ -18,9 +18,9 @@ static inline moment now(void) {
   return (moment)time.tv_sec * 1000000000 + time.tv_nsec;
 }
 
-/* So many milliseconds from now; below 0: never. */
+/* So many milliseconds from now; below 0, and later than the clock can show: never. */
 static inline moment in_ms(int64_t wait_ms) {
-  return wait_ms < 0 ? NEVER : now() + wait_ms * 1000000;
+  return wait_ms < 0 || wait_ms > NEVER / 2000000 ? NEVER : now() + wait_ms * 1000000;
 }
 
 /* What is left until then: nothing where it has passed. */

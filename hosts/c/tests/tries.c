@@ -2,6 +2,10 @@
  * bounds of tries and of time are kept, and nothing is left of what it gave up. */
 #include "inside.h"
 
+#include "../waiting.h"
+
+#include <limits.h>
+
 enum { MS = 1000000, ROUNDS = 300, TRIES = 12 };
 
 static rughvadi_link link_of_ours;
@@ -103,7 +107,14 @@ static void serves_meanwhile(void) {
   HOLD(waits >= 2);
 }
 
+/* Waits are added to what the clock shows, and none ends before it begins. */
+static void moments(void) {
+  HOLD(in_ms(0) == clock_ns && in_ms(5) == clock_ns + 5 * MS);
+  HOLD(in_ms(-1) == NEVER && in_ms(((int64_t)INT_MAX + 1) * INT_MAX) == NEVER);
+}
+
 int main(void) {
+  moments();
   begin_inside();
   WANT(rughvadi_link_open(&link_of_ours, &limits, OURS, 1, ours));
   bounds_of_tries();
