@@ -1,4 +1,4 @@
-"""Times the library through C: reads of held pages, and commits in one process.
+"""Times the library through C and Python: reads of held pages, and commits in one process.
 
     scripts/bench library
 
@@ -7,13 +7,19 @@ table and a copy of as many bytes, and a commit of one client at one server with
 is uthash's where its header is installed (Debian's uthash-dev), else a chained one of the program's
 own.
 
+Then for each size, of values that a process has at hand: a read, a transaction of one and one of
+eight, through a link in C and in Python; beside SQLite's library (Python's `sqlite3`), LMDB and a
+GET of a Redis server on a Unix socket, each by the same language. On Debian that takes
+libsqlite3-dev, liblmdb-dev, python3-lmdb and redis-server; what isn't there is left out.
+
 It takes the archive in crates/rughvadi/out, which `scripts/library` builds; CC names another
-compiler. It takes some seconds. The status is 2 where the archive isn't there.
+compiler. It takes a minute. The status is 2 where the archive isn't there.
 """
 import os
 import subprocess
 
 import building
+from benches import held_reads
 
 
 def main(_words):
@@ -28,4 +34,6 @@ def main(_words):
         words += [tests / "speed.c", top / "lib/librughvadi.a", "-o", made]
         if subprocess.run(words, check=False).returncode:
             raise building.NotBuilt("speed.c isn't compiled")
-        return max(subprocess.run([made, size], check=False).returncode for size in ("64", "4096"))
+        sizes = held_reads.SIZES
+        status = max(subprocess.run([made, size], check=False).returncode for size in sizes)
+        return max(status, held_reads.measured(room, top))

@@ -13,7 +13,8 @@ It installs the library in a folder of its own, by `scripts/library`, and runs, 
 - a server and two clients in one process, over frames of which a tenth is lost, repeated or late,
   for so many seeds (10 if not said; an odd one keeps write permissions): each transaction checks
   a sum over all pages
-- the tests of the Rust crate and of the Python package
+- the tests of the Rust crate and of the Python package; the package's wheel is installed in an
+  environment of its own (scripts/checks/library_python.py)
 - the examples in C, Rust and Python, at the same time at one server over SQLite
 - what analysers say of the sources in C, and programs that are built in a fresh folder over the
   library after it was moved (scripts/checks/library_hosts.py)
@@ -36,7 +37,7 @@ from pathlib import Path
 from subprocess import DEVNULL
 
 import building
-from checks import docs, library_hosts
+from checks import docs, library_hosts, library_python
 from checks.library_hosts import of_rust
 
 FLAGS = ["-std=c11", "-D_GNU_SOURCE", "-g", "-O1", "-Wall", "-Wextra", "-Wpedantic", "-Werror"]
@@ -115,8 +116,8 @@ def run_soaks(tries, it, seeds):
         tries.command(f"lossy frames, seed {seed}", it.room / "lossy", seed, 2000)
 
 
-def run_wrappers(tries, it):
-    """The tests of the crate and of the package; the crate's example is built."""
+def run_crate(tries, it):
+    """The tests of the crate; its example is built."""
     cargo, rustc, lib = of_rust("cargo"), of_rust("rustc"), it.top / "lib"
     words = ["--offline", "--quiet", "--manifest-path", it.rust / "Cargo.toml"]
     words += ["--target-dir", it.room / "target"]
@@ -124,8 +125,6 @@ def run_wrappers(tries, it):
     tries.command("crate's compiler", rustc, "--version")
     tries.command("crate's tests", cargo, "test", *words, **built)
     tries.command("crate's example", cargo, "build", "--examples", *words, **built)
-    discover = [sys.executable, "-m", "unittest", "discover", "-s", it.python / "tests"]
-    tries.command("package's tests", *discover, PYTHONPATH=it.python)
 
 
 def is_ready(server, ready):
@@ -190,7 +189,8 @@ def tried(room, built, seeds):
     if it.archive.exists():
         compile_all(tries, it)
         run_soaks(tries, it, seeds)
-        run_wrappers(tries, it)
+        run_crate(tries, it)
+        library_python.tried(tries, it)
         run_examples(tries, it)
         library_hosts.tried(tries, it)
         other = docs.other_programs()

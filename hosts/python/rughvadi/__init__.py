@@ -9,27 +9,33 @@ current, until the server restarts or is told that the client left.
         page[0] += 1
         t[5] = page
 
-`connect` makes one to a store of a gateway.
+`connect` makes one to a store of a gateway. `rughvadi.aio` has the same two for asyncio.
 
-The shared object librughvadi.so is found where the variable RUGHVADI_LIBRARY names it, else beside
-this package, else as the system finds libraries.
+A call of `Server` or `Client` keeps the interpreter's lock, so no two are made at once. An
+interpreter that runs without its lock takes it as this package is imported.
 """
 
-from ._connect import Refused, connect, read_token
-from ._link import Link, Transaction
-from ._objects import Batch, BatchPage, Client, Ended, Frame, Server, Status, read_frame, version
-from ._library import (
+from ._connect import connect
+from ._core import Client, Server, Transaction, read_frame, version
+from ._faults import (
     Aborted,
     Closed,
     Error,
     Fault,
-    FrameHead,
+    FaultNumber,
+    FrameFault,
     FrameShort,
-    Limits,
+    LimitFault,
     NotHere,
     NoTransaction,
     OutOfMemory,
+    TransactionOpen,
+    Unfetched,
+    Waiting,
 )
+from ._greeting import Refused, read_token
+from ._link import Link
+from ._values import Batch, BatchPage, Ended, Frame, FrameHead, Limits, Status
 
 __all__ = [
     "Aborted",
@@ -40,9 +46,12 @@ __all__ = [
     "Ended",
     "Error",
     "Fault",
+    "FaultNumber",
     "Frame",
+    "FrameFault",
     "FrameHead",
     "FrameShort",
+    "LimitFault",
     "Limits",
     "Link",
     "NoTransaction",
@@ -52,6 +61,9 @@ __all__ = [
     "Server",
     "Status",
     "Transaction",
+    "TransactionOpen",
+    "Unfetched",
+    "Waiting",
     "connect",
     "read_frame",
     "read_token",

@@ -1,25 +1,25 @@
-"""A client over a connected socket."""
+"""A client over a connected socket, whose calls block."""
 
 from __future__ import annotations
 
+import math
 import select
 import socket
-from types import TracebackType
-from typing import Callable, Optional, TypeVar
+from typing import Any, Callable, Optional, TypeVar
 
-from ._library import Aborted, Closed, Fault, FrameShort, Limits, NoTransaction, NotHere
-from ._objects import Client, Ended, Status
+from ._core import Transaction
+from ._exchange import TRIES, Exchange
+from ._faults import Aborted, Fault, NotHere
+from ._values import Limits, Status
 
 T = TypeVar("T")
 
-TRIES = 30
-"""How often it says again what may be lost, before it gives up."""
 
-
-class Link:
+class Link(Exchange):
     """A client over a connected stream socket. Where the socket has a time-out, what may be lost is
-    said again after each. Once the connection failed or was closed, or gave what can't be taken,
-    the client is gone: each later call raises `Closed`, also of a page that it holds."""
+    said again after each. Once the connection failed or was closed, gave what can't be taken, or a
+    call that sent or received ended early by an exception, the client is gone: each later call
+    raises `Closed`, also of a page that it holds."""
 
     def __init__(
         self,
@@ -31,20 +31,11 @@ class Link:
     ) -> None:
         """Greets the server, and waits until the client is welcome. The socket is closed with the
         link, if it owns it."""
-        self.client = Client(limits, client, incarnation)
-        self._socket = connected
-        self._owns = owns
-        self._came = b""
-        self._gone = False
+        super().__init__(limits, client, incarnation, connected, owns)
+        self._poll = select.poll()
+        self._poll.register(connected, select.POLLIN)
         self.client.hello()
         self._wait_while(Status.NOT_WELCOME)
-
-    def close(self) -> None:
-        """Lets the client go. The socket stays the caller's, unless the link owns it."""
-        self._gone = True
-        self.client.close()
-        if self._owns:
-            self._socket.close()
 
     def __enter__(self) -> Link:
         return self
@@ -55,15 +46,14 @@ class Link:
     def transaction(self) -> Transaction:
         """A transaction, which begins as it is entered by `with`: it commits at the end of that,
         and is dropped where an exception leaves it. `Aborted` where it was a deadlock's victim."""
-        return Transaction(self)
+        return self._wire.transaction(self)
 
     def run(self, job: Callable[[Transaction], T]) -> T:
         """Does the job in a transaction and commits it, all anew as often as it is aborted."""
         while True:
             try:
                 with self.transaction() as transaction:
-                    answer = job(transaction)
-                return answer
+                    return job(transaction)
             except Aborted:
                 continue
 
@@ -71,20 +61,8 @@ class Link:
         """Takes what the socket gives next: others wait for the pages that the client holds until
         it has answered. False where the socket's time-out passed first."""
         self._check()
-        self._send_said()
-        return self._receive()
-
-    def _check(self) -> None:
-        if self._gone:
-            raise Closed("the server closed the connection")
-
-    def _send_said(self) -> None:
-        for frame in self.client.frames():
-            try:
-                self._send(frame.data)
-            except OSError:
-                self._gone = True
-                raise
+        self._say()
+        return self._receive_within(self._socket.gettimeout())
 
     def _send(self, data: bytes) -> None:
         # The socket's time-out is for answers. A frame that is sent in part has to go on.
@@ -93,75 +71,62 @@ class Link:
             try:
                 left = left[self._socket.send(left) :]
                 silent = 0
-            except socket.timeout:
+            except TimeoutError:
                 silent += 1
                 if silent > TRIES:
                     raise
 
-    def _receive(self) -> bool:
-        try:
-            got = self._socket.recv(1 << 16)
-        except (socket.timeout, BlockingIOError):
+    def _receive_within(self, seconds: Optional[float]) -> bool:
+        """Receives once; false where nothing came within so many seconds."""
+        if not self._poll.poll(None if seconds is None else math.ceil(1000 * seconds)):
             return False
-        except OSError:
-            self._gone = True
-            raise
-        self._gone = not got
-        self._check()
-        self._came += got
-        while self._came:
-            try:
-                used = self.client.take(self._came)
-            except FrameShort:
-                break
-            except Fault:
-                self._gone = True
-                raise
-            self._came = self._came[used:]
-            self._send_said()
+        self._receive()
         return True
-
-    def _take_what_came(self) -> None:
-        """Takes what came meanwhile, and waits for nothing."""
-        watched = select.poll()
-        watched.register(self._socket, select.POLLIN)
-        while watched.poll(0) and self._receive():
-            pass
 
     def _wait_while(self, status: Status) -> None:
         silent = 0
         while self.client.status is status:
-            self._send_said()
-            if self._receive():
+            self._say()
+            if self._receive_within(self._socket.gettimeout()):
                 continue
             silent += 1
             if silent > TRIES:
                 raise TimeoutError("no answer came from the server")
             self.client.again()
 
-    def _asked(self, ask: Callable[[], Optional[T]]) -> T:
-        """What the call answers, once it needs to wait for nothing."""
+    def _answer(self, call: Callable[..., Optional[T]], *arguments: Any) -> T:
+        """What a call of the client answers, once it needs to wait for nothing."""
         while True:
-            self._wait_while(Status.WAITING)
             self._check()
             try:
-                answer = ask()
-            except NoTransaction:
-                if self.client.last[0] is Ended.ABORTED:
-                    raise Aborted("the transaction was the victim of a deadlock") from None
-                raise
+                answer = call(*arguments)
+            except Fault as why:
+                self._pass_over(why)
+                answer = None
             if answer is not None:
                 return answer
+            self._say()
+            self._wait_while(Status.WAITING)
+
+    def _begin(self) -> None:
+        # The commit of one that an exception ended is awaited first.
+        self._check()
+        if self.client.status is Status.COMMITTING:
+            self._wait_while(Status.COMMITTING)
+        self._look_and_begin()
 
     def _fetch(self, page: int) -> bytes:
-        return self._asked(lambda: self.client.read(page))
+        return self._answer(self.client.read, page)
+
+    def _want(self, page: int) -> bool:
+        return self._answer(lambda: self.client.want(page) or None)
 
     def _put(self, page: int, data: bytes) -> None:
         try:
-            self._asked(lambda: self.client.want(page) or None)
+            self._want(page)
         except NotHere:
             self._fetch(page)
-            self._asked(lambda: self.client.want(page) or None)
+            self._want(page)
         self.client.write(page, data)
 
     def _commit(self) -> int:
@@ -169,65 +134,6 @@ class Link:
             self.client.finish()
             return True
 
-        self._asked(finish)
+        self._answer(finish)
         self._wait_while(Status.COMMITTING)
-        how, number = self.client.last
-        if how is not Ended.COMMITTED:
-            raise Aborted("the transaction was the victim of a deadlock")
-        return number
-
-
-class Transaction:
-    """A transaction of a link, between the beginning and the end of a `with`."""
-
-    def __init__(self, link: Link) -> None:
-        self._link = link
-        self._dropped = False
-        self.number: Optional[int] = None
-        """The number of its commit, once it has committed."""
-
-    def __enter__(self) -> Transaction:
-        # Else a program that only reads what it holds, and drops, would keep others waiting.
-        self._link._check()
-        self._link._take_what_came()
-        self._link.client.begin()
-        return self
-
-    def __exit__(
-        self,
-        kind: Optional[type[BaseException]],
-        error: Optional[BaseException],
-        trace: Optional[TracebackType],
-    ) -> None:
-        if self._dropped:
-            return
-        if kind is None:
-            self.number = self._link._commit()
-        elif not self._link._gone and self._link.client.status in (Status.OPEN, Status.WAITING):
-            self._link.client.drop()
-            self._link._send_said()
-
-    def read(self, page: int) -> bytes:
-        """The bytes of a page. Nobody writes the page before the transaction ends, unless the
-        server restarts or is told that the client left."""
-        return self._link._fetch(page)
-
-    def drop(self) -> None:
-        """Ends it, as the last call of the `with`: nothing is written and no answer awaited, where
-        a commit of reads alone waits for a sync. What it read has no place among the commits."""
-        self._link._check()
-        self._link.client.drop()
-        self._dropped = True
-        self._link._send_said()
-
-    def write(self, page: int, data: bytes) -> None:
-        """Writes a page that the transaction has read."""
-        self._link._put(page, data)
-
-    def __getitem__(self, page: int) -> bytes:
-        return self.read(page)
-
-    def __setitem__(self, page: int, data: bytes) -> None:
-        """Reads the page first, where the transaction has not: no page is written unread."""
-        self.read(page)
-        self.write(page, data)
+        return self._commit_number()

@@ -2,6 +2,7 @@
 
 from __future__ import annotations
 
+import asyncio
 import socket
 import struct
 import tempfile
@@ -9,7 +10,8 @@ import threading
 import unittest
 from pathlib import Path
 
-from rughvadi import Closed, Error, Limits, Link, Refused, Server, connect, read_token
+from rughvadi import Closed, Error, Limits, Link, Refused, Server, aio, connect, read_token
+from rughvadi._greeting import host_and_port
 
 LIMITS = Limits(clients=2, pages=4, page_size=64, slots=4, kin=1, kout=4)
 NUMBERS = (2, 4, 64, 4, 1, 4, 0)
@@ -25,6 +27,9 @@ def serve(connection: socket.socket) -> None:
             came = came[server.take(came) :]
             for frame in server.frames():
                 connection.sendall(frame.data)
+
+
+WELCOME = struct.pack(">BBHQ7I", 1, 0, 1, 5, *NUMBERS)
 
 
 def begun(connection: socket.socket) -> threading.Thread:
@@ -60,7 +65,7 @@ class Greeting(unittest.TestCase):
 
     def test_welcome(self) -> None:
         token = bytes(range(32))
-        thread = self.answered(struct.pack(">BBHQ7I", 1, 0, 1, 5, *NUMBERS))
+        thread = self.answered(WELCOME)
         with connect(self.path, token, "s") as link:
             self.assertEqual(link.client.limits, LIMITS)
             with self.assertRaises(KeyError):
@@ -69,6 +74,44 @@ class Greeting(unittest.TestCase):
                     raise KeyError  # nothing is committed: this server has no disk
         thread.join()
         self.assertEqual(self.greeting, b"rughvadi\x01\x01" + token + b"s")
+
+    def test_no_time_out(self) -> None:
+        thread = self.answered(WELCOME)
+        with connect(self.path, bytes(32), time_out=None) as link:
+            self.assertIsNone(link._socket.gettimeout())
+            with link.transaction() as transaction:
+                self.assertEqual(transaction.read(3), bytes(64))
+                transaction.drop()
+        thread.join()
+
+    def test_welcome_on_a_loop(self) -> None:
+        async def look(time_out: float | None) -> None:
+            async with await aio.connect(self.path, bytes(32), "s", time_out) as link:
+                async with link.transaction() as transaction:
+                    self.assertEqual(await transaction.read(3), bytes(64))
+                    transaction.drop()
+
+        for time_out in (1.0, None):
+            thread = self.answered(WELCOME)
+            asyncio.run(look(time_out))
+            thread.join()
+            self.assertEqual(self.greeting, b"rughvadi\x01\x01" + bytes(32) + b"s")
+
+    def test_refused_on_a_loop(self) -> None:
+        thread = self.answered(bytes([1, 5]) + bytes(38))
+        with self.assertRaises(Refused):
+            asyncio.run(aio.connect(self.path, bytes(32)))
+        thread.join()
+
+    def test_nobody_listens(self) -> None:
+        for path in (f"{self.path}_none", "127.0.0.1:1", "[::1]:1"):
+            self.assertRaises(OSError, connect, path, bytes(32))
+            with self.assertRaises(OSError):
+                asyncio.run(aio.connect(path, bytes(32)))
+
+    def test_addresses(self) -> None:
+        self.assertEqual(host_and_port("[::1]:7400"), ("::1", 7400))
+        self.assertEqual(host_and_port("server.example:7400"), ("server.example", 7400))
 
     def test_refused(self) -> None:
         for answer, is_down in ((2, False), (3, False), (4, False), (5, True), (9, False)):

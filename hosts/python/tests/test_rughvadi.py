@@ -1,15 +1,22 @@
-"""A server and clients in one process: the clients' sockets hand their frames to the server at
-once, and what it says is read from them. So no test rests on time or on a schedule."""
+"""A server and clients in one process."""
 
-import os
+from __future__ import annotations
+
+import pickle
+import re
 import threading
 import unittest
+from pathlib import Path
 
+from host import Host
 from rughvadi import (
     Client,
     Ended,
     Fault,
+    FaultNumber,
+    FrameFault,
     FrameShort,
+    LimitFault,
     Limits,
     Link,
     NoTransaction,
@@ -22,66 +29,6 @@ from rughvadi import (
 LIMITS = Limits(clients=2, pages=4, page_size=64, slots=4, kin=1, kout=4)
 
 
-class Host:
-    """A server, its disk, and what is on its way to each client."""
-
-    def __init__(self) -> None:
-        self.server = Server(LIMITS)
-        self.disk = [(0, bytes(64)) for _ in range(4)]
-        self.last_commit = 0
-        self.to_clients = [b"", b""]
-
-    def deliver(self) -> None:
-        for frame in self.server.frames():
-            self.to_clients[frame.client] += frame.data
-
-    def flush(self) -> None:
-        batch = self.server.batch()
-        if batch is not None:
-            for page in batch.pages:
-                self.disk[page.page] = (page.version, page.data)
-            self.last_commit = batch.number
-            assert self.server.can_flush(batch.number)
-            self.server.flushed(batch.number)
-            self.server.forget(batch.number)
-            self.deliver()
-
-    def link(self, client: int) -> Link:
-        return Link(LIMITS, client, 1, Socket(self, client))  # type: ignore[arg-type]
-
-
-# What a client's socket is watched by: there is something to receive once it was told.
-WATCHED, TOLD = os.pipe()
-
-
-class Socket:
-    """A client's end of the connection."""
-
-    def __init__(self, host: Host, client: int) -> None:
-        self.host, self.client, self.told = host, client, False
-
-    def fileno(self) -> int:
-        return WATCHED
-
-    def tell(self) -> None:
-        self.told = True
-        os.write(TOLD, b".")
-
-    def send(self, data: memoryview) -> int:
-        assert self.host.server.take(bytes(data)) == len(data)
-        self.host.deliver()
-        return len(data)
-
-    def recv(self, most: int) -> bytes:
-        if self.told:
-            os.read(WATCHED, 1)
-            self.told = False
-        self.host.flush()
-        got = self.host.to_clients[self.client][:most]
-        self.host.to_clients[self.client] = self.host.to_clients[self.client][most:]
-        return got
-
-
 def counted(transaction) -> int:
     page = bytearray(transaction.read(2))
     was = page[0]
@@ -91,9 +38,27 @@ def counted(transaction) -> int:
 
 
 class OneProcess(unittest.TestCase):
+    def setUp(self) -> None:
+        self.hosts: list[Host] = []
+        self.links: list[Link] = []
+
+    def tearDown(self) -> None:
+        for link in self.links:
+            link._socket.close()
+        for host in self.hosts:
+            host.close()
+
+    def host(self, server: Server | None = None) -> Host:
+        self.hosts.append(Host(LIMITS, server))
+        return self.hosts[-1]
+
+    def link(self, host: Host, client: int) -> Link:
+        self.links.append(host.link(client))
+        return self.links[-1]
+
     def test_a_client_counts_and_the_disk_has_it(self) -> None:
-        host = Host()
-        link = host.link(0)
+        host = self.host()
+        link = self.link(host, 0)
         self.assertEqual([link.run(counted) for _ in range(5)], [0, 1, 2, 3, 4])
         self.assertEqual(host.disk[2][1][0], 5)
         self.assertFalse(host.server.can_flush(5))
@@ -102,14 +67,14 @@ class OneProcess(unittest.TestCase):
         self.assertIsNone(link.client.peek(3))
 
     def test_two_clients_see_each_others_commits(self) -> None:
-        host = Host()
-        one, other = host.link(0), host.link(1)
+        host = self.host()
+        one, other = self.link(host, 0), self.link(host, 1)
         self.assertEqual(one.run(counted), 0)
         with other.transaction() as transaction:
             self.assertEqual(transaction.read(2)[0], 1)
             # The ask calls the first client's copy back, which gives it up as it is served.
             self.assertFalse(other.client.want(2))
-            other._send_said()
+            other._say()
             self.assertTrue(one.serve())
             self.assertIsNone(one.client.peek(2))
             counted(transaction)
@@ -118,15 +83,14 @@ class OneProcess(unittest.TestCase):
             self.assertEqual(transaction[2][0], 2)
 
     def test_a_transaction_first_takes_what_came(self) -> None:
-        host = Host()
-        one, other = host.link(0), host.link(1)
+        host = self.host()
+        one, other = self.link(host, 0), self.link(host, 1)
         one.run(counted)
         with other.transaction() as transaction:
             transaction.read(2)
             self.assertFalse(other.client.want(2))
-            other._send_said()
+            other._say()
             self.assertIsNotNone(one.client.peek(2))
-            one._socket.tell()  # type: ignore[attr-defined]
             with one.transaction() as looking:
                 self.assertIsNone(one.client.peek(2))
                 looking.drop()
@@ -134,7 +98,7 @@ class OneProcess(unittest.TestCase):
         self.assertEqual(transaction.number, 2)
 
     def test_an_exception_undoes_the_transaction(self) -> None:
-        link = Host().link(0)
+        link = self.link(self.host(), 0)
         with self.assertRaises(KeyError):
             with link.transaction() as transaction:
                 counted(transaction)
@@ -143,8 +107,8 @@ class OneProcess(unittest.TestCase):
         self.assertEqual(link.run(counted), 0)
 
     def test_a_transaction_that_only_looks_is_dropped(self) -> None:
-        host = Host()
-        link = host.link(0)
+        host = self.host()
+        link = self.link(host, 0)
         link.run(counted)
         with link.transaction() as transaction:
             self.assertEqual(transaction.read(2)[0], 1)
@@ -153,16 +117,54 @@ class OneProcess(unittest.TestCase):
         self.assertEqual(link.client.last, (Ended.DROPPED, 0))
         self.assertEqual((host.last_commit, link.run(counted)), (1, 1))
 
+    def test_a_drop_of_held_reads_waits_for_the_next_send(self) -> None:
+        host = self.host()
+        link = self.link(host, 0)
+        link.run(counted)
+        sent: list[bytes] = []
+        link._send = sent.append  # type: ignore[assignment]
+        for _ in range(3):
+            with link.transaction() as transaction:
+                transaction.read(2)
+                transaction.drop()
+        self.assertEqual(sent, [])
+        link._say()
+        self.assertEqual([read_frame(LIMITS, frame).kind for frame in sent], [7])
+
+    def test_a_drop_goes_out_before_what_comes_is_answered(self) -> None:
+        host = self.host()
+        one, other = self.link(host, 0), self.link(host, 1)
+        one.run(counted)
+        with one.transaction() as transaction:
+            transaction.read(2)
+            transaction.drop()
+        other.client.begin()
+        other.client.read(2)
+        other._say()
+        other._receive()
+        other.client.read(2)
+        other.client.want(2)
+        other._say()
+        kinds: list[int] = []
+        send = one._send
+
+        def noted(data: bytes) -> None:
+            kinds.append(read_frame(LIMITS, data).kind)
+            send(data)
+
+        one._send = noted  # type: ignore[method-assign]
+        one.serve()
+        self.assertEqual(kinds, [7, 4])
+
     def test_a_server_opens_over_what_was_written(self) -> None:
-        host = Host()
-        host.link(0).run(counted)
-        again = Host()
-        again.server = Server(LIMITS, host.last_commit, host.disk)
-        self.assertEqual(again.link(0).run(counted), 1)
+        host = self.host()
+        self.link(host, 0).run(counted)
+        again = self.host(Server(LIMITS, host.last_commit, host.disk))
+        self.assertEqual(self.link(again, 0).run(counted), 1)
 
     def test_a_server_and_a_client_move_between_threads(self) -> None:
-        host = Host()
-        link = host.link(0)
+        host = self.host()
+        link = self.link(host, 0)
         seen: list[int] = []
         for _ in range(3):
             thread = threading.Thread(target=lambda: seen.append(link.run(counted)))
@@ -173,20 +175,69 @@ class OneProcess(unittest.TestCase):
         self.assertEqual(host.disk[2][1][0], 4)
 
     def test_a_client_that_went_away_is_left(self) -> None:
-        host = Host()
-        host.link(1)
+        host = self.host()
+        self.link(host, 1)
         self.assertEqual(host.server.next_incarnation(1), 2)
         host.server.leave(1)
         self.assertEqual([frame.client for frame in host.server.frames()], [1])
         self.assertEqual(host.server.next_incarnation(1), 3)
 
 
+class Threads(unittest.TestCase):
+    def test_calls_of_threads_at_once_are_made_one_at_a_time(self) -> None:
+        """Threads make calls of one client at the same time: each is made whole, or refused."""
+        client, wrong = Client(LIMITS, 0, 1), []
+
+        def call() -> None:
+            for _ in range(2000):
+                try:
+                    client.hello()
+                except Fault:
+                    pass
+                for frame in client.frames():
+                    if len(frame.data) != 16:
+                        wrong.append(frame)
+
+        threads = [threading.Thread(target=call) for _ in range(4)]
+        for each in threads:
+            each.start()
+        for each in threads:
+            each.join()
+        self.assertEqual(wrong, [])
+
+
 class Refusals(unittest.TestCase):
-    def test_faults_have_numbers_and_texts(self) -> None:
-        with self.assertRaises(Fault) as raised:
+    def test_faults_have_numbers_texts_and_classes(self) -> None:
+        with self.assertRaises(LimitFault) as raised:
             Server(Limits(2, 4, 64, 4, 4, 4))
+        self.assertIs(raised.exception.number, FaultNumber.LIMIT_KIN)
         self.assertEqual(raised.exception.number, 0x205)
         self.assertEqual(str(raised.exception), "kin: 1 to one less than the slots")
+        again = pickle.loads(pickle.dumps(raised.exception))
+        self.assertEqual((type(again), again.number, str(again)),
+                         (LimitFault, 0x205, str(raised.exception)))
+
+    def test_each_fault_of_the_header_has_a_name(self) -> None:
+        for folder in Path(__file__).resolve().parents:
+            if (header := folder / "include/rughvadi.h").exists():
+                break
+            if (header := folder / "hosts/c/rughvadi.h").exists():
+                break
+        else:
+            self.skipTest("the header isn't beside the tests")
+        first = header.read_text().partition("RUGHVADI_DONE = 0,")[2].partition("};")[0]
+        found = re.findall(r"RUGHVADI_(\w+) = (\w+),?", first)
+        self.assertEqual({name: int(number, 0) for name, number in found},
+                         {it.name: it.value for it in FaultNumber})
+
+    def test_limits_have_the_defaults_of_everywhere_else(self) -> None:
+        for slots, kin, kout in ((2, 1, 1), (3, 1, 1), (9, 2, 4), (32, 8, 16), (1024, 256, 512)):
+            limits = Limits(clients=2, pages=4, page_size=64, slots=slots)
+            self.assertEqual((limits.kin, limits.kout), (kin, kout))
+        self.assertEqual(Limits(2, 4, 64, 8), Limits(2, 4, 64, 8, 2, 4, False))
+        self.assertEqual(pickle.loads(pickle.dumps(LIMITS)), LIMITS)
+        for number in (-1, 1 << 64):
+            self.assertRaises(ValueError, Limits, number, 4, 64, 4)
 
     def test_calls_that_are_refused_change_nothing(self) -> None:
         client = Client(LIMITS, 0, 1)
@@ -201,22 +252,40 @@ class Refusals(unittest.TestCase):
         self.assertEqual((head.length, head.client, head.kind, head.incarnation), (16, 0, 1, 1))
         with self.assertRaises(FrameShort):
             read_frame(LIMITS, frame.data[:15])
-        with self.assertRaises(ValueError):
-            client.peek(-1)
+        with self.assertRaises(FrameFault):
+            read_frame(LIMITS, b"\xff" * 16)
+        for wrong in (-1, 1 << 32, 1 << 64):
+            self.assertRaises(ValueError, client.peek, wrong)
         client.close()
         self.assertIsNone(client.status)
+
+    def test_arguments_of_other_types_are_refused(self) -> None:
+        client, server = Client(LIMITS, 0, 1), Server(LIMITS)
+        self.assertRaises(TypeError, client.read, "2")
+        self.assertRaises(TypeError, client.write, 2)
+        self.assertRaises(TypeError, client.write, 2, "text")
+        self.assertRaises(TypeError, client.take, 5)
+        self.assertRaises(TypeError, Client, (2, 4, 64, 4, 1, 4), 0, 1)
+        self.assertRaises(TypeError, Server, LIMITS, 0, [5])
+        self.assertRaises(TypeError, Server, LIMITS, 0, [(0, "text")])
+        self.assertRaises(Fault, Server, LIMITS, 0, [(0, bytes(64))])
+        self.assertRaises(KeyError, Server, LIMITS, 0, ({}[it] for it in "a"))
+        self.assertEqual(server.next_incarnation(0), 1)
 
     def test_a_handle_is_let_go_at_the_end_of_a_with(self) -> None:
         with Server(LIMITS) as server:
             self.assertEqual(server.next_incarnation(0), 1)
         with self.assertRaises(Fault) as raised:
             server.again()
-        self.assertEqual(raised.exception.number, 0x301)
+        self.assertIs(raised.exception.number, FaultNumber.OTHER_KIND)
 
     def test_a_call_outside_of_a_transaction(self) -> None:
-        link = Host().link(0)
+        host = Host(LIMITS)
+        link = host.link(0)
         with self.assertRaises(NoTransaction):
             link.client.read(0)
+        link._socket.close()
+        host.close()
 
     def test_the_version(self) -> None:
         self.assertEqual(version(), 1)
