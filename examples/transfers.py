@@ -15,7 +15,7 @@ import time
 from multiprocessing.synchronize import Event
 from typing import Callable, TypeVar
 
-from rughvadi import Closed, Link, Refused, Transaction, connect, read_token
+from rughvadi import Link, Refused, Transaction, connect, read_token
 
 ACCOUNTS = range(1, 17)
 BEGINS_WITH = 100
@@ -62,9 +62,11 @@ class Client:
             try:
                 self.link = self.link or connect(self.address, self.token)
                 return self.link.run(job)
-            except (Closed, Refused, OSError) as why:
+            except (Refused, OSError) as why:
                 if isinstance(why, Refused) and not why.is_down:
                     raise
+                if self.link:  # it is gone, as after each call that was interrupted as it sent
+                    self.link.close()
                 self.link = None
                 time.sleep(0.1)
         raise TimeoutError("the server is gone")

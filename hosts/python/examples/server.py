@@ -4,6 +4,7 @@ import selectors
 import socket
 import sqlite3
 import sys
+from contextlib import suppress
 
 from rughvadi import Fault, FrameShort, Limits, Server, read_frame
 
@@ -95,8 +96,9 @@ class Host:
             if connection:
                 try:
                     connection.sendall(frame.data)
-                except OSError:
-                    pass  # it is read to its end, and lost then
+                except OSError:  # nothing follows half a frame; it is read to its end, and lost
+                    with suppress(OSError):
+                        connection.shutdown(socket.SHUT_RDWR)
 
     def lose(self, connection: socket.socket) -> None:
         self.selector.unregister(connection)
