@@ -5,11 +5,13 @@ from __future__ import annotations
 import math
 import select
 import socket
+import time
 from typing import Any, Callable, Optional, TypeVar
 
 from ._core import Transaction
 from ._exchange import TRIES, Exchange
 from ._faults import Aborted, Fault, NotHere
+from ._tries import waits
 from ._values import Limits, Status
 
 T = TypeVar("T")
@@ -48,14 +50,27 @@ class Link(Exchange):
         and is dropped where an exception leaves it. `Aborted` where it was a deadlock's victim."""
         return self._wire.transaction(self)
 
-    def run(self, job: Callable[[Transaction], T]) -> T:
-        """Does the job in a transaction and commits it, all anew as often as it is aborted."""
+    def run(
+        self,
+        job: Callable[[Transaction], T],
+        *,
+        tries: Optional[int] = None,
+        seconds: Optional[float] = None,
+    ) -> T:
+        """Does the job in a transaction and commits it, all anew where it is aborted. Before each
+        further try it waits, for 0.5 ms at most and then up to twice as long each time, to 100 ms,
+        and serves others meanwhile. `Aborted` after so many tries, or where the next one would
+        begin after so many seconds; without a bound it goes on."""
+        further = waits(tries, seconds)
         while True:
             try:
                 with self.transaction() as transaction:
                     return job(transaction)
             except Aborted:
-                continue
+                wait = next(further, None)
+                if wait is None:
+                    raise
+            self._serve_for(wait)
 
     def serve(self) -> bool:
         """Takes what the socket gives next: others wait for the pages that the client holds until
@@ -63,6 +78,16 @@ class Link(Exchange):
         self._check()
         self._say()
         return self._receive_within(self._socket.gettimeout())
+
+    def _serve_for(self, seconds: float) -> None:
+        end = time.monotonic() + seconds
+        self._check()
+        self._say()
+        while (left := end - time.monotonic()) > 0:
+            if left < 0.001:  # poll counts in whole milliseconds
+                time.sleep(left)
+            elif self._poll.poll(int(1000 * left)):
+                self._receive()
 
     def _send(self, data: bytes) -> None:
         # The socket's time-out is for answers. A frame that is sent in part has to go on.

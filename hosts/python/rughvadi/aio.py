@@ -23,6 +23,7 @@ from ._connect import PATIENCE
 from ._exchange import TRIES, Exchange
 from ._faults import Aborted, Closed, Fault, NotHere
 from ._greeting import ANSWER_SIZE, greeting, host_and_port, seat
+from ._tries import waits
 from ._values import Limits, Status
 
 __all__ = ["Link", "Transaction", "connect"]
@@ -94,14 +95,25 @@ class Link(Exchange):
         was a deadlock's victim."""
         return Transaction(self)
 
-    async def run(self, job: Callable[[Transaction], Awaitable[T]]) -> T:
-        """Does the job in a transaction and commits it, all anew as often as it is aborted."""
+    async def run(
+        self,
+        job: Callable[[Transaction], Awaitable[T]],
+        *,
+        tries: Optional[int] = None,
+        seconds: Optional[float] = None,
+    ) -> T:
+        """Does the job in a transaction and commits it, all anew where it is aborted; waits and
+        bounds are those of a blocking link's `run`."""
+        further = waits(tries, seconds)
         while True:
             try:
                 async with self.transaction() as transaction:
                     return await job(transaction)
             except Aborted:
-                await asyncio.sleep(0)
+                wait = next(further, None)
+                if wait is None:
+                    raise
+            await asyncio.sleep(wait)
 
     # ---- what the loop calls ----
 

@@ -7,7 +7,7 @@ import unittest
 from typing import Callable
 
 from host import Host
-from rughvadi import Closed, Ended, Limits, aio
+from rughvadi import Aborted, Closed, Ended, Limits, aio
 
 CLIENTS, EACH = 8, 10
 LIMITS = Limits(clients=CLIENTS, pages=8, page_size=64, slots=4)
@@ -171,6 +171,17 @@ class Loops(unittest.IsolatedAsyncioTestCase):
         asked = end.recv(1 << 16)
         end.close()
         self.assertGreater(len(asked), 30 * 16, "it was said again")
+
+    async def test_tries_are_bounded(self) -> None:
+        link, tried = await self.link(0), []
+
+        async def job(transaction: aio.Transaction) -> None:
+            tried.append(await transaction.read(1))
+            raise Aborted
+
+        with self.assertRaises(Aborted):
+            await link.run(job, tries=3)
+        self.assertEqual(len(tried), 3)
 
 
 if __name__ == "__main__":

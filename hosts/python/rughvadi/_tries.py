@@ -1,0 +1,32 @@
+"""How long a job that was aborted waits before it is tried again."""
+
+from __future__ import annotations
+
+import itertools
+import random
+import time
+from typing import Iterator, Optional
+
+FIRST = 0.0005
+"""Seconds that it waits at most before the second try; before each further one twice as long."""
+MOST = 0.1
+"""But never longer than so many seconds."""
+
+
+def waits(tries: Optional[int], seconds: Optional[float]) -> Iterator[float]:
+    """The wait before each further try, drawn anew, as long as a further one is allowed: of so many
+    tries in all, each begun within so many seconds from now."""
+    if tries is not None and tries < 1:
+        raise ValueError("there is at least one try")
+    end = None if seconds is None else time.monotonic() + seconds
+    return _drawn(itertools.count() if tries is None else range(tries - 1), end)
+
+
+def _drawn(further: Iterator[int] | range, end: Optional[float]) -> Iterator[float]:
+    most = FIRST
+    for _ in further:
+        wait = random.uniform(0, most)
+        if end is not None and time.monotonic() + wait > end:
+            return
+        yield wait
+        most = min(2 * most, MOST)
