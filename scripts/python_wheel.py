@@ -19,6 +19,7 @@ import tempfile
 import zipfile
 from pathlib import Path
 
+TOP = Path(__file__).resolve().parent.parent
 CAN_BUILD = """
 import importlib.util as modules, os, sys, sysconfig
 wheels = modules.find_spec("wheel") or modules.find_spec("setuptools.command.bdist_wheel")
@@ -43,6 +44,7 @@ def wheel_of(package: Path, lib: Path, python: str, room: Path) -> Path | None:
     """The wheel, made in a copy of the package's sources; none where that failed."""
     sources = room / "sources"
     shutil.copytree(package, sources, ignore=shutil.ignore_patterns("__pycache__", "*.so"))
+    shutil.copy(TOP / "LICENSE", sources)
     words = [python, "-m", "pip", "--disable-pip-version-check", "-q", "wheel", "--no-index"]
     words += ["--no-build-isolation", "--no-deps", "-w", room / "made", sources]
     env = {**os.environ, "RUGHVADI_LIB_DIR": str(lib)}
