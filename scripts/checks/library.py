@@ -116,8 +116,8 @@ def run_soaks(tries, it, seeds):
         tries.command(f"lossy frames, seed {seed}", it.room / "lossy", seed, 2000)
 
 
-def run_crate(tries, it):
-    """The tests of the crate; its example is built."""
+def run_wrappers(tries, it):
+    """The tests of the crate and of the package; the crate's example is built."""
     cargo, rustc, lib = of_rust("cargo"), of_rust("rustc"), it.top / "lib"
     words = ["--offline", "--quiet", "--manifest-path", it.rust / "Cargo.toml"]
     words += ["--target-dir", it.room / "target"]
@@ -125,6 +125,7 @@ def run_crate(tries, it):
     tries.command("crate's compiler", rustc, "--version")
     tries.command("crate's tests", cargo, "test", *words, **built)
     tries.command("crate's example", cargo, "build", "--examples", *words, **built)
+    library_python.tried(tries, it)
 
 
 def is_ready(server, ready):
@@ -189,8 +190,7 @@ def tried(room, built, seeds):
     if it.archive.exists():
         compile_all(tries, it)
         run_soaks(tries, it, seeds)
-        run_crate(tries, it)
-        library_python.tried(tries, it)
+        run_wrappers(tries, it)
         run_examples(tries, it)
         library_hosts.tried(tries, it)
         other = docs.other_programs()
