@@ -14,6 +14,8 @@ mod console;
 #[cfg(test)]
 mod event;
 #[cfg(test)]
+mod example;
+#[cfg(test)]
 mod frame;
 #[cfg(test)]
 mod server;

@@ -14,8 +14,8 @@
 //! What each call promises stands where it is made: `cb_hands`, `cb_admission`, `cb_station`,
 //! `cb_worker`, `cb_jobs` and `cb_run`. What an office and a worker are made of is handed on too.
 //!
-//! An example, which is compiled and run as the test `example`. A client reads a page, writes it
-//! and commits:
+//! An example, which is compiled and run as the test `example` of `cb_tests`. A client reads a page,
+//! writes it and commits:
 //!
 //! ```
 //! worker.begin()?;
@@ -34,9 +34,6 @@
 //! Ok(worker.finish(rt, alloc, office)?)
 //! ```
 #![tactic(auto)]
-
-#[cfg(test)]
-mod example;
 
 pub use cb_admission::{Ticket, TryEnd};
 pub use cb_commit::Store;

@@ -9,7 +9,7 @@
 //! What each call promises stands where it is made: `cb_event`, `cb_transcript` and `cb_world`.
 //! The limits, the store and the chooser that a world is made of are handed on too.
 //!
-//! An example, which is compiled and run as the test `example`:
+//! An example, which is compiled and run as the test `example` of `cb_layer_tests`:
 //!
 //! ```
 //! let limits = Limits::new(1, 8, 16, 4, 1, 2).ok()?;
@@ -21,9 +21,6 @@
 //! Some(told.commits().len() == 1 && verdict == Verdict::Serial)
 //! ```
 #![tactic(auto)]
-
-#[cfg(test)]
-mod example;
 
 pub use cb_commit::Store;
 pub use cb_event::{Call, Event, ScheduleFault, read_schedule};

@@ -6,6 +6,8 @@
 use cb_test_parts::{commits, stores};
 
 #[cfg(test)]
+mod example;
+#[cfg(test)]
 mod office;
 #[cfg(test)]
 mod running;

@@ -1,7 +1,7 @@
-//! The example of the crate's first page.
+//! The example of the first page of `cb_office`.
 ghost use Rattle.std.specs.Prelude.{◌≡◌, false};
 
-use crate::{
+use cb_office::{
     Chooser, ClientNo, CommitNo, Finished, FlushStop, Limits, Office, PageNo, Shelf, Station, TwoQ,
     Worker, WorkerFault, flush_loop,
 };

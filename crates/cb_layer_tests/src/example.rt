@@ -1,5 +1,5 @@
-//! The example of the crate's first page.
-use crate::{Limits, Store, TwoQ, Verdict, World, check_serial, read_schedule};
+//! The example of the first page of `cb_schedule`.
+use cb_schedule::{Limits, Store, TwoQ, Verdict, World, check_serial, read_schedule};
 use std::alloc::Global;
 
 /// A client says hello, reads page 0, is permitted to write it, and commits 16 bytes of 7.
