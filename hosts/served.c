@@ -3,8 +3,9 @@
  * An example for who embeds the server in a daemon: it waits by poll on a Unix socket, keeps the
  * pages in SQLite by that library's own calls, and writes what was committed in a round in one
  * transaction, which is synced once. Whoever may open the socket may be any client: a connection
- * speaks for the one that its first frame names. With a KEEP of 1 clients keep write permissions.
- * docs/EMBEDDING.md tells the duties of a host.
+ * speaks for the one that its first frame names. A header of kind 0 with a client's number, put in
+ * front, is answered with one whose incarnation that client may have next. With a KEEP of 1 clients
+ * keep write permissions. docs/EMBEDDING.md tells the duties of a host.
  *
  *   cc -O2 served.c -o served $(pkg-config --cflags --libs rughvadi) -lsqlite3
  */
@@ -29,6 +30,7 @@ enum {
   CONNECTIONS = 64, /* at most so many at once */
   MOST_CLIENTS = 32,
   NOBODY = -1,
+  HEADER = 16,
   PART = 4096,        /* bytes of a page that are in one row */
   READ = 1 << 18,     /* bytes that are read at once */
   OUT_MOST = 1 << 22, /* bytes that may wait for one connection: one that reads slower is lost */
@@ -83,8 +85,15 @@ static void let_go(struct bytes *bytes) {
 
 struct store {
   sqlite3 *database;
-  sqlite3_stmt *begin, *commit, *mark, *version, *part;
+  sqlite3_stmt *begin, *commit, *mark, *version, *part, *raise;
+  sqlite3_int64 floor, below; /* of this life, which ends as this server does */
 };
+
+/* By so much the bound is above what it was raised for. */
+static const sqlite3_int64 LIFE_ROOM = 1 << 20;
+
+/* Greetings from here on aren't taken: with them a client could leave no number for later lives. */
+static const uint64_t MOST_INCARNATION = (UINT64_C(1) << 61) + (UINT64_C(1) << 60);
 
 static const char TABLES[] =
     "CREATE TABLE mark2(id INTEGER PRIMARY KEY, commits INTEGER NOT NULL,"
@@ -92,6 +101,15 @@ static const char TABLES[] =
     "CREATE TABLE page2(no INTEGER PRIMARY KEY, version INTEGER NOT NULL) STRICT;"
     "CREATE TABLE part(no INTEGER NOT NULL, place INTEGER NOT NULL, body BLOB NOT NULL,"
     " PRIMARY KEY(no, place)) STRICT;";
+
+/* A life begins at the bound of the one before, and is written before anybody is answered. */
+static const char LIFE[] =
+    "BEGIN IMMEDIATE;"
+    "CREATE TABLE IF NOT EXISTS life(id INTEGER PRIMARY KEY, floor INTEGER NOT NULL,"
+    " below INTEGER NOT NULL) STRICT;"
+    "INSERT OR IGNORE INTO life VALUES (1, 0, 1);"
+    "UPDATE life SET floor = below, below = below + (1 << 20);"
+    "COMMIT";
 
 static void must(struct store *store, int code) {
   if (code != SQLITE_OK && code != SQLITE_DONE && code != SQLITE_ROW) {
@@ -113,6 +131,14 @@ static sqlite3_stmt *prepared(struct store *store, const char *text) {
 static void done(struct store *store, sqlite3_stmt *statement) {
   must(store, sqlite3_step(statement));
   must(store, sqlite3_reset(statement));
+}
+
+/* Runs one that changes a row, unless another life has begun. */
+static void done_one(struct store *store, sqlite3_stmt *statement) {
+  done(store, statement);
+  if (sqlite3_changes(store->database) != 1) {
+    die("store: another server has it");
+  }
 }
 
 static size_t part_size(const rughvadi_limits *limits, size_t from) {
@@ -183,19 +209,33 @@ static void store_open(struct store *store, const char *path, const rughvadi_lim
       || one_number(store, "SELECT pages FROM mark2") != (sqlite3_int64)limits->pages) {
     die("%s is a store of other limits", path);
   }
+  run(store, LIFE);
+  store->floor = one_number(store, "SELECT floor FROM life WHERE id = 1");
+  store->below = one_number(store, "SELECT below FROM life WHERE id = 1");
+  store->raise = prepared(store, "UPDATE life SET below = ?1 WHERE id = 1 AND floor = ?2");
   store->begin = prepared(store, "BEGIN IMMEDIATE");
   store->commit = prepared(store, "COMMIT");
-  store->mark = prepared(store, "UPDATE mark2 SET commits = ?1 WHERE id = 1");
+  store->mark = prepared(store, "UPDATE mark2 SET commits = ?1 WHERE id = 1"
+                                " AND EXISTS (SELECT 1 FROM life WHERE floor = ?2)");
   store->version = prepared(store, "UPDATE page2 SET version = ?2 WHERE no = ?1");
   store->part = prepared(store, "UPDATE part SET body = ?3 WHERE no = ?1 AND place = ?2");
 }
 
 static void store_close(struct store *store) {
-  sqlite3_stmt *all[] = {store->begin, store->commit, store->mark, store->version, store->part};
+  sqlite3_stmt *all[] = {store->begin,   store->commit, store->mark,
+                         store->version, store->part,   store->raise};
   for (size_t at = 0; at < sizeof all / sizeof *all; at++) {
     sqlite3_finalize(all[at]);
   }
   sqlite3_close(store->database);
+}
+
+/* Raises the bound above an incarnation, before it is heard of. */
+static void raise_above(struct store *store, uint64_t incarnation) {
+  store->below = (sqlite3_int64)incarnation + LIFE_ROOM;
+  sqlite3_bind_int64(store->raise, 1, store->below);
+  sqlite3_bind_int64(store->raise, 2, store->floor);
+  done_one(store, store->raise);
 }
 
 static void write_page(struct store *store, const rughvadi_limits *limits, uint32_t no,
@@ -309,7 +349,8 @@ static void flush(struct host *host) {
     write_page(&host->store, &host->limits, no, version, host->page);
   }
   sqlite3_bind_int64(host->store.mark, 1, (sqlite3_int64)number);
-  done(&host->store, host->store.mark);
+  sqlite3_bind_int64(host->store.mark, 2, host->store.floor);
+  done_one(&host->store, host->store.mark);
   done(&host->store, host->store.commit);
   check(rughvadi_server_flushed(&host->server, number));
   check(rughvadi_server_forget(&host->server, number));
@@ -327,28 +368,78 @@ static bool speaks_for(struct host *host, struct connection *connection, uint32_
   return host->of[client] == connection;
 }
 
+/* Whether bytes begin with a header of kind 0. */
+static bool asks_incarnation(const uint8_t *bytes, size_t left) {
+  static const uint8_t rest[HEADER - 4];
+  return left >= HEADER && bytes[0] == 2 && bytes[1] == 0
+         && memcmp(bytes + 4, rest, sizeof rest) == 0;
+}
+
+/* Answers which incarnation a client may have next: one that it never had, in no life. */
+static bool tell_incarnation(struct host *host, struct connection *connection,
+                             const uint8_t *asked) {
+  uint64_t next = 0, floor = (uint64_t)host->store.floor;
+  uint32_t client = (uint32_t)asked[2] << 8 | asked[3];
+  if (rughvadi_server_incarnation(&host->server, client, &next) != RUGHVADI_DONE
+      || !speaks_for(host, connection, client)) {
+    return false;
+  }
+  next = next > floor ? next : floor;
+  make_room(&connection->out, HEADER);
+  uint8_t *header = connection->out.at + connection->out.size;
+  memcpy(header, asked, HEADER);
+  for (int place = 11; place >= 4; place--, next >>= 8) {
+    header[place] = (uint8_t)next;
+  }
+  connection->out.size += HEADER;
+  return true;
+}
+
+/* Whether the server is to hear of a frame's incarnation. One of a former life it isn't. */
+static bool is_of_life(struct host *host, const rughvadi_frame_head *head) {
+  if (head->incarnation < (uint64_t)host->store.floor || head->incarnation >= MOST_INCARNATION) {
+    return false;
+  }
+  if (head->kind == RUGHVADI_KIND_HELLO && head->incarnation >= (uint64_t)host->store.below) {
+    raise_above(&host->store, head->incarnation);
+  }
+  return true;
+}
+
+/* Takes what the bytes begin with: how many there are of it, 0 where it isn't whole; -1 where it is
+ * no frame, or another client's. */
+static ssize_t take_one(struct host *host, struct connection *connection, const uint8_t *bytes,
+                        size_t left) {
+  size_t used = 0;
+  rughvadi_frame_head head;
+  if (asks_incarnation(bytes, left)) {
+    return tell_incarnation(host, connection, bytes) ? HEADER : -1;
+  }
+  uint32_t fault = rughvadi_frame_read(&host->limits, bytes, left, &head);
+  if (fault == RUGHVADI_FRAME_SHORT) {
+    return 0;
+  }
+  if (fault != RUGHVADI_DONE || !speaks_for(host, connection, head.client)) {
+    return -1;
+  }
+  if (is_of_life(host, &head)
+      && rughvadi_take(&host->server, bytes, left, &used) != RUGHVADI_DONE) {
+    return -1;
+  }
+  fetch(host);
+  return (ssize_t)head.length;
+}
+
 /* Takes each whole frame that came; false where something is none, or another client's. */
 static bool take_frames(struct host *host, struct connection *connection) {
   size_t at = 0;
-  while (at < connection->in.size) {
-    const uint8_t *bytes = connection->in.at + at;
-    size_t left = connection->in.size - at, used = 0;
-    rughvadi_frame_head head;
-    uint32_t fault = rughvadi_frame_read(&host->limits, bytes, left, &head);
-    if (fault == RUGHVADI_FRAME_SHORT) {
-      break;
-    }
-    if (fault != RUGHVADI_DONE || !speaks_for(host, connection, head.client)) {
-      return false;
-    }
-    if (rughvadi_take(&host->server, bytes, left, &used) != RUGHVADI_DONE) {
-      return false;
-    }
-    at += used;
-    fetch(host);
-  }
+  ssize_t used = 0;
+  do {
+    at += (size_t)used;
+    used = take_one(host, connection, connection->in.at + at, connection->in.size - at);
+  } while (used > 0);
   cut(&connection->in, at);
-  return true;
+  return used == 0;
 }
 
 static void receive(struct host *host, struct connection *connection) {

@@ -16,7 +16,7 @@ from pathlib import Path
 
 import building
 import serving
-from checks.bad_input import ASK_READ, HELLO, Peer, frame, number_of
+from checks.bad_input import ASK_READ, HEADER, HELLO, Peer, frame, number_of
 from serving import wait_for
 
 CLIENTS, PAGES, SIZE = 8, 16, 4096
@@ -115,7 +115,15 @@ class Caller(Peer):
         self.socket = socket.socket(socket.AF_UNIX)
         self.socket.connect(str(it.socket))
         self.socket.settimeout(20)
-        self.client, self.incarnation = client, 1 << 61
+        self.client, self.incarnation = client, 0
+        self.say(0)
+        self.incarnation = HEADER.unpack(self.exactly(HEADER.size))[3]
+
+    def welcomed(self, *incarnations: int) -> int:
+        """Greets by each of these, in order; the incarnation that is welcome first."""
+        for incarnation in incarnations:
+            self.say(HELLO, incarnation=incarnation)
+        return HEADER.unpack(self.exactly(HEADER.size))[3]
 
 
 def wrong_frames(it: Host) -> str:
@@ -132,6 +140,32 @@ def wrong_frames(it: Host) -> str:
         right = holder.welcome() is holder
     status = ended(server, signal.SIGTERM)
     return "" if right and all(closed) and status == 0 else f"{closed}, {status}: {it.log()}"
+
+
+def bound(it: Host) -> int:
+    """What incarnations are below in the life that the store has."""
+    with contextlib.closing(sqlite3.connect(it.store)) as tables:
+        return tables.execute("SELECT below FROM life").fetchone()[0]
+
+
+def lives(it: Host) -> str:
+    """Whatever a client's clock was, it is given an incarnation that is welcome; one of a life
+    before isn't any more; and the bound is on disk before anybody is welcome."""
+    server, found, ahead = it.start(), [], 0
+    with Caller(it, 1) as peer:
+        ahead = peer.incarnation + (1 << 50)
+        found += [peer.welcomed(ahead), bound(it) > ahead]
+    with Caller(it, 1) as peer:
+        found += [peer.welcomed(ahead - 1, peer.incarnation) == peer.incarnation > ahead]
+    ended(server, signal.SIGKILL)
+    server = it.start()
+    with Caller(it, 1) as peer:
+        # Of a former life; so great that later lives would have none; and what was given.
+        asked = peer.incarnation
+        found += [peer.welcomed(ahead + 1, 3 << 60, asked) == asked > ahead, bound(it) > asked]
+    status = ended(server, signal.SIGTERM)
+    right = found == [ahead, True, True, True, True]
+    return "" if right and status == 0 else f"{found}, {status}: {it.log()}"
 
 
 def no_socket(it: Host) -> str:
@@ -172,7 +206,8 @@ def tried(tries, it) -> None:
     room = it.room / "serve_host"
     room.mkdir()
     host = Host(room, it.library)
-    for scene in (copies, killed, wrong_frames, no_socket, strangers, owned_files):
+    scenes = (copies, killed, wrong_frames, lives, no_socket, strangers, owned_files)
+    for scene in scenes:
         try:
             why = scene(host)
         except (OSError, EOFError, sqlite3.Error, subprocess.SubprocessError) as fault:

@@ -6,7 +6,7 @@
 #include <string.h>
 #include <sys/socket.h>
 #include <sys/un.h>
-#include <time.h>
+#include <unistd.h>
 
 enum { PAGE = 5, SIZE = 64 };
 
@@ -39,11 +39,18 @@ static int connected(const char *path) {
   return fd;
 }
 
-/* An incarnation that no earlier one of this client had. */
-static uint64_t now(void) {
-  struct timespec time;
-  clock_gettime(CLOCK_REALTIME, &time);
-  return (uint64_t)time.tv_sec * 1000000000u + (uint64_t)time.tv_nsec;
+/* Asks the server for an incarnation that no earlier one of this client had. */
+static uint64_t asked(int fd, uint32_t client) {
+  uint8_t header[16] = {2, 0, 0, (uint8_t)client};
+  uint64_t incarnation = 0;
+  if (write(fd, header, 16) != 16 || recv(fd, header, 16, MSG_WAITALL) != 16) {
+    perror("incarnation");
+    exit(1);
+  }
+  for (int at = 4; at < 12; at++) {
+    incarnation = incarnation << 8 | header[at];
+  }
+  return incarnation;
 }
 
 int main(int argc, char **argv) {
@@ -52,7 +59,8 @@ int main(int argc, char **argv) {
   }
   rughvadi_link link;
   uint32_t client = (uint32_t)atoi(argv[2]);
-  uint32_t fault = rughvadi_link_open(&link, &limits, client, now(), connected(argv[1]));
+  int fd = connected(argv[1]);
+  uint32_t fault = rughvadi_link_open(&link, &limits, client, asked(fd, client), fd);
   int times = atoi(argv[3]);
   for (int at = 0; at < times && fault == RUGHVADI_DONE; at++) {
     uint64_t number;

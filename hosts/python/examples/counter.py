@@ -1,8 +1,8 @@
 """counter.py SOCKET CLIENT COUNT: adds one to the counter of page 5, so many times."""
 
 import socket
+import struct
 import sys
-import time
 
 from rughvadi import Limits, Link
 
@@ -20,8 +20,10 @@ def count(transaction) -> int:
 path, client, times = sys.argv[1], int(sys.argv[2]), int(sys.argv[3])
 with socket.socket(socket.AF_UNIX) as connected:
     connected.connect(path)
-    # An incarnation that no earlier one of this client had.
-    link = Link(LIMITS, client, time.time_ns(), connected)
+    # The server is asked for an incarnation that no earlier one of this client had.
+    connected.sendall(struct.pack(">BBHQI", 2, 0, client, 0, 0))
+    answer = connected.recv(16, socket.MSG_WAITALL)
+    link = Link(LIMITS, client, int.from_bytes(answer[4:12], "big"), connected)
     for _ in range(times):
         last = link.run(count)
     link.close()

@@ -3,12 +3,15 @@
 import selectors
 import socket
 import sqlite3
+import struct
 import sys
 from contextlib import suppress
 
 from rughvadi import Fault, FrameShort, Limits, Server, read_frame
 
 LIMITS = Limits(clients=8, pages=16, page_size=64, slots=8, kin=2, kout=4)
+HEADER = struct.Struct(">BBHQI")  # of frames; alone and with kind 0 it asks for an incarnation
+ROOM, MOST = 1 << 20, 3 << 60  # of incarnations: above a bound, and for all lives
 
 
 class Store:
@@ -19,6 +22,11 @@ class Store:
         self.db.execute("PRAGMA synchronous = FULL")
         self.db.execute("CREATE TABLE IF NOT EXISTS pages(page INTEGER PRIMARY KEY, version, data)")
         self.db.execute("CREATE TABLE IF NOT EXISTS mark(id INTEGER PRIMARY KEY, number)")
+        self.db.execute("CREATE TABLE IF NOT EXISTS life(id INTEGER PRIMARY KEY, floor, below)")
+        self.db.execute("INSERT OR IGNORE INTO life VALUES (1, 0, 1)")
+        # No incarnation of a former life is taken in this one.
+        self.db.execute("UPDATE life SET floor = below, below = below + ?", (ROOM,))
+        self.floor, self.below = self.db.execute("SELECT floor, below FROM life").fetchone()
 
     def server(self) -> Server:
         mark = self.db.execute("SELECT number FROM mark").fetchone()
@@ -27,6 +35,10 @@ class Store:
         return Server(
             LIMITS, mark[0] if mark else 0, [rows.get(p, zeros) for p in range(LIMITS.pages)]
         )
+
+    def raise_above(self, incarnation: int) -> None:
+        self.below = incarnation + ROOM
+        self.db.execute("UPDATE life SET below = ?", (self.below,))  # synced, as a batch is
 
     def write(self, batch) -> None:
         self.db.execute("BEGIN")
@@ -78,17 +90,41 @@ class Host:
             self.lose(connection)
 
     def take_frames(self, connection: socket.socket) -> None:
-        while self.came[connection]:
+        while len(self.came[connection]) >= HEADER.size:
+            came = self.came[connection]
+            if came[:2] == b"\2\0":
+                self.came[connection] = came[HEADER.size :]
+                self.tell_incarnation(connection, HEADER.unpack(came[: HEADER.size])[2])
+                continue
             try:
-                head = read_frame(LIMITS, self.came[connection])
+                head = read_frame(LIMITS, came)
             except FrameShort:
                 return
-            owner = self.connections.setdefault(head.client, connection)
-            if owner is not connection:  # a connection speaks for one client, and alone
-                raise ConnectionError
-            self.server.take(self.came[connection][: head.length])
-            self.came[connection] = self.came[connection][head.length :]
-            self.send_said()
+            self.check_owner(connection, head.client)
+            self.came[connection] = came[head.length :]
+            if self.is_of_life(head):
+                self.server.take(came[: head.length])
+                self.send_said()
+
+    def check_owner(self, connection: socket.socket, client: int) -> None:
+        """A connection speaks for one client, and alone."""
+        if self.connections.setdefault(client, connection) is not connection:
+            raise ConnectionError
+
+    def tell_incarnation(self, connection: socket.socket, client: int) -> None:
+        """Which one the client may have next: one that it never had, in no life."""
+        incarnation = max(self.server.next_incarnation(client), self.store.floor)
+        self.check_owner(connection, client)
+        connection.sendall(HEADER.pack(2, 0, client, incarnation, 0))
+
+    def is_of_life(self, head) -> bool:
+        """Whether the server is to hear of a frame's incarnation; of a Hello's (kind 1) only once
+        the bound is above it."""
+        if not self.store.floor <= head.incarnation < MOST:
+            return False
+        if head.kind == 1 and head.incarnation >= self.store.below:
+            self.store.raise_above(head.incarnation)
+        return True
 
     def send_said(self) -> None:
         for frame in self.server.frames():

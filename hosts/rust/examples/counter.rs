@@ -2,8 +2,8 @@
 use rughvadi::{Limits, Link, Result, Transaction};
 use std::env;
 use std::error::Error;
+use std::io::{self, Read, Write};
 use std::os::unix::net::UnixStream;
-use std::time::SystemTime;
 
 const LIMITS: Limits = Limits::new(8, 16, 64, 8);
 
@@ -18,13 +18,24 @@ fn count(transaction: &mut Transaction<'_, UnixStream>) -> Result<u64> {
     Ok(number)
 }
 
+/// Asks the server for an incarnation that no earlier one of this client had.
+fn ask_incarnation(stream: &mut UnixStream, client: u32) -> io::Result<u64> {
+    let mut header = [0; 16];
+    header[0] = 2;
+    header[2..4].copy_from_slice(&(client as u16).to_be_bytes());
+    stream.write_all(&header)?;
+    stream.read_exact(&mut header)?;
+    let mut incarnation = [0; 8];
+    incarnation.copy_from_slice(&header[4..12]);
+    Ok(u64::from_be_bytes(incarnation))
+}
+
 fn main() -> std::result::Result<(), Box<dyn Error>> {
     let words: Vec<String> = env::args().collect();
     let (client, times): (u32, u64) = (words[2].parse()?, words[3].parse()?);
-    // An incarnation that no earlier one of this client had.
-    let now = SystemTime::now().duration_since(SystemTime::UNIX_EPOCH)?;
-    let stream = UnixStream::connect(&words[1])?;
-    let mut link = Link::open_socket(&LIMITS, client, now.as_nanos() as u64, stream)?;
+    let mut stream = UnixStream::connect(&words[1])?;
+    let incarnation = ask_incarnation(&mut stream, client)?;
+    let mut link = Link::open_socket(&LIMITS, client, incarnation, stream)?;
     for _ in 0..times {
         link.run(count)?;
     }

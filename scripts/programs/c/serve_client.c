@@ -99,13 +99,26 @@ static void by_gateway(rughvadi_link *link, char **words, uint32_t client) {
   page_size = (size_t)seat.limits.page_size;
 }
 
+/* The incarnation that the host says this client may have. */
+static uint64_t asked_incarnation(int fd, uint32_t client) {
+  uint8_t header[16] = {2, 0, (uint8_t)(client >> 8), (uint8_t)client};
+  uint64_t incarnation = 0;
+  whole(fd, header, sizeof header, true);
+  whole(fd, header, sizeof header, false);
+  for (size_t place = 4; place < 12; place++) {
+    incarnation = incarnation << 8 | header[place];
+  }
+  return incarnation;
+}
+
 static void by_served(rughvadi_link *link, char **words, uint32_t client) {
   int fd;
   rughvadi_limits limits = {strtoul(words[3], NULL, 10), strtoul(words[4], NULL, 10),
                             strtoul(words[5], NULL, 10), 16, 4, 8, strtoul(words[6], NULL, 10)};
   page_size = (size_t)limits.page_size;
   must(rughvadi_dial(words[2], &fd), "dial");
-  must(rughvadi_link_open(link, &limits, client, (uint64_t)time(NULL) * 1000000, fd), "open");
+  uint64_t incarnation = asked_incarnation(fd, client);
+  must(rughvadi_link_open(link, &limits, client, incarnation, fd), "open");
 }
 
 static uint64_t run(char **words, uint32_t client, int ready, int start) {
