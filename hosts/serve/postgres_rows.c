@@ -1,0 +1,228 @@
+#include "postgres.h"
+
+#include <inttypes.h>
+#include <stdio.h>
+#include <stdlib.h>
+#include <string.h>
+
+enum { INT4 = 23, INT8 = 20, BYTEA = 17 }; /* PostgreSQL's numbers of these types */
+
+/* A row is a part of a page. Alone on its 8 KB it has room for two later versions of it, so an
+ * update neither touches an index nor waits for VACUUM. */
+static const char TABLES[] =
+    "DO $$ BEGIN PERFORM pg_advisory_xact_lock(7238114271);"
+    " IF to_regclass('mark') IS NULL AND to_regclass('page') IS NULL THEN"
+    "  CREATE TABLE mark(store text PRIMARY KEY, commits bigint NOT NULL, floor bigint NOT NULL,"
+    "   below bigint NOT NULL, beat bigint NOT NULL, page_size int NOT NULL, pages int NOT NULL)"
+    "   WITH (fillfactor = 10);"
+    "  CREATE TABLE page(store text, no int, part int, version bigint NOT NULL,"
+    "   body bytea NOT NULL, PRIMARY KEY(store, no, part)) WITH (fillfactor = 30);"
+    "  ALTER TABLE page ALTER body SET STORAGE PLAIN;"
+    " END IF; END $$";
+
+/* One statement, so one transaction: with another life, or another last commit than $4, it changes
+ * nothing. READ COMMITTED looks again at a row that it waited for. */
+const char rows_write[] =
+    "WITH own AS (UPDATE mark SET commits = $3, below = $5, beat = beat + 1"
+    "  WHERE store = $1 AND floor = $2 AND commits = $4"
+    "  AND (NOT $10::boolean OR current_setting('synchronous_standby_names') <> '') RETURNING 1),"
+    " written AS (UPDATE page SET version = b.version, body = b.body"
+    "  FROM unnest($6::int[], $7::int[], $8::bigint[], $9::bytea[]) b(no, part, version, body)"
+    "  WHERE page.store = $1 AND page.no = b.no AND page.part = b.part"
+    "  AND EXISTS (SELECT FROM own) RETURNING 1)"
+    "SELECT (SELECT count(*) FROM own), (SELECT count(*) FROM written)";
+
+size_t rows_of_page(const struct postgres *store) {
+  return ((size_t)store->settings->limits.page_size - 1) / ROW_PART + 1;
+}
+
+static size_t row_size(const struct postgres *store, size_t part) {
+  size_t left = (size_t)store->settings->limits.page_size - part * ROW_PART;
+  return left < ROW_PART ? left : ROW_PART;
+}
+
+enum outcome rows_lay_out(struct postgres *store) {
+  PGresult *result;
+  enum outcome outcome;
+  do {
+    outcome = session_ask(store, TABLES, 0, NULL, &result);
+    PQclear(result);
+  } while (outcome == LOCKED && input_is_open());
+  return outcome;
+}
+
+/* ---- a life begins ---- */
+
+static enum outcome ask_nothing(struct postgres *store, const char *text) {
+  PGresult *result;
+  enum outcome outcome = session_ask(store, text, 0, NULL, &result);
+  PQclear(result);
+  return outcome;
+}
+
+/* Puts the rows of a store of zeros in, where it has none. */
+static enum outcome put_zeros(struct postgres *store) {
+  char pages[24], size[24], part[24];
+  PGresult *result;
+  snprintf(pages, sizeof pages, "%" PRIu64, store->settings->limits.pages);
+  snprintf(size, sizeof size, "%" PRIu64, store->settings->limits.page_size);
+  snprintf(part, sizeof part, "%d", ROW_PART);
+  enum outcome outcome = session_ask(
+      store,
+      "WITH new AS (INSERT INTO mark VALUES ($1, 0, 0, 1, 0, $3::int, $2::int)"
+      "  ON CONFLICT DO NOTHING RETURNING 1)"
+      "INSERT INTO page SELECT $1, no, part, 0,"
+      "   decode(repeat('00', least($4::int, $3::int - part * $4::int)), 'hex')"
+      "  FROM new, generate_series(0, $2::int - 1) no,"
+      "   generate_series(0, ($3::int - 1) / $4::int) part",
+      4, (const char *const[]){store->store, pages, size, part}, &result);
+  PQclear(result);
+  return outcome;
+}
+
+static uint64_t number_in(const PGresult *row, int column) {
+  return strtoull(PQgetvalue(row, 0, column), NULL, 10);
+}
+
+/* Sets the floor to the bound, raises the bound, and locks the row until the end. */
+static enum outcome put_life(struct postgres *store, enum fault *fault) {
+  char more[24];
+  PGresult *row;
+  snprintf(more, sizeof more, "%" PRIu64, LIFE_ROOM);
+  enum outcome outcome = session_ask(
+      store,
+      "UPDATE mark SET floor = below, below = below + $2::bigint, beat = beat + 1"
+      " WHERE store = $1 RETURNING floor, below, commits, page_size, pages",
+      2, (const char *const[]){store->store, more}, &row);
+  if (outcome != ASKED) {
+    return outcome;
+  }
+  const rughvadi_limits *limits = &store->settings->limits;
+  if (PQntuples(row) != 1 || number_in(row, 3) != limits->page_size
+      || number_in(row, 4) != limits->pages) {
+    *fault = FAULT_SHAPE;
+  } else if (number_in(row, 0) > MOST_FLOOR) {
+    *fault = FAULT_EXHAUSTED;
+  } else {
+    store->life = (struct life){number_in(row, 0), number_in(row, 1)};
+    store->last = number_in(row, 2);
+  }
+  PQclear(row);
+  return *fault == NO_FAULT ? ASKED : REFUSED;
+}
+
+/* Takes the row that is the part of a page; the page is put into the handle with its last one. */
+static enum fault take_row(struct postgres *store, const PGresult *row, size_t at,
+                           rughvadi_handle *rows) {
+  size_t parts = rows_of_page(store), part = at % parts;
+  size_t size = (size_t)PQgetlength(row, 0, 1);
+  if (at / parts >= store->settings->limits.pages || size != row_size(store, part)) {
+    return FAULT_SHAPE;
+  }
+  store->body.size = part == 0 ? 0 : store->body.size;
+  if (!bytes_put(&store->body, PQgetvalue(row, 0, 1), size)) {
+    return FAULT_MEMORY;
+  }
+  uint64_t version = number_at((const uint8_t *)PQgetvalue(row, 0, 0), 8);
+  return part + 1 < parts ? NO_FAULT
+                          : fault_of(rughvadi_open_row(rows, version, store->body.at,
+                                                       store->body.size));
+}
+
+/* Takes all rows, one after another as they come. */
+static enum outcome take_rows(struct postgres *store, rughvadi_handle *rows, enum fault *fault) {
+  size_t count = 0, all = (size_t)store->settings->limits.pages * rows_of_page(store);
+  bool is_whole = false;
+  PGresult *row;
+  while ((row = PQgetResult(store->session)) != NULL) {
+    if (PQresultStatus(row) == PGRES_SINGLE_TUPLE && *fault == NO_FAULT) {
+      *fault = take_row(store, row, count++, rows);
+    }
+    is_whole = PQresultStatus(row) == PGRES_TUPLES_OK;
+    PQclear(row);
+  }
+  if (*fault == NO_FAULT && is_whole && count != all) {
+    *fault = FAULT_SHAPE;
+  }
+  return *fault != NO_FAULT ? REFUSED : is_whole ? ASKED : LOST;
+}
+
+static enum outcome load(struct postgres *store, rughvadi_handle *rows, enum fault *fault) {
+  const char *const values[] = {store->store};
+  *fault = fault_of(rughvadi_open_begin(&store->settings->limits, store->last, rows));
+  if (*fault != NO_FAULT) {
+    return REFUSED;
+  }
+  bool is_sent = PQsendQueryParams(store->session,
+                                   "SELECT version, body FROM page WHERE store = $1"
+                                   " ORDER BY no, part",
+                                   1, NULL, values, NULL, NULL, 1)
+                 == 1;
+  return is_sent && PQsetSingleRowMode(store->session) ? take_rows(store, rows, fault) : LOST;
+}
+
+/* What was read is safe once the raised bound has been committed, and nothing was warned of. */
+enum outcome rows_begin(struct postgres *store, rughvadi_handle *rows, enum fault *fault) {
+  enum outcome outcome = ask_nothing(store, "BEGIN");
+  outcome = outcome == ASKED ? put_zeros(store) : outcome;
+  outcome = outcome == ASKED ? put_life(store, fault) : outcome;
+  outcome = outcome == ASKED ? load(store, rows, fault) : outcome;
+  outcome = outcome == ASKED ? ask_nothing(store, "COMMIT") : outcome;
+  if (outcome == ASKED && !store->was_warned) {
+    return ASKED;
+  }
+  rughvadi_free(rows);
+  if (store->session != NULL) {
+    ask_nothing(store, "ROLLBACK");
+  }
+  return outcome == ASKED ? LOCKED : outcome;
+}
+
+/* ---- a batch ---- */
+
+static bool put_number(struct bytes *bytes, uint32_t number) {
+  uint8_t digits[4];
+  put_32(digits, number);
+  return bytes_put(bytes, digits, sizeof digits);
+}
+
+static bool put_long(struct bytes *bytes, uint64_t number) {
+  uint8_t digits[8];
+  put_64(digits, number);
+  return bytes_put(bytes, digits, sizeof digits);
+}
+
+/* The head of an array in PostgreSQL's binary form, with room for so many values of that size: how
+ * many dimensions it has, that it has no nulls, the type; and the dimension's count and first place.
+ */
+static bool begin_array(struct bytes *bytes, uint32_t type, size_t count, size_t size) {
+  bytes->size = 0;
+  bool is_put = bytes_reserve(bytes, 20 + count * (4 + size)) && put_number(bytes, count > 0)
+                && put_number(bytes, 0) && put_number(bytes, type);
+  return is_put && (count == 0 || (put_number(bytes, (uint32_t)count) && put_number(bytes, 1)));
+}
+
+/* Puts a part of a page behind the others; each value has its size in front. */
+static bool put_row(struct postgres *store, const struct page *page, const uint8_t *body,
+                    size_t part) {
+  size_t size = row_size(store, part);
+  return put_number(&store->no, 4) && put_number(&store->no, page->no)
+         && put_number(&store->part, 4) && put_number(&store->part, (uint32_t)part)
+         && put_number(&store->version, 8) && put_long(&store->version, page->version)
+         && put_number(&store->body, (uint32_t)size)
+         && bytes_put(&store->body, body + part * ROW_PART, size);
+}
+
+bool rows_gather(struct postgres *store, const struct batch *batch) {
+  size_t parts = rows_of_page(store), count = batch->pages * parts;
+  size_t page_size = (size_t)store->settings->limits.page_size;
+  bool is_put = begin_array(&store->no, INT4, count, 4)
+                && begin_array(&store->part, INT4, count, 4)
+                && begin_array(&store->version, INT8, count, 8)
+                && begin_array(&store->body, BYTEA, count, ROW_PART);
+  for (size_t at = 0; at < count && is_put; at++) {
+    size_t place = at / parts;
+    is_put = put_row(store, &batch->page[place], batch->bodies.at + place * page_size, at % parts);
+  }
+  return is_put;
+}

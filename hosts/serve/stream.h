@@ -1,0 +1,31 @@
+/* The core: frames that come are cut and taken by the library's server, and what it says is
+ * gathered to be put out. It does no input or output. docs/FORMATS.md has its rules. */
+#ifndef SERVE_STREAM_H
+#define SERVE_STREAM_H
+
+#include "engine.h"
+
+struct stream {
+  rughvadi_limits limits;
+  rughvadi_handle server;
+  struct life life;
+  struct bytes in;      /* what came and isn't taken */
+  struct bytes out;     /* what was said and isn't put out */
+  uint64_t passed_over; /* how many pieces were no frames */
+  uint64_t wanted;      /* before more is taken the bound is to be this; 0: it needn't be raised */
+  bool has_ended;       /* what comes next is a header that no frame has */
+};
+
+/* Takes each whole piece of what came, up to a Hello that waits for a higher bound. */
+enum fault stream_take(struct stream *stream);
+
+/* Makes the next batch; without pages, and of the number that was last, where only the bound is to
+ * be raised. *is_there tells whether there is one. */
+enum fault stream_batch(struct stream *stream, struct batch *batch, bool *is_there);
+
+/* The batch is on disk: its commits are answered, and its bound is the life's. */
+enum fault stream_written(struct stream *stream, const struct batch *batch);
+
+void stream_free(struct stream *stream);
+
+#endif
