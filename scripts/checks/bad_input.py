@@ -15,7 +15,7 @@ from typing import Callable
 from serving import Gateway, wait_for
 
 HEADER = struct.Struct(">BBHQI")
-HELLO, ASK_READ, ASK_WRITE, COMMIT, WELCOME, CALLBACK = 1, 2, 3, 6, 65, 68
+HELLO, ASK_READ, ASK_WRITE, COMMIT, WELCOME, GRANTED, CALLBACK = 1, 2, 3, 6, 65, 66, 68
 PATIENCE, SILENCE = 1, 3
 
 

@@ -2,9 +2,14 @@
 
     scripts/check serve [--built] [KILLS [SEED]]      200 kills without a number
 
-- Bad input and faults at `cb_play serve`: frames cut, damaged, of strangers and of kinds for
-  clients, headers that are none, stores that refuse, full disks, outputs that are closed, memory
-  refused. Each ends with its line and status, and the store has what was answered as done.
+- Bad input and faults at `cb_play serve`, and at `rughvadi-serve` over SQLite: frames cut, damaged,
+  of strangers and of kinds for clients, headers that are none, stores that refuse, full disks,
+  outputs that are closed, memory refused. Each ends with its line and status, and the store has
+  what was answered as done.
+- Streams of frames at both, and at `rughvadi-serve` over PostgreSQL: each puts out the same bytes,
+  ends alike and leaves the same store, which those with a file go on with in turn.
+- Lives at `rughvadi-serve`: killed at drawn moments, each begins above all that was welcome before,
+  and who serves in a former life answers nothing.
 - Bad input at the gateway, which is built with ASan and UBSan: no token, a wrong one, frames of
   others, frames that are none, half a frame and then silence, floods, clients that don't read or
   don't answer, a server that dies, files that others may read. Each ends in a closed connection, a
@@ -32,8 +37,9 @@
   others commit: each is right, or refused.
 
 It needs the library (that of LIBRARY, else installed by scripts/library, with what stands in
-crates/rughvadi/out after --built), `cb_play` (that of PLAY, else built), a C compiler, libuv's
-header, rustc and sqlite3. Once all is built it takes some ten minutes. The status is 1 where
+crates/rughvadi/out after --built), `cb_play` (that of PLAY, else built), a C compiler, the headers
+of libuv, SQLite and libpq, rustc and sqlite3. What needs PostgreSQL 15 is left out where that isn't
+there. Once all is built it takes some ten minutes. The status is 1 where
 something failed.
 """
 import os
@@ -48,7 +54,8 @@ from pathlib import Path
 
 import building
 import serving
-from checks import bad_input, serve_gateway, serve_host, serve_input, serve_operators
+from checks import bad_input, serve_engines, serve_gateway, serve_host, serve_input, serve_lives
+from checks import serve_operators
 from checks.library import Tries
 from serving import Gateway, wait_for
 
@@ -63,6 +70,8 @@ class Built:
     room: Path
     library: Path
     play: Path
+    serve: Path
+    checked_serve: Path  # with ASan and UBSan
     gateway: Path
     examples: Path
 
@@ -79,6 +88,11 @@ class Built:
         return gateway
 
 
+def engine_server(room: Path, lib: Path, *settings: str) -> Path:
+    room.mkdir()
+    return serving.made(Path("hosts/serve"), room, f"LIBRARY={lib}", *settings) / "rughvadi-serve"
+
+
 def build(room: Path, words: list[str]) -> Built:
     lib = serving.library(room, words)
     # Debian's compiler, the oldest that the crate is written for, where it is there.
@@ -88,6 +102,8 @@ def build(room: Path, words: list[str]) -> Built:
         room,
         lib,
         building.play("PLAY"),
+        engine_server(room / "plain", lib),
+        engine_server(room / "checked", lib, f"CFLAGS={serving.SANITIZERS}"),
         serving.made(Path("hosts/gateway"), room, f"CFLAGS={serving.SANITIZERS}") / "gateway",
         serving.made(Path("examples"), room, f"LIBRARY={lib}", f"RUSTC={rustc}"),
     )
@@ -447,11 +463,15 @@ def main(words: list[str]) -> int:
     kills, seed = map(int, counts + ["200", "1"][len(counts) :])
     tries = Tries()
     with building.a_room() as room:
+        room.chmod(0o755)  # clusters run as another user
         it = build(room, built)
         run_gather(tries, it)
         run_turns(tries, it)
         run_fights(tries, it)
-        serve_input.tried(tries, it)
+        serve_input.tried(tries, room / "input_play", "serve", (it.play, "serve"))
+        serve_input.tried(tries, room / "input_sqlite", "over SQLite", (it.serve,))
+        serve_engines.tried(tries, room / "engines", it.play, it.checked_serve)
+        serve_lives.tried(tries, room / "lives", it.checked_serve)
         bad_input.tried(tries, it)
         serve_gateway.tried(tries, it)
         serve_gateway.tried(tries, it, serve_operators.SCENES, "serve_operators")

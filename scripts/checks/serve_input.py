@@ -1,4 +1,5 @@
-"""Bad input and faults at `cb_play serve`, for `scripts/check serve`: frames by files and pipes.
+"""Bad input and faults at a server of frames, for `scripts/check serve`: by files and pipes. It is
+`cb_play serve`, or `rughvadi-serve`.
 
 Three clients commit on a page each: the transaction's number is on the page. So what was answered
 as Done can be looked for in the store, however the server ended.
@@ -24,6 +25,8 @@ from checks.bad_input import ASK_READ, ASK_WRITE, CALLBACK, COMMIT, HEADER, HELL
 CLIENTS, PAGES = 3, 4
 DONE, GRANTED, WELCOME = 69, 66, 65
 AGAIN = HEADER.pack(2, 0, 0, 0, 0)
+# More than incarnations of one server's life are above its floor, if they are no more than that.
+LIFE = 1 << 21
 CONFIG = "clients = {}\npages = {}\npage_size = {}\nslots = 4\n{}"
 # How a server may end that was refused memory.
 MEMORY = [(4, ["memory"]), (0, [])]
@@ -64,21 +67,23 @@ def cut(out: bytes) -> tuple[list[tuple[int, int, bytes]], bytes]:
 
 
 class Scene:
-    """A server's files, in a folder of their own."""
+    """A server's files, in a folder of their own. Clients greet each server over them by a later
+    incarnation."""
 
-    def __init__(self, room: Path, play: Path, size: int = 64, more: str = "") -> None:
+    def __init__(self, room: Path, server: tuple, size: int = 64, more: str = "") -> None:
         self.room = Path(tempfile.mkdtemp(dir=room))
-        self.play, self.size = play, size
+        self.server, self.size, self.incarnation = server, size, 1
         self.config, self.store = self.room / "config", self.room / "store.db"
         self.config.write_text(CONFIG.format(CLIENTS, PAGES, size, more))
 
     def words(self) -> list[str]:
-        return [str(it) for it in (self.play, "serve", self.config, self.store)]
+        return [str(it) for it in (*self.server, self.config, self.store)]
 
     def serve(self, given: bytes, **how) -> Ended:
         """Serves what is given to its end."""
         done = subprocess.run(self.words(), input=given, capture_output=True, check=False,
                               timeout=120, **how)
+        self.incarnation += LIFE
         return self.ended(done.returncode, done.stdout, done.stderr)
 
     def ended(self, status: int, out: bytes, said: bytes) -> Ended:
@@ -86,14 +91,18 @@ class Scene:
 
     # ---- frames ----
 
-    def commit(self, client: int, number: int, grant: int, incarnation: int = 1) -> bytes:
+    def say(self, kind: int, client: int, body: bytes = b"") -> bytes:
+        return frame(kind, client, self.incarnation, body)
+
+    def commit(self, client: int, number: int, grant: int, later: int = 0) -> bytes:
         page = struct.pack(">IQI", client, grant, self.size) + number.to_bytes(self.size, "big")
-        return frame(COMMIT, client, incarnation, struct.pack(">QH", number, 1) + page)
+        body = struct.pack(">QH", number, 1) + page
+        return frame(COMMIT, client, self.incarnation + later, body)
 
     def begins(self) -> bytes:
         """Each client greets and reads its page: the grants are 1, 2 and 3."""
-        asks = [frame(ASK_READ, it, 1, struct.pack(">QI", 1, it)) for it in range(CLIENTS)]
-        return b"".join([*(frame(HELLO, it, 1) for it in range(CLIENTS)), *asks])
+        asks = [self.say(ASK_READ, it, struct.pack(">QI", 1, it)) for it in range(CLIENTS)]
+        return b"".join([*(self.say(HELLO, it) for it in range(CLIENTS)), *asks])
 
     def commits(self, first: int, last: int) -> list[bytes]:
         """The frames by which each client commits these transactions, in turn."""
@@ -101,7 +110,7 @@ class Scene:
         for number in range(first, last + 1):
             for client in range(CLIENTS):
                 ask = struct.pack(">QIQ", number, client, client + 1)
-                frames.append(frame(ASK_WRITE, client, 1, ask))
+                frames.append(self.say(ASK_WRITE, client, ask))
                 frames.append(self.commit(client, number, client + 1))
         return frames
 
@@ -172,9 +181,9 @@ def damaged_frames(it: Scene) -> bool:
     falls = struct.pack(">QH", 2, 2) + 2 * (struct.pack(">IQI", 0, 1, it.size) + bytes(it.size))
     count = struct.pack(">QH", 2, 2) + struct.pack(">IQI", 0, 1, it.size) + bytes(it.size)
     wrong = [
-        frame(COMMIT, 0, 1, size), frame(COMMIT, 0, 1, falls), frame(COMMIT, 0, 1, count),
-        frame(ASK_READ, 0, 1, struct.pack(">QI", 2, PAGES)),
-        frame(ASK_READ, 0, 1, struct.pack(">QI", 0, 0)), frame(HELLO, 0, 0),
+        it.say(COMMIT, 0, size), it.say(COMMIT, 0, falls), it.say(COMMIT, 0, count),
+        it.say(ASK_READ, 0, struct.pack(">QI", 2, PAGES)),
+        it.say(ASK_READ, 0, struct.pack(">QI", 0, 0)), frame(HELLO, 0, 0),
         frame(HELLO, 0, 1 << 62), frame(HELLO, CLIENTS, 1), frame(HELLO, 65535, 1),
     ]
     right = it.commits(1, 5)
@@ -188,16 +197,16 @@ def strangers(it: Scene) -> bool:
     """Frames of other incarnations, of who never greeted, and of kinds for clients are let go."""
     granted = struct.pack(">IQQI", 0, 9, 9, it.size) + bytes(it.size)
     others = [
-        it.commit(0, 9, 1, incarnation=2),
+        it.commit(0, 9, 1, later=1),
         it.commit(0, 9, 7), frame(ASK_READ, 1, 9, struct.pack(">QI", 1, 0)),
-        frame(WELCOME, 0, 1), frame(GRANTED, 0, 1, granted),
-        frame(DONE, 0, 1, struct.pack(">QQ", 1, 1)), frame(70, 1, 1, struct.pack(">Q", 1)),
-        frame(CALLBACK, 1, 1, struct.pack(">IQ", 0, 1)),
+        it.say(WELCOME, 0), it.say(GRANTED, 0, granted),
+        it.say(DONE, 0, struct.pack(">QQ", 1, 1)), it.say(70, 1, struct.pack(">Q", 1)),
+        it.say(CALLBACK, 1, struct.pack(">IQ", 0, 1)),
     ]
     ended = it.serve(b"".join(others) + it.given(1))
     right = ended.how == (0, []) and len(ended.dones()) == 3 and it.holds(ended, 1)
     # A grant that isn't the client's commits nothing.
-    stolen = it.serve(it.begins() + it.commit(0, 1, 2) + frame(HELLO, 0, 2))
+    stolen = it.serve(it.begins() + it.commit(0, 1, 2) + frame(HELLO, 0, it.incarnation + 1))
     return right and stolen.how == (0, []) and not stolen.dones()
 
 
@@ -212,7 +221,7 @@ def no_header(it: Scene) -> bool:
     ]
     right = []
     for end in ends:
-        scene = Scene(it.room, it.play)
+        scene = Scene(it.room, it.server)
         ended = scene.serve(scene.given(2) + end + b"".join(scene.commits(3, 3)))
         right.append(ended.how == (3, ["input: no frame"]) and len(ended.dones()) == 6
                      and scene.holds(ended, 2))
@@ -223,7 +232,7 @@ def cut_input(it: Scene) -> bool:
     """The input ends within a frame, at each byte of it: what came before is answered."""
     right, last = [], it.commit(0, 3, 1)
     for count in (1, 15, 16, 17, len(last) - 1):
-        scene = Scene(it.room, it.play)
+        scene = Scene(it.room, it.server)
         ended = scene.serve(scene.given(2) + last[:count])
         right.append(ended.how == (3, ["input: frame cut"]) and len(ended.dones()) == 6
                      and scene.holds(ended, 2))
@@ -232,8 +241,8 @@ def cut_input(it: Scene) -> bool:
 
 def says_again(it: Scene) -> bool:
     """What may be lost is said again: a Callback that isn't answered; and nothing else."""
-    read = frame(ASK_READ, 0, 1, struct.pack(">QI", 1, 1))
-    ask = frame(ASK_WRITE, 1, 1, struct.pack(">QIQ", 1, 1, 2))
+    read = it.say(ASK_READ, 0, struct.pack(">QI", 1, 1))
+    ask = it.say(ASK_WRITE, 1, struct.pack(">QIQ", 1, 1, 2))
     ended = it.serve(AGAIN + it.begins() + AGAIN + read + ask + AGAIN + AGAIN)
     calls = [each for each in ended.kinds() if each == (CALLBACK, 0)]
     return ended.how == (0, []) and len(calls) == 3 and len(ended.frames) == 10
@@ -241,7 +250,7 @@ def says_again(it: Scene) -> bool:
 
 def kept_writes(it: Scene) -> bool:
     """Kept write permission is allowed; jobs count for nothing."""
-    scene = Scene(it.room, it.play, more="keep_write = 1\njobs = 7\n")
+    scene = Scene(it.room, it.server, more="keep_write = 1\njobs = 7\n")
     # The second transaction of each client commits with no ask.
     second = b"".join(scene.commit(client, 2, client + 1) for client in range(CLIENTS))
     ended = scene.serve(scene.given(1) + second)
@@ -255,7 +264,7 @@ def wrong_configs(it: Scene) -> bool:
     right = []
     for more, line in (("kin = 4\n", "config: limit 5 Kin"), ("x = 1\n", "config: unknown x"),
                        ("keep_write = 2\n", "config: keep_write"), ("[", "config: text")):
-        scene = Scene(it.room, it.play, more=more)
+        scene = Scene(it.room, it.server, more=more)
         ended = scene.serve(scene.given(1))
         right.append(ended.how == (2, [line]) and not ended.frames and not scene.store.exists())
     return all(right)
@@ -266,7 +275,7 @@ def stores_that_refuse(it: Scene) -> bool:
     given, right = it.given(1), []
     for name, line in (("text", "store: Store"), ("folder", "store: Store"),
                        ("other", "store: Shape"), ("held", "store: Store")):
-        scene = Scene(it.room, it.play)
+        scene = Scene(it.room, it.server)
         with prepared(scene, name):
             ended = scene.serve(given)
         right.append(ended.how == (3, [line]) and not ended.frames)
@@ -308,7 +317,7 @@ def full_disk(it: Scene) -> bool:
     server over the same file goes on once there is room."""
     ended_how = set()
     for most in (0, 1 << 12, 1 << 15, 1 << 16, 1 << 17, 1 << 18, 1 << 19, 1 << 20):
-        scene = Scene(it.room, it.play, 4096)
+        scene = Scene(it.room, it.server, 4096)
         ended = scene.serve(scene.given(50), preexec_fn=small_files(most))
         ended_how.add(ended.status)
         if ended.how not in ((0, []), (3, ["store: Store"])) or not scene.holds(ended):
@@ -322,7 +331,7 @@ def full_disk(it: Scene) -> bool:
 
 def on_a_small_disk(it: Scene) -> bool:
     """The same where a file system is full; only root can make one."""
-    scene = Scene(it.room, it.play, 4096)
+    scene = Scene(it.room, it.server, 4096)
     small = scene.room / "small"
     small.mkdir()
     mount = ["mount", "-t", "tmpfs", "-o", "size=512k", "tmpfs", small]
@@ -330,21 +339,42 @@ def on_a_small_disk(it: Scene) -> bool:
         return True
     try:
         scene.store = small / "store.db"
-        ended = scene.serve(scene.given(50))
+        ended = until_it_ends(scene)
         # It is looked at where there is room, with the log that lies beside it.
         shutil.copytree(small, scene.room / "copy")
     finally:
         subprocess.run(["umount", small], check=True)
     scene.store = scene.room / "copy/store.db"
     right = ended.how == (3, ["store: Store"]) and scene.holds(ended)
-    return right and 0 < len(ended.dones()) < 150
+    return right and bool(ended.dones())
+
+
+def until_it_ends(scene: Scene) -> Ended:
+    """Commits one after another, each once the one before is answered, until the server ends."""
+    with subprocess.Popen(scene.words(), stdin=subprocess.PIPE, stdout=subprocess.PIPE,
+                          stderr=subprocess.PIPE) as process:
+        out, number, given = b"", 1, [scene.begins(), *scene.commits(1, 1)]
+        with contextlib.suppress(BrokenPipeError):
+            process.stdin.write(b"".join(given))
+            process.stdin.flush()
+            while got := process.stdout.read1():
+                out += got
+                if len(Ended(0, *cut(out), []).dones()) == CLIENTS * number:
+                    number += 1
+                    process.stdin.write(b"".join(scene.commits(number, number)))
+                    process.stdin.flush()
+        out += process.stdout.read()
+        said = process.stderr.read()
+        with contextlib.suppress(BrokenPipeError):
+            process.stdin.close()
+    return scene.ended(process.returncode, out, said)
 
 
 def closed_outputs(it: Scene) -> bool:
     """An output that is closed at once or amid what is said, and one that is full."""
     right = []
     for taken in (0, 1, 500, 5000):
-        scene = Scene(it.room, it.play)
+        scene = Scene(it.room, it.server)
         (scene.room / "given").write_bytes(scene.given(1000))
         given, (reader, writer) = (scene.room / "given").open("rb"), os.pipe()
         with given, subprocess.Popen(scene.words(), stdin=given, stdout=writer,
@@ -355,7 +385,7 @@ def closed_outputs(it: Scene) -> bool:
             said = process.stderr.read() if process.stderr else b""
         ended = scene.ended(process.returncode, out, said)
         right.append(ended.how == (5, []) and scene.holds(ended))
-    scene = Scene(it.room, it.play)
+    scene = Scene(it.room, it.server)
     with open("/dev/full", "wb") as full:
         done = subprocess.run(scene.words(), input=scene.given(3), stdout=full,
                               stderr=subprocess.PIPE, check=False)
@@ -424,7 +454,7 @@ def refused_growths(it: Scene) -> bool:
     step = int(os.environ.get("EVERY", 1 + growths // 400))
     ended_how = set()
     for refused in range(1, growths + 1, step):
-        scene = Scene(it.room, it.play)
+        scene = Scene(it.room, it.server)
         ended = scene.serve(scene.given(3), env={**env, "REFUSED": str(refused)})
         ended.said.pop()
         ended_how.add(ended.status)
@@ -437,7 +467,7 @@ def limits_of_memory(it: Scene) -> bool:
     """Less and less memory in all, with large pages: the same."""
     ended_how = set()
     for limit in range(4, 64, 2):
-        scene = Scene(it.room, it.play, 65536)
+        scene = Scene(it.room, it.server, 65536)
         most = limit << 20
         ended = scene.serve(
             scene.given(20), preexec_fn=lambda: resource.setrlimit(resource.RLIMIT_AS, (most, most))
@@ -458,13 +488,12 @@ SCENES = [
 ]
 
 
-def tried(tries, it) -> None:
-    """Plays each scene at servers of its own."""
-    room = it.room / "serve_input"
+def tried(tries, room: Path, name: str, server: tuple) -> None:
+    """Plays each scene at servers of its own, that these words start."""
     room.mkdir()
     for scene in SCENES:
         try:
-            right, why = scene(Scene(room, it.play)), ""
+            right, why = scene(Scene(room, server)), ""
         except (OSError, sqlite3.Error, subprocess.SubprocessError, IndexError) as fault:
             right, why = False, repr(fault)
-        tries.told(f"serve: {scene.__name__.replace('_', ' ')}", right, why)
+        tries.told(f"{name}: {scene.__name__.replace('_', ' ')}", right, why)

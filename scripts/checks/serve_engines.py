@@ -1,0 +1,270 @@
+"""The same streams at each server of frames, for `scripts/check serve`: `cb_play serve`, and
+`rughvadi-serve` over SQLite and over PostgreSQL. They have to put out the same bytes, end alike,
+and leave the same store, which each of those with a file goes on with.
+
+A stream is read at once, so what is said to it has one order. PostgreSQL is left out where it isn't
+there.
+"""
+from __future__ import annotations
+
+import contextlib
+import random
+import sqlite3
+import struct
+import subprocess
+from dataclasses import dataclass, field
+from pathlib import Path
+from typing import Callable, Iterator
+
+import postgres
+from checks.bad_input import ASK_READ, ASK_WRITE, COMMIT, HEADER, HELLO, frame
+from checks.serve_input import AGAIN, CLIENTS, PAGES, Scene
+
+# Frames of a drawn stream, and how many such streams are tried.
+DRAWN_FRAMES, DRAWN_STREAMS = 60, 200
+
+
+@dataclass
+class Stream:
+    """What is served, one input after another over one store."""
+
+    name: str
+    inputs: list[Callable[[Scene], bytes]]
+    size: int = 64
+    more: str = ""
+
+
+@dataclass
+class Result:
+    """How each input ended, and the store at the end."""
+
+    ended: list[tuple[int, bytes, bytes]] = field(default_factory=list)
+    store: object = None
+
+
+# ---- streams ----
+
+
+def whole(last: int) -> Callable[[Scene], bytes]:
+    return lambda it: it.given(last)
+
+
+def then(last: int, *more: bytes) -> Callable[[Scene], bytes]:
+    """Commits, and bytes behind them, and commits that come too late."""
+    return lambda it: it.given(last) + b"".join(more) + b"".join(it.commits(last + 1, last + 1))
+
+
+def in_version_1(it: Scene) -> bytes:
+    """The same in the older version, whose size fields are shorter."""
+    pages = it.size.to_bytes(2, "big") + (1).to_bytes(it.size, "big")
+    body = struct.pack(">QH", 1, 1) + struct.pack(">IQ", 0, 1) + pages
+    said = [frame(HELLO, 0, it.incarnation, version=1),
+            frame(ASK_READ, 0, it.incarnation, struct.pack(">QI", 1, 0), version=1),
+            frame(ASK_WRITE, 0, it.incarnation, struct.pack(">QIQ", 1, 0, 1), version=1),
+            frame(COMMIT, 0, it.incarnation, body, version=1)]
+    return b"".join(said)
+
+
+def deadlock(it: Scene) -> bytes:
+    """Two clients want to write what the other one has read: one is the victim."""
+    reads = [it.say(ASK_READ, client, struct.pack(">QI", 1, page))
+             for client in range(2) for page in range(2)]
+    wants = [it.say(ASK_WRITE, 0, struct.pack(">QIQ", 1, 0, 1)),
+             it.say(ASK_WRITE, 1, struct.pack(">QIQ", 1, 1, 4)),
+             it.say(5, 0, struct.pack(">QIQ", 1, 1, 2)), it.say(5, 1, struct.pack(">QIQ", 1, 0, 3))]
+    hellos = [it.say(HELLO, client) for client in range(2)]
+    return b"".join([*hellos, *reads, *wants, AGAIN])
+
+
+def no_pages(it: Scene) -> bytes:
+    """Commits of reads alone."""
+    return it.begins() + b"".join(
+        it.say(COMMIT, client, struct.pack(">QH", 1, 0)) for client in range(CLIENTS))
+
+
+def drawn(seed: int) -> Callable[[Scene], bytes]:
+    """Frames of any kind, with numbers that are mostly small; some are no frames."""
+
+    def give(it: Scene) -> bytes:
+        drawing, said = random.Random(seed), [it.begins()]
+        for _ in range(DRAWN_FRAMES):
+            said.append(drawn_frame(it, drawing))
+        return b"".join(said)
+
+    return give
+
+
+def drawn_frame(it: Scene, drawing: random.Random) -> bytes:
+    client = drawing.randrange(CLIENTS + (drawing.random() < 0.03))
+    kind = drawing.choice([1, 2, 2, 3, 3, 4, 5, 6, 6, 6, 7, 8])
+    incarnation = it.incarnation + (drawing.random() < 0.05)
+    transaction, grant = drawing.randint(1, 4), drawing.randint(0, 8)
+    page = drawing.randrange(PAGES + (drawing.random() < 0.03))
+    bodies = {
+        1: b"", 2: struct.pack(">QI", transaction, page), 7: struct.pack(">Q", transaction),
+        3: struct.pack(">QIQ", transaction, page, grant), 4: struct.pack(">IQ", page, grant),
+        5: struct.pack(">QIQ", transaction, page, grant), 6: drawn_commit(it, drawing),
+        8: struct.pack(">IQQ", page, grant, transaction),
+    }
+    if drawing.random() < 0.03:
+        return AGAIN
+    return frame(kind, client, incarnation, bodies[kind])
+
+
+def drawn_commit(it: Scene, drawing: random.Random) -> bytes:
+    numbers = sorted(drawing.sample(range(PAGES), drawing.randint(0, 2)))
+    pages = [struct.pack(">IQI", page, drawing.randint(1, 8), it.size) + drawing.randbytes(it.size)
+             for page in numbers]
+    return struct.pack(">QH", drawing.randint(1, 4), len(pages)) + b"".join(pages)
+
+
+def streams() -> Iterator[Stream]:
+    yield Stream("nothing", [lambda it: b""])
+    yield Stream("commits, twice", [whole(20), whole(21)])
+    yield Stream("pages of 4,112 bytes", [whole(5), whole(5)], 4112)
+    yield Stream("pages of 65,536 bytes", [whole(2)], 65536)
+    yield Stream("write permissions that are kept", [
+        lambda it: it.given(1) + b"".join(it.commit(client, 2, client + 1) for client in range(3))
+    ], more="keep_write = 1\n")
+    yield Stream("the older version", [in_version_1])
+    yield Stream("a deadlock", [deadlock])
+    yield Stream("commits of reads", [no_pages, no_pages])
+    yield Stream("a header of kind 0", [lambda it: AGAIN + it.begins() + 3 * AGAIN])
+    for name, end in {
+        "version 3": HEADER.pack(3, HELLO, 0, 1, 0), "kind 9": HEADER.pack(2, 9, 0, 1, 0),
+        "kind 0 of an incarnation": HEADER.pack(2, 0, 0, 1, 0),
+        "a Hello with a body": HEADER.pack(2, HELLO, 0, 1, 1), "text": b"GET / HTTP/1.1\r\n\r\n",
+    }.items():
+        yield Stream(f"no frame: {name}", [then(2, end)])
+    for count in (1, 15, 16, 17):
+        cut = lambda it, count=count: it.given(2) + it.commit(0, 3, 1)[:count]  # noqa: E731
+        yield Stream(f"{count} bytes of a frame", [cut])
+    yield Stream("a wrong configuration", [whole(1)], more="kin = 4\n")
+    for seed in range(DRAWN_STREAMS):
+        yield Stream(f"drawn {seed}", [drawn(seed), drawn(seed + DRAWN_STREAMS)])
+
+
+# ---- servers ----
+
+
+def rows_of_file(store: Path) -> object:
+    """The last commit, and each page's version and bytes, as the tables of a file have them."""
+    if not store.exists():
+        return None
+    with contextlib.closing(sqlite3.connect(store)) as tables:
+        (mark,) = tables.execute("SELECT commits FROM mark2").fetchall()
+        pages = tables.execute("SELECT no, version FROM page2 ORDER BY no").fetchall()
+        parts = tables.execute("SELECT no, body FROM part ORDER BY no, place").fetchall()
+    bodies = [b"".join(body for of, body in parts if of == no) for no, _ in pages]
+    return mark[0], [version for _, version in pages], bodies
+
+
+def schema_of(store: Path) -> list[str]:
+    """The texts that made the tables of a store, without the table of lives."""
+    with contextlib.closing(sqlite3.connect(store)) as tables:
+        texts = tables.execute("SELECT sql FROM sqlite_schema WHERE type = 'table'").fetchall()
+    return [text for (text,) in texts if "life" not in text]
+
+
+class InFile:
+    """A server over a file."""
+
+    def __init__(self, name: str, *words: object) -> None:
+        self.name, self.words = name, words
+
+    def database(self, scene: Scene) -> str:
+        return str(scene.store)
+
+    def rows(self, scene: Scene) -> object:
+        return rows_of_file(scene.store)
+
+
+class InCluster:
+    """A server over PostgreSQL, with a store of its own for each stream."""
+
+    name = "PostgreSQL"
+
+    def __init__(self, cluster: postgres.Cluster, *words: object) -> None:
+        self.cluster, self.words = cluster, words
+
+    def database(self, scene: Scene) -> str:
+        return f"{self.cluster.address} application_name={scene.room.name}"
+
+    def rows(self, scene: Scene) -> object:
+        store = f"store = '{scene.room.name}'"
+        if self.cluster.sql("SELECT to_regclass('mark') IS NULL") == "t":
+            return None
+        mark = self.cluster.sql(f"SELECT commits FROM mark WHERE {store}")
+        if not mark:
+            return None
+        body = "encode(string_agg(body, '' ORDER BY part), 'hex')"
+        rows = self.cluster.sql(f"SELECT no, max(version), {body} FROM page WHERE {store}"
+                                " GROUP BY no ORDER BY no")
+        pages = [row.split("|") for row in rows.replace("\n", " ").split()]
+        return (int(mark), [int(version) for _, version, _ in pages],
+                [bytes.fromhex(body) for *_, body in pages])
+
+
+def served(room: Path, servers: list, stream: Stream) -> Result:
+    """What comes of a stream whose inputs these servers take, in turn, over one store."""
+    scene, result = Scene(room, (), stream.size, stream.more), Result()
+    for place, give in enumerate(stream.inputs):
+        server, given = servers[place % len(servers)], scene.room / "given"
+        given.write_bytes(give(scene))
+        words = [*server.words, scene.config, server.database(scene)]
+        with given.open("rb") as opened:
+            done = subprocess.run(list(map(str, words)), stdin=opened, capture_output=True,
+                                  check=False, timeout=120)
+        result.ended.append((done.returncode, done.stdout, done.stderr))
+        scene.incarnation += 1 << 21
+    result.store = servers[0].rows(scene)
+    return result
+
+
+def differs(wanted: Result, found: Result) -> str:
+    """What differs, in short."""
+    for place, (one, other) in enumerate(zip(wanted.ended, found.ended)):
+        if one != other:
+            return f"input {place}: {said(one)}; {said(other)}"
+    same = wanted.store == found.store
+    return "" if same else f"{str(wanted.store)[:80]}; {str(found.store)[:80]}"
+
+
+def said(ended: tuple[int, bytes, bytes]) -> str:
+    status, out, line = ended
+    return f"{status}, {len(out)} bytes up to {out[-40:].hex()}, {line!r}"
+
+
+def compared(tries, room: Path, first: InFile, ways: dict[str, list]) -> None:
+    """Each stream at the first server, and by each of the ways."""
+    wrong: dict[str, list[str]] = {name: [] for name in ways}
+    count = 0
+    for stream in streams():
+        wanted = served(room, [first], stream)
+        count += 1
+        for name, servers in ways.items():
+            if why := differs(wanted, served(room, servers, stream)):
+                wrong[name].append(f"{stream.name}: {why}")
+    for name, found in wrong.items():
+        tries.told(f"{count} streams: {name}", not found, "\n".join(found[:5]))
+
+
+def tried(tries, room: Path, play: Path, serve: Path) -> None:
+    """Compares the servers."""
+    room.mkdir(mode=0o755)
+    play_server, file_server = InFile("cb_play", play, "serve"), InFile("SQLite", serve)
+    ways: dict[str, list] = {
+        "SQLite": [file_server], "cb_play, then SQLite": [play_server, file_server],
+        "SQLite, then cb_play": [file_server, play_server],
+    }
+    with contextlib.ExitStack() as stack:
+        if postgres.is_there():
+            cluster = postgres.Cluster(room / "cluster").start()
+            stack.callback(cluster.stop)
+            ways["PostgreSQL"] = [InCluster(cluster, serve)]
+        compared(tries, room, play_server, ways)
+    one, other = Scene(room, (play, "serve")), Scene(room, (serve,))
+    for scene in (one, other):
+        scene.serve(scene.given(1))
+    texts = schema_of(one.store), schema_of(other.store)
+    tries.told("SQLite: the tables' own texts", texts[0] == texts[1], f"{texts}")

@@ -1,0 +1,274 @@
+"""Tries a store that outlives its machine: PostgreSQL, two gateways, kills under load.
+
+    scripts/check takeover [--built] [KILLS]      50 kills without a number
+
+- What must not be answered: commits that a standby may not have, and those of an old primary; nor
+  may a password be seen (scripts/checks/engine_faults.py).
+- Two clusters of PostgreSQL on loopback, the second a synchronous standby of the first; two
+  gateways with a server each, whose clocks are five minutes apart; six clients with both addresses.
+  While they commit, KILLS times each, the server that serves is killed, its gateway, the primary
+  (the standby is promoted, and the lost one follows it then); a fifth as often all three at once;
+  and as often the server stands still for some seconds. After each the work goes on.
+- Then the logs of all clients are judged (scripts/serial.py): commits are strictly serial, and what
+  was answered is there.
+
+Server and gateway are built with ASan and UBSan. It needs the library (that of LIBRARY, else
+installed by scripts/library, with what stands in crates/rughvadi/out after --built), a C compiler,
+libuv, SQLite and libpq with their headers, PostgreSQL 15 and libfaketime. With 50 kills it takes
+some fifteen minutes. The status is 1 where something failed.
+"""
+from __future__ import annotations
+
+import os
+import shutil
+import signal
+import subprocess
+import sys
+import time
+from collections.abc import Callable
+from dataclasses import dataclass, field
+from pathlib import Path
+
+import building
+import postgres
+import serial
+import serving
+from checks import engine_faults
+from checks.bad_input import Peer, token_of
+from checks.library import Tries
+from postgres import Cluster
+from serving import Gateway, wait_for
+
+WORKER = building.PROGRAMS / "python/serial_worker.py"
+CLIENTS, WATCHER, PAGES, SIZE = 6, 7, 6, 4096
+LIMITS = (8, PAGES, SIZE, 8, 1)
+# A server stands still for so long: more than another one waits for a sign of it.
+STILL = 6.0
+FAKETIME = "/usr/lib/x86_64-linux-gnu/faketime/libfaketime.so.1"
+
+
+@dataclass
+class Site:
+    """The clusters, the gateways and the clients of a store."""
+
+    room: Path
+    env: dict[str, str]
+    clusters: list[Cluster] = field(default_factory=list)
+    gateways: list[Gateway] = field(default_factory=list)
+    workers: list[subprocess.Popen] = field(default_factory=list)
+    turn: int = 0
+    primary: int = 0
+
+    def conninfo(self) -> str:
+        hosts = ",".join("127.0.0.1" for _ in self.clusters)
+        ports = ",".join(str(it.port) for it in self.clusters)
+        return f"host={hosts} port={ports} user=postgres dbname=postgres"
+
+    def logs(self, turn: object = "*") -> list[Path]:
+        return sorted(self.room.glob(f"log_{turn}_*"))
+
+    def worker(self, client: int, *words: str) -> subprocess.Popen:
+        """A client that tries the gateways in its own order."""
+        sockets = [str(it.socket) for it in self.gateways]
+        addresses = ",".join(sockets if client % 2 else sockets[::-1])
+        told = [sys.executable, WORKER, addresses, self.gateways[0].tokens, client, PAGES,
+                self.room / f"log_{self.turn}_{client}", *words]
+        return subprocess.Popen(list(map(str, told)), env=self.env)
+
+    def begin(self) -> None:
+        """New clients, with new logs."""
+        self.turn += 1
+        self.workers = [self.worker(client) for client in range(CLIENTS)]
+
+    def end(self) -> None:
+        for worker in self.workers:
+            worker.kill()
+            worker.wait()
+        self.workers = []
+
+    def committed(self) -> list[int]:
+        """How much each client has logged."""
+        return [path.stat().st_size for path in self.logs(self.turn)]
+
+    def goes_on(self, seconds: float = 120.0) -> bool:
+        """Whether each client commits again."""
+        before = self.committed()
+
+        def all_more() -> bool:
+            now = self.committed()
+            olds = before if len(before) == CLIENTS else CLIENTS * [0]
+            return len(now) == CLIENTS and all(new > old + 2000 for old, new in zip(olds, now))
+
+        return wait_for(all_more, seconds) and all(it.poll() is None for it in self.workers)
+
+    def active(self) -> int | None:
+        """The gateway whose server serves the store."""
+        for place, gateway in enumerate(self.gateways):
+            try:
+                with Peer(gateway) as peer:
+                    if peer.greeted(token_of(gateway, WATCHER))[1] == 0:
+                        return place
+            except (OSError, EOFError):
+                continue
+        return None
+
+    def serving(self) -> Gateway:
+        """That gateway, once there is one."""
+        if not wait_for(lambda: self.active() is not None, 60):
+            raise building.NotBuilt("no gateway serves")
+        place = self.active()
+        return self.gateways[place or 0]
+
+
+def opened(room: Path, gateway: Path, serve: Path, env: dict[str, str]) -> Site:
+    """Clusters and gateways, at work."""
+    site = Site(room, env)
+    site.clusters = [Cluster(room / "cluster_0").start()]
+    site.clusters.append(Cluster(room / "cluster_1", of=site.clusters[0]))
+    site.clusters[1].options["synchronous_standby_names"] = "*"
+    site.clusters[1].start()
+    site.clusters[0].set("synchronous_standby_names", "*")
+    words = ("--announced", "--silence", "5")
+    command = (serve, "--announce", "--standby", "required")
+    for place in range(2):
+        own = room / f"gateway_{place}"
+        own.mkdir()
+        ahead = {"LD_PRELOAD": FAKETIME, "FAKETIME": "+300s", "DONT_FAKE_MONOTONIC": "1",
+                 "ASAN_OPTIONS": "verify_asan_link_order=0"}
+        site.gateways.append(Gateway(own, gateway, serve, words=words, limits=LIMITS,
+                                     command=command, database_word=f"'{site.conninfo()}'",
+                                     env={} if place else ahead))
+        site.gateways[place].make_files()
+        shutil.copy(site.gateways[0].tokens, own / "copied")
+        (own / "copied").replace(site.gateways[place].tokens)
+        site.gateways[place].start()
+    return site
+
+
+def closed(site: Site) -> None:
+    site.end()
+    for gateway in site.gateways:
+        gateway.stop(signal.SIGKILL)
+    for cluster in site.clusters:
+        cluster.stop()
+
+
+# ---- what is lost ----
+
+
+def kill_server(site: Site) -> None:
+    for number in site.serving().servers():
+        os.kill(number, signal.SIGKILL)
+
+
+def kill_gateway(site: Site) -> None:
+    gateway = site.serving()
+    gateway.stop(signal.SIGKILL)
+    gateway.start()
+
+
+def kill_primary(site: Site) -> None:
+    """The standby is promoted; the lost one is made anew, and follows it."""
+    lost, other = site.clusters[site.primary], site.clusters[1 - site.primary]
+    lost.kill()
+    other.promote()
+    site.primary = 1 - site.primary
+    lost.options["synchronous_standby_names"] = "*"
+    lost.follow(other)
+    lost.start()
+
+
+def kill_all(site: Site) -> None:
+    gateway = site.serving()
+    for number in gateway.servers():
+        os.kill(number, signal.SIGKILL)
+    gateway.stop(signal.SIGKILL)
+    kill_primary(site)
+    gateway.start()
+
+
+def stand_still(site: Site) -> None:
+    """The server stands still until another has the store, and goes on then."""
+    numbers = site.serving().servers()
+    for number in numbers:
+        os.kill(number, signal.SIGSTOP)
+    time.sleep(STILL)
+    for number in numbers:
+        try:
+            os.kill(number, signal.SIGCONT)
+        except ProcessLookupError:
+            pass
+
+
+def tried_kind(
+    tries: Tries, site: Site, name: str, lose: Callable[[Site], None], times: int
+) -> None:
+    """Loses something that often; after each the work goes on, and at the end all is serial."""
+    done, slowest = 0, 0.0
+    site.begin()
+    while done < times and site.goes_on():
+        lose(site)
+        begun = time.monotonic()
+        if not site.goes_on():
+            break
+        slowest = max(slowest, time.monotonic() - begun)
+        done += 1
+    site.end()
+    verdict = judged(site)
+    said = f"{done} of {times}, goes on after {slowest:.1f} s at most; {verdict}"
+    tries.told(name, done == times and not verdict.faults, said)
+
+
+def judged(site: Site) -> serial.Verdict:
+    """All logs so far, once a last client has read all pages."""
+    reader = site.worker(WATCHER - 1, "all")
+    try:
+        status = reader.wait(120)
+    except subprocess.TimeoutExpired:
+        reader.kill()
+        status = reader.wait()
+    verdict = serial.judge(site.logs())
+    if status != 0:
+        verdict.faults.append("no client could read all pages")
+    return verdict
+
+
+def tried(tries: Tries, site: Site, kills: int) -> None:
+    few = max(1, kills // 5)
+    for name, lose, times in (
+        ("the server is killed", kill_server, kills),
+        ("its gateway is killed", kill_gateway, kills),
+        ("the primary is killed", kill_primary, kills),
+        ("all three are killed", kill_all, few),
+        ("the server stands still", stand_still, few),
+    ):
+        tried_kind(tries, site, name, lose, times)
+
+
+def main(words: list[str]) -> int:
+    built = [word for word in words if word == "--built"]
+    counts = [word for word in words if word != "--built"]
+    if len(counts) > 1 or not all(word.isdecimal() for word in counts):
+        print("scripts/check takeover [--built] [KILLS]", file=sys.stderr)
+        return 2
+    if not postgres.is_there() or not os.path.exists(FAKETIME):
+        print("takeover: it needs PostgreSQL 15 and libfaketime", file=sys.stderr)
+        return 2
+    tries = Tries()
+    with building.a_room() as room:
+        room.chmod(0o755)
+        lib = serving.library(room, built)
+        flags = f"CFLAGS={serving.SANITIZERS}"
+        gateway = serving.made(Path("hosts/gateway"), room, flags) / "gateway"
+        serve = serving.made(Path("hosts/serve"), room, flags, f"LIBRARY={lib}") / "rughvadi-serve"
+        engine_faults.tried(tries, room / "faults", serve)
+        own = room / "takeover"
+        own.mkdir()
+        env = {**os.environ, "PYTHONPATH": f"{lib}/share/rughvadi/python"}
+        site = opened(own, gateway, serve, env)
+        try:
+            tried(tries, site, int((counts + ["50"])[0]))
+        finally:
+            closed(site)
+    print(f"takeover: {tries.passed} passed, {tries.failed} failed")
+    return 1 if tries.failed else 0
