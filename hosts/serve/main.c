@@ -97,9 +97,8 @@ static enum fault take_back(struct service *service) {
 /* Waits for what comes or is done, and takes it. While a batch is out reading goes on, for a
  * while. */
 static enum fault wait_and_take(struct service *service) {
-  const struct stream *stream = &service->stream;
-  bool reads = !service->is_closed && stream->wanted == 0
-               && !(service->writer.is_out && service->ahead >= AHEAD_MOST);
+  bool reads =
+      !service->is_closed && !(service->writer.is_out && service->ahead >= AHEAD_MOST);
   struct pollfd watched[] = {{.fd = service->writer.done, .events = POLLIN},
                              {.fd = reads ? STDIN_FILENO : -1, .events = POLLIN}};
   enum fault fault = NO_FAULT;

@@ -2,7 +2,8 @@
 
 #include <string.h>
 
-enum { HEADER = 16, GRANTED_HEAD = 24, KIND_AT = 1, INCARNATION_AT = 4, BODY_AT = 12 };
+enum { HEADER = 16, GRANTED_HEAD = 24, CLIENT_AT = 2, INCARNATION_AT = 4, BODY_AT = 12 };
+enum { MOST_CLIENTS = 32 };
 
 /* Hellos from here on are let go: with them one client could leave no number for later lives. */
 static const uint64_t MOST_INCARNATION = (UINT64_C(1) << 61) + (UINT64_C(1) << 60);
@@ -97,15 +98,49 @@ static enum fault say_again(struct stream *stream) {
   return fault == RUGHVADI_DONE ? fetch(stream) : fault_of(fault);
 }
 
-/* Takes the first piece of these bytes; 0 is how many it has where more can't be taken for now. */
+/* Whether a Hello of the frame's client is held. */
+static bool waits(const struct stream *stream, const uint8_t *frame) {
+  uint64_t client = number_at(frame + CLIENT_AT, 2);
+  return client < MOST_CLIENTS && (stream->waiting >> client & 1) != 0;
+}
+
+/* Holds a frame behind those that are held. */
+static enum fault hold(struct stream *stream, const uint8_t *frame, size_t size) {
+  return bytes_put(&stream->held, frame, size) ? NO_FAULT : FAULT_MEMORY;
+}
+
+/* Holds a Hello, and with it what its client says, until the bound is above it. */
+static enum fault hold_hello(struct stream *stream, const uint8_t *frame, size_t size) {
+  uint64_t wanted = number_at(frame + INCARNATION_AT, 8) + LIFE_ROOM;
+  stream->waiting |= UINT32_C(1) << number_at(frame + CLIENT_AT, 2);
+  stream->wanted = wanted > stream->wanted ? wanted : stream->wanted;
+  return hold(stream, frame, size);
+}
+
+/* What was held is taken next, before what came since. */
+static enum fault release(struct stream *stream) {
+  struct bytes held = stream->held;
+  if (!bytes_put(&held, stream->in.at, stream->in.size)) {
+    return FAULT_MEMORY;
+  }
+  stream->held = stream->in;
+  stream->held.size = 0;
+  stream->in = held;
+  stream->waiting = 0;
+  stream->wanted = 0;
+  return NO_FAULT;
+}
+
+/* Takes the first piece of these bytes; 0 is how many it has where there is none. */
 static enum fault take_piece(struct stream *stream, const uint8_t *bytes, size_t left,
                              size_t *used) {
   switch (front_of(stream, bytes, left, used)) {
-    case FRAME: return take_frame(stream, bytes, *used);
+    case FRAME:
+      return waits(stream, bytes) ? hold(stream, bytes, *used) : take_frame(stream, bytes, *used);
+    case LET_GO: return waits(stream, bytes) ? hold(stream, bytes, *used) : NO_FAULT;
+    case UNBOUNDED: return hold_hello(stream, bytes, *used);
     case AGAIN: return say_again(stream);
     case UNREAD: stream->passed_over++; return NO_FAULT;
-    case LET_GO: return NO_FAULT;
-    case UNBOUNDED: stream->wanted = number_at(bytes + INCARNATION_AT, 8) + LIFE_ROOM; break;
     case NO_HEADER: stream->has_ended = true; break;
     case PART: break;
   }
@@ -116,7 +151,7 @@ static enum fault take_piece(struct stream *stream, const uint8_t *bytes, size_t
 enum fault stream_take(struct stream *stream) {
   size_t at = 0, used = 1;
   enum fault fault = NO_FAULT;
-  while (fault == NO_FAULT && used > 0 && stream->wanted == 0) {
+  while (fault == NO_FAULT && used > 0) {
     fault = take_piece(stream, stream->in.at + at, stream->in.size - at, &used);
     at += used;
   }
@@ -162,7 +197,12 @@ enum fault stream_batch(struct stream *stream, struct batch *batch, bool *is_the
 
 enum fault stream_written(struct stream *stream, const struct batch *batch) {
   stream->life.below = batch->below;
-  stream->wanted = batch->below >= stream->wanted ? 0 : stream->wanted;
+  if (stream->wanted > 0 && batch->below >= stream->wanted) {
+    enum fault fault = release(stream);
+    if (fault != NO_FAULT) {
+      return fault;
+    }
+  }
   if (!rughvadi_server_can_flush(&stream->server, batch->number)) {
     return NO_FAULT; /* it had no commit */
   }
@@ -176,5 +216,6 @@ enum fault stream_written(struct stream *stream, const struct batch *batch) {
 void stream_free(struct stream *stream) {
   rughvadi_free(&stream->server);
   bytes_free(&stream->in);
+  bytes_free(&stream->held);
   bytes_free(&stream->out);
 }

@@ -10,13 +10,16 @@ struct stream {
   rughvadi_handle server;
   struct life life;
   struct bytes in;      /* what came and isn't taken */
+  struct bytes held;    /* frames of clients whose Hello waits for a higher bound */
+  uint32_t waiting;     /* those clients, a bit for each */
   struct bytes out;     /* what was said and isn't put out */
   uint64_t passed_over; /* how many pieces were no frames */
-  uint64_t wanted;      /* before more is taken the bound is to be this; 0: it needn't be raised */
+  uint64_t wanted;      /* what the bound is to be for them; 0: none waits */
   bool has_ended;       /* what comes next is a header that no frame has */
 };
 
-/* Takes each whole piece of what came, up to a Hello that waits for a higher bound. */
+/* Takes each whole piece of what came. A Hello for which the bound has to be raised is held, with
+ * all that its client says behind it; other clients' frames go by. */
 enum fault stream_take(struct stream *stream);
 
 /* Makes the next batch; without pages, and of the number that was last, where only the bound is to

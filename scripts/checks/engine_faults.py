@@ -227,20 +227,23 @@ def password_in_the_words(pair: Pair) -> str:
 
 
 def reads_go_on(pair: Pair) -> str:
-    """While a commit waits for the standby a read is answered."""
+    """While a commit waits for the standby, and a Hello for its bound, another's read is answered."""
     with pair.served() as server:
         pair.second.send(signal.SIGSTOP)
         commit(server, 1)
         waited = wait_for(lambda: waits(pair))
-        server.say(frame(HELLO, 1, server.floor),
-                   frame(ASK_READ, 1, server.floor, struct.pack(">QI", 1, 1)))
-        kinds = []
-        while GRANTED not in kinds and 0 not in kinds:
-            kinds.append(server.hear()[0])
+        ahead = server.floor + (1 << 40)
+        server.say(frame(HELLO, 1, ahead), frame(HELLO, 2, server.floor),
+                   frame(ASK_READ, 2, server.floor, struct.pack(">QI", 1, 1)))
+        heard = []
+        while (GRANTED, 2, server.floor) not in heard and (0, 0, 0) not in heard:
+            heard.append(server.hear())
         pair.second.send(signal.SIGCONT)
         answered = is_done(server)
-    right = waited and answered and GRANTED in kinds and DONE not in kinds
-    return "" if right else f"{waited}, {kinds}, {answered}"
+        welcome = server.hear()
+    quiet = not any(kind == DONE or client == 1 for kind, client, _ in heard)
+    right = (waited, quiet, answered, welcome) == (True, True, True, (WELCOME, 1, ahead))
+    return "" if right else f"{waited}, {heard}, {answered}, {welcome}"
 
 
 SCENES: list[Callable[[Pair], str]] = [

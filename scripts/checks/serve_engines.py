@@ -18,7 +18,7 @@ from typing import Callable, Iterator
 
 import postgres
 from checks.bad_input import ASK_READ, ASK_WRITE, COMMIT, HEADER, HELLO, frame
-from checks.serve_input import AGAIN, CLIENTS, PAGES, Scene
+from checks.serve_input import AGAIN, CLIENTS, LIFE, PAGES, Scene
 
 # Frames of a drawn stream, and how many such streams are tried.
 DRAWN_FRAMES, DRAWN_STREAMS = 60, 200
@@ -216,7 +216,7 @@ def served(room: Path, servers: list, stream: Stream) -> Result:
             done = subprocess.run(list(map(str, words)), stdin=opened, capture_output=True,
                                   check=False, timeout=120)
         result.ended.append((done.returncode, done.stdout, done.stderr))
-        scene.incarnation += 1 << 21
+        scene.incarnation += LIFE
     result.store = servers[0].rows(scene)
     return result
 

@@ -25,8 +25,8 @@ from checks.bad_input import ASK_READ, ASK_WRITE, CALLBACK, COMMIT, HEADER, HELL
 CLIENTS, PAGES = 3, 4
 DONE, GRANTED, WELCOME = 69, 66, 65
 AGAIN = HEADER.pack(2, 0, 0, 0, 0)
-# More than incarnations of one server's life are above its floor, if they are no more than that.
-LIFE = 1 << 21
+# So many incarnations are in a life, if its bound isn't raised: the next one's first is as far on.
+LIFE = 1 << 20
 CONFIG = "clients = {}\npages = {}\npage_size = {}\nslots = 4\n{}"
 # How a server may end that was refused memory.
 MEMORY = [(4, ["memory"]), (0, [])]
