@@ -227,7 +227,7 @@ def password_in_the_words(pair: Pair) -> str:
 
 
 def reads_go_on(pair: Pair) -> str:
-    """While a commit waits for the standby, and a Hello for its bound, another's read is answered."""
+    """While a commit waits for the standby, and a Hello for its bound, another's read goes on."""
     with pair.served() as server:
         pair.second.send(signal.SIGSTOP)
         commit(server, 1)
