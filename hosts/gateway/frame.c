@@ -41,9 +41,14 @@ bool is_of_client(const struct header *header, const struct limits *limits) {
 }
 
 bool is_of_server(const struct header *header, const struct limits *limits) {
-  return header->version == 2 && header->kind >= KIND_WELCOME && header->kind <= LAST_KIND
-         && header->client < limits->clients
-         && header->body <= (header->kind == KIND_GRANTED ? 24 + limits->page_size : 20);
+  /* The bodies of the kinds from Welcome on; a granted page's bytes come on top. */
+  static const uint32_t bodies[] = {0, 24, 20, 12, 16, 8, 20};
+  if (header->version != 2 || header->kind < KIND_WELCOME || header->kind > LAST_KIND) {
+    return false;
+  }
+  uint32_t page = header->kind == KIND_GRANTED ? limits->page_size : 0;
+  return header->client < limits->clients
+         && header->body == bodies[header->kind - KIND_WELCOME] + page;
 }
 
 struct named named_by(const uint8_t *frame) {

@@ -4,6 +4,7 @@
 
 #include <signal.h>
 #include <stdio.h>
+#include <string.h>
 #include <sys/resource.h>
 #include <sys/stat.h>
 
@@ -61,6 +62,8 @@ static void reread(uv_signal_t *signal, int number) {
   for (size_t at = 0; at < gateway->places.count; at++) {
     store_keep(&gateway->stores[at], &former);
   }
+  explicit_bzero(&former, sizeof former);
+  explicit_bzero(&read, sizeof read);
   log_line(LEVEL_INFO, "%s: the tokens were read again", gateway->tokens_path);
 }
 

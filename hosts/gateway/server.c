@@ -173,6 +173,7 @@ static void look_for_silence(struct server *server) {
   if (gateway_waited(gateway, server->owes, gateway->server_silence) && is_running(server)) {
     log_line(LEVEL_ERROR, "store %s: its server is silent, and is killed", name_of(server));
     uv_process_kill(&server->process, SIGKILL);
+    server->owes = gateway->now; /* it ends at once, unless the system keeps it */
   } else if (server->owes == 0 && server->is_asked
              && gateway_waited(gateway, server->heard, gateway->server_silence / 2)) {
     const struct connection *client = store_welcomed(server->store);

@@ -65,13 +65,20 @@ static bool take_number(struct words *words, int letter, const char *text) {
   return false;
 }
 
+/* Whether that is a path, or a port if it has digits alone. */
+static bool is_path_or_port(const char *text) {
+  bool is_path = text[strspn(text, "0123456789")] != 0;
+  long port = is_path ? 1 : strtol(text, NULL, 10);
+  return *text != 0 && port >= 1 && port <= PORT;
+}
+
 static bool take_option(struct words *words, int letter, const char *text) {
   switch (letter) {
     case 'k': words->tokens = text; return true;
     case 's': words->stores = text; return true;
     case 'a': words->address = text; return true;
     case 'u': words->socket = text; return true;
-    case 'e': words->metrics = text; return true;
+    case 'e': words->metrics = text; return is_path_or_port(text);
     case 'n': return words->is_announced = true;
     default: return text != NULL && take_number(words, letter, text);
   }

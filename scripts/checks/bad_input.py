@@ -416,6 +416,9 @@ def wrong_files(gateway: Gateway) -> bool:
     ended.append(refused(gateway, "--tokens", gateway.tokens))
     for port in ("0", "70000", "x"):
         ended.append(refused(gateway, "--tokens", gateway.tokens, "--tcp", port))
+    for place in ("0", "70000", ""):
+        words = ["--tokens", gateway.tokens, *socket_words, "--metrics", place]
+        ended.append(refused(gateway, *words))
     right_ones = all(status == 2 and said for status, said in ended)
     # The last is a file of another kind, which stays.
     places = [gateway.socket, gateway.room / ("long" * 40), gateway.room / "no" / "folder"]

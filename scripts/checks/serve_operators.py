@@ -196,4 +196,28 @@ def unit_file(scene: Scene) -> bool:
     return done.returncode == 0 and UNIT.name not in done.stderr
 
 
-SCENES = [metrics, tokens_again, told_manager, lines_of_the_log, unit_file]
+def warnings(scene: Scene) -> bool:
+    """The gateway's sources have no warning of the compiler's analyzer; nor of cppcheck and of
+    clang-tidy's bugprone checks, where these are there."""
+    folder = building.TOP / "hosts/gateway"
+    sources = sorted(map(str, folder.glob("*.c")))
+    flags = ["-std=c11", "-D_GNU_SOURCE"]
+    gcc = ["gcc", *flags, "-O2", "-Wall", "-Wextra", "-Wconversion", "-Werror", "-fanalyzer", "-c"]
+    commands = [[*gcc, source, "-o", "/dev/null"] for source in sources]
+    checks = "--enable=warning,performance,portability"
+    commands.append(["cppcheck", checks, "--inline-suppr", "-q", "--error-exitcode=1",
+                     "-D_GNU_SOURCE", str(folder)])
+    commands.append(["clang-tidy", "--quiet", "--checks=-*,bugprone-*", "--warnings-as-errors=*",
+                     *sources, "--", *flags])
+    found = []
+    for words in commands:
+        if not shutil.which(words[0]):
+            print(f"warnings: without {words[0]}")
+            continue
+        done = subprocess.run(words, capture_output=True, text=True, check=False)
+        found += [done.stdout + done.stderr] if done.returncode else []
+    print("\n".join(found), end="")
+    return not found
+
+
+SCENES = [metrics, tokens_again, told_manager, lines_of_the_log, unit_file, warnings]
