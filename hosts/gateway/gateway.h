@@ -21,7 +21,7 @@ enum {
   TICK = 500,          /* milliseconds: a server says again what may be lost, waits are looked at */
   STOP = 30000,        /* in so many the servers are to end, once they are told */
   UNGREETED_MOST = 64, /* so many connections of a listener may be about to greet, */
-  ADDRESS_MOST = 16,   /* and so many of one address */
+  ADDRESS_MOST = 32,   /* and so many of one address */
   ADDRESS = 16,        /* bytes of an address */
   NAME = 64            /* what a peer's name may take, with its end */
 };

@@ -241,7 +241,9 @@ static void hold(struct window *window, uint16_t client, const uint8_t *frame, u
   struct fight *fight = &window->fights[number];
   fight->waiting++;
   fight->fought = uv_hrtime();
-  uv_timer_start(&window->timer, is_time, 1, 1);
+  if (!uv_is_active((const uv_handle_t *)&window->timer)) {
+    uv_timer_start(&window->timer, is_time, 1, 1);
+  }
 }
 
 /* An ask came: whether it goes on now. */

@@ -16,9 +16,10 @@ static uv_timer_cb timer_due;
 #define uv_hrtime() clock_now
 #define uv_timer_init(loop, timer) ((void)(loop))
 #define uv_timer_start(timer, call, first, again) (timer_due = (call), start_timer())
+#define uv_is_active(handle) (timer_at != UINT64_MAX)
 #define uv_timer_stop(timer) (timer_at = UINT64_MAX)
 static int start_timer(void) {
-  timer_at = timer_at == UINT64_MAX ? clock_now + 1000000 : timer_at;
+  timer_at = clock_now + 1000000;
   return 0;
 }
 #include "bytes.c"
