@@ -21,21 +21,6 @@ bool bytes_reserve(struct bytes *bytes, size_t more) {
   return true;
 }
 
-bool bytes_reserve(struct bytes *bytes, size_t more) {
-  if (more <= bytes->room - bytes->size) {
-    return true;
-  }
-  size_t needed = bytes->size + more;
-  size_t room = needed > 2 * bytes->room ? needed : 2 * bytes->room;
-  uint8_t *larger = realloc(bytes->at, room);
-  if (larger == NULL) {
-    return false;
-  }
-  bytes->at = larger;
-  bytes->room = room;
-  return true;
-}
-
 bool bytes_put(struct bytes *bytes, const void *more, size_t count) {
   if (!bytes_reserve(bytes, count)) {
     return false;
