@@ -6,12 +6,15 @@
 - The installed folder is moved, and programs in C and Rust are built over it in a folder of their
   own, without a variable but PATH, as docs/EMBEDDING.md says. The crate also finds the library by
   pkg-config; where there is none, it says in one line what to do.
-- Eight of these programs count at the same time at the server over threads, in Rust.
+- Eight of these programs count at the same time at the server over threads, in Rust. It tells
+  incarnations that rise over its lives.
 - The examples `counter` and `kv` go on at the next of two addresses, each time that their
   connection ends there: scripts/programs/python/two_gateways.py serves a store at both, by turns.
 """
 import os
 import shutil
+import socket
+import struct
 import subprocess
 import sys
 from contextlib import contextmanager
@@ -140,48 +143,70 @@ def build_in_rust(tries, fresh):
 
 def counted(fresh, server):
     """Eight programs in C and Rust count at the server; what failed."""
-    socket, clients = fresh.room / "socket", []
+    path, clients = fresh.room / "socket", []
     programs = ["shared", "alone", "in_rust/target/debug/in_rust"]
     if server.stdout.readline() != "ready\n":
         return "the server ended"
     for client in range(8):
-        words = [fresh.room / programs[client % 3], socket, str(client), str(EACH)]
+        words = [fresh.room / programs[client % 3], path, str(client), str(EACH)]
         clients.append(subprocess.Popen(words, env=fresh.env, stdout=subprocess.DEVNULL))
     ended = [each.wait() for each in clients]
     if any(ended) or server.poll() is not None:
         return f"the clients ended with {ended}, the server with {server.poll()}"
     stored = (fresh.room / "pages").read_bytes()
-    number, page = stored[:8], stored[8 + 5 * 72 + 8 :]
+    number, page = stored[:8], stored[16 + 5 * 72 + 8 :]
     found = [int.from_bytes(it[:8], "little") for it in (number, page)]
     return "" if found == [8 * EACH, 8 * EACH] else f"last commit and counter: {found}"
 
 
-def count_by_eight(tries, fresh):
-    """The server over threads, and its clients."""
-    crate = fresh.top / "share/rughvadi/rust"
-    target = fresh.room / "examples"
-    right, text = fresh.build(crate, "--examples", "--target-dir", target)
-    if right:
-        words = [target / "debug/examples/server", fresh.room / "socket", fresh.room / "pages"]
-        both = {"stdout": subprocess.PIPE, "text": True, "env": fresh.env}
-        with subprocess.Popen(words, **both) as server:
-            try:
-                text = counted(fresh, server)
-            finally:
-                server.terminate()
-        right = not text
-    tries.told("eight clients at a server over threads", right, text)
+def asked(path):
+    """The incarnation that the server tells client 7, who asks by a header alone; else 0."""
+    header = struct.Struct(">BBHQI")
+    try:
+        with socket.socket(socket.AF_UNIX) as stream:
+            stream.connect(str(path))
+            stream.sendall(header.pack(2, 0, 7, 0, 0))
+            *begins, incarnation, length = header.unpack(stream.recv(16, socket.MSG_WAITALL))
+    except (OSError, struct.error):
+        return 0
+    return incarnation if [*begins, length] == [2, 0, 7, 0] else 0
 
 
 @contextmanager
-def running(*words):
+def running(*words, **others):
     """A program that runs meanwhile, and what it writes."""
     words = list(map(str, words))
-    with subprocess.Popen(words, stdout=subprocess.PIPE, text=True) as process:
+    with subprocess.Popen(words, stdout=subprocess.PIPE, text=True, **others) as process:
         try:
             yield process
         finally:
             process.kill()
+
+
+def served_twice(tries, fresh, server):
+    """Counts at the server, and looks at what it tells then, and in another life of its store."""
+    path, told = fresh.room / "socket", []
+    words = [server, path, fresh.room / "pages"]
+    with running(*words, env=fresh.env) as process:
+        text = counted(fresh, process)
+        told.append(asked(path))
+    path.unlink()
+    with running(*words, env=fresh.env) as process:
+        process.stdout.readline()
+        told.append(asked(path))
+    tries.told("eight clients at a server over threads", not text, text)
+    tries.told("its incarnations", 0 < told[0] <= told[1], str(told))
+
+
+def count_by_eight(tries, fresh):
+    """The server over threads, and its clients."""
+    target = fresh.room / "examples"
+    words = ["--examples", "--target-dir", target]
+    right, text = fresh.build(fresh.top / "share/rughvadi/rust", *words)
+    if right:
+        served_twice(tries, fresh, target / "debug/examples/server")
+    else:
+        tries.told("build the server over threads", right, text)
 
 
 def by_turns(room, clients):
