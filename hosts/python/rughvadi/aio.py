@@ -265,7 +265,13 @@ class Transaction:
     async def read(self, page: int) -> bytes:
         """The bytes of a page. Nobody writes the page before the transaction ends, unless the
         server restarts or is told that the client left."""
-        return await self._link._fetch(page)
+        link = self._link
+        try:
+            data = link._wire.read(page)
+        except Fault:
+            data = None
+        # An ask is out, or the call was refused: the link makes it again.
+        return await link._fetch(page) if data is None else data
 
     async def write(self, page: int, data: bytes) -> None:
         """Writes a page that the transaction has read."""

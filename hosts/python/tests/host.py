@@ -122,6 +122,7 @@ class Interrupted(BaseException):
 
 
 def interrupt(_number: int, _frame: Optional[FrameType]) -> None:
+    signal.setitimer(signal.ITIMER_REAL, 0)  # it comes once
     raise Interrupted
 
 
@@ -150,5 +151,4 @@ def with_handler(call: Callable[[], None]) -> None:
     try:
         call()
     finally:
-        signal.setitimer(signal.ITIMER_REAL, 0)
         signal.signal(signal.SIGALRM, before)
