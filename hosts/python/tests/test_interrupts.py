@@ -105,7 +105,8 @@ def go_on(host: Host, link: Link) -> list[type]:
 
 
 class Steps:
-    """Raises `Interrupted` before a step of the package's code, by its place from 0."""
+    """Raises `Interrupted` before a step of the package's code, by its place from 0. A step is a
+    line, or an instruction of one."""
 
     def __init__(self, place: int) -> None:
         self.left = place
@@ -121,7 +122,7 @@ class Steps:
         if Path(frame.f_code.co_filename).parent != PACKAGE:
             return None
         frame.f_trace_opcodes = True
-        if event == "opcode":
+        if event in ("opcode", "line"):  # some versions tell of lines alone
             self.left -= 1
             if self.left < 0:
                 sys.settrace(None)
@@ -204,14 +205,13 @@ class Interrupts(unittest.TestCase):
         with_handler(sweep)
 
     def test_at_the_steps_of_the_package(self) -> None:
-        """An exception comes before an instruction of the package's own code, each third in turn,
-        as it commits, answers and drops. The link is gone then, or works, and no stream is
-        spoiled."""
+        """An exception comes before a step of the package's own code, each third in turn, as it
+        commits, answers and drops. The link is gone then, or works, and no stream is spoiled."""
         for part in (committed, answered, dropped):
             ended, place = set(), 0
             while self.is_stepped(part, place, ended):
                 place += 3
-            self.assertGreater(place, 0, "it has no instruction")
+            self.assertGreater(place, 0, "it has no step")
             # What began right before its `with` has nobody who drops it.
             self.assertLessEqual(ended, {Closed, type(None), TimeoutError, TransactionOpen})
 
