@@ -5,7 +5,6 @@ use Rattle.std.specs.Prelude.{⊤}
 use Rattle.std.proofs.lemmas.Bool.Decides.{nat_tests}
 use Rattle.cb_client.specs.ByTable.{Calls, messages_from}
 use Rattle.cb_client_core.specs.ClientState.{ClientState, client_of}
-use Rattle.cb_commit.specs.Stores.{StoreState}
 use Rattle.cb_frame_types.specs.declared.frame.Frame.{Frame}
 use Rattle.cb_hands.specs.Hands.{HandState}
 use Rattle.cb_hands.specs.Joined.{IsHeld, stored_at}
@@ -31,10 +30,9 @@ use Rattle.cb_protocol.specs.Transcript.{call_operation, incarnation_at, transac
 use Rattle.cb_protocol.specs.Transcript.{transcript_operations}
 use Rattle.cb_protocol.specs.WaitsFor.{on_cycle}
 use Rattle.cb_protocol.specs.StoreLimits.{limits_of}
-use Rattle.cb_protocol.specs.World.{Opening, TranscriptEntry, World, messages_said}
-use Rattle.cb_server_state.specs.States.{opening_of}
+use Rattle.cb_protocol.specs.World.{TranscriptEntry, World, messages_said}
 use Rattle.cb_station.specs.Stations.{StationState, mailbox_of, server_of}
-use Rattle.cb_threads.proofs.Events.{Reached, called_world, calls_reach}
+use Rattle.cb_threads.proofs.Events.{Origin, Reached, called_world, calls_reach, whole}
 use Rattle.cb_threads.proofs.Standing.{Grows, Kept, Near, is_there, no_worker, stands_but}
 use Rattle.cb_threads.proofs.Standing.{the_worker}
 use Rattle.cb_threads.specs.Programs.{IsSound, Program, limits_in}
@@ -114,12 +112,14 @@ by_call limits r w c k call word messages history new same is calls = record {
     l = is.limits ∙ same
 
 -- how often a client began an incarnation and a transaction, by the transcript
-pub counted : (L : Limits) (o : Opening) (w : World) → SoundOpening o → Reached L o w → (c : ℕ)
+pub counted : (L : Limits) (o : Origin L) (w : World) → SoundOpening o.opening → Reached L o w
+    → (c : ℕ)
     → (incarnation_at w.transcript c ≡ w.incarnation c)
     × (transaction_at w.transcript c ≡ (w.client c).cache.number)
 counted L o w sound r c =
-    let a : ImageOfSome L o (λ x. ⊤) w =
-    image_of_reached L on_cycle o (λ x. ⊤) (λ x e h may q. tt) tt w sound r in
+    let a : ImageOfSome L o.opening (λ x. ⊤) w =
+    image_of_reached L on_cycle o.opening (λ x. ⊤) (λ x e h may q. tt) tt w sound
+    (whole L o w r) in
     (a.1.restarts c, a.1.begins c)
 
 -- an operation in the transcript is one of the run
@@ -159,8 +159,9 @@ performs_so hs c k CallDrop word ops n i t = refl
 performs_so hs c k CallAgain word ops n i t = refl
 performs_so hs c k (CallPeek page) word ops n i t = refl
 
-module _ (limits : Bounds) (store : StoreState) (old : Program) (c : ℕ) (call : Call)
-    (new : Program) (kept : Kept limits store old) (does : CallsClient old c call new) where
+module _ (limits : Bounds) (origin : Origin (limits_of limits)) (old : Program) (c : ℕ)
+    (call : Call)
+    (new : Program) (kept : Kept limits origin old) (does : CallsClient old c call new) where
   abbrev L : Limits
   L = limits_of limits
 
@@ -241,7 +242,7 @@ module _ (limits : Bounds) (store : StoreState) (old : Program) (c : ℕ) (call 
   -- the world's transcript has it too
   performed : transcript_operations v.transcript ≡ new.performed
   performed =
-      let at = counted L (opening_of store) w kept.opened kept.reached c in
+      let at = counted L origin w kept.opened kept.reached c in
       let word : (client_call L (w.client c) call).word ≡ does.word =
       (λ i. (client_call (limits_of (sym (is.limits ∙ kept.limits_are) i)) (is.shows i)
       call).word) ∙ does.calls.word is.operations in
@@ -252,13 +253,13 @@ module _ (limits : Bounds) (store : StoreState) (old : Program) (c : ℕ) (call 
       (at.1 ∙ ap (λ (x : Client). x.cache.number) is.shows)
       ∙ ap (performs does.worker.client call does.word) kept.performed ∙ sym does.performed
 
-  pub called_kept : IsSound new → Kept limits store new
+  pub called_kept : IsSound new → Kept limits origin new
   called_kept sound = record {
     limits_are = limits_same ∙ kept.limits_are;
     sound = sound;
     world = v;
-    reached = calls_reach L (opening_of store) w c call
-        (is_there limits store old c does.worker kept does.becomes.was) kept.reached;
+    reached = calls_reach L origin w c call
+        (is_there limits origin old c does.worker kept does.becomes.was) kept.reached;
     opened = kept.opened;
     performed = performed;
     stands = stands_but old new w v grows limits_same c kept.stands

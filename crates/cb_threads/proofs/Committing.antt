@@ -8,7 +8,6 @@ use Rattle.std.proofs.lemmas.Bool.Decides.{nat_tests}
 use Rattle.cb_client.specs.ByTable.{limits_at}
 use Rattle.cb_client.specs.CallAnswers.{SaysCommit}
 use Rattle.cb_client_core.specs.ClientState.{ClientState, IsClient, client_of}
-use Rattle.cb_commit.specs.Stores.{StoreState}
 use Rattle.cb_frame_types.specs.declared.frame.Frame.{Frame}
 use Rattle.cb_hands.specs.Hands.{HandState}
 use Rattle.cb_outbox.specs.Messages.{body_of, message_of}
@@ -31,11 +30,10 @@ use Rattle.cb_protocol.specs.ServerMessages.{may_proceed}
 use Rattle.cb_protocol.specs.StoreLimits.{limits_of}
 use Rattle.cb_protocol.specs.World.{messages_said}
 use Rattle.cb_server.specs.Taking.{lacks_number_for}
-use Rattle.cb_server_state.specs.States.{opening_of}
 use Rattle.cb_station.specs.Stations.{StationState, server_of}
 use Rattle.cb_station.specs.declared.office_fault.OfficeFault.{OfficeFault}
 use Rattle.cb_threads.proofs.Calling.{at_itself, at_others, by_call, to_the_server}
-use Rattle.cb_threads.proofs.Events.{called_world, calls_reach}
+use Rattle.cb_threads.proofs.Events.{Origin, called_world, calls_reach}
 use Rattle.cb_threads.proofs.Moving.{ClientMoved, moved_by_call}
 use Rattle.cb_threads.proofs.Standing.{Kept, is_there_by}
 use Rattle.cb_threads.proofs.Turning.{arrives_kept, client_arrives, nothing_arrives, same_stays}
@@ -184,14 +182,14 @@ module _ (before after : StationState) (frame : Frame) (reads : List Bool) (hand
       more))
 
 -- what becomes of the client, and the commit is on its way
-module _ (limits : Bounds) (store : StoreState) (old : Program) (c : ℕ)
-    (kept : Kept limits store old) (k : WorkerState) (is : IsWorldClient old kept.world c k)
+module _ (limits : Bounds) (origin : Origin (limits_of limits)) (old : Program) (c : ℕ)
+    (kept : Kept limits origin old) (k : WorkerState) (is : IsWorldClient old kept.world c k)
     (frame : Frame) (new : ClientState) where
   l : k.client.copies.limits ≡ limits
   l = is.limits ∙ kept.limits_are
 
   again : IsCommitting k.client → SaysCommit k.client frame → new ≡ k.client
-      → ClientMoved (limits_of limits) (opening_of store) kept.world c new (message_of frame ∷ [])
+      → ClientMoved (limits_of limits) origin kept.world c new (message_of frame ∷ [])
   again busy says same =
       let at = committing (client_of k.client []) busy in
       let shown : (kept.world.client c).cache.welcomed ≡ true =
@@ -200,8 +198,8 @@ module _ (limits : Bounds) (store : StoreState) (old : Program) (c : ℕ)
       ap (λ (x : Client). is_committing x.cache.status) is.shows ∙ at.1 in
       record {
         world = called_world (limits_of limits) kept.world c CallAgain;
-        reached = calls_reach (limits_of limits) (opening_of store) kept.world c CallAgain
-            (is_there_by limits store old c k kept is) kept.reached;
+        reached = calls_reach (limits_of limits) origin kept.world c CallAgain
+            (is_there_by limits origin old c k kept is) kept.reached;
         silent = refl;
         server = refl;
         incarnation = λ d. refl;
@@ -253,9 +251,9 @@ module _ (limits : Bounds) (store : StoreState) (old : Program) (c : ℕ)
           first e = cc
 
   pub finishes : FinishesOrAgain k.client frame new
-      → ClientMoved (limits_of limits) (opening_of store) kept.world c new (message_of frame ∷ [])
-  finishes (inl calls) = moved_by_call (limits_of limits) (opening_of store) kept.world c CallFinish
-      new (message_of frame ∷ []) (is_there_by limits store old c k kept is) kept.reached
+      → ClientMoved (limits_of limits) origin kept.world c new (message_of frame ∷ [])
+  finishes (inl calls) = moved_by_call (limits_of limits) origin kept.world c CallFinish
+      new (message_of frame ∷ []) (is_there_by limits origin old c k kept is) kept.reached
       (by_call limits old kept.world c k CallFinish AnsweredOk (message_of frame ∷ []) _ new
       kept.limits_are is calls) refl
   finishes (inr x) = again x.0 x.1 x.2
@@ -273,8 +271,9 @@ says_it v frame says = (
     first : {x y : Message} → x ∷ [] ≡ y ∷ [] → y ≡ x
     first e = cc
 
-module _ (limits : Bounds) (store : StoreState) (old : Program) (c : ℕ) (new : Program)
-    (kept : Kept limits store old) (k next : WorkerState) (is : IsWorldClient old kept.world c k)
+module _ (limits : Bounds) (origin : Origin (limits_of limits)) (old : Program) (c : ℕ)
+    (new : Program)
+    (kept : Kept limits origin old) (k next : WorkerState) (is : IsWorldClient old kept.world c k)
     (becomes : Becomes old c k next new)
     (sound : IsSound new) (still : IsStill k next) (silent : IsSilent old new) (frame : Frame) where
   -- the client has finished, its commit is kept, and nothing was handed in yet
@@ -327,12 +326,12 @@ module _ (limits : Bounds) (store : StoreState) (old : Program) (c : ℕ) (new :
         (Some (record k { client = next.client; said = frame ∷ k.said })) n;
   }
 
-  half_kept : FinishesOrAgain k.client frame next.client → Kept limits store between
-  half_kept f = arrives_kept limits store old between c k halfway kept half_becomes half_still
+  half_kept : FinishesOrAgain k.client frame next.client → Kept limits origin between
+  half_kept f = arrives_kept limits origin old between c k halfway kept half_becomes half_still
       half_sound refl
-      (client_arrives limits store old c between kept k halfway is (message_of frame ∷ [])
+      (client_arrives limits origin old c between kept k halfway is (message_of frame ∷ [])
       (same_stays old.station old.station c k.hand k.hand refl is.held refl)
-      (finishes limits store old c kept k is frame next.client f)
+      (finishes limits origin old c kept k is frame next.client f)
       (λ g i. elim i [ inl e ↦ inl (inl (ap message_of e)) | inr j ↦ inr j ])
       (λ g e. is.collected g e))
 
@@ -364,14 +363,15 @@ module _ (limits : Bounds) (store : StoreState) (old : Program) (c : ℕ) (new :
   handed_in : (reads : List Bool) (number : ℕ) → FinishesOrAgain k.client frame next.client
       → SaysCommit next.client frame → Committed old.station frame reads k.hand (Ok number)
       new.station next.hand
-      → next ≡ record k { client = next.client; hand = next.hand } → Kept limits store new
+      → next ≡ record k { client = next.client; hand = next.hand } → Kept limits origin new
   handed_in reads number f says done rest =
-      let half : Kept limits store between = half_kept f in
+      let half : Kept limits origin between = half_kept f in
       let half_is : IsWorldClient between half.world c halfway =
       half.stands.worker c halfway half_becomes.becomes in
       let it = says_it next.client frame says in
-      arrives_kept limits store between new c halfway next half then_becomes then_still sound silent
-      (server_arrives limits store between c new half halfway next half_is frame done.posts
+      arrives_kept limits origin between new c halfway next half then_becomes then_still sound
+      silent
+      (server_arrives limits origin between c new half halfway next half_is frame done.posts
       (not_exhausted old.station new.station frame reads k.hand next.hand number done it.0 it.1
       it.2) done.stored refl
       (λ g i. inr (subst (λ (x : WorkerState). IsIn g x.said) rest i))
@@ -380,43 +380,45 @@ module _ (limits : Bounds) (store : StoreState) (old : Program) (c : ℕ) (new :
   -- or refused
   refused : (reads : List Bool) (fault : OfficeFault) → FinishesOrAgain k.client frame next.client
       → Committed old.station frame reads k.hand (Err fault) new.station next.hand → next
-      ≡ record k { client = next.client; hand = next.hand } → Kept limits store new
+      ≡ record k { client = next.client; hand = next.hand } → Kept limits origin new
   refused reads fault f done rest =
-      arrives_kept limits store old new c k next kept becomes still sound silent
-      (client_arrives limits store old c new kept k next is (message_of frame ∷ [])
+      arrives_kept limits origin old new c k next kept becomes still sound silent
+      (client_arrives limits origin old c new kept k next is (message_of frame ∷ [])
       (unchanged_stays old.station new.station c k.hand next.hand done.err.0 is.held done.err.1)
-      (finishes limits store old c kept k is frame next.client f)
+      (finishes limits origin old c kept k is frame next.client f)
       (λ g i. inr (subst (λ (x : WorkerState). IsIn g x.said) rest i))
       (λ g e. is.collected g (sym (ap (λ (x : WorkerState). x.collected) rest) ∙ e)))
 
-commit_by : (limits : Bounds) (store : StoreState) (old : Program) (c : ℕ) (new : Program)
-    (kept : Kept limits store old) (k next : WorkerState) → IsWorldClient old kept.world c k
+commit_by : (limits : Bounds) (origin : Origin (limits_of limits)) (old : Program) (c : ℕ)
+    (new : Program)
+    (kept : Kept limits origin old) (k next : WorkerState) → IsWorldClient old kept.world c k
     → Becomes old c k next new → IsSound new → IsStill k next → IsSilent old new
     → (result : Result ℕ WorkerFault) → CommitsAt k old.station result next new.station
-    → Kept limits store new
-commit_by limits store old c new kept k next is becomes sound still silent (Ok number) h =
-    handed_in limits store old c new kept k next is becomes sound still silent h.frame h.reads
+    → Kept limits origin new
+commit_by limits origin old c new kept k next is becomes sound still silent (Ok number) h =
+    handed_in limits origin old c new kept k next is becomes sound still silent h.frame h.reads
     number h.finishes h.says h.committed h.rest
-commit_by limits store old c new kept k next is becomes sound still silent
+commit_by limits origin old c new kept k next is becomes sound still silent
     (Err (worker.Office fault)) h =
-    refused limits store old c new kept k next is becomes sound still silent h.frame h.reads fault
+    refused limits origin old c new kept k next is becomes sound still silent h.frame h.reads fault
     h.finishes h.committed h.rest
-commit_by limits store old c new kept k next is becomes sound still silent
+commit_by limits origin old c new kept k next is becomes sound still silent
     (Err (worker.Client fault)) h =
-    arrives_kept limits store old new c k next kept becomes still sound silent
-    (nothing_arrives limits store old c new kept k next is
+    arrives_kept limits origin old new c k next kept becomes still sound silent
+    (nothing_arrives limits origin old c new kept k next is
     (same_stays old.station new.station c k.hand next.hand h.2 is.held
     (ap (λ (x : WorkerState). x.hand) h.1)) (ap (λ (x : WorkerState). x.client) h.1)
     (λ g i. subst (λ (x : WorkerState). IsIn g x.said) h.1 i)
     (λ g e. is.collected g (sym (ap (λ (x : WorkerState). x.collected) h.1) ∙ e)))
-commit_by limits store old c new kept k next is becomes sound still silent (Err worker.Halted) h =
+commit_by limits origin old c new kept k next is becomes sound still silent (Err worker.Halted) h =
     absurd h
 
-pub committed_kept : (limits : Bounds) (store : StoreState) (old : Program) (c : ℕ) (new : Program)
-    → Kept limits store old → steps.Commits old c new → IsSound new → IsSilent old new
-    → Kept limits store new
-committed_kept limits store old c new kept t sound silent =
-    commit_by limits store old c new kept t.worker t.next
+pub committed_kept : (limits : Bounds) (origin : Origin (limits_of limits)) (old : Program)
+    (c : ℕ) (new : Program)
+    → Kept limits origin old → steps.Commits old c new → IsSound new → IsSilent old new
+    → Kept limits origin new
+committed_kept limits origin old c new kept t sound silent =
+    commit_by limits origin old c new kept t.worker t.next
     (kept.stands.worker c t.worker t.becomes.was) t.becomes sound
     (commits_still t.worker t.next old.station new.station t.result t.commits) silent t.result
     t.commits

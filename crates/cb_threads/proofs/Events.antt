@@ -17,9 +17,17 @@ use Rattle.cb_protocol.specs.World.{MessageChoiceAllowed, Moment, Opening, Plays
 use Rattle.cb_protocol.specs.World.{Restart, StepResult, TakePacket, World, answer_with}
 use Rattle.cb_protocol.specs.World.{client_does, deliver, flush_up_to, new_world, packet_at}
 use Rattle.cb_protocol.specs.World.{restart_client, server_does, step, take_packet, world_after}
+use Rattle.cb_threads.specs.Worlds.{LeadsTo}
 
-abbrev pub Reached : Limits → Opening → World → Type 0
-Reached L o w = ReachedWorld L on_cycle o w
+-- A world that is reached, from which events go on.
+pub record Origin (L : Limits) : Type 0 where
+  pub opening : Opening
+  pub first : World
+  pub there : ReachedWorld L on_cycle opening first
+
+-- what is reached from it
+abbrev pub Reached : (L : Limits) → Origin L → World → Type 0
+Reached L o w = LeadsTo L o.first w
 
 plays_more : (L : Limits) (w : World) (ms : List Moment) (m : Moment) → Plays L on_cycle w ms
     → Becomes L on_cycle (world_after w ms) m.event m.answer m.world
@@ -31,12 +39,37 @@ after_more : (w : World) (ms : List Moment) (m : Moment) → world_after w (ms +
 after_more w [] m = refl
 after_more w (k ∷ ks) m = after_more k.world ks m
 
+plays_on : (L : Limits) (w : World) (ms ks : List Moment) → Plays L on_cycle w ms
+    → Plays L on_cycle (world_after w ms) ks → Plays L on_cycle w (ms ++ ks)
+plays_on L w [] ks p q = q
+plays_on L w (m ∷ ms) ks p q = (p.0, plays_on L m.world ms ks p.1 q)
+
+after_both : (w : World) (ms ks : List Moment)
+    → world_after w (ms ++ ks) ≡ world_after (world_after w ms) ks
+after_both w [] ks = refl
+after_both w (m ∷ ms) ks = after_both m.world ms ks
+
+-- the whole way from the opening world
+pub whole : (L : Limits) (o : Origin L) (w : World) → Reached L o w
+    → ReachedWorld L on_cycle o.opening w
+whole L o w r = (
+  o.there.0 ++ r.0,
+  plays_on L (new_world L o.opening) o.there.0 r.0 o.there.1
+      (subst (λ (x : World). Plays L on_cycle x r.0) (sym o.there.2) r.1),
+  after_both (new_world L o.opening) o.there.0 r.0
+      ∙ ap (λ (x : World). world_after x r.0) o.there.2 ∙ r.2,
+)
+
 -- the opening world
-pub reached_first : (L : Limits) (o : Opening) → Reached L o (new_world L o)
-reached_first L o = ([], tt, refl)
+abbrev pub opening_world : (L : Limits) → Opening → Origin L
+opening_world L o = record { opening = o; first = new_world L o; there = ([], tt, refl) }
+
+-- what was reached
+abbrev pub onwards : (L : Limits) (o : Origin L) (w : World) → Reached L o w → Origin L
+onwards L o w r = record { opening = o.opening; first = w; there = whole L o w r }
 
 -- any event
-pub by_event : (L : Limits) (o : Opening) (w : World) (e : Event) (g : Option ℕ) → Reached L o w
+pub by_event : (L : Limits) (o : Origin L) (w : World) (e : Event) (g : Option ℕ) → Reached L o w
     → EventChoiceAllowed L w e g → Reached L o (step L on_cycle w e g).world
 by_event L o w e g r a =
     let m : Moment = record {
@@ -46,10 +79,10 @@ by_event L o w e g r a =
           (step L on_cycle w e g).world;
     } in (
       r.0 ++ m ∷ [],
-      plays_more L (new_world L o) r.0 m r.1
+      plays_more L o.first r.0 m r.1
           (subst (λ (x : World). Becomes L on_cycle x e (step L on_cycle w e g).answer
           (step L on_cycle w e g).world) (sym r.2) (g, a, refl)),
-      after_more (new_world L o) r.0 m,
+      after_more o.first r.0 m,
     )
 
 -- a client is called
@@ -57,7 +90,7 @@ abbrev pub called_world : Limits → World → ℕ → Call → World
 called_world L w c call = (client_does L w (ClientCalls c call) c
     (client_call L (w.client c) call).word (client_call L (w.client c) call).steps).world
 
-pub calls_reach : (L : Limits) (o : Opening) (w : World) (c : ℕ) (call : Call) → c < L.clients
+pub calls_reach : (L : Limits) (o : Origin L) (w : World) (c : ℕ) (call : Call) → c < L.clients
     → Reached L o w → Reached L o (called_world L w c call)
 calls_reach L o w c call lt r =
     subst (λ (x : StepResult). Reached L o x.world) (step_call L on_cycle w c call None lt)
@@ -70,7 +103,7 @@ restarted_world w c = (answer_with w (Restart c) AnsweredOk [] (record w {
   incarnation = update w.incarnation c (w.incarnation c + 1);
 })).world
 
-pub restarts_reach : (L : Limits) (o : Opening) (w : World) (c : ℕ) → c < L.clients
+pub restarts_reach : (L : Limits) (o : Origin L) (w : World) (c : ℕ) → c < L.clients
     → w.incarnation c < max_number → Reached L o w → Reached L o (restarted_world w c)
 restarts_reach L o w c lt left r =
     subst (λ (x : StepResult). Reached L o x.world) (step_restart L on_cycle w c None lt ∙ there)
@@ -97,7 +130,7 @@ none_let_go : (L : Limits) (k : Client) (b : Body) → to_server b ≡ true → 
 none_let_go L k (Granted p g v b) t = absurd cc
 none_let_go L k _ t = tt
 
-module _ (L : Limits) (o : Opening) (w : World) (m : Message) (n : ℕ)
+module _ (L : Limits) (o : Origin L) (w : World) (m : Message) (n : ℕ)
     (at : packet_at w.packets n ≡ Some m) (r : Reached L o w) where
   delivered : (g : Option ℕ) → step L on_cycle w (TakePacket n) g
       ≡ deliver L on_cycle w (TakePacket n) m g
@@ -138,7 +171,7 @@ module _ (L : Limits) (o : Opening) (w : World) (m : Message) (n : ℕ)
           grind (arith, nat_tests, own) in rw (t, same) refl
 
 -- the commits up to a number reach the disk
-pub flushed_reach : (L : Limits) (o : Opening) (w : World) (n : ℕ) → can_flush w.server n ≡ true
+pub flushed_reach : (L : Limits) (o : Origin L) (w : World) (n : ℕ) → can_flush w.server n ≡ true
     → Reached L o w → Reached L o (server_does w (FlushTo n) (Flushed n)
     (server_flush w.server n)).world
 flushed_reach L o w n can r = subst (λ (x : StepResult). Reached L o x.world)

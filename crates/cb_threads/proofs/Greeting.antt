@@ -21,12 +21,12 @@ use Rattle.cb_protocol.specs.Server.{Server}
 use Rattle.cb_protocol.specs.StepsKeep.{KeepsClient}
 use Rattle.cb_protocol.specs.Transcript.{transcript_operations}
 use Rattle.cb_protocol.specs.WaitsFor.{on_cycle}
-use Rattle.cb_protocol.specs.World.{Opening, World, messages_said}
+use Rattle.cb_protocol.specs.World.{World, messages_said}
 use Rattle.cb_server.specs.ServerValue as server
 use Rattle.cb_server.specs.ServerValue.{IsServer, ServerValue}
 use Rattle.cb_server.specs.Taking.{Does}
 use Rattle.cb_threads.proofs.Calling.{at_itself, at_others}
-use Rattle.cb_threads.proofs.Events.{Reached, called_world, calls_reach, restarted_world}
+use Rattle.cb_threads.proofs.Events.{Origin, Reached, called_world, calls_reach, restarted_world}
 use Rattle.cb_threads.proofs.Events.{restarts_reach}
 use Rattle.cb_threads.proofs.Moving.{ServerMoved, moved_by_message}
 use Rattle.cb_threads.proofs.Standing.{Grows}
@@ -34,7 +34,8 @@ use Rattle.cb_threads.specs.Programs.{Program, limits_in, new_worker}
 use Rattle.cb_threads.specs.Worlds.{IsWorldClient}
 
 -- The client is new, in that incarnation; nothing else changed, but the server where it says so.
-pub record Renewed (L : Limits) (o : Opening) (w : World) (c i : ℕ) (server : Server) : Type 0 where
+pub record Renewed (L : Limits) (o : Origin L) (w : World) (c i : ℕ) (server : Server) : Type
+    0 where
   pub world : World
   pub reached : Reached L o world
   pub server_is : world.server ≡ server
@@ -45,7 +46,7 @@ pub record Renewed (L : Limits) (o : Opening) (w : World) (c i : ℕ) (server : 
   pub grows : Grows w world
   pub silent : transcript_operations world.transcript ≡ transcript_operations w.transcript
 
-pub renews : (L : Limits) (o : Opening) (c i : ℕ) (n : ℕ) (w : World) → c < L.clients
+pub renews : (L : Limits) (o : Origin L) (c i : ℕ) (n : ℕ) (w : World) → c < L.clients
     → i ≤ max_number → Reached L o w → w.incarnation c + n ≡ i → (n ≡ 0 → w.client c ≡ new_client)
     → Renewed L o w c i w.server
 renews L o c i zero w lt left r e new = record {
@@ -81,7 +82,7 @@ renews L o c i (suc n) w lt left r e new =
     }
 
 -- The client was renewed and greeted, and the server took its Hello.
-pub record Greeted (L : Limits) (o : Opening) (w : World) (c i : ℕ) (new : Server)
+pub record Greeted (L : Limits) (o : Origin L) (w : World) (c i : ℕ) (new : Server)
     (messages : List Message) : Type 0 where
   pub renewed : Renewed L o w c i new
   pub says : (m : Message) → IsIn m messages → IsIn m renewed.world.packets
@@ -98,7 +99,7 @@ not_all : (a b : Bool) → b ≡ false → (a && b) ≡ false
 not_all true b e = e
 not_all false b e = refl
 
-module _ (L : Limits) (o : Opening) (w : World) (c i : ℕ) (s new : ServerValue)
+module _ (L : Limits) (o : Origin L) (w : World) (c i : ℕ) (s new : ServerValue)
     (messages : List Message) (lt : c < L.clients) (there : c < s.limits.clients)
     (same : w.server ≡ server.server_of s) (arisen : IsServer s)
     (does : Does s (MessageComes c i Hello) messages new) where

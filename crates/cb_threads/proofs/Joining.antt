@@ -1,7 +1,6 @@
 -- A client joins.
 use Rattle.std.proofs.Common.{◌≡◌, ◌≢◌, ◌<◌, ◌≤◌, ◌+◌, ◌-◌, ℕ, Some, sym, ◌∙◌, ap, subst, arith}
 use Rattle.std.proofs.Common.{inl, inr}
-use Rattle.cb_commit.specs.Stores.{StoreState}
 use Rattle.cb_frame_types.specs.declared.frame.Frame.{Frame}
 use Rattle.cb_hands.specs.Hands.{HandState}
 use Rattle.cb_mailboxes.specs.Dispatching as dispatching
@@ -13,9 +12,9 @@ use Rattle.cb_protocol.specs.Basics.{IsIn, max_number}
 use Rattle.cb_protocol.specs.Server.{Server}
 use Rattle.cb_protocol.specs.StoreLimits.{limits_of}
 use Rattle.cb_server.specs.ServerValue.{ServerValue}
-use Rattle.cb_server_state.specs.States.{opening_of}
 use Rattle.cb_station.proofs.Following.{joined_held}
 use Rattle.cb_station.specs.Stations.{mailbox_of, server_of}
+use Rattle.cb_threads.proofs.Events.{Origin}
 use Rattle.cb_threads.proofs.Calling.{in_messages}
 use Rattle.cb_threads.proofs.Standing.{Kept, no_worker, stands_but, the_worker}
 use Rattle.cb_threads.proofs.Turning.{posted_from}
@@ -28,8 +27,9 @@ use Rattle.cb_threads.proofs.Greeting.{Greeted, Renewed, difference, emptied_fro
 use Rattle.cb_threads.proofs.Greeting.{keeps, other_set, renews}
 
 -- it joins
-module _ (limits : Bounds) (store : StoreState) (old : Program) (c : ℕ) (new : Program)
-    (kept : Kept limits store old) (t : steps.Joins old c new) (sound : IsSound new)
+module _ (limits : Bounds) (origin : Origin (limits_of limits)) (old : Program) (c : ℕ)
+    (new : Program)
+    (kept : Kept limits origin old) (t : steps.Joins old c new) (sound : IsSound new)
     (silent : IsSilent old new) where
   abbrev s : ServerValue
   s = old.station.dispatcher.server
@@ -55,30 +55,30 @@ module _ (limits : Bounds) (store : StoreState) (old : Program) (c : ℕ) (new :
   left = subst (λ (n : ℕ). n ≤ max_number) number
       (sound.client c (new_worker t.hand (limits_in old)) t.becomes).incarnation.1
 
-  renewed : Renewed (limits_of limits) (opening_of store) kept.world c i kept.world.server
+  renewed : Renewed (limits_of limits) origin kept.world c i kept.world.server
   renewed = elim (kept.stands.absent c t.absent) [
     | inl l ↦ (let m : kept.world.incarnation c ≤ i =
         (let e = ap (λ (x : Server). (x.session c).current) kept.stands.server in
         omega (arith, l, e)) in
-        renews (limits_of limits) (opening_of store) c i (i - kept.world.incarnation c) kept.world
+        renews (limits_of limits) origin c i (i - kept.world.incarnation c) kept.world
         lt left kept.reached (difference (kept.world.incarnation c) i m)
         (λ z. absurd (let e = ap (λ (x : Server). (x.session c).current) kept.stands.server in
         omega (arith, l, e, z))))
-    | inr x ↦ renews (limits_of limits) (opening_of store) c i 0 kept.world lt left kept.reached
+    | inr x ↦ renews (limits_of limits) origin c i 0 kept.world lt left kept.reached
         (let e = ap (λ (y : Server). (y.session c).current) kept.stands.server in let f = x.0 in
         omega (arith, e, f)) (λ z. x.1)
   ]
 
-  g : Greeted (limits_of limits) (opening_of store) kept.world c i (server_of new.station)
+  g : Greeted (limits_of limits) origin kept.world c i (server_of new.station)
       (messages_of t.joined.posts.said)
-  g = greeted (limits_of limits) (opening_of store) kept.world c i s new.station.dispatcher.server
+  g = greeted (limits_of limits) origin kept.world c i s new.station.dispatcher.server
       (messages_of t.joined.posts.said) lt there kept.stands.server kept.sound.station.arisen
       t.joined.posts.does renewed
 
   current : (d : ℕ) → d ≢ c → (g.renewed.world.server.session d).current
       ≡ (kept.world.server.session d).current
   current d n = ap (λ (x : Server). (x.session d).current) g.renewed.server_is
-      ∙ keeps (limits_of limits) (opening_of store) kept.world c i s new.station.dispatcher.server
+      ∙ keeps (limits_of limits) origin kept.world c i s new.station.dispatcher.server
       (messages_of t.joined.posts.said) lt there kept.stands.server kept.sound.station.arisen
       t.joined.posts.does d n
       ∙ ap (λ (x : Server). (x.session d).current) (sym kept.stands.server)
@@ -100,7 +100,7 @@ module _ (limits : Bounds) (store : StoreState) (old : Program) (c : ℕ) (new :
             (y.0, y.1, x.1))
       ]
 
-  pub joined_kept : Kept limits store new
+  pub joined_kept : Kept limits origin new
   joined_kept = record {
     limits_are = t.joined.posts.does.limits ∙ kept.limits_are;
     sound = sound;

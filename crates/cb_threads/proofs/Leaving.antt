@@ -2,7 +2,6 @@
 use Rattle.std.proofs.Common.{◌≡◌, ◌≢◌, ◌<◌, ◌+◌, ℕ, List, Some, None, refl, sym, ◌∙◌, ap, subst}
 use Rattle.std.proofs.Common.{arith, inl, inr, ◌⊎◌}
 use Rattle.std.proofs.lemmas.Bool.{cases_eq}
-use Rattle.cb_commit.specs.Stores.{StoreState}
 use Rattle.cb_frame_types.specs.declared.frame.Frame.{Frame}
 use Rattle.cb_hands.specs.Joined.{stored_at}
 use Rattle.cb_mailboxes.specs.Dispatching as dispatching
@@ -19,8 +18,8 @@ use Rattle.cb_protocol.specs.StoreLimits.{limits_of}
 use Rattle.cb_protocol.specs.WaitsFor.{on_cycle}
 use Rattle.cb_server.specs.ServerValue.{ServerValue}
 use Rattle.cb_server.specs.Taking.{Does}
-use Rattle.cb_server_state.specs.States.{opening_of}
 use Rattle.cb_station.specs.Stations.{StationState, mailbox_of, server_of}
+use Rattle.cb_threads.proofs.Events.{Origin}
 use Rattle.cb_threads.proofs.Calling.{in_messages}
 use Rattle.cb_threads.proofs.Standing.{Kept, is_there, no_worker, stands_but}
 use Rattle.cb_threads.proofs.Turning.{posted_from}
@@ -32,17 +31,18 @@ use Rattle.cb_worker.specs.Workers.{WorkerState}
 use Rattle.cb_threads.proofs.Greeting.{Greeted, greeted, keeps, other_set, renews}
 
 -- the server's incarnation of a worker's client is the world's
-pub same_incarnation : (limits : Bounds) (store : StoreState) (r : Program) (c : ℕ)
-    (k : WorkerState) (kept : Kept limits store r) → r.worker c ≡ Some k
+pub same_incarnation : (limits : Bounds) (origin : Origin (limits_of limits)) (r : Program) (c : ℕ)
+    (k : WorkerState) (kept : Kept limits origin r) → r.worker c ≡ Some k
     → ((server_of r.station).session c).current ≡ kept.world.incarnation c
-same_incarnation limits store r c k kept e =
+same_incarnation limits origin r c k kept e =
     let is = kept.stands.worker c k e in
     ap (λ (n : ℕ). ((server_of r.station).session n).current) (sym is.of.hand)
     ∙ (kept.sound.station.hand k.hand.client k.hand is.held).current ∙ is.of.hand_incarnation
 
 -- it leaves
-module _ (limits : Bounds) (store : StoreState) (old : Program) (c : ℕ) (new : Program)
-    (kept : Kept limits store old) (t : steps.Leaves old c new) (sound : IsSound new)
+module _ (limits : Bounds) (origin : Origin (limits_of limits)) (old : Program) (c : ℕ)
+    (new : Program)
+    (kept : Kept limits origin old) (t : steps.Leaves old c new) (sound : IsSound new)
     (silent : IsSilent old new) where
   abbrev s : ServerValue
   s = old.station.dispatcher.server
@@ -54,7 +54,7 @@ module _ (limits : Bounds) (store : StoreState) (old : Program) (c : ℕ) (new :
   was = kept.stands.worker c t.worker t.was
 
   lt : c < limits.clients
-  lt = is_there limits store old c t.worker kept t.was
+  lt = is_there limits origin old c t.worker kept t.was
 
   there : c < s.limits.clients
   there = subst (λ (b : Bounds). c < b.clients) (sym kept.limits_are) lt
@@ -64,18 +64,18 @@ module _ (limits : Bounds) (store : StoreState) (old : Program) (c : ℕ) (new :
   does = subst (λ (n : ℕ). Does s (MessageComes n i Hello) (messages_of t.left.posts.said)
       new.station.dispatcher.server) was.of.hand t.left.posts.does
 
-  g : Greeted (limits_of limits) (opening_of store) kept.world c i (server_of new.station)
+  g : Greeted (limits_of limits) origin kept.world c i (server_of new.station)
       (messages_of t.left.posts.said)
-  g = greeted (limits_of limits) (opening_of store) kept.world c i s new.station.dispatcher.server
+  g = greeted (limits_of limits) origin kept.world c i s new.station.dispatcher.server
       (messages_of t.left.posts.said) lt there kept.stands.server kept.sound.station.arisen does
-      (renews (limits_of limits) (opening_of store) c i 1 kept.world lt (let l = t.left.ok.1 in
+      (renews (limits_of limits) origin c i 1 kept.world lt (let l = t.left.ok.1 in
       omega (arith, l)) kept.reached (ap (λ (n : ℕ). n + 1) (sym was.of.hand_incarnation))
       (λ z. absurd (omega (arith, z))))
 
   current : (d : ℕ) → d ≢ c → (g.renewed.world.server.session d).current
       ≡ (kept.world.server.session d).current
   current d n = ap (λ (x : Server). (x.session d).current) g.renewed.server_is
-      ∙ keeps (limits_of limits) (opening_of store) kept.world c i s new.station.dispatcher.server
+      ∙ keeps (limits_of limits) origin kept.world c i s new.station.dispatcher.server
       (messages_of t.left.posts.said) lt there kept.stands.server kept.sound.station.arisen does
       d n
       ∙ ap (λ (x : Server). (x.session d).current) (sym kept.stands.server)
@@ -85,7 +85,7 @@ module _ (limits : Bounds) (store : StoreState) (old : Program) (c : ℕ) (new :
   known = ap (λ (x : Server). (x.session c).current) g.renewed.server_is
       ∙ ap (λ (x : Server). (x.session c).current) does.becomes
       ∙ (greater_hello on_cycle (server_of old.station) c i
-      (let e = same_incarnation limits store old c t.worker kept t.was in
+      (let e = same_incarnation limits origin old c t.worker kept t.was in
       let f = was.of.hand_incarnation in omega (arith, e, f))).0.current
 
   mailbox : (d : ℕ) (f : Frame) → IsIn f (mailbox_of new.station d) → IsSentTo g.renewed.world d f
@@ -103,7 +103,7 @@ module _ (limits : Bounds) (store : StoreState) (old : Program) (c : ℕ) (new :
                 (y.0, y.1, x.1))
           ]
 
-  pub left_kept : Kept limits store new
+  pub left_kept : Kept limits origin new
   left_kept = record {
     limits_are = does.limits ∙ kept.limits_are;
     sound = sound;
@@ -126,10 +126,11 @@ module _ (limits : Bounds) (store : StoreState) (old : Program) (c : ℕ) (new :
   }
 
 -- it is abandoned
-pub abandoned_kept : (limits : Bounds) (store : StoreState) (old : Program) (c : ℕ) (new : Program)
-    → Kept limits store old → steps.Abandons old c new → IsSound new → IsSilent old new
-    → Kept limits store new
-abandoned_kept limits store old c new kept t sound silent = record {
+pub abandoned_kept : (limits : Bounds) (origin : Origin (limits_of limits)) (old : Program)
+    (c : ℕ) (new : Program)
+    → Kept limits origin old → steps.Abandons old c new → IsSound new → IsSilent old new
+    → Kept limits origin new
+abandoned_kept limits origin old c new kept t sound silent = record {
   opened = kept.opened;
   performed = kept.performed ∙ sym silent;
   limits_are = same ∙ kept.limits_are;
@@ -148,7 +149,7 @@ abandoned_kept limits store old c new kept t sound silent = record {
             refl;
       })
       (λ k e. absurd (no_worker new c k e t.gone))
-      (λ e. inl (let x = same_incarnation limits store old c t.worker kept t.was in
+      (λ e. inl (let x = same_incarnation limits origin old c t.worker kept t.was in
       let y = ap (λ (z : Server). (z.session c).current) kept.stands.server in
       omega (arith, x, y)))
       (λ d f j. kept.stands.mailbox d f

@@ -32,13 +32,14 @@ use Rattle.cb_protocol.specs.StepsKeep.{KeepsClient}
 use Rattle.cb_protocol.specs.StoreLimits.{limits_of}
 use Rattle.cb_protocol.specs.Transcript.{transcript_operations}
 use Rattle.cb_protocol.specs.WaitsFor.{on_cycle}
-use Rattle.cb_protocol.specs.World.{FlushTo, Opening, TakePacket, World, client_does, messages_said}
+use Rattle.cb_protocol.specs.World.{FlushTo, TakePacket, World, client_does, messages_said}
 use Rattle.cb_protocol.specs.World.{messages_sent, packet_at, server_does}
 use Rattle.cb_server.specs.ServerValue.{IsServer, ServerValue, server_of}
 use Rattle.cb_server.specs.Taking.{Does}
 use Rattle.cb_station.proofs.Reached.{in_order}
 use Rattle.cb_threads.proofs.Calling.{Called, at_itself, at_others, said_by, to_the_server}
-use Rattle.cb_threads.proofs.Events.{Reached, called_world, calls_reach, flushed_reach, number_of}
+use Rattle.cb_threads.proofs.Events.{Origin, Reached, called_world, calls_reach, flushed_reach}
+use Rattle.cb_threads.proofs.Events.{number_of}
 use Rattle.cb_threads.proofs.Events.{served_reach, took_reach}
 use Rattle.cb_threads.proofs.Standing.{Grows}
 use Rattle.cb_threads.specs.Programs.{Program, limits_in}
@@ -46,7 +47,7 @@ use Rattle.cb_threads.specs.Worlds.{IsSentTo, IsWorldClient}
 use Rattle.cb_worker.specs.Workers.{WorkerState}
 
 -- The world's client moved alone: it shows the new one, and says these messages.
-pub record ClientMoved (L : Limits) (o : Opening) (w : World) (c : ℕ) (new : ClientState)
+pub record ClientMoved (L : Limits) (o : Origin L) (w : World) (c : ℕ) (new : ClientState)
     (messages : List Message) : Type 0 where
   pub world : World
   pub reached : Reached L o world
@@ -61,7 +62,7 @@ pub record ClientMoved (L : Limits) (o : Opening) (w : World) (c : ℕ) (new : C
   pub silent : transcript_operations world.transcript ≡ transcript_operations w.transcript
 
 -- The world's server moved alone, and says these messages.
-pub record ServerMoved (L : Limits) (o : Opening) (w : World) (new : Server)
+pub record ServerMoved (L : Limits) (o : Origin L) (w : World) (new : Server)
     (messages : List Message) : Type 0 where
   pub world : World
   pub reached : Reached L o world
@@ -73,7 +74,8 @@ pub record ServerMoved (L : Limits) (o : Opening) (w : World) (new : Server)
   pub silent : transcript_operations world.transcript ≡ transcript_operations w.transcript
 
 -- by a call
-pub moved_by_call : (L : Limits) (o : Opening) (w : World) (c : ℕ) (call : Call) (new : ClientState)
+pub moved_by_call : (L : Limits) (o : Origin L) (w : World) (c : ℕ) (call : Call)
+    (new : ClientState)
     (messages : List Message) → c < L.clients → Reached L o w → Called L w c call new messages
     → transcript_operations (called_world L w c call).transcript
     ≡ transcript_operations w.transcript → ClientMoved L o w c new messages
@@ -97,7 +99,7 @@ moved_by_call L o w c call new messages lt r called silent = record {
 }
 
 -- by nothing
-pub moved_not : (L : Limits) (o : Opening) (w : World) (c : ℕ) (new : ClientState)
+pub moved_not : (L : Limits) (o : Origin L) (w : World) (c : ℕ) (new : ClientState)
     (operations : List Operation) → Reached L o w → w.client c ≡ client_of new operations
     → ClientMoved L o w c new []
 moved_not L o w c new operations r e = record {
@@ -118,7 +120,8 @@ both true b e = (refl, e)
 both false b e = absurd (let z : false ≡ true = e in cc)
 
 -- by a frame that it takes, or ignores
-module _ (limits : Bounds) (o : Opening) (r : Program) (w : World) (c : ℕ) (k : WorkerState)
+module _ (limits : Bounds) (o : Origin (limits_of limits)) (r : Program) (w : World) (c : ℕ)
+    (k : WorkerState)
     (f : Frame) (messages : List Message) (new : ClientState)
     (reached : Reached (limits_of limits) o w) (same : limits_in r ≡ limits)
     (is : IsWorldClient r w c k) (way : IsSentTo w c f) (takes : TakesFrame k.client f messages new)
@@ -223,7 +226,7 @@ to_clients s (Send c j b ∷ ds) m a i = elim i [
 to_clients s (d ∷ ds) m a i = to_clients (after_server_step s d) ds m a.1 i
 
 -- by a message that a client said
-module _ (L : Limits) (o : Opening) (w : World) (s new : ServerValue) (m : Message)
+module _ (L : Limits) (o : Origin L) (w : World) (s new : ServerValue) (m : Message)
     (messages : List Message) (reached : Reached L o w) (same : w.server ≡ server_of s)
     (arisen : IsServer s)
     (there : IsIn m w.packets) (to : to_server m.body ≡ true) (lt : m.client < s.limits.clients)
@@ -263,7 +266,7 @@ module _ (L : Limits) (o : Opening) (w : World) (s new : ServerValue) (m : Messa
       n)
 
 -- by commits that reach the disk
-module _ (L : Limits) (o : Opening) (w : World) (s new : ServerValue) (number : ℕ)
+module _ (L : Limits) (o : Origin L) (w : World) (s new : ServerValue) (number : ℕ)
     (messages : List Message) (reached : Reached L o w) (same : w.server ≡ server_of s)
     (arisen : IsServer s)
     (can : can_flush (server_of s) number ≡ true) (does : Does s (ReachesDisk number) messages new)

@@ -1,7 +1,6 @@
 -- A station that has just opened is the opening world.
-use Rattle.std.proofs.Common.{◌≡◌, ◌≤◌, Bool, true, false, nat_lt, List, length, refl, sym}
-use Rattle.std.proofs.Common.{subst}
-use Rattle.std.proofs.Common.{inr, arith}
+use Rattle.std.proofs.Common.{◌≡◌, ◌≤◌, Bool, true, false, nat_lt, List, [], length, refl, sym}
+use Rattle.std.proofs.Common.{subst, inr, arith}
 use Rattle.std.proofs.lemmas.Bool.Decides.{nat_tests}
 use Rattle.std.proofs.lemmas.List.{get_or_past}
 use Rattle.std.proofs.lemmas.List.Elements.{All-get_or}
@@ -14,12 +13,12 @@ use Rattle.cb_protocol.specs.Headline.{SoundOpening}
 use Rattle.cb_protocol.specs.StoreLimits.{limits_of}
 use Rattle.cb_protocol.specs.World.{new_world}
 use Rattle.cb_server_state.specs.States.{opening_of}
-use Rattle.cb_threads.proofs.Events.{reached_first}
+use Rattle.cb_threads.proofs.Events.{opening_world}
 use Rattle.cb_threads.proofs.Standing.{Kept, no_worker}
 use Rattle.cb_threads.specs.Programs.{HasOpened, IsSound, Program}
 
 -- no page of a store is newer than its last commit
-sound_opening : (s : StoreState) → stores.IsSound s → SoundOpening (opening_of s)
+pub sound_opening : (s : StoreState) → stores.IsSound s → SoundOpening (opening_of s)
 sound_opening s sound p = by_test (nat_lt p (length s.pages)) refl
   where
     by_test : (b : Bool) → nat_lt p (length s.pages) ≡ b → version_at s p ≤ s.number
@@ -29,13 +28,14 @@ sound_opening s sound p = by_test (nat_lt p (length s.pages)) refl
         let past : length s.pages ≤ p = grind (arith, nat_tests) in
         rw (version_at, get_or_past s.pages p no_page past) (omega arith)
 
-pub opening_kept : (limits : Bounds) (store : StoreState) (r : Program)
-    → HasOpened limits store r → IsSound r → Kept limits store r
+abbrev pub opening_kept : (limits : Bounds) (store : StoreState) (r : Program)
+    → HasOpened limits store r → IsSound r
+    → Kept limits (opening_world (limits_of limits) (opening_of store)) r
 opening_kept limits store r opens sound = record {
   limits_are = opens.server.limits;
   sound = sound;
   world = new_world (limits_of limits) (opening_of store);
-  reached = reached_first (limits_of limits) (opening_of store);
+  reached = ([], tt, refl);
   opened = sound_opening store opens.sound;
   performed = sym opens.nothing;
   stands = record {

@@ -1,6 +1,5 @@
 -- A client begins another incarnation.
 use Rattle.std.proofs.Common.{◌≡◌, ◌≢◌, ◌<◌, ◌≤◌, ◌-◌, ℕ, sym, ◌∙◌, ap, subst, arith, inl, inr}
-use Rattle.cb_commit.specs.Stores.{StoreState}
 use Rattle.cb_frame_types.specs.declared.frame.Frame.{Frame}
 use Rattle.cb_hands.specs.Hands.{HandState}
 use Rattle.cb_mailboxes.specs.Dispatching as dispatching
@@ -15,8 +14,8 @@ use Rattle.cb_protocol.specs.Server.{Server}
 use Rattle.cb_protocol.specs.StoreLimits.{limits_of}
 use Rattle.cb_server.specs.ServerValue.{ServerValue}
 use Rattle.cb_server.specs.Taking.{Does}
-use Rattle.cb_server_state.specs.States.{opening_of}
 use Rattle.cb_station.specs.Stations.{mailbox_of, server_of}
+use Rattle.cb_threads.proofs.Events.{Origin}
 use Rattle.cb_threads.proofs.Calling.{in_messages}
 use Rattle.cb_threads.proofs.Standing.{Kept, no_worker, others_hand, stands_but, the_worker}
 use Rattle.cb_threads.proofs.Turning.{posted_from}
@@ -29,8 +28,9 @@ use Rattle.cb_threads.proofs.Greeting.{Greeted, difference, emptied_from, fresh,
 use Rattle.cb_threads.proofs.Greeting.{renews}
 
 -- it begins another incarnation
-module _ (limits : Bounds) (store : StoreState) (old : Program) (c i : ℕ) (new : Program)
-    (kept : Kept limits store old) (t : steps.Restarts old c i new) (sound : IsSound new)
+module _ (limits : Bounds) (origin : Origin (limits_of limits)) (old : Program) (c i : ℕ)
+    (new : Program)
+    (kept : Kept limits origin old) (t : steps.Restarts old c i new) (sound : IsSound new)
     (silent : IsSilent old new) where
   abbrev s : ServerValue
   s = old.station.dispatcher.server
@@ -63,19 +63,19 @@ module _ (limits : Bounds) (store : StoreState) (old : Program) (c i : ℕ) (new
   does = subst (λ (n : ℕ). Does s (MessageComes n i Hello) (messages_of t.restarted.posts.said)
       new.station.dispatcher.server) was.of.hand t.restarted.posts.does
 
-  g : Greeted (limits_of limits) (opening_of store) kept.world c i (server_of new.station)
+  g : Greeted (limits_of limits) origin kept.world c i (server_of new.station)
       (messages_of t.restarted.posts.said)
-  g = greeted (limits_of limits) (opening_of store) kept.world c i s new.station.dispatcher.server
+  g = greeted (limits_of limits) origin kept.world c i s new.station.dispatcher.server
       (messages_of t.restarted.posts.said) lt there kept.stands.server kept.sound.station.arisen
       does
-      (renews (limits_of limits) (opening_of store) c i (i - kept.world.incarnation c) kept.world lt
+      (renews (limits_of limits) origin c i (i - kept.world.incarnation c) kept.world lt
       left kept.reached (difference (kept.world.incarnation c) i (let l = later in
       omega (arith, l))) (λ z. absurd (let l = later in omega (arith, l, z))))
 
   current : (d : ℕ) → d ≢ c → (g.renewed.world.server.session d).current
       ≡ (kept.world.server.session d).current
   current d n = ap (λ (x : Server). (x.session d).current) g.renewed.server_is
-      ∙ keeps (limits_of limits) (opening_of store) kept.world c i s new.station.dispatcher.server
+      ∙ keeps (limits_of limits) origin kept.world c i s new.station.dispatcher.server
       (messages_of t.restarted.posts.said) lt there kept.stands.server kept.sound.station.arisen
       does d n
       ∙ ap (λ (x : Server). (x.session d).current) (sym kept.stands.server)
@@ -95,7 +95,7 @@ module _ (limits : Bounds) (store : StoreState) (old : Program) (c i : ℕ) (new
             (y.0, y.1, x.1))
       ]
 
-  pub restarted_kept : Kept limits store new
+  pub restarted_kept : Kept limits origin new
   restarted_kept = record {
     limits_are = does.limits ∙ kept.limits_are;
     sound = sound;

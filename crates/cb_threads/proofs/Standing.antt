@@ -3,7 +3,6 @@ use Rattle.std.proofs.Common.{◌≡◌, ◌≢◌, ◌<◌, ◌≤◌, ◌+◌,
 use Rattle.std.proofs.Common.{◌∙◌, ap, subst, inl, inr, ◌⊎◌}
 use Rattle.std.proofs.lemmas.Bool.{cases_eq}
 use Rattle.std.proofs.lemmas.List.{get_or-set_other}
-use Rattle.cb_commit.specs.Stores.{StoreState}
 use Rattle.cb_frame_types.specs.declared.frame.Frame.{Frame}
 use Rattle.cb_hands.specs.Hands.{HandState}
 use Rattle.cb_hands.specs.Joined.{Follow, stored_at}
@@ -16,10 +15,9 @@ use Rattle.cb_protocol.specs.StoreLimits.{limits_of}
 use Rattle.cb_protocol.specs.Headline.{SoundOpening}
 use Rattle.cb_protocol.specs.Transcript.{transcript_operations}
 use Rattle.cb_protocol.specs.World.{World}
-use Rattle.cb_server_state.specs.States.{opening_of}
 use Rattle.cb_station.proofs.Following.{has_place}
 use Rattle.cb_station.specs.Stations.{mailbox_of, server_of}
-use Rattle.cb_threads.proofs.Events.{Reached}
+use Rattle.cb_threads.proofs.Events.{Origin, Reached}
 use Rattle.cb_threads.specs.Programs.{IsSound, Program, limits_in}
 use Rattle.cb_threads.specs.Worlds.{IsSentTo, IsWorldClient, IsWorldOf}
 use Rattle.cb_worker.specs.Workers.{IsOf, WorkerState}
@@ -130,18 +128,19 @@ others_hand a b one two c d follow name n =
     ∙ get_or-set_other a one.client d (Some two) None (λ e. n (e ∙ name))
 
 -- A program, with a world that it is.
-pub record Kept (limits : Bounds) (store : StoreState) (r : Program) : Type 0 where
+pub record Kept (limits : Bounds) (origin : Origin (limits_of limits)) (r : Program) : Type 0 where
   pub limits_are : limits_in r ≡ limits
   pub sound : IsSound r
   pub world : World
-  pub reached : Reached (limits_of limits) (opening_of store) world
+  pub reached : Reached (limits_of limits) origin world
   pub stands : Stands r world
-  pub opened : SoundOpening (opening_of store)
+  pub opened : SoundOpening origin.opening
   pub performed : transcript_operations world.transcript ≡ r.performed
 
-pub is_world_of : (limits : Bounds) (store : StoreState) (r : Program) (kept : Kept limits store r)
+pub is_world_of : (limits : Bounds) (origin : Origin (limits_of limits)) (r : Program)
+    (kept : Kept limits origin r)
     → IsWorldOf kept.world r
-is_world_of limits store r kept = record {
+is_world_of limits origin r kept = record {
   server = kept.stands.server;
   worker = kept.stands.worker;
   mailbox = kept.stands.mailbox;
@@ -149,15 +148,18 @@ is_world_of limits store r kept = record {
 }
 
 -- a client with a worker is one that there is
-pub is_there_by : (limits : Bounds) (store : StoreState) (r : Program) (c : ℕ) (k : WorkerState)
-    (kept : Kept limits store r) → IsWorldClient r kept.world c k → c < limits.clients
-is_there_by limits store r c k kept is =
+pub is_there_by : (limits : Bounds) (origin : Origin (limits_of limits)) (r : Program) (c : ℕ)
+    (k : WorkerState)
+    (kept : Kept limits origin r) → IsWorldClient r kept.world c k → c < limits.clients
+is_there_by limits origin r c k kept is =
     let lt : k.hand.client < length r.station.hands =
     has_place r.station.hands k.hand.client k.hand is.held in
     subst (λ (b : Bounds). c < b.clients) kept.limits_are
     (subst (λ (n : ℕ). c < n) kept.sound.station.clients
     (subst (λ (n : ℕ). n < length r.station.hands) is.of.hand lt))
 
-pub is_there : (limits : Bounds) (store : StoreState) (r : Program) (c : ℕ) (k : WorkerState)
-    → Kept limits store r → r.worker c ≡ Some k → c < limits.clients
-is_there limits store r c k kept e = is_there_by limits store r c k kept (kept.stands.worker c k e)
+pub is_there : (limits : Bounds) (origin : Origin (limits_of limits)) (r : Program) (c : ℕ)
+    (k : WorkerState)
+    → Kept limits origin r → r.worker c ≡ Some k → c < limits.clients
+is_there limits origin r c k kept e =
+    is_there_by limits origin r c k kept (kept.stands.worker c k e)

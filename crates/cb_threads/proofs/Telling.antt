@@ -1,6 +1,5 @@
 -- Commits reach the disk or are forgotten, and threads tell each other: no client moves.
 use Rattle.std.proofs.Common.{◌≡◌, ℕ, List, Option, refl, sym, ◌∙◌, ap, subst, inl, inr}
-use Rattle.cb_commit.specs.Stores.{StoreState}
 use Rattle.cb_frame_types.specs.declared.frame.Frame.{Frame}
 use Rattle.cb_hands.specs.Hands.{HandState}
 use Rattle.cb_hands.specs.Joined.{stored_at}
@@ -11,8 +10,8 @@ use Rattle.cb_page.specs.Bounds.{Bounds}
 use Rattle.cb_protocol.specs.Basics.{IsIn}
 use Rattle.cb_protocol.specs.Server.{Server}
 use Rattle.cb_protocol.specs.StoreLimits.{limits_of}
-use Rattle.cb_server_state.specs.States.{opening_of}
 use Rattle.cb_station.specs.Stations.{StationState, mailbox_of, server_of}
+use Rattle.cb_threads.proofs.Events.{Origin}
 use Rattle.cb_threads.proofs.Calling.{in_messages}
 use Rattle.cb_threads.proofs.Moving.{ServerMoved, all_keep, moved_by_disk}
 use Rattle.cb_threads.proofs.Standing.{Kept, stands_still}
@@ -22,13 +21,14 @@ use Rattle.cb_threads.specs.Steps.{IsSilent, WorkersStay}
 use Rattle.cb_threads.specs.Steps as steps
 
 -- nothing changes that the world has
-still : (limits : Bounds) (store : StoreState) (old new : Program) (kept : Kept limits store old)
+still : (limits : Bounds) (origin : Origin (limits_of limits)) (old new : Program)
+    (kept : Kept limits origin old)
     → WorkersStay old new → IsSound new → limits_in new ≡ limits_in old → server_of new.station
     ≡ server_of old.station
     → new.station.hands ≡ old.station.hands
     → ((d : ℕ) → mailbox_of new.station d ≡ mailbox_of old.station d) → IsSilent old new
-    → Kept limits store new
-still limits store old new kept workers sound same server hands boxes silent = record {
+    → Kept limits origin new
+still limits origin old new kept workers sound same server hands boxes silent = record {
   opened = kept.opened;
   performed = kept.performed ∙ sym silent;
   limits_are = same ∙ kept.limits_are;
@@ -49,34 +49,37 @@ still limits store old new kept workers sound same server hands boxes silent = r
       (λ d f j. kept.stands.mailbox d f (subst (λ (l : List Frame). IsIn f l) (boxes d) j));
 }
 
-pub forgotten_kept : (limits : Bounds) (store : StoreState) (old : Program) (number : ℕ)
-    (new : Program) → Kept limits store old → steps.Forgets old number new → IsSound new
-    → IsSilent old new → Kept limits store new
-forgotten_kept limits store old number new kept t sound silent =
-    still limits store old new kept t.workers sound
+pub forgotten_kept : (limits : Bounds) (origin : Origin (limits_of limits)) (old : Program)
+    (number : ℕ)
+    (new : Program) → Kept limits origin old → steps.Forgets old number new → IsSound new
+    → IsSilent old new → Kept limits origin new
+forgotten_kept limits origin old number new kept t sound silent =
+    still limits origin old new kept t.workers sound
     (ap (λ (s : StationState). s.dispatcher.server.limits) t.station) (ap server_of t.station)
     (ap (λ (s : StationState). s.hands) t.station)
     (λ d. ap (λ (s : StationState). mailbox_of s d) t.station) silent
 
-pub told_kept : (limits : Bounds) (store : StoreState) (old new : Program) → Kept limits store old
-    → steps.Tells old new → IsSound new → IsSilent old new → Kept limits store new
-told_kept limits store old new kept t sound silent =
-    still limits store old new kept t.workers sound
+pub told_kept : (limits : Bounds) (origin : Origin (limits_of limits)) (old new : Program)
+    → Kept limits origin old
+    → steps.Tells old new → IsSound new → IsSilent old new → Kept limits origin new
+told_kept limits origin old new kept t sound silent =
+    still limits origin old new kept t.workers sound
     (ap (λ (s : StationState). s.dispatcher.server.limits) t.station) (ap server_of t.station)
     (ap (λ (s : StationState). s.hands) t.station)
     (λ d. ap (λ (s : StationState). mailbox_of s d) t.station) silent
 
-pub refused_kept : (limits : Bounds) (store : StoreState) (old new : Program)
-    → Kept limits store old → steps.Refuses old new → IsSound new → IsSilent old new
-    → Kept limits store new
-refused_kept limits store old new kept t sound silent =
-    still limits store old new kept t.workers sound t.unchanged.dispatcher.server.limits
+pub refused_kept : (limits : Bounds) (origin : Origin (limits_of limits)) (old new : Program)
+    → Kept limits origin old → steps.Refuses old new → IsSound new → IsSilent old new
+    → Kept limits origin new
+refused_kept limits origin old new kept t sound silent =
+    still limits origin old new kept t.workers sound t.unchanged.dispatcher.server.limits
     t.unchanged.dispatcher.server.server t.unchanged.hands t.unchanged.dispatcher.mailbox silent
 
-pub flushed_kept : (limits : Bounds) (store : StoreState) (old : Program) (number : ℕ)
-    (new : Program) → Kept limits store old → steps.Flushes old number new → IsSound new
-    → IsSilent old new → Kept limits store new
-flushed_kept limits store old number new kept t sound silent = record {
+pub flushed_kept : (limits : Bounds) (origin : Origin (limits_of limits)) (old : Program)
+    (number : ℕ)
+    (new : Program) → Kept limits origin old → steps.Flushes old number new → IsSound new
+    → IsSilent old new → Kept limits origin new
+flushed_kept limits origin old number new kept t sound silent = record {
   opened = kept.opened;
   performed = moved.silent ∙ kept.performed ∙ sym silent;
   limits_are = t.posts.does.limits ∙ kept.limits_are;
@@ -91,7 +94,7 @@ flushed_kept limits store old number new kept t sound silent = record {
         hands = ap (λ (l : List (Option HandState)). stored_at l d) t.hands;
         worker = t.workers d;
         current = ap (λ (s : Server). (s.session d).current) moved.server
-            ∙ (all_keep (limits_of limits) (opening_of store) kept.world
+            ∙ (all_keep (limits_of limits) origin kept.world
             old.station.dispatcher.server new.station.dispatcher.server number
             (messages_of t.posts.said) kept.reached kept.stands.server kept.sound.station.arisen
             t.can t.posts.does d).incarnation
@@ -106,9 +109,9 @@ flushed_kept limits store old number new kept t sound silent = record {
       ]);
 }
   where
-    moved : ServerMoved (limits_of limits) (opening_of store) kept.world (server_of new.station)
+    moved : ServerMoved (limits_of limits) origin kept.world (server_of new.station)
         (messages_of t.posts.said)
-    moved = moved_by_disk (limits_of limits) (opening_of store) kept.world
+    moved = moved_by_disk (limits_of limits) origin kept.world
         old.station.dispatcher.server new.station.dispatcher.server number
         (messages_of t.posts.said) kept.reached kept.stands.server kept.sound.station.arisen t.can
         t.posts.does

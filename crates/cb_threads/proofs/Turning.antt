@@ -8,7 +8,6 @@ use Rattle.std.proofs.lemmas.Bool.{cases_eq}
 use Rattle.std.proofs.lemmas.Bool.Decides.{nat_tests}
 use Rattle.cb_client.specs.FramesTaken.{TakesFrame}
 use Rattle.cb_client_core.specs.ClientState.{ClientState, client_of}
-use Rattle.cb_commit.specs.Stores.{StoreState}
 use Rattle.cb_frame_types.specs.declared.frame.Frame.{Frame}
 use Rattle.cb_hands.specs.Hands.{HandState}
 use Rattle.cb_hands.specs.Joined.{Follow, IsHeld, stored_at}
@@ -29,12 +28,11 @@ use Rattle.cb_server.specs.ServerValue as server
 use Rattle.cb_server.specs.ServerValue.{ServerValue}
 use Rattle.cb_server.specs.Taking.{input_of, lacks_number_for}
 use Rattle.cb_protocol.specs.StepsKeep.{KeepsClient}
-use Rattle.cb_server_state.specs.States.{opening_of}
 use Rattle.cb_station.specs.Moves.{is_stray}
 use Rattle.cb_station.specs.Stations.{IsUnchanged, StationState, mailbox_of, server_of}
 use Rattle.cb_station.specs.declared.office_fault.OfficeFault.{OfficeFault}
 use Rattle.cb_threads.proofs.Calling.{in_messages}
-use Rattle.cb_threads.proofs.Events.{Reached}
+use Rattle.cb_threads.proofs.Events.{Origin, Reached}
 use Rattle.cb_threads.proofs.Moving.{ClientMoved, ServerMoved, moved_by_frame, moved_by_message}
 use Rattle.cb_threads.proofs.Moving.{moved_not, others_keep}
 use Rattle.cb_threads.proofs.Standing.{Grows, Kept, is_there_by, no_worker, others_hand, stands_but}
@@ -103,13 +101,14 @@ collected_from before c d f i = by (cases_eq d c)
         subst (λ (b : Bool). IsIn f (if b then drop 1 (before c) else before d)) g i
 
 -- Another world is reached that stands for what a call of one worker left.
-pub record Arrives (limits : Bounds) (store : StoreState) (old new : Program) (w : World) (c : ℕ)
+pub record Arrives (limits : Bounds) (origin : Origin (limits_of limits)) (old new : Program)
+    (w : World) (c : ℕ)
     (next : WorkerState) : Type 0 where
   pub limits_stay : limits_in new ≡ limits_in old
   pub held : IsHeld new.station.hands next.hand
   pub hands : (d : ℕ) → d ≢ c → stored_at new.station.hands d ≡ stored_at old.station.hands d
   pub world : World
-  pub reached : Reached (limits_of limits) (opening_of store) world
+  pub reached : Reached (limits_of limits) origin world
   pub server : world.server ≡ server_of new.station
   pub current : (d : ℕ) → d ≢ c → (world.server.session d).current ≡ (w.server.session d).current
   pub incarnation : (d : ℕ) → world.incarnation d ≡ w.incarnation d
@@ -122,11 +121,12 @@ pub record Arrives (limits : Bounds) (store : StoreState) (old new : Program) (w
   pub mailbox : (d : ℕ) (f : Frame) → IsIn f (mailbox_of new.station d) → IsSentTo world d f
   pub silent : transcript_operations world.transcript ≡ transcript_operations w.transcript
 
-pub arrives_kept : (limits : Bounds) (store : StoreState) (old new : Program) (c : ℕ)
-    (k next : WorkerState) (kept : Kept limits store old) → Becomes old c k next new
+pub arrives_kept : (limits : Bounds) (origin : Origin (limits_of limits)) (old new : Program)
+    (c : ℕ)
+    (k next : WorkerState) (kept : Kept limits origin old) → Becomes old c k next new
     → IsStill k next → IsSound new → IsSilent old new
-    → Arrives limits store old new kept.world c next → Kept limits store new
-arrives_kept limits store old new c k next kept becomes still sound silent a = record {
+    → Arrives limits origin old new kept.world c next → Kept limits origin new
+arrives_kept limits origin old new c k next kept becomes still sound silent a = record {
   limits_are = a.limits_stay ∙ kept.limits_are;
   sound = sound;
   world = a.world;
@@ -198,15 +198,16 @@ frames_say : (P : Message → Type 0) (fs : List Frame) (ms : List Message) → 
 frames_say P fs ms e all f i = all (message_of f)
     (subst (λ (l : List Message). IsIn (message_of f) l) e (in_messages f fs i))
 
-module _ (limits : Bounds) (store : StoreState) (old : Program) (c : ℕ) (new : Program)
-    (kept : Kept limits store old) (k next : WorkerState) (is : IsWorldClient old kept.world c k)
+module _ (limits : Bounds) (origin : Origin (limits_of limits)) (old : Program) (c : ℕ)
+    (new : Program)
+    (kept : Kept limits origin old) (k next : WorkerState) (is : IsWorldClient old kept.world c k)
   where
     -- the client moved, and the server stays
     pub client_arrives : (messages : List Message) → ServerStays old.station new.station c next.hand
-        → ClientMoved (limits_of limits) (opening_of store) kept.world c next.client messages
+        → ClientMoved (limits_of limits) origin kept.world c next.client messages
         → ((f : Frame) → IsIn f next.said → IsIn (message_of f) messages ⊎ IsIn f k.said)
         → ((f : Frame) → next.collected ≡ Some f → IsSentTo kept.world c f)
-        → Arrives limits store old new kept.world c next
+        → Arrives limits origin old new kept.world c next
     client_arrives messages stays moved says collects = record {
       limits_stay = stays.limits;
       held = stays.held;
@@ -234,9 +235,9 @@ module _ (limits : Bounds) (store : StoreState) (old : Program) (c : ℕ) (new :
     pub nothing_arrives : ServerStays old.station new.station c next.hand → next.client ≡ k.client
         → ((f : Frame) → IsIn f next.said → IsIn f k.said)
         → ((f : Frame) → next.collected ≡ Some f → IsSentTo kept.world c f)
-        → Arrives limits store old new kept.world c next
+        → Arrives limits origin old new kept.world c next
     nothing_arrives stays same says collects = client_arrives [] stays
-        (moved_not (limits_of limits) (opening_of store) kept.world c next.client is.operations
+        (moved_not (limits_of limits) origin kept.world c next.client is.operations
         kept.reached (is.shows ∙ ap (λ (x : ClientState). client_of x is.operations) (sym same)))
         (λ f i. inr (says f i)) collects
 
@@ -248,7 +249,7 @@ module _ (limits : Bounds) (store : StoreState) (old : Program) (c : ℕ) (new :
         → Follow old.station.hands new.station.hands k.hand next.hand → next.client ≡ k.client
         → ((f : Frame) → IsIn f next.said → IsIn f k.said)
         → next.collected ≡ k.collected → IsSaidBy kept.world c frame
-        → Arrives limits store old new kept.world c next
+        → Arrives limits origin old new kept.world c next
     server_arrives frame p left follow same says collects said = record {
       limits_stay = p.does.limits;
       held = follow.held;
@@ -283,31 +284,32 @@ module _ (limits : Bounds) (store : StoreState) (old : Program) (c : ℕ) (new :
         lt : frame.client < old.station.dispatcher.server.limits.clients
         lt = subst (λ (n : ℕ). n < old.station.dispatcher.server.limits.clients) (sym said.2)
             (subst (λ (b : Bounds). c < b.clients) (sym kept.limits_are)
-            (is_there_by limits store old c k kept is))
+            (is_there_by limits origin old c k kept is))
 
-        moved : ServerMoved (limits_of limits) (opening_of store) kept.world (server_of new.station)
+        moved : ServerMoved (limits_of limits) origin kept.world (server_of new.station)
             (messages_of p.said)
-        moved = moved_by_message (limits_of limits) (opening_of store) kept.world
+        moved = moved_by_message (limits_of limits) origin kept.world
             old.station.dispatcher.server new.station.dispatcher.server (message_of frame)
             (messages_of p.said) kept.reached kept.stands.server
             kept.sound.station.arisen said.0 said.1 lt left p.does
 
         keeps : (d : ℕ) → d ≢ c → KeepsClient (server_of old.station) (server_of new.station) d
-        keeps d n = others_keep (limits_of limits) (opening_of store) kept.world
+        keeps d n = others_keep (limits_of limits) origin kept.world
             old.station.dispatcher.server new.station.dispatcher.server (message_of frame)
             (messages_of p.said) kept.reached kept.stands.server
             kept.sound.station.arisen said.0 said.1 lt left p.does d (λ e. n (e ∙ said.2))
 
-module _ (limits : Bounds) (store : StoreState) (old : Program) (c : ℕ) (new : Program)
-    (kept : Kept limits store old) (k next : WorkerState) (is : IsWorldClient old kept.world c k)
+module _ (limits : Bounds) (origin : Origin (limits_of limits)) (old : Program) (c : ℕ)
+    (new : Program)
+    (kept : Kept limits origin old) (k next : WorkerState) (is : IsWorldClient old kept.world c k)
   where
     -- the oldest kept frame is handed in
     hands_in : (frame : Frame) (rest : List Frame) (answer : Result ⊤ OfficeFault) → k.said ≡ frame
         ∷ rest → Took old.station frame k.hand answer new.station next.hand → next
         ≡ without_first k next.hand rest answer
-        → Arrives limits store old new kept.world c next
+        → Arrives limits origin old new kept.world c next
     hands_in frame rest (Err fault) e took left =
-        nothing_arrives limits store old c new kept k next is
+        nothing_arrives limits origin old c new kept k next is
         (unchanged_stays old.station new.station c k.hand next.hand took.err.0 is.held took.err.1)
         (ap (λ (x : WorkerState). x.client) left)
         (λ f i. subst (λ (x : WorkerState). IsIn f x.said) left i)
@@ -322,13 +324,13 @@ module _ (limits : Bounds) (store : StoreState) (old : Program) (c : ℕ) (new :
         there = subst (λ (l : List Frame). IsIn frame l) (sym e) (inl refl)
 
         by : (b : Bool) → is_stray k.hand frame.body ≡ b
-            → Arrives limits store old new kept.world c next
+            → Arrives limits origin old new kept.world c next
         by true stray = let x = took.stray stray in
-            nothing_arrives limits store old c new kept k next is
+            nothing_arrives limits origin old c new kept k next is
             (unchanged_stays old.station new.station c k.hand next.hand x.0 is.held x.1)
             (ap (λ (x : WorkerState). x.client) left) fewer
             (λ f g. is.collected f (sym (ap (λ (x : WorkerState). x.collected) left) ∙ g))
-        by false own = server_arrives limits store old c new kept k next is frame (took.posts own)
+        by false own = server_arrives limits origin old c new kept k next is frame (took.posts own)
             took.taken took.stored (ap (λ (x : WorkerState). x.client) left) fewer
             (ap (λ (x : WorkerState). x.collected) left) (is.said frame there)
 
@@ -336,9 +338,9 @@ module _ (limits : Bounds) (store : StoreState) (old : Program) (c : ℕ) (new :
     stays_so : (mid : WorkerState) (frame : Frame) → mid.client ≡ k.client → mid.said ≡ k.said
         → mid.collected ≡ Some frame → ServerStays old.station new.station c mid.hand
         → IsSentTo kept.world c frame → next ≡ mid
-        → Arrives limits store old new kept.world c next
+        → Arrives limits origin old new kept.world c next
     stays_so mid frame same said collected stays way e =
-        nothing_arrives limits store old c new kept k next is
+        nothing_arrives limits origin old c new kept k next is
         (subst (λ (x : WorkerState). ServerStays old.station new.station c x.hand) (sym e) stays)
         (ap (λ (x : WorkerState). x.client) e ∙ same)
         (λ f i. subst (λ (l : List Frame). IsIn f l) said
@@ -350,12 +352,12 @@ module _ (limits : Bounds) (store : StoreState) (old : Program) (c : ℕ) (new :
     takes_collected : (mid : WorkerState) (frame : Frame) (result : Result Bool WorkerFault)
         → mid.client ≡ k.client → mid.said ≡ k.said → mid.collected ≡ Some frame
         → ServerStays old.station new.station c mid.hand → IsSentTo kept.world c frame
-        → TakesCollected mid frame result next → Arrives limits store old new kept.world c next
+        → TakesCollected mid frame result next → Arrives limits origin old new kept.world c next
     takes_collected mid frame (Ok turned) same said collected stays way t =
-        client_arrives limits store old c new kept k next is (messages_of next.said)
+        client_arrives limits origin old c new kept k next is (messages_of next.said)
         (subst (λ (h : HandState). ServerStays old.station new.station c h)
         (sym (ap (λ (x : WorkerState). x.hand) t.1.rest)) stays)
-        (moved_by_frame limits (opening_of store) old kept.world c k frame (messages_of next.said)
+        (moved_by_frame limits origin old kept.world c k frame (messages_of next.said)
         next.client kept.reached kept.limits_are is way
         (subst (λ (x : ClientState). TakesFrame x frame (messages_of next.said) next.client) same
         t.1.takes))
@@ -385,15 +387,15 @@ module _ (limits : Bounds) (store : StoreState) (old : Program) (c : ℕ) (new :
     -- the oldest frame of the mailbox is collected
     collects : (result : Result Bool WorkerFault) (answer : Result (Option Frame) OfficeFault)
         → Collected old.station k.hand answer new.station next.hand
-        → AfterCollecting answer k result next → Arrives limits store old new kept.world c next
+        → AfterCollecting answer k result next → Arrives limits origin old new kept.world c next
     collects result (Err fault) x t =
-        nothing_arrives limits store old c new kept k next is
+        nothing_arrives limits origin old c new kept k next is
         (unchanged_stays old.station new.station c k.hand next.hand x.err.0 is.held x.err.1)
         (ap (λ (y : WorkerState). y.client) t.1)
         (λ f i. subst (λ (y : WorkerState). IsIn f y.said) t.1 i)
         (λ f g. is.collected f (sym (ap (λ (y : WorkerState). y.collected) t.1) ∙ g))
     collects result (Ok None) x t =
-        nothing_arrives limits store old c new kept k next is (collected_stays None x)
+        nothing_arrives limits origin old c new kept k next is (collected_stays None x)
         (ap (λ (y : WorkerState). y.client) t.1)
         (λ f i. subst (λ (y : WorkerState). IsIn f y.said) t.1 i)
         (λ f g. is.collected f (sym (ap (λ (y : WorkerState). y.collected) t.1) ∙ g))
@@ -408,7 +410,7 @@ module _ (limits : Bounds) (store : StoreState) (old : Program) (c : ℕ) (new :
     pub turn_arrives : (result : Result Bool WorkerFault) (said : List Frame)
         (collected : Option Frame) → k.said ≡ said → k.collected ≡ collected
         → TurnsBy said collected k old.station result next new.station
-        → Arrives limits store old new kept.world c next
+        → Arrives limits origin old new kept.world c next
     turn_arrives result (frame ∷ rest) collected e f t =
         hands_in frame rest t.answer e t.took t.left
     turn_arrives result [] (Some frame) e f t =
@@ -417,12 +419,13 @@ module _ (limits : Bounds) (store : StoreState) (old : Program) (c : ℕ) (new :
         t.0
     turn_arrives result [] None e f t = collects result t.answer t.collected t.taken
 
-pub turned_kept : (limits : Bounds) (store : StoreState) (old : Program) (c : ℕ) (new : Program)
-    → Kept limits store old → steps.Turns old c new → IsSound new → IsSilent old new
-    → Kept limits store new
-turned_kept limits store old c new kept t sound silent =
-    arrives_kept limits store old new c t.worker t.next kept t.becomes
+pub turned_kept : (limits : Bounds) (origin : Origin (limits_of limits)) (old : Program)
+    (c : ℕ) (new : Program)
+    → Kept limits origin old → steps.Turns old c new → IsSound new → IsSilent old new
+    → Kept limits origin new
+turned_kept limits origin old c new kept t sound silent =
+    arrives_kept limits origin old new c t.worker t.next kept t.becomes
     (turned t.worker t.next old.station new.station t.result t.turns) sound silent
-    (turn_arrives limits store old c new kept t.worker t.next
+    (turn_arrives limits origin old c new kept t.worker t.next
     (kept.stands.worker c t.worker t.becomes.was) t.result t.worker.said t.worker.collected refl
     refl t.turns)

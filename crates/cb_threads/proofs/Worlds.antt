@@ -29,59 +29,92 @@ use Rattle.cb_threads.proofs.Calling.{called_kept}
 use Rattle.cb_threads.proofs.Committing.{committed_kept}
 use Rattle.cb_threads.proofs.Joining.{joined_kept}
 use Rattle.cb_threads.proofs.Leaving.{abandoned_kept, left_kept}
+use Rattle.cb_threads.proofs.Events.{Origin, onwards, opening_world, whole}
 use Rattle.cb_threads.proofs.Opening.{opening_kept}
 use Rattle.cb_threads.proofs.Restarting.{restarted_kept}
 use Rattle.cb_threads.proofs.Standing.{Kept, is_world_of}
 use Rattle.cb_threads.proofs.Telling.{flushed_kept, forgotten_kept, refused_kept, told_kept}
 use Rattle.cb_threads.proofs.Turning.{turned_kept}
 use Rattle.cb_threads.specs.Laws.{HitsAgree, HitsAreTheStores, IsInTheMail, Lends, MailIsTheStores}
-use Rattle.cb_threads.specs.Laws.{Permits, RunsAreSerial, RunsAreWorlds, RunsKeepThePromise}
-use Rattle.cb_threads.specs.Laws.{WritersAreAlone, committed_history}
+use Rattle.cb_threads.specs.Laws.{Permits, RunsAreSerial, RunsAreWorlds, RunsGoAlong}
+use Rattle.cb_threads.specs.Laws.{RunsKeepThePromise, WritersAreAlone, committed_history}
 use Rattle.cb_threads.specs.Programs.{HasOpened, IsSound, Program}
 use Rattle.cb_threads.specs.Steps as steps
 use Rattle.cb_threads.specs.Steps.{Moment, Runs, Step, program_after}
-use Rattle.cb_threads.specs.Worlds.{IsSentTo, IsWorldClient}
+use Rattle.cb_threads.specs.Worlds.{GoesAlong, IsReachedWorldOf, IsSentTo, IsWorldClient}
 use Rattle.cb_worker.proofs.Reading.{hits}
 use Rattle.cb_worker.specs.Workers.{Hit, WorkerState, may_hit, seen_by}
 
 -- one step
-step_kept : (limits : Bounds) (store : StoreState) (old : Program) (step : Step) (new : Program)
-    → Kept limits store old → steps.Does old step new → IsSound new → Kept limits store new
-step_kept limits store old (steps.Join c) new kept does sound =
-    joined_kept limits store old c new kept does sound does.silent
-step_kept limits store old (steps.Restart c i) new kept does sound =
-    restarted_kept limits store old c i new kept does sound does.silent
-step_kept limits store old (steps.Leave c) new kept does sound =
-    left_kept limits store old c new kept does sound does.silent
-step_kept limits store old (steps.Abandon c) new kept does sound =
-    abandoned_kept limits store old c new kept does sound does.silent
-step_kept limits store old (steps.Turn c) new kept does sound =
-    turned_kept limits store old c new kept does sound does.silent
-step_kept limits store old (steps.Commit c) new kept does sound =
-    committed_kept limits store old c new kept does sound does.silent
-step_kept limits store old (steps.CallClient c call) new kept does sound =
-    called_kept limits store old c call new kept does sound
-step_kept limits store old (steps.Flush n) new kept does sound =
-    flushed_kept limits store old n new kept does sound does.silent
-step_kept limits store old (steps.Forget n) new kept does sound =
-    forgotten_kept limits store old n new kept does sound does.silent
-step_kept limits store old steps.Tell new kept does sound =
-    told_kept limits store old new kept does sound does.silent
-step_kept limits store old steps.Refuse new kept does sound =
-    refused_kept limits store old new kept does sound does.silent
+step_kept : (limits : Bounds) (origin : Origin (limits_of limits)) (old : Program)
+    (step : Step) (new : Program)
+    → Kept limits origin old → steps.Does old step new → IsSound new → Kept limits origin new
+step_kept limits origin old (steps.Join c) new kept does sound =
+    joined_kept limits origin old c new kept does sound does.silent
+step_kept limits origin old (steps.Restart c i) new kept does sound =
+    restarted_kept limits origin old c i new kept does sound does.silent
+step_kept limits origin old (steps.Leave c) new kept does sound =
+    left_kept limits origin old c new kept does sound does.silent
+step_kept limits origin old (steps.Abandon c) new kept does sound =
+    abandoned_kept limits origin old c new kept does sound does.silent
+step_kept limits origin old (steps.Turn c) new kept does sound =
+    turned_kept limits origin old c new kept does sound does.silent
+step_kept limits origin old (steps.Commit c) new kept does sound =
+    committed_kept limits origin old c new kept does sound does.silent
+step_kept limits origin old (steps.CallClient c call) new kept does sound =
+    called_kept limits origin old c call new kept does sound
+step_kept limits origin old (steps.Flush n) new kept does sound =
+    flushed_kept limits origin old n new kept does sound does.silent
+step_kept limits origin old (steps.Forget n) new kept does sound =
+    forgotten_kept limits origin old n new kept does sound does.silent
+step_kept limits origin old steps.Tell new kept does sound =
+    told_kept limits origin old new kept does sound does.silent
+step_kept limits origin old steps.Refuse new kept does sound =
+    refused_kept limits origin old new kept does sound does.silent
 
 -- all steps
-runs_kept : (limits : Bounds) (store : StoreState) (program : Program) (moments : List Moment)
-    → Kept limits store program → Runs program moments
-    → Kept limits store (program_after program moments)
-runs_kept limits store program [] kept runs = kept
-runs_kept limits store program (m ∷ moments) kept runs =
-    runs_kept limits store m.program moments
-    (step_kept limits store program m.step m.program kept runs.0 runs.1) runs.2
+runs_kept : (limits : Bounds) (origin : Origin (limits_of limits)) (program : Program)
+    (moments : List Moment)
+    → Kept limits origin program → Runs program moments
+    → Kept limits origin (program_after program moments)
+runs_kept limits origin program [] kept runs = kept
+runs_kept limits origin program (m ∷ moments) kept runs =
+    runs_kept limits origin m.program moments
+    (step_kept limits origin program m.step m.program kept runs.0 runs.1) runs.2
+
+-- a program with a world that it is, with that world as the origin
+at_itself : (limits : Bounds) (origin : Origin (limits_of limits)) (program : Program)
+    → (kept : Kept limits origin program)
+    → Kept limits (onwards (limits_of limits) origin kept.world kept.reached) program
+at_itself limits origin program kept = record {
+  limits_are = kept.limits_are;
+  sound = kept.sound;
+  world = kept.world;
+  reached = ([], tt, refl);
+  opened = kept.opened;
+  performed = kept.performed;
+  stands = kept.stands;
+}
+
+-- events go along with the steps
+goes_along : (limits : Bounds) (origin : Origin (limits_of limits)) (program : Program)
+    (moments : List Moment) → (kept : Kept limits origin program) → Runs program moments
+    → GoesAlong (limits_of limits) kept.world moments
+goes_along limits origin program [] kept runs = tt
+goes_along limits origin program (m ∷ moments) kept runs =
+    let here : Origin (limits_of limits)
+    = onwards (limits_of limits) origin kept.world kept.reached in
+    let next : Kept limits here m.program = step_kept limits here program m.step m.program
+    (at_itself limits origin program kept) runs.0 runs.1 in (
+      next.world,
+      next.reached,
+      is_world_of limits here m.program next,
+      goes_along limits here m.program moments next runs.2,
+    )
 
 -- A program with a world that it is, and the promise of that world.
 record Promised (limits : Bounds) (store : StoreState) (program : Program) : Type 0 where
-  pub kept : Kept limits store program
+  pub kept : Kept limits (opening_world (limits_of limits) (opening_of store)) program
   pub promise : Promise (opening_of store) kept.world
 
 -- so after every run
@@ -89,13 +122,26 @@ promised : (limits : Bounds) (store : StoreState) (program : Program) (moments :
     → HasOpened limits store program → IsSound program → Runs program moments
     → Promised limits store (program_after program moments)
 promised limits store program moments opens sound runs =
-    let kept : Kept limits store (program_after program moments)
-    = runs_kept limits store program moments
+    let origin : Origin (limits_of limits)
+    = opening_world (limits_of limits) (opening_of store) in
+    let kept : Kept limits origin (program_after program moments)
+    = runs_kept limits origin program moments
     (opening_kept limits store program opens sound) runs in record {
       kept = kept;
       promise = headline (limits_of limits) on_cycle (opening_of store) kept.world kept.opened
-          kept.reached;
+          (whole (limits_of limits) origin kept.world kept.reached);
     }
+
+-- and its world is reached
+is_reached : (limits : Bounds) (store : StoreState) (program : Program)
+    → (after : Promised limits store program)
+    → IsReachedWorldOf limits store after.kept.world program
+is_reached limits store program after =
+    let origin : Origin (limits_of limits)
+    = opening_world (limits_of limits) (opening_of store) in (
+      whole (limits_of limits) origin after.kept.world after.kept.reached,
+      is_world_of limits origin program after.kept,
+    )
 
 -- the bytes that are lent are the client's
 pub lent : (k : WorkerState) (page : ℕ) (bytes : Bytes) (operations : List Operation)
@@ -193,22 +239,31 @@ module _ (limits : Bounds) (store : StoreState) (program : Program)
       subst (λ (s : Server). HasRow s c page grant × IsAsStored s page version bytes)
       after.kept.stands.server
       (copies_on_their_way (limits_of limits) on_cycle (opening_of store) w after.kept.opened
-      after.kept.reached c page grant version bytes was
+      (is_reached limits store program after).0 c page grant version bytes was
       (subst (λ (m : ℕ). m < grant) (ap (λ (x : Client). x.cache.seen page) (sym is.shows))
       lies.unseen))
 
+pub runs_go_along : RunsGoAlong
+runs_go_along limits store program moments opens sound runs =
+    let origin : Origin (limits_of limits)
+    = opening_world (limits_of limits) (opening_of store) in
+    let kept : Kept limits origin program = opening_kept limits store program opens sound in (
+      is_world_of limits origin program kept,
+      goes_along limits origin program moments kept runs,
+    )
+
 pub runs_are_worlds : RunsAreWorlds
 runs_are_worlds limits store program moments opens sound runs =
-    let after = promised limits store program moments opens sound runs in (
-      after.kept.world,
-      (after.kept.reached, is_world_of limits store (program_after program moments) after.kept),
-    )
+    let after : Promised limits store (program_after program moments)
+    = promised limits store program moments opens sound runs in
+    (after.kept.world, is_reached limits store (program_after program moments) after)
 
 pub runs_keep_the_promise : RunsKeepThePromise
 runs_keep_the_promise limits store program moments opens sound runs =
-    let after = promised limits store program moments opens sound runs in (
+    let after : Promised limits store (program_after program moments)
+    = promised limits store program moments opens sound runs in (
       after.kept.world,
-      (after.kept.reached, is_world_of limits store (program_after program moments) after.kept),
+      is_reached limits store (program_after program moments) after,
       after.promise,
     )
 

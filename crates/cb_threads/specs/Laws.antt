@@ -10,12 +10,13 @@ use Rattle.cb_protocol.specs.Basics.{Bytes, IsIn}
 use Rattle.cb_protocol.specs.Headline.{Promise}
 use Rattle.cb_protocol.specs.Messages.{Granted}
 use Rattle.cb_protocol.specs.Serial.{IsSerial, Operation, committed_operations, store_left}
-use Rattle.cb_protocol.specs.World.{World}
+use Rattle.cb_protocol.specs.StoreLimits.{limits_of}
+use Rattle.cb_protocol.specs.World.{World, new_world}
 use Rattle.cb_server_state.specs.States.{opening_of}
 use Rattle.cb_station.specs.Stations.{mailbox_of, server_of}
 use Rattle.cb_threads.specs.Programs.{HasOpened, IsSound, Program}
 use Rattle.cb_threads.specs.Steps.{Moment, Runs, program_after}
-use Rattle.cb_threads.specs.Worlds.{IsReachedWorldOf}
+use Rattle.cb_threads.specs.Worlds.{GoesAlong, IsReachedWorldOf, IsWorldOf}
 use Rattle.cb_worker.specs.Waiting.{MayWrite}
 use Rattle.cb_worker.specs.Workers.{Hit, WorkerState, seen_by}
 
@@ -26,7 +27,16 @@ AfterEveryRun Claim = (limits : Bounds) (store : StoreState) (program : Program)
     (moments : List Moment) → HasOpened limits store program → IsSound program
     → Runs program moments → Claim limits store (program_after program moments)
 
--- The program is a world of the protocol, which is reached.
+-- A run of the protocol's world goes along with each run of a program that has just opened: it
+-- begins with the opening world, which is that program, and has on its way a world for each step,
+-- which is the program after it.
+abbrev pub RunsGoAlong : Type 0
+RunsGoAlong = (limits : Bounds) (store : StoreState) (program : Program) (moments : List Moment)
+    → HasOpened limits store program → IsSound program → Runs program moments
+    → IsWorldOf (new_world (limits_of limits) (opening_of store)) program
+    × GoesAlong (limits_of limits) (new_world (limits_of limits) (opening_of store)) moments
+
+-- So the program is a world of the protocol, which is reached.
 abbrev pub RunsAreWorlds : Type 0
 RunsAreWorlds = AfterEveryRun (λ limits store program.
     (world : World) × IsReachedWorldOf limits store world program)

@@ -1,21 +1,22 @@
 -- Which world of the protocol a running program is.
-use Rattle.std.specs.Prelude.{◌≡◌, ℕ, true, false, List, Some}
+use Rattle.std.specs.Prelude.{◌≡◌, ℕ, true, false, List, [], ◌∷◌, Some, ⊤}
 use Rattle.cb_client_core.specs.ClientState.{client_of}
 use Rattle.cb_commit.specs.Stores.{StoreState}
 use Rattle.cb_frame_types.specs.declared.frame.Frame.{Frame}
 use Rattle.cb_hands.specs.Joined.{IsHeld}
 use Rattle.cb_outbox.specs.Messages.{body_of, message_of}
 use Rattle.cb_page.specs.Bounds.{Bounds}
-use Rattle.cb_protocol.specs.Basics.{IsIn}
+use Rattle.cb_protocol.specs.Basics.{IsIn, Limits}
 use Rattle.cb_protocol.specs.Messages.{to_server}
 use Rattle.cb_protocol.specs.Serial.{Operation}
 use Rattle.cb_protocol.specs.StoreLimits.{limits_of}
 use Rattle.cb_protocol.specs.Transcript.{transcript_operations}
 use Rattle.cb_protocol.specs.WaitsFor.{on_cycle}
-use Rattle.cb_protocol.specs.World.{ReachedWorld, World}
+use Rattle.cb_protocol.specs.World.{Moment, Plays, ReachedWorld, World, world_after}
 use Rattle.cb_server_state.specs.States.{opening_of}
 use Rattle.cb_station.specs.Stations.{mailbox_of, server_of}
 use Rattle.cb_threads.specs.Programs.{Program, limits_in}
+use Rattle.cb_threads.specs.Steps as steps
 use Rattle.cb_worker.specs.Workers.{IsOf, WorkerState}
 
 -- the frame is one of the world's packets, sent to that client
@@ -41,7 +42,8 @@ pub record IsWorldClient (program : Program) (world : World) (client : ℕ) (wor
   pub said : (frame : Frame) → IsIn frame worker.said → IsSaidBy world client frame
 
 -- The world is the program: it has its server, its workers as clients, each frame of a mailbox as a
--- packet, and in its transcript what was read and written.
+-- packet, and in its transcript what was read and written. Of a client without a worker it says
+-- nothing more.
 pub record IsWorldOf (world : World) (program : Program) : Type 0 where
   pub server : world.server ≡ server_of program.station
   pub worker : (client : ℕ) (worker : WorkerState) → program.worker client ≡ Some worker
@@ -50,7 +52,19 @@ pub record IsWorldOf (world : World) (program : Program) : Type 0 where
       → IsSentTo world client frame
   pub performed : transcript_operations world.transcript ≡ program.performed
 
--- so is a world that is reached from the opening one over that store, with those limits
+-- such a world is reached from the opening one over that store, with those limits
 abbrev pub IsReachedWorldOf : Bounds → StoreState → World → Program → Type 0
 IsReachedWorldOf limits store world program =
     ReachedWorld (limits_of limits) on_cycle (opening_of store) world × IsWorldOf world program
+
+-- events lead from the one world to the other
+abbrev pub LeadsTo : Limits → (first last : World) → Type 0
+LeadsTo limits first last =
+    (events : List Moment) × Plays limits on_cycle first events × (world_after first events ≡ last)
+
+-- Events go along with the steps: they lead from this world to one that is the program after the
+-- first step, from that to one that is the program after the second, and so on.
+abbrev pub GoesAlong : Limits → World → List steps.Moment → Type 0
+GoesAlong limits world [] = ⊤
+GoesAlong limits world (moment ∷ moments) = (next : World) × LeadsTo limits world next
+    × IsWorldOf next moment.program × GoesAlong limits next moments

@@ -12,18 +12,19 @@ ghost use Rattle.cb_threads.specs.ByContracts.{LeavesAreSteps, NewStationsHaveOp
 ghost use Rattle.cb_threads.specs.ByContracts.{RefusalsAreSteps, RestartsAreSteps, TellsAreSteps};
 ghost use Rattle.cb_threads.specs.ByContracts.{TurnsAreSteps, WritesAreSteps};
 ghost use Rattle.cb_threads.specs.Laws.{HitsAgree, HitsAreTheStores, MailIsTheStores};
-ghost use Rattle.cb_threads.specs.Laws.{RunsAreSerial, RunsAreWorlds, RunsKeepThePromise};
-ghost use Rattle.cb_threads.specs.Laws.{WritersAreAlone};
+ghost use Rattle.cb_threads.specs.Laws.{RunsAreSerial, RunsAreWorlds, RunsGoAlong};
+ghost use Rattle.cb_threads.specs.Laws.{RunsKeepThePromise, WritersAreAlone};
 
 /// Whatever steps threads make of one station and its workers, each under the station's lock or on
-/// a worker of its own: there is a world of the protocol, reached from the opening one, that has
-/// this server, these clients and every frame that is on its way, and whose transcript has what was
-/// read and written. So the whole promise holds of it at each moment. What committed transactions
-/// read and wrote is serial in commit order, and leaves the store. The bytes that `hit` lends are
-/// the store's, but where the worker's own transaction wrote the page; two workers are lent the
-/// same; and while a worker's transaction may write a page, no other is lent bytes of it. A copy in
-/// a mailbox that its client would take is of a row that stands, with the store's bytes.
+/// a worker of its own, a run of the protocol's world goes along with them. At each moment its
+/// world has this server, these clients and every frame that is on its way, and its transcript has
+/// what was read and written. So the whole promise holds of it. What committed transactions read
+/// and wrote is serial in commit order, and leaves the store. The bytes that `hit` lends are the
+/// store's, but where the worker's own transaction wrote the page; two workers are lent the same;
+/// and while a worker's transaction may write a page, no other is lent bytes of it. A copy in a
+/// mailbox that its client would take is of a row that stands, with the store's bytes.
 pub fn runs_are_worlds()
+    ensures along { RunsGoAlong }
     ensures worlds { RunsAreWorlds }
     ensures promise { RunsKeepThePromise }
     ensures serial { RunsAreSerial }

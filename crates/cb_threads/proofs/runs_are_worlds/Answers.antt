@@ -1,8 +1,11 @@
 -- Goals of `runs_are_worlds`.
 use Rattle.cb_threads.proofs.Worlds.{hits_agree, hits_are_the_stores, mail_is_the_stores}
-use Rattle.cb_threads.proofs.Worlds.{runs_are_serial, runs_are_worlds, runs_keep_the_promise}
-use Rattle.cb_threads.proofs.Worlds.{writers_are_alone}
+use Rattle.cb_threads.proofs.Worlds.{runs_are_serial, runs_are_worlds, runs_go_along}
+use Rattle.cb_threads.proofs.Worlds.{runs_keep_the_promise, writers_are_alone}
 use Rattle.cb_threads.proofs.runs_are_worlds.Goals as goal
+
+pub returns-clause-along : goal.returns-clause-along
+returns-clause-along c = runs_go_along
 
 pub returns-clause-worlds : goal.returns-clause-worlds
 returns-clause-worlds c = runs_are_worlds
