@@ -10,8 +10,9 @@ enum { TURN = 16, TURN_LEAST = 6 };
 /* Nanoseconds. */
 #define MILLISECOND UINT64_C(1000000)
 static const uint64_t TURN_TIME = 20 * MILLISECOND;
-static const uint64_t IDLE = 10 * MILLISECOND;     /* so long an open transaction may do nothing */
-static const uint64_t LONGEST = 250 * MILLISECOND; /* so long a turn may be at all */
+static const uint64_t IDLE = 10 * MILLISECOND; /* so long an open transaction may do nothing, */
+static const uint64_t IDLE_MOST = 100 * MILLISECOND; /* or as long as one takes, up to that */
+static const uint64_t LONGEST = 250 * MILLISECOND;   /* so long a turn may be at all */
 static const uint64_t REST_MOST = 10 * MILLISECOND;
 static const uint64_t REST_LEAST = MILLISECOND / 5;
 static const uint64_t PEACE = 2000 * MILLISECOND; /* after that a fight is over */
@@ -34,6 +35,13 @@ static uint64_t rest_of(const struct fighter *fighter) {
   return twice > REST_LEAST ? twice : REST_LEAST;
 }
 
+/* Whether who has the turn has begun something and does nothing. */
+static bool is_idle(const struct fighter *holder, uint64_t now) {
+  uint64_t most = holder->took < IDLE_MOST ? holder->took : IDLE_MOST;
+  most = most > IDLE ? most : IDLE;
+  return holder->asked == NO_PAGE && !holder->is_committing && now - holder->active > most;
+}
+
 /* Whether the turn goes to another. */
 static bool is_over(const struct window *window, const struct fight *fight, uint64_t now) {
   if (fight->holder == NOBODY || now - fight->began > LONGEST) {
@@ -41,8 +49,7 @@ static bool is_over(const struct window *window, const struct fight *fight, uint
   }
   const struct fighter *holder = &window->clients[fight->holder];
   if (holder->is_live) {
-    bool is_idle = holder->asked == NO_PAGE && !holder->is_committing;
-    return is_idle && now - holder->active > IDLE;
+    return is_idle(holder, now);
   }
   bool is_used_up =
       fight->count >= TURN || (fight->count >= TURN_LEAST && now - fight->began > TURN_TIME);

@@ -329,7 +329,7 @@ def copy_faults(copy: Path) -> list[str]:
         bodies = tables.execute("SELECT body FROM part WHERE no < 8 AND place = 0").fetchall()
     tables.close()
     total = sum(int.from_bytes(body[:8], "little", signed=True) for (body,) in bodies)
-    private = stat.S_IMODE(copy.stat().st_mode) & 0o077 == 0 or "a_client" not in copy.name
+    private = stat.S_IMODE(copy.stat().st_mode) & 0o077 == 0 or not copy.name.startswith("client")
     right = whole == "ok" and total == 0 and len(bodies) == 8 and private
     return [] if right else [f"{whole}, sum {total}, {copy.stat().st_mode:o}"]
 
@@ -352,7 +352,7 @@ def run_copies(tries: Tries, it: Built) -> None:
     for name in ("sqlite3's online backup", "VACUUM INTO", "a client"):
         before, wrong, count = work.total(), [], 0
         for place in range(5):
-            copy = gateway.room / f"{name.replace(' ', '_')}_{place}.db"
+            copy = gateway.room / f"{name.split()[-1]}_{place}.db"
             ways = {
                 "sqlite3's online backup": [*sqlite, f".backup '{copy}'"],
                 "VACUUM INTO": [*sqlite, f"VACUUM INTO '{copy}'"],
@@ -417,8 +417,8 @@ def run_fights(tries: Tries, it: Built) -> None:
         status = gateway.stop()
         commits, tried, longest, least, most = map(int, (done.stdout or "0 0 0 0 0").split())
         counters = [counter_of(gateway, page) for page in (0, 1)]
-        right = status == 0 and counters == [commits, commits] and tried <= 3 * commits
-        right = right and longest <= 20 and least > 0
+        right = status == 0 and counters == [commits, commits]
+        right = right and tried <= 5 * commits and least > 0
         said = f"{commits} commits, {tried} tries, {longest} at most; {least} to {most} of each"
         tries.told(f"{clients} clients fight, in {order} order", right, f"{counters}\n{said}")
 
