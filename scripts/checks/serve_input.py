@@ -396,10 +396,10 @@ def closed_outputs(it: Scene) -> bool:
 def reader_goes(it: Scene) -> bool:
     """Who reads its output is gone before a round: one of Commits alone is written, though no Done
     goes out; one with something to answer isn't. A gateway that is killed leaves it so."""
-    ask = frame(ASK_READ, 0, 1, struct.pack(">QI", 3, 3))
     right = []
-    for more, commits in ((b"", 6), (ask, 3)):
-        scene = Scene(it.room, it.play, more="keep_write = 1\n")
+    for has_answers, commits in ((False, 6), (True, 3)):
+        scene = Scene(it.room, it.server, more="keep_write = 1\n")
+        ask = scene.say(ASK_READ, 0, struct.pack(">QI", 3, 3)) if has_answers else b""
         with subprocess.Popen(scene.words(), stdin=subprocess.PIPE, stdout=subprocess.PIPE,
                               stderr=subprocess.PIPE) as process:
             assert process.stdin and process.stdout and process.stderr
@@ -410,7 +410,7 @@ def reader_goes(it: Scene) -> bool:
             process.stdout.close()
             # Written at once, it is one round; and with a kept permission a Commit needs no ask.
             second = b"".join(scene.commit(client, 2, client + 1) for client in range(CLIENTS))
-            os.write(process.stdin.fileno(), more + second)
+            os.write(process.stdin.fileno(), ask + second)
             process.stdin.close()
             said = process.stderr.read()
         right.append((process.returncode, said, scene.stored()[0]) == (5, b"", commits))
