@@ -21,10 +21,12 @@ void store_moved(struct store *store) {
   }
 }
 
-/* A frame goes to the server, or to the commits that go there together. */
+/* A frame goes to the server, or to the commits that go there together. One that announces its life
+ * takes commits while others are on their way to disk, and gathers them itself. */
 static bool tell(struct store *store, const uint8_t *frame, size_t size) {
-  bool put = header_at(frame).kind == KIND_COMMIT ? gather_put(&store->commits, frame, size)
-                                                  : server_put(&store->server, frame, size);
+  bool gathers = header_at(frame).kind == KIND_COMMIT && !store->gateway->is_announced;
+  bool put = gathers ? gather_put(&store->commits, frame, size)
+                     : server_put(&store->server, frame, size);
   store_moved(store);
   return put;
 }

@@ -59,6 +59,7 @@ struct engine_calls {
 /* Each engine's own struct begins with it. */
 struct engine {
   const struct engine_calls *calls;
+  uint64_t synced; /* nanoseconds that the last write waited for its commit, as far as is known */
 };
 
 extern const struct engine_calls sqlite_calls, postgres_calls;

@@ -3,6 +3,7 @@
 #include <rughvadi.h>
 #include <stdarg.h>
 #include <stdio.h>
+#include <time.h>
 
 int fault_said(enum fault fault) {
   static const struct {
@@ -40,6 +41,12 @@ enum fault fault_of(uint32_t answer) {
     case RUGHVADI_RANGE: return FAULT_SHAPE; /* of rows that are opened */
     default: tell("the library answered 0x%x", answer); return FAULT_STORE;
   }
+}
+
+uint64_t clock_now(void) {
+  struct timespec time;
+  clock_gettime(CLOCK_MONOTONIC, &time);
+  return (uint64_t)time.tv_sec * 1000000000 + (uint64_t)time.tv_nsec;
 }
 
 void tell(const char *format, ...) {

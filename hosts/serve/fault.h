@@ -31,4 +31,7 @@ enum fault fault_of(uint32_t answer);
 /* Says a line of more detail on the standard error. */
 __attribute__((format(printf, 1, 2))) void tell(const char *format, ...);
 
+/* The nanoseconds of a clock that nobody sets. */
+uint64_t clock_now(void);
+
 #endif

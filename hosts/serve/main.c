@@ -27,6 +27,7 @@ struct service {
   struct writer writer;
   struct engine *engine;
   size_t ahead;       /* bytes that came since the batch went out */
+  uint64_t patience;  /* nanoseconds for which others are waited for; 0: nobody is */
   bool is_closed;     /* nothing more is read */
   enum fault ending;  /* how it ends once all is written */
 };
@@ -89,6 +90,7 @@ static enum fault read_more(struct service *service) {
 static enum fault take_back(struct service *service) {
   enum fault fault = writer_take_back(&service->writer);
   if (fault == NO_FAULT && !service->writer.is_out) {
+    pace_done(&service->stream.pace, service->engine->synced);
     fault = stream_written(&service->stream, &service->writer.batch);
   }
   return fault;
@@ -99,10 +101,11 @@ static enum fault take_back(struct service *service) {
 static enum fault wait_and_take(struct service *service) {
   bool reads =
       !service->is_closed && !(service->writer.is_out && service->ahead >= AHEAD_MOST);
+  struct timespec patience = {.tv_nsec = (long)service->patience};
   struct pollfd watched[] = {{.fd = service->writer.done, .events = POLLIN},
                              {.fd = reads ? STDIN_FILENO : -1, .events = POLLIN}};
   enum fault fault = NO_FAULT;
-  if (poll(watched, 2, -1) < 0) {
+  if (ppoll(watched, 2, service->patience > 0 ? &patience : NULL, NULL) < 0) {
     return errno == EINTR ? NO_FAULT : FAULT_INPUT;
   }
   if (watched[0].revents != 0) {
@@ -114,16 +117,19 @@ static enum fault wait_and_take(struct service *service) {
   return fault == NO_FAULT ? stream_take(&service->stream) : fault;
 }
 
-/* Hands the next batch on, if there is one and none is out. */
+/* Hands the next batch on, if there is one and none is out, and nobody is waited for. */
 static enum fault give(struct service *service) {
   struct writer *writer = &service->writer;
-  bool is_there = false;
-  if (writer->is_out) {
+  struct pace *pace = &service->stream.pace;
+  bool is_there = false, is_urgent = service->is_closed || service->stream.wanted > 0;
+  service->patience = writer->is_out || is_urgent ? 0 : pace_patience(pace);
+  if (writer->is_out || service->patience > 0) {
     return NO_FAULT;
   }
   enum fault fault = stream_batch(&service->stream, &writer->batch, &is_there);
   if (fault == NO_FAULT && is_there) {
     service->ahead = 0;
+    pace_sent(pace);
     writer_give(writer);
   }
   return fault;

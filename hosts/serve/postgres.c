@@ -130,6 +130,7 @@ static enum fault postgres_write(struct engine *engine, const struct batch *batc
   struct postgres *store = store_of(engine);
   struct writing writing = {.batch = batch};
   enum outcome outcome = LOCKED;
+  uint64_t begun = clock_now();
   enum fault fault = begin_writing(store, &writing, true);
   while (fault == NO_FAULT && outcome != ASKED) {
     outcome = write_once(store, &writing, &fault);
@@ -151,6 +152,7 @@ static enum fault postgres_write(struct engine *engine, const struct batch *batc
     store->last = batch->number;
     store->life.below = batch->below;
   }
+  engine->synced = clock_now() - begun;
   return fault;
 }
 

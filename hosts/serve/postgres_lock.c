@@ -63,12 +63,22 @@ static enum outcome take_lock(struct postgres *store) {
   return ask_of_store(store, "SELECT pg_advisory_lock(" KEY ")");
 }
 
-/* Ends the session that has the lock: its process, or machine, or network stands still. */
+/* Ends the session that has the lock: its process, or machine, or network stands still. One whose
+ * commit waits for a standby is left alone: another session would wait as well. */
 static enum outcome end_holder(struct postgres *store) {
-  tell("store %s: its holder is silent, and loses it", store->store);
-  return ask_of_store(store, "SELECT pg_terminate_backend(pid) FROM pg_locks"
-                             " WHERE locktype = 'advisory' AND granted AND objsubid = 1 AND"
-                             " (classid::bigint << 32 | objid::bigint) = " KEY);
+  PGresult *ended;
+  enum outcome outcome =
+      session_ask(store,
+                  "SELECT pg_terminate_backend(pid) FROM pg_locks JOIN pg_stat_activity USING (pid)"
+                  " WHERE locktype = 'advisory' AND granted AND objsubid = 1"
+                  " AND (classid::bigint << 32 | objid::bigint) = " KEY
+                  " AND wait_event IS DISTINCT FROM 'SyncRep'",
+                  1, (const char *const[]){store->store}, &ended);
+  if (outcome == ASKED && PQntuples(ended) > 0) {
+    tell("store %s: its holder was silent, and lost it", store->store);
+  }
+  PQclear(ended);
+  return outcome;
 }
 
 /* What a waiting process has seen of the one that has the store. */

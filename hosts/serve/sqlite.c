@@ -210,7 +210,9 @@ static enum fault sqlite_write(struct engine *engine, const struct batch *batch)
                        batch->bodies.at + at * (size_t)store->limits.page_size);
   }
   fault = fault == NO_FAULT ? write_mark(store, batch) : fault;
+  uint64_t begun = clock_now();
   fault = fault == NO_FAULT ? sqlite_step(store, store->commit) : fault;
+  engine->synced = clock_now() - begun;
   if (fault != NO_FAULT) {
     sqlite3_step(store->rollback);
     sqlite3_reset(store->rollback);

@@ -2,8 +2,8 @@
 
 #include <string.h>
 
-enum { HEADER = 16, GRANTED_HEAD = 24, CLIENT_AT = 2, INCARNATION_AT = 4, BODY_AT = 12 };
-enum { MOST_CLIENTS = 32 };
+enum { KIND_AT = 1, CLIENT_AT = 2, INCARNATION_AT = 4, BODY_AT = 12 };
+enum { HEADER = 16, GRANTED_HEAD = 24, MOST_CLIENTS = 32 };
 
 /* Hellos from here on are let go: with them one client could leave no number for later lives. */
 static const uint64_t MOST_INCARNATION = (UINT64_C(1) << 61) + (UINT64_C(1) << 60);
@@ -90,7 +90,16 @@ static enum fault take_frame(struct stream *stream, const uint8_t *bytes, size_t
     stream->passed_over++;
     return NO_FAULT;
   }
-  return fault == RUGHVADI_DONE ? fetch(stream) : fault_of(fault);
+  if (fault != RUGHVADI_DONE) {
+    return fault_of(fault);
+  }
+  uint32_t client = (uint32_t)number_at(bytes + CLIENT_AT, 2);
+  if (bytes[KIND_AT] == RUGHVADI_KIND_COMMIT) {
+    pace_commit(&stream->pace, client);
+  } else if (bytes[KIND_AT] == RUGHVADI_KIND_HELLO) {
+    pace_leave(&stream->pace, client);
+  }
+  return fetch(stream);
 }
 
 static enum fault say_again(struct stream *stream) {

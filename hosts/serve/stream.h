@@ -4,11 +4,13 @@
 #define SERVE_STREAM_H
 
 #include "engine.h"
+#include "pace.h"
 
 struct stream {
   rughvadi_limits limits;
   rughvadi_handle server;
   struct life life;
+  struct pace pace;
   struct bytes in;      /* what came and isn't taken */
   struct bytes held;    /* frames of clients whose Hello waits for a higher bound */
   uint32_t waiting;     /* those clients, a bit for each */
