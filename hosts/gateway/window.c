@@ -22,6 +22,16 @@ static void look(struct window *window, uint8_t fight);
 /* Lately it was so: a mean of what was and what is. */
 static void note(uint64_t *mean, uint64_t now) { *mean = *mean == 0 ? now : (3 * *mean + now) / 4; }
 
+/* A client rested so long. One long rest of one who is mostly quick costs it no turns: a rest
+ * counts up to a bound, and a shorter one for more than a longer one. */
+static void note_rest(struct fighter *fighter, uint64_t now) {
+  if (now < fighter->rests) {
+    fighter->rests = (fighter->rests + now) / 2;
+  } else {
+    note(&fighter->rests, now < REST_MOST ? now : REST_MOST);
+  }
+}
+
 /* ---- turns ---- */
 
 /* For so long it is waited for who has the turn and no transaction: as long as that seems to cost
@@ -56,13 +66,18 @@ static bool is_over(const struct window *window, const struct fight *fight, uint
   return is_used_up || now - holder->ended > rest_of(holder);
 }
 
-/* The one that waits longest, or NOBODY. */
+/* Whether one that waits comes before another: who committed less, or waits longer. */
+static bool is_before(const struct fighter *one, const struct fighter *other) {
+  return one->served != other->served ? one->served < other->served : one->place < other->place;
+}
+
+/* The next one of those that wait, or NOBODY. */
 static int first_of(const struct window *window, uint8_t fight) {
   int first = NOBODY;
   for (int client = 0; client < MOST_CLIENTS; client++) {
     const struct fighter *each = &window->clients[client];
     if (each->size > 0 && each->fight == fight
-        && (first == NOBODY || each->place < window->clients[first].place)) {
+        && (first == NOBODY || is_before(each, &window->clients[first]))) {
       first = client;
     }
   }
@@ -117,6 +132,7 @@ static void look(struct window *window, uint8_t number) {
     if (client == NOBODY) {
       return;
     }
+    fight->served = window->clients[client].served;
     begin_turn(window, number, (uint16_t)client);
     release(window, &window->clients[client]);
   }
@@ -188,6 +204,7 @@ static void end_transaction(struct window *window, struct fighter *fighter, bool
   fighter->asked = NO_PAGE;
   if (fighter->fight != 0) {
     window->fights[fighter->fight].count++;
+    fighter->served += is_done;
     look(window, fighter->fight);
   }
 }
@@ -214,7 +231,7 @@ static bool name_transaction(struct window *window, struct fighter *fighter, uin
     fighter->is_live = true;
     fighter->began = fighter->active;
     if (fighter->is_done) {
-      note(&fighter->rests, fighter->began - fighter->ended);
+      note_rest(fighter, fighter->began - fighter->ended);
     }
   }
   return true;
@@ -248,6 +265,9 @@ static void hold(struct window *window, uint16_t client, const uint8_t *frame, u
   struct fight *fight = &window->fights[number];
   fight->waiting++;
   fight->fought = uv_hrtime();
+  /* Who comes new, or comes back, gets no more than a turn in advance. */
+  uint64_t least = fight->served > TURN ? fight->served - TURN : 0;
+  fighter->served = fighter->served > least ? fighter->served : least;
   if (!uv_is_active((const uv_handle_t *)&window->timer)) {
     uv_timer_start(&window->timer, is_time, 1, 1);
   }

@@ -37,6 +37,7 @@ struct fighter {
   uint8_t held[ASK_MOST]; /* the ask that is held back, */
   size_t size;            /* its bytes, 0 if none is, */
   uint64_t place;         /* and its place in the order of those that wait */
+  uint64_t served;        /* how many transactions it committed in its turns */
   uint8_t fight;          /* for whose turn it waits, or whose turn it has; 0: none */
 };
 
@@ -46,6 +47,7 @@ struct fight {
   unsigned waiting; /* how many asks wait */
   unsigned count;   /* transactions that ended in this turn */
   uint64_t began;   /* when it began */
+  uint64_t served;  /* how many who was let in last had committed */
   uint64_t fought;  /* when it was last seen that clients fight; 0: the fight isn't one */
 };
 
