@@ -9,12 +9,11 @@ import signal
 import socket
 import struct
 import subprocess
-import time
 from pathlib import Path
 
 import building
-from checks.bad_input import ASK_READ, ASK_WRITE, COMMIT, Peer, number_of, token_of
-from checks.serve_gateway import LIMITS, Scene, answer_to, called_back, comes, is_served
+from checks.bad_input import ASK_WRITE, COMMIT, Peer, number_of, token_of
+from checks.serve_gateway import LIMITS, Scene, answer_to, called_back, comes
 from serving import Gateway, free_port, wait_for
 
 UNIT = building.TOP / "examples/rughvadi-gateway.service"
