@@ -51,10 +51,11 @@ class Pair:
         ports = ",".join(str(it.port) for it in clusters)
         return f"host={hosts} port={ports} user=postgres dbname=postgres"
 
-    def words(self, *clusters: Cluster) -> list[str]:
-        of = clusters or (self.first, self.second)
-        return [str(self.serve), "--announce", "--standby", "required", str(self.config),
-                self.database(*of)]
+    def words(self, *required: str) -> list[str]:
+        """What serves a store, with a standby that is required if no words say otherwise."""
+        options = required or ("--standby", "required")
+        database = self.database(self.first, self.second)
+        return [str(self.serve), "--announce", *options, str(self.config), database]
 
     @contextlib.contextmanager
     def served(self) -> Iterator[Server]:
@@ -158,9 +159,9 @@ def cancelled_wait(pair: Pair) -> str:
     return "" if right else f"{waited}, {quiet}, {answered}, {is_there}"
 
 
-def refused_by(pair: Pair, *clusters: Cluster) -> str:
-    """Whether a server over these says that it isn't safe, and serves nobody."""
-    done = subprocess.run(pair.words(*clusters), stdin=subprocess.DEVNULL, capture_output=True,
+def is_unsafe(pair: Pair, *required: str) -> str:
+    """Whether a server says that it isn't safe, and serves nobody: what it said, if not."""
+    done = subprocess.run(pair.words(*required), stdin=subprocess.DEVNULL, capture_output=True,
                           timeout=60, check=False)
     lines = done.stderr.decode().splitlines()
     right = (done.returncode, done.stdout, lines[-1:]) == (3, b"", ["store: Unsafe"])
@@ -176,10 +177,10 @@ def old_primary_comes_back(pair: Pair) -> str:
     fail_over(pair)
     pair.first.options["synchronous_standby_names"] = ""
     pair.first.start()
-    both = refused_by(pair)
+    both = is_unsafe(pair, "--announce")  # no standby is required: it is that there are two
     # The new one can't be reached; then nothing but the required standby can tell.
     pair.second.send(signal.SIGSTOP)
-    alone = refused_by(pair)
+    alone = is_unsafe(pair)
     return both or alone
 
 

@@ -20,8 +20,9 @@ import postgres
 from checks.bad_input import ASK_READ, ASK_WRITE, COMMIT, HEADER, HELLO, frame
 from checks.serve_input import AGAIN, CLIENTS, LIFE, PAGES, Scene
 
+PLAY = "cb_play"
 # Frames of a drawn stream, and how many such streams are tried.
-DRAWN_FRAMES, DRAWN_STREAMS = 60, 200
+DRAWN_FRAMES, DRAWN_STREAMS = 60, 60
 
 
 @dataclass
@@ -205,17 +206,23 @@ class InCluster:
                 [bytes.fromhex(body) for *_, body in pages])
 
 
+def serve_one(scene: Scene, server, given: bytes) -> tuple[int, bytes, bytes]:
+    """How a server ends that is given these bytes at once."""
+    (scene.room / "given").write_bytes(given)
+    words = [*server.words, scene.config, server.database(scene)]
+    with (scene.room / "given").open("rb") as opened:
+        done = subprocess.run(list(map(str, words)), stdin=opened, capture_output=True,
+                              check=False, timeout=120)
+    return done.returncode, done.stdout, done.stderr
+
+
 def served(room: Path, servers: list, stream: Stream) -> Result:
     """What comes of a stream whose inputs these servers take, in turn, over one store."""
     scene, result = Scene(room, (), stream.size, stream.more), Result()
+    if servers[0].name == PLAY and len(servers) > 1:
+        serve_one(scene, servers[1], b"")  # it begins the first life, which the other one doesn't
     for place, give in enumerate(stream.inputs):
-        server, given = servers[place % len(servers)], scene.room / "given"
-        given.write_bytes(give(scene))
-        words = [*server.words, scene.config, server.database(scene)]
-        with given.open("rb") as opened:
-            done = subprocess.run(list(map(str, words)), stdin=opened, capture_output=True,
-                                  check=False, timeout=120)
-        result.ended.append((done.returncode, done.stdout, done.stderr))
+        result.ended.append(serve_one(scene, servers[place % len(servers)], give(scene)))
         scene.incarnation += LIFE
     result.store = servers[0].rows(scene)
     return result
@@ -252,7 +259,7 @@ def compared(tries, room: Path, first: InFile, ways: dict[str, list]) -> None:
 def tried(tries, room: Path, play: Path, serve: Path) -> None:
     """Compares the servers."""
     room.mkdir(mode=0o755)
-    play_server, file_server = InFile("cb_play", play, "serve"), InFile("SQLite", serve)
+    play_server, file_server = InFile(PLAY, play, "serve"), InFile("SQLite", serve)
     ways: dict[str, list] = {
         "SQLite": [file_server], "cb_play, then SQLite": [play_server, file_server],
         "SQLite, then cb_play": [file_server, play_server],
