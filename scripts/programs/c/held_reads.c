@@ -4,7 +4,8 @@
  * pages, at a server in a process of its own; SQLite's library over files in FOLDER, one as it is
  * opened and one with a write-ahead log, with prepared statements; LMDB; and a GET of the Redis
  * server at the socket REDIS. All have 512 values, drawn evenly, and copy what they read. They take
- * turns, so that all meet the same machine; of five turns the fastest counts.
+ * forty short turns, so that all meet the same machine; each begins with reads that aren't counted,
+ * and the fastest counts.
  *
  * A line for each: nanoseconds of a read within a transaction, of a transaction of one, and of one
  * of eight. That of the link drops. A Redis transaction of eight is an MGET. */
@@ -21,7 +22,7 @@
 #include <time.h>
 #include <unistd.h>
 
-enum { COUNT = 512, MOST = 65536, TURNS = 5, WAYS = 3, PARTIES = 5 };
+enum { COUNT = 512, MOST = 65536, TURNS = 40, WAYS = 3, PARTIES = 5 };
 
 /* Reads so many values in one transaction, beginning with that one. */
 typedef void (*reader)(uint32_t from, int many);
@@ -229,9 +230,10 @@ static void open_redis(const char *path) {
 
 /* Nanoseconds of a transaction of so many reads; of many a read, where they are a thousand. */
 static double timed(reader reads, int many) {
-  int times = many == 1 ? 4000 : many == 8 ? 1000 : reads == read_redis ? 2000 : 4;
-  double begun = now();
-  for (int at = 0; at < times; at++) {
+  int times = many == 1 ? 400 : many == 8 ? 50 : reads == read_redis ? 400 : 1;
+  double begun = 0;
+  for (int at = -times; at < times; at++) {
+    begun = at == 0 ? now() : begun;
     reads(draw(), many);
   }
   return (now() - begun) / times / (many > 8 && reads != read_redis ? many : 1);

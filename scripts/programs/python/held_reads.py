@@ -3,8 +3,8 @@
 For values of so many bytes: the package's link over a Unix socket, whose client holds the pages,
 at a server in a process of its own; `sqlite3` over files in FOLDER, one as it is opened and one
 with a write-ahead log; LMDB, where its module is there; and a GET of the Redis server at the socket
-REDIS. All have 512 values, drawn evenly. They take turns, so that all meet the same machine; of
-five turns the fastest counts.
+REDIS. All have 512 values, drawn evenly. They take forty short turns, so that all meet the same
+machine; each begins with reads that aren't counted, and the fastest counts.
 
 A line for each: nanoseconds of a read within a transaction, of a transaction of one, and of one of
 eight; then each by the package's. The package's transactions drop, as reads may that need no place
@@ -26,7 +26,7 @@ from typing import Callable
 from rughvadi import FrameShort, Limits, Link, Server, read_frame
 
 COUNT = 512
-TURNS = 5
+TURNS = 40
 READ, ONE, EIGHT = "read", "transaction of 1", "transaction of 8"
 Timed = dict[str, Callable[[list[int]], None]]
 
@@ -154,6 +154,7 @@ def of_redis(path: str, size: int) -> Timed:
 
 
 def timed(call: Callable[[list[int]], None], pages: list[int]) -> float:
+    call(pages)
     begun = time.perf_counter()
     call(pages)
     return (time.perf_counter() - begun) / len(pages) * 1e9
@@ -165,7 +166,7 @@ def best_of(parties: dict[str, Timed]) -> dict[tuple[str, str], float]:
     for _ in range(TURNS):
         for what in (READ, ONE, EIGHT):
             for name, party in parties.items():
-                pages = random.choices(range(COUNT), k=1000 if what == EIGHT else 4000)
+                pages = random.choices(range(COUNT), k=50 if what == EIGHT else 400)
                 took = timed(party[what], pages)
                 best[name, what] = min(took, best.get((name, what), took))
     return best
