@@ -156,6 +156,27 @@ class OneProcess(unittest.TestCase):
         one.serve()
         self.assertEqual(kinds, [7, 4])
 
+    def test_a_permission_that_was_kept_goes_with_a_late_drop(self) -> None:
+        limits = Limits(clients=2, pages=4, page_size=64, slots=4, keep_write=True)
+        for wants in (False, True):
+            self.hosts.append(Host(limits))
+            host = self.hosts[-1]
+            link, other = self.link(host, 0), host.bare_client(1)
+            link.run(counted)
+            with link.transaction() as transaction:
+                transaction.read(2)
+                transaction.drop()
+            other.begin()
+            self.assertIsNone(other.read(2))
+            host.carry(1)
+            self.assertIs(other.status, Status.WAITING, "the server asks for the permission")
+            self.assertTrue(link.serve())
+            self.assertEqual(other.read(2)[0], 1)
+            if wants and not other.want(2):
+                host.carry(1)
+                self.assertTrue(link.serve())
+                self.assertTrue(other.want(2))
+
     def test_a_server_opens_over_what_was_written(self) -> None:
         host = self.host()
         self.link(host, 0).run(counted)
