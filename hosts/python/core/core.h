@@ -19,6 +19,7 @@ typedef struct {
   PyObject *frame_head;
   PyObject *batch;
   PyObject *batch_page;
+  PyObject *fault;    /* the class Fault */
   PyObject *fault_of; /* makes an exception of a fault's number and text */
   PyObject *statuses; /* a tuple: what a client says of itself, by number */
   PyObject *endings;  /* a tuple: how a transaction ended, by number */

@@ -94,6 +94,7 @@ static int made(PyObject *module) {
       {&state->batch_page, "rughvadi._values", "BatchPage"},
       {&state->statuses, "rughvadi._values", "STATUSES"},
       {&state->endings, "rughvadi._values", "ENDINGS"},
+      {&state->fault, "rughvadi._faults", "Fault"},
       {&state->fault_of, "rughvadi._faults", "fault_of"},
   };
   for (size_t at = 0; at < sizeof parts / sizeof *parts; at++) {
@@ -113,6 +114,7 @@ static int traverse(PyObject *module, visitproc visit, void *arg) {
   Py_VISIT(state->batch_page);
   Py_VISIT(state->statuses);
   Py_VISIT(state->endings);
+  Py_VISIT(state->fault);
   Py_VISIT(state->fault_of);
   Py_VISIT(state->client);
   Py_VISIT(state->server);
@@ -130,6 +132,7 @@ static int clear(PyObject *module) {
   Py_CLEAR(state->batch_page);
   Py_CLEAR(state->statuses);
   Py_CLEAR(state->endings);
+  Py_CLEAR(state->fault);
   Py_CLEAR(state->fault_of);
   Py_CLEAR(state->client);
   Py_CLEAR(state->server);

@@ -51,6 +51,16 @@ static bool is_done(PyObject *answer) {
   return answer != NULL;
 }
 
+/* Clears the exception that was raised, if it is a fault: the link makes the call again, and says
+ * why it was refused. Another one, as of a signal's handler, stays. */
+static bool is_refused(transaction *it) {
+  if (!PyErr_ExceptionMatches(core_state_of(it->wire)->fault)) {
+    return false;
+  }
+  PyErr_Clear();
+  return true;
+}
+
 static PyObject *transaction_enter(PyObject *self, PyObject *unused) {
   (void)unused;
   transaction *it = (transaction *)self;
@@ -85,18 +95,24 @@ static PyObject *transaction_read(PyObject *self, PyObject *page) {
   if (bytes != NULL && bytes != Py_None) {
     return bytes;
   }
-  /* An ask is out, or the call was refused: the link makes it again. */
+  if (bytes == NULL && !is_refused(it)) {
+    return NULL;
+  }
+  /* An ask is out, or the call was refused. */
   Py_XDECREF(bytes);
-  PyErr_Clear();
-  return PyObject_CallMethod(it->link, "_fetch", "O", page);
+  return PyObject_CallMethod(it->link, "_fetch", "(O)", page);
 }
 
 static bool drop(transaction *it) {
   wire *its = (wire *)it->wire;
-  PyObject *said = its->gone ? NULL : core_wire_drop(its);
+  PyObject *said = NULL;
+  if (!its->gone) {
+    said = core_wire_drop(its);
+    if (said == NULL && !is_refused(it)) {
+      return false;
+    }
+  }
   if (said == NULL) {
-    /* The link makes the call again, and says why it was refused. */
-    PyErr_Clear();
     return is_done(PyObject_CallMethod(it->link, "_drop", NULL));
   }
   bool right = PyTuple_Size(said) == 0
