@@ -1,11 +1,10 @@
-/* When the next batch goes to disk. A batch takes one sync, whatever is in it, so it pays to wait for
- * clients that will commit again in a moment; but nothing is written meanwhile.
+/* When the next batch goes to disk. A batch takes one sync, whatever is in it, so it pays to wait
+ * for clients that will commit again in a moment; but nothing is written meanwhile.
  *
- * All who were in the last two batches are waited for: for half as long as the last batch waited for
- * its sync at most, and ten milliseconds; for the next commit no longer than each of those that wait
- * costs (the time of the last batch and of the wait, shared by them); and not for a while where
- * nobody came. So on a disk that syncs fast the next batch goes at once, and frames are taken beside
- * it. */
+ * All who were in the last two batches are waited for: for half as long as the last batch waited
+ * for its sync at most, and ten milliseconds; for the next commit no longer than each of those that
+ * wait costs (the time of the last batch and of the wait, shared by them); and not for a while
+ * where nobody came. So on a disk that syncs fast the next batch goes at once. */
 #ifndef SERVE_PACE_H
 #define SERVE_PACE_H
 

@@ -193,7 +193,7 @@ static bool put_long(struct bytes *bytes, uint64_t number) {
 }
 
 /* The head of an array in PostgreSQL's binary form, with room for so many values of that size: how
- * many dimensions it has, that none is null, the type; and the dimension's count and first place. */
+ * many dimensions it has, that none is null, the type; and how many there are, from place 1 on. */
 static bool begin_array(struct bytes *bytes, uint32_t type, size_t count, size_t size) {
   bytes->size = 0;
   bool is_put = bytes_reserve(bytes, 20 + count * (4 + size)) && put_number(bytes, count > 0)

@@ -16,7 +16,8 @@ SYNC=MICROSECONDS each sync of all takes so much longer.
 It needs the library (that of LIBRARY, else installed by scripts/library, with what stands in
 crates/rughvadi/out if `--built` is said first), `cb_play` (that of PLAY, else built), libuv,
 SQLite's and PostgreSQL's C libraries, and PostgreSQL 15 with pgbench; what needs the latter is left
-out where it isn't there. ROOM is the folder of the stores (the system's temporary one if it isn't set).
+out where it isn't there. ROOM is the folder of the stores (the system's temporary one if it isn't
+set).
 """
 from __future__ import annotations
 
