@@ -43,9 +43,11 @@ void pace_done(struct pace *pace, uint64_t synced) {
   pace->skips -= pace->skips > 0;
 }
 
+static uint64_t lesser(uint64_t one, uint64_t other) { return one < other ? one : other; }
+
 uint64_t pace_patience(struct pace *pace) {
   uint32_t missing = (pace->newest | pace->former) & ~pace->waiting;
-  uint64_t most = pace->synced / 2 < WAIT_MOST ? pace->synced / 2 : WAIT_MOST;
+  uint64_t most = lesser(pace->synced / 2, WAIT_MOST);
   uint64_t waited = clock_now() - pace->done;
   if (pace->waiting == 0 || missing == 0 || pace->skips > 0 || waited >= most) {
     return 0;
@@ -55,5 +57,5 @@ uint64_t pace_patience(struct pace *pace) {
     pace->before = pace->waiting;
   }
   uint64_t each = (pace->took + waited) / (unsigned)__builtin_popcount(pace->waiting);
-  return each < most - waited ? each : most - waited;
+  return lesser(each, most - waited);
 }
