@@ -60,7 +60,8 @@ def main(words: list[str]) -> int:
     if words[:1] == [CALL]:
         status = call(words[1], words[2:])
         if status < 0:
-            signal.signal(-status, signal.SIG_DFL)
+            if -status != signal.SIGKILL:
+                signal.signal(-status, signal.SIG_DFL)
             os.kill(os.getpid(), -status)
         return status
     run(os.path.abspath(words[0]), os.path.realpath(words[1]), words[2:])
