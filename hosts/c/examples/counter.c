@@ -40,8 +40,8 @@ static int connected(const char *path) {
 }
 
 /* Asks the server for an incarnation that no earlier one of this client had. */
-static uint64_t asked(int fd, uint32_t client) {
-  uint8_t header[16] = {2, 0, 0, (uint8_t)client};
+static uint64_t asked(int fd, const char *client) {
+  uint8_t header[16] = {2, 0, 0, (uint8_t)atoi(client)};
   uint64_t incarnation = 0;
   if (write(fd, header, 16) != 16 || recv(fd, header, 16, MSG_WAITALL) != 16) {
     perror("incarnation");
@@ -60,7 +60,7 @@ int main(int argc, char **argv) {
   rughvadi_link link;
   uint32_t client = (uint32_t)atoi(argv[2]);
   int fd = connected(argv[1]);
-  uint32_t fault = rughvadi_link_open(&link, &limits, client, asked(fd, client), fd);
+  uint32_t fault = rughvadi_link_open(&link, &limits, client, asked(fd, argv[2]), fd);
   int times = atoi(argv[3]);
   for (int at = 0; at < times && fault == RUGHVADI_DONE; at++) {
     uint64_t number;
