@@ -108,14 +108,21 @@ def killed(it: Host) -> str:
     return "" if right and before + 20 < between < last else f"{before}, {between}, {last}"
 
 
-class Caller(Peer):
-    """A raw connection to the host, which has no greeting."""
+class Silent(Peer):
+    """A raw connection to the host, which has no greeting; it says nothing by itself."""
 
     def __init__(self, it: Host, client: int) -> None:
         self.socket = socket.socket(socket.AF_UNIX)
         self.socket.connect(str(it.socket))
         self.socket.settimeout(20)
         self.client, self.incarnation = client, 0
+
+
+class Caller(Silent):
+    """A raw connection that asks for its incarnation as it begins."""
+
+    def __init__(self, it: Host, client: int) -> None:
+        super().__init__(it, client)
         self.say(0)
         self.incarnation = HEADER.unpack(self.exactly(HEADER.size))[3]
 
@@ -182,7 +189,7 @@ def no_socket(it: Host) -> str:
 def strangers(it: Host) -> str:
     """Connections that say nothing take no place of a client, and are closed after a while."""
     server = it.start()
-    silent = [Caller(it, 1) for _ in range(100)]
+    silent = [Silent(it, 1) for _ in range(100)]
     with Caller(it, 2) as caller:
         served = caller.welcome() is caller
         closed = silent[-1].is_closed() and caller.welcome() is caller
