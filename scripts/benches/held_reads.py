@@ -1,5 +1,6 @@
 """The part of `scripts/bench library` that sets held reads beside what else a process may read
-from: a link in C beside SQLite, LMDB and a GET of Redis, and one in Python beside the same."""
+from: a link in C beside SQLite, LMDB and a GET of Redis, and one each in Rust and in Python beside
+the same."""
 import os
 import shutil
 import subprocess
@@ -10,6 +11,7 @@ from pathlib import Path
 
 import building
 import serving
+from checks.library_hosts import of_rust
 
 SIZES = ("64", "4096")
 PROGRAMS = building.PROGRAMS
@@ -51,6 +53,26 @@ def in_c(room: Path, top: Path) -> Path | None:
     return made
 
 
+def in_rust(room: Path, top: Path) -> Path | None:
+    """The program in Rust; none where there is no rustc, or a library isn't installed."""
+    if not shutil.which(rustc := of_rust("rustc")):
+        print("rustc isn't installed: nothing in Rust", flush=True)
+        return None
+    out = room / "rust"
+    crate, made = out / "librughvadi.rlib", out / "held_reads"
+    make = ["make", "-s", "-C", building.TOP / "examples", f"LIBRARY={top}", f"OUT={out}"]
+    words = [rustc, "--edition", "2021", "-O", "--extern", f"rughvadi={crate}"]
+    words += [PROGRAMS / "rust/held_reads.rs", "-o", made]
+    for each in [*make, f"RUSTC={rustc}", crate], words:
+        done = subprocess.run(each, capture_output=True, text=True, check=False)
+        if "cannot find -l" in done.stderr:
+            print("SQLite's library or LMDB isn't installed: nothing in Rust", flush=True)
+            return None
+        if done.returncode:
+            raise building.NotBuilt(f"held_reads.rs isn't compiled\n{done.stderr}")
+    return made
+
+
 def python() -> str:
     """Debian's where it has LMDB's module, else the one that runs this."""
     there = os.path.exists(DEBIANS)
@@ -59,13 +81,13 @@ def python() -> str:
 
 
 def measured(room: Path, top: Path) -> int:
-    """Runs both for each size; the highest status."""
-    status, program = 0, in_c(room, top)
+    """Runs all for each size; the highest status."""
+    status, programs = 0, [in_c(room, top), in_rust(room, top)]
     env = {**os.environ, "PYTHONPATH": f"{top}/share/rughvadi/python"}
     with redis(room) as path:
         for size in SIZES:
             commands = [[python(), PROGRAMS / "python/held_reads.py"]]
-            commands += [[program]] if program else []
+            commands += [[program] for program in programs if program]
             for words in commands:
                 done = subprocess.run([*words, room, size, path], env=env, check=False)
                 status = max(status, done.returncode)
