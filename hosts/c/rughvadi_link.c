@@ -71,18 +71,25 @@ static uint32_t send_frame(const rughvadi_link *link, size_t len) {
   return fault;
 }
 
-/* Fetches the oldest frame that was said, and sends it: RUGHVADI_NOTHING where all is sent. From
- * before it is fetched until it is sent whole the link is gone. So it stays, whatever ends this
- * early: a jump out of a signal's handler and the thread's end, too. */
+/* Fetches the oldest frame that was said. */
+static uint32_t fetch_oldest(rughvadi_link *link, size_t *size) {
+  uint32_t client = 0;
+  return rughvadi_next(&link->client, link->out, link->out_size, size, &client);
+}
+
+/* Sends a Drop that waits, else the oldest frame that was said, which it fetches: RUGHVADI_NOTHING
+ * where all is sent. From before it is fetched until it is sent whole the link is gone. So it stays,
+ * whatever ends this early: a jump out of a signal's handler and the thread's end, too. */
 static uint32_t send_oldest(rughvadi_link *link) {
   if (link->gone) {
     return RUGHVADI_LINK_CLOSED;
   }
-  size_t size = 0;
-  uint32_t client = 0;
+  size_t size = (size_t)link->late;
   link->gone = true;
-  uint32_t fault = rughvadi_next(&link->client, link->out, link->out_size, &size, &client);
+  link->late = 0;
+  uint32_t fault = size > 0 ? RUGHVADI_DONE : fetch_oldest(link, &size);
   if (fault == RUGHVADI_DONE) {
+    link->is_silent = false;
     fault = send_frame(link, size);
   }
   link->gone = is_last(fault);
@@ -252,11 +259,22 @@ void rughvadi_link_close(rughvadi_link *link) {
   *link = (rughvadi_link){.socket = socket, .gone = true};
 }
 
+/* Answers what came meanwhile, before pages are used. Where only a Drop waits, and nothing came, it
+ * waits on. */
+static uint32_t answer_what_came(rughvadi_link *link) {
+  struct pollfd watched = {.fd = link->socket, .events = POLLIN};
+  bool waits = !link->gone && link->late > 0 && link->in_len == 0 && watch(&watched, 0) == 0;
+  return waits ? RUGHVADI_DONE : rughvadi_link_serve(link, 0);
+}
+
 uint32_t rughvadi_link_begin(rughvadi_link *link) {
-  /* Callbacks that came meanwhile are answered before pages are used. */
-  uint32_t fault = rughvadi_link_serve(link, 0);
   uint64_t txn = 0;
-  return fault != RUGHVADI_DONE ? fault : rughvadi_client_begin(&link->client, &txn);
+  uint32_t fault = answer_what_came(link);
+  if (fault == RUGHVADI_DONE) {
+    fault = rughvadi_client_begin(&link->client, &txn);
+  }
+  link->is_silent = fault == RUGHVADI_DONE;
+  return fault;
 }
 
 /* Whether an ask is out: of this call, or of an earlier one that no answer came to. */
@@ -340,13 +358,30 @@ uint32_t rughvadi_link_commit(rughvadi_link *link, uint64_t *number) {
   return ended == RUGHVADI_ENDED_COMMITTED ? RUGHVADI_DONE : RUGHVADI_LINK_ABORTED;
 }
 
+/* Keeps the Drop of a transaction that said nothing else, in place of one that waits already: the
+ * server knows nothing of either. Until it is kept the link is gone. If there is more it is sent. */
+static uint32_t keep_drop(rughvadi_link *link) {
+  size_t size = 0;
+  uint32_t client = 0;
+  link->gone = true;
+  link->is_silent = false;
+  uint32_t fault = fetch_oldest(link, &size);
+  link->late = fault == RUGHVADI_DONE ? size : link->late;
+  link->gone = false;
+  if (fault != RUGHVADI_DONE) {
+    return send_said(link);
+  }
+  fault = rughvadi_next(&link->client, link->out, 0, &size, &client);
+  return fault == RUGHVADI_NOTHING ? RUGHVADI_DONE : send_said(link);
+}
+
 uint32_t rughvadi_link_drop(rughvadi_link *link) {
   if (link->gone) {
     return RUGHVADI_LINK_CLOSED;
   }
   uint32_t fault = rughvadi_client_drop(&link->client);
   if (fault == RUGHVADI_DONE) {
-    return send_said(link);
+    return link->is_silent ? keep_drop(link) : send_said(link);
   }
   return aborted_or(link, fault) == RUGHVADI_LINK_ABORTED ? RUGHVADI_DONE : fault;
 }

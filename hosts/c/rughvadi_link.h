@@ -41,8 +41,10 @@ typedef struct {
   uint8_t *in; /* what came and isn't taken yet */
   size_t in_size, in_len;
   bool owns;      /* the socket is closed with the link */
+  bool is_silent; /* the transaction has said nothing yet */
   uint64_t draws; /* that pauses are drawn from */
-  uint64_t reserved[4];
+  uint64_t late;  /* so many bytes of `out` are a Drop that goes before all that is sent next */
+  uint64_t reserved[3];
 } rughvadi_link;
 
 /* Opens a link over a connected socket, greets the server and waits until the client is welcome.
@@ -71,7 +73,8 @@ uint32_t rughvadi_link_put(rughvadi_link *link, uint32_t page, const uint8_t *by
 /* Commits the transaction, and waits until it is on disk; *number is its number. */
 uint32_t rughvadi_link_commit(rughvadi_link *link, uint64_t *number);
 
-/* Ends the transaction without a commit. It may have been aborted before. */
+/* Ends the transaction without a commit. It may have been aborted before. Where it read held pages
+ * alone nothing is sent: its Drop goes before what the link next sends or answers. */
 uint32_t rughvadi_link_drop(rughvadi_link *link);
 
 /* Takes what came, and waits for at most that many milliseconds where nothing did. Call it while

@@ -9,7 +9,7 @@ It installs the library in a folder of its own, by `scripts/library`, and runs, 
   each that is refused all is as it was
 - a link in C: greetings that are answered and refused, signals, and that it is gone with its
   connection, and wherever the sending of a frame ends early; several addresses, and limits of time;
-  the tries of a job
+  the tries of a job, and Drops that wait
 - a server and two clients in one process, over frames of which a tenth is lost, repeated or late,
   for so many seeds (10 if not said; an odd one keeps write permissions): each transaction checks
   a sum over all pages
@@ -43,7 +43,8 @@ from checks.library_hosts import of_rust
 FLAGS = ["-std=c11", "-D_GNU_SOURCE", "-g", "-O1", "-Wall", "-Wextra", "-Wpedantic", "-Werror"]
 SANITIZERS = ["-fsanitize=address,undefined", "-fno-sanitize-recover=all"]
 HOSTS = building.TOP / "hosts"
-SOAKS = ["lossy", "random_calls", "refused_growths", "link", "sending", "tries", "addresses"]
+SOAKS = ["lossy", "random_calls", "refused_growths", "link", "sending", "tries", "drops"]
+SOAKS += ["addresses"]
 EACH = 100
 
 
@@ -111,6 +112,7 @@ def run_soaks(tries, it, seeds):
     tries.command("links at their end", it.room / "link")
     tries.command("sendings that end early", it.room / "sending")
     tries.command("tries of a job", it.room / "tries")
+    tries.command("drops that wait", it.room / "drops")
     tries.command("several addresses", it.room / "addresses")
     for seed in range(1, seeds + 1):
         tries.command(f"lossy frames, seed {seed}", it.room / "lossy", seed, 2000)

@@ -221,6 +221,7 @@ static void stuffed(void) {
   do {
     fault = rughvadi_link_begin(&link);
     fault = fault == RUGHVADI_DONE ? rughvadi_link_drop(&link) : fault;
+    fault = fault == RUGHVADI_DONE ? rughvadi_link_serve(&link, 0) : fault; /* sends the Drop */
   } while (fault == RUGHVADI_DONE);
   HOLD(fault == RUGHVADI_LINK_SYSTEM && errno == ETIMEDOUT);
   HOLD(rughvadi_link_begin(&link) == RUGHVADI_LINK_CLOSED);

@@ -12,6 +12,7 @@ enum how { BY_JUMP, BY_ERROR, BY_END, BY_SILENCE, WAYS };
 static enum how how;
 static uint32_t kind; /* of the frame whose sending ends early */
 static size_t most;   /* how many of its bytes go before that */
+static bool waits;    /* the first Drop waits until something else is sent */
 static bool ended, more;
 static jmp_buf out;
 
@@ -44,6 +45,15 @@ static ssize_t end_early(const uint8_t *bytes, size_t len, size_t before) {
     }                              \
   } while (0)
 
+/* A transaction reads a page that is held: its Drop goes as the link serves. */
+static uint32_t look_at_a_page(rughvadi_link *link, uint8_t page[SIZE]) {
+  DO(rughvadi_link_begin(link));
+  DO(rughvadi_link_fetch(link, 1, page, SIZE));
+  DO(rughvadi_link_drop(link));
+  HOLD(counts[RUGHVADI_KIND_DROP] == 0);
+  return rughvadi_link_serve(link, 0);
+}
+
 /* The other client wants to write page 2, which the link read in a transaction that is open. */
 static uint32_t use_a_page(rughvadi_link *link, uint8_t page[SIZE]) {
   DO(rughvadi_link_begin(link));
@@ -67,6 +77,9 @@ static uint32_t play(rughvadi_link *link) {
   DO(rughvadi_link_fetch(link, 1, page, SIZE));
   DO(rughvadi_link_put(link, 1, page, SIZE));
   DO(rughvadi_link_commit(link, &number));
+  if (waits) {
+    DO(look_at_a_page(link, page));
+  }
   /* The permission to write page 1 was kept: the other one reads it, and then wants to write it. */
   other_reads(1);
   DO(rughvadi_link_serve(link, 0));
@@ -99,6 +112,7 @@ static void play_ended(void) {
   static rughvadi_link link;
   ended = more = false;
   begin_inside();
+  memset(counts, 0, sizeof counts);
   on_send = end_early;
   if (setjmp(out) == 0) {
     errno = 0;
@@ -113,17 +127,25 @@ static void play_ended(void) {
   end_inside(&link);
 }
 
-/* How many sendings were ended early. */
+/* Ends the sending of a frame of the kind behind each number of its bytes, which are so many. */
+static int end_behind_each(size_t whole) {
+  HOLD(whole > 0);
+  for (most = 0; most < whole; most++) {
+    play_ended();
+  }
+  return (int)whole;
+}
+
+/* How many sendings were ended early: of each kind, and of a Drop that waits. */
 static int end_each(const size_t whole[KINDS + 1]) {
   int count = 0;
+  waits = false;
   for (kind = 1; kind <= KINDS; kind++) {
-    HOLD(whole[kind] > 0);
-    for (most = 0; most < whole[kind]; most++) {
-      play_ended();
-      count++;
-    }
+    count += end_behind_each(whole[kind]);
   }
-  return count;
+  waits = true;
+  kind = RUGHVADI_KIND_DROP;
+  return count + end_behind_each(whole[kind]);
 }
 
 int main(void) {

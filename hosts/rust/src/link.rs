@@ -4,6 +4,7 @@ use crate::error::{Error, Result};
 use crate::socket::comes;
 use crate::Limits;
 use std::collections::hash_map::RandomState;
+use std::collections::VecDeque;
 use std::fmt;
 use std::hash::{BuildHasher, Hasher};
 use std::io::{self, ErrorKind, Read, Write};
@@ -57,6 +58,10 @@ pub struct Link<S> {
     /// The socket that the stream is, if it is one: it can be asked whether something came.
     socket: Option<RawFd>,
     gone: bool,
+    /// Whether the open transaction has said nothing yet.
+    is_silent: bool,
+    /// A Drop of a transaction that said nothing else: it goes before all that is sent next.
+    late: VecDeque<Vec<u8>>,
     /// What came and isn't taken yet.
     came: Vec<u8>,
     room: Box<[u8]>,
@@ -96,6 +101,8 @@ impl<S: Read + Write> Link<S> {
             stream,
             socket,
             gone: false,
+            is_silent: false,
+            late: VecDeque::new(),
             came: Vec::new(),
             room: vec![0; ROOM].into_boxed_slice(),
             draws: RandomState::new().build_hasher().finish() | 1,
@@ -123,6 +130,7 @@ impl<S: Read + Write> Link<S> {
         self.check()?;
         self.serve_until(Instant::now())?;
         self.client.begin()?;
+        self.is_silent = true;
         Ok(Transaction { link: self })
     }
 
@@ -211,11 +219,12 @@ impl<S: Read + Write> Link<S> {
         Ok(())
     }
 
-    /// Sends all that the client said. From when a frame is fetched until it is sent whole the link
-    /// is gone. So it stays, whatever ends this early: an error, or a panic of the stream's.
+    /// Sends a Drop that waits, and all that the client said. From when a frame is fetched until it
+    /// is sent whole the link is gone. So it stays, whatever ends this early: an error, or a panic
+    /// of the stream's.
     fn send_said(&mut self) -> Result<()> {
         self.check()?;
-        while let Some(frame) = self.client.next_frame()? {
+        while let Some(frame) = self.next_said()? {
             self.gone = true;
             self.stream.write_all(&frame)?;
             self.gone = false;
@@ -224,6 +233,30 @@ impl<S: Read + Write> Link<S> {
         self.stream.flush()?;
         self.gone = false;
         Ok(())
+    }
+
+    fn next_said(&mut self) -> Result<Option<Vec<u8>>> {
+        if let Some(frame) = self.late.pop_front() {
+            return Ok(Some(frame));
+        }
+        let frame = self.client.next_frame()?;
+        self.is_silent &= frame.is_none();
+        Ok(frame)
+    }
+
+    /// Sends what is said of the end of a transaction. Where it said nothing else its Drop waits
+    /// until something else is sent, in place of one that waits already: the server knows nothing of
+    /// either.
+    fn send_drop(&mut self) -> Result<()> {
+        if self.is_silent {
+            self.late.clear();
+            self.late.extend(self.client.next_frame()?);
+            match self.client.next_frame()? {
+                Some(more) => self.late.push_back(more),
+                None => return Ok(()),
+            }
+        }
+        self.send_said()
     }
 
     /// Receives once, and takes each whole frame; `false` where nothing came in time.
@@ -342,7 +375,8 @@ impl<S> fmt::Debug for Link<S> {
 }
 
 /// A transaction that is open. Where it isn't committed it is dropped, without an answer being
-/// awaited, and what it wrote is undone.
+/// awaited, and what it wrote is undone. If the server heard nothing of it nothing is sent then: its
+/// Drop goes before what the link next sends or answers.
 pub struct Transaction<'l, S: Read + Write> {
     link: &'l mut Link<S>,
 }
@@ -394,7 +428,7 @@ impl<S: Read + Write> Drop for Transaction<'_, S> {
             && self.link.client.drop_transaction().is_ok()
         {
             // Where the stream fails, the next call says so.
-            let _ = self.link.send_said();
+            let _ = self.link.send_drop();
         }
     }
 }

@@ -176,9 +176,11 @@ fn a_sending_has_a_limit() {
     });
     let mut gateways = folder.gateways("stuffed").send_timeout(SHORT);
     let (mut link, _) = gateways.connect().unwrap();
+    let soon = Some(Duration::from_millis(1));
+    link.stream().set_read_timeout(soon).unwrap();
     // What isn't read fills the socket, until no frame fits any more.
-    while let Ok(transaction) = link.transaction() {
-        drop(transaction);
+    while link.transaction().map(drop).is_ok() {
+        let _ = link.serve(); // sends the Drop
     }
     assert!(matches!(link.serve(), Err(Error::Closed)));
     drop(is_over);

@@ -20,6 +20,7 @@ enum How {
 
 /// The kinds of frame that a client says are numbered from 1 to this.
 const KINDS: usize = 8;
+const DROP: u8 = 7;
 
 /// Where the sending ends, and what went before and behind it.
 #[derive(Default)]
@@ -57,13 +58,23 @@ impl Watch for Plan {
 
 type Ours = Link<Wire<Plan>>;
 
-/// Sends a frame of each kind. The link stays with the caller, also where a panic leaves this.
-fn play(link: &mut Option<Ours>, wire: Wire<Plan>, inside: &RefCell<Inside>) -> Result<()> {
+/// Sends a frame of each kind; if `waits`, the first Drop as the link answers something. The link
+/// stays with the caller, also where a panic leaves this.
+fn play(
+    link: &mut Option<Ours>,
+    wire: Wire<Plan>,
+    inside: &RefCell<Inside>,
+    waits: bool,
+) -> Result<()> {
     let link = link.insert(wire.opened()?);
     link.run(|transaction| {
         let page = transaction.read(1)?;
         transaction.write(1, &page)
     })?;
+    if waits {
+        // What it reads is held.
+        link.transaction()?.read(1)?;
+    }
     // The permission to write page 1 was kept: the other reads it, and then wants to write it.
     inside.borrow_mut().other_reads(1);
     link.serve()?;
@@ -87,14 +98,14 @@ fn is_closed<T>(answer: Result<T>) -> bool {
 }
 
 /// Plays the scene; whether it ended early, and how long the frames of each kind are.
-fn played(ends: Option<(u8, usize, How)>) -> (bool, [usize; KINDS + 1]) {
+fn played(ends: Option<(u8, usize, How)>, waits: bool) -> (bool, [usize; KINDS + 1]) {
     let plan = Rc::new(RefCell::new(Plan {
         ends,
         ..Plan::default()
     }));
     let (wire, inside) = Wire::new(&plan);
     let mut link = None;
-    let answer = catch_unwind(AssertUnwindSafe(|| play(&mut link, wire, &inside)));
+    let answer = catch_unwind(AssertUnwindSafe(|| play(&mut link, wire, &inside, waits)));
     let left = match (answer, ends) {
         (Err(_), Some((_, _, how))) => how == How::Panic,
         (Ok(Err(error)), Some((_, _, how))) => match error {
@@ -119,15 +130,25 @@ fn played(ends: Option<(u8, usize, How)>) -> (bool, [usize; KINDS + 1]) {
 
 #[test]
 fn a_link_is_gone_wherever_a_sending_ends() {
-    let (ended, lengths) = played(None);
+    let (ended, lengths) = played(None, false);
     assert!(!ended);
     for (kind, length) in lengths.iter().enumerate().skip(1) {
         assert!(*length > 0, "no frame of kind {}", kind);
-        for most in 0..*length {
-            for how in [How::Panic, How::Failure, How::Timeout, How::NoByte] {
-                let (ended, _) = played(Some((kind as u8, most, how)));
-                assert!(ended);
-            }
+        ends_behind_each_byte(kind as u8, *length, false);
+    }
+}
+
+#[test]
+fn a_link_is_gone_wherever_the_sending_of_a_drop_that_waited_ends() {
+    let (_, lengths) = played(None, true);
+    ends_behind_each_byte(DROP, lengths[DROP as usize], true);
+}
+
+fn ends_behind_each_byte(kind: u8, length: usize, waits: bool) {
+    for most in 0..length {
+        for how in [How::Panic, How::Failure, How::Timeout, How::NoByte] {
+            let (ended, _) = played(Some((kind, most, how)), waits);
+            assert!(ended);
         }
     }
 }
