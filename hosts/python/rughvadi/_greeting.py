@@ -43,6 +43,8 @@ def read_token(path: Union[str, Path], client: int) -> bytes:
 def host_and_port(address: str) -> tuple[str, int]:
     """The parts of HOST:PORT; a host with colons stands in brackets."""
     host, _, port = address.rpartition(":")
+    if not host or not port.isdecimal():
+        raise ValueError(f"{address!r} is no HOST:PORT, nor a path with a '/' in it")
     if host.startswith("[") and host.endswith("]"):
         host = host[1:-1]
     return host, int(port)

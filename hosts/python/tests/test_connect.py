@@ -112,6 +112,9 @@ class Greeting(unittest.TestCase):
     def test_addresses(self) -> None:
         self.assertEqual(host_and_port("[::1]:7400"), ("::1", 7400))
         self.assertEqual(host_and_port("server.example:7400"), ("server.example", 7400))
+        for address in ("socket", "server.example", ":7400", "[::1]:", "server.example:http"):
+            with self.assertRaisesRegex(ValueError, "HOST:PORT"):
+                connect(address, bytes(32))
 
     def test_refused(self) -> None:
         for answer, is_down in ((2, False), (3, False), (4, False), (5, True), (9, False)):
