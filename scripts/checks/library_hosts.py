@@ -21,6 +21,7 @@ from contextlib import contextmanager
 from pathlib import Path
 
 import building
+import serving
 
 C = building.TOP / "hosts/c"
 FLAGS = ["-std=c11", "-D_GNU_SOURCE", "-O2", "-Wall", "-Wextra", "-Wpedantic"]
@@ -159,7 +160,7 @@ def counted(fresh, server):
     return "" if found == [8 * EACH, 8 * EACH] else f"last commit and counter: {found}"
 
 
-def asked(path):
+def asked_once(path):
     """The incarnation that the server tells client 7, who asks by a header alone; else 0."""
     header = struct.Struct(">BBHQI")
     try:
@@ -170,6 +171,14 @@ def asked(path):
     except (OSError, struct.error):
         return 0
     return incarnation if [*begins, length] == [2, 0, 7, 0] else 0
+
+
+def asked(path):
+    """The same, once the server knows that the client's former connection ended: until then it
+    takes no other one for it."""
+    told = []
+    serving.wait_for(lambda: told.append(asked_once(path)) or told[-1], 60)
+    return told[-1]
 
 
 @contextmanager
