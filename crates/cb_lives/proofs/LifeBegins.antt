@@ -21,10 +21,10 @@ abbrev nothing : Option ℕ
 nothing = None
 
 -- a new server, which knows the clients below n at the floor
-abbrev greeted : Limits → Opening → ℕ → ℕ → Server
+abbrev pub greeted : Limits → Opening → ℕ → ℕ → Server
 greeted L o floor n = record (new_server L.clients L.pages (opening_store L o)) { session = λ c. session_at (if nat_lt c n then floor else 0) }
 
-none_greeted : (L : Limits) (o : Opening) (floor : ℕ) → greeted L o floor 0 ≡ new_server L.clients L.pages (opening_store L o)
+pub none_greeted : (L : Limits) (o : Opening) (floor : ℕ) → greeted L o floor 0 ≡ new_server L.clients L.pages (opening_store L o)
 none_greeted L o floor = λ i. record (new_server L.clients L.pages (opening_store L o)) { session = λ c. session_at (nobody c i) }
   where
     nobody : (c : ℕ) → (if nat_lt c 0 then floor else 0) ≡ 0
@@ -72,7 +72,7 @@ one_greeted L o floor n = λ i. record (new_server L.clients L.pages (opening_st
         go false = refl
 
 -- nothing waits, so nothing is settled
-greets_alone : (L : Limits) (cycle : DeadlockTest) (o : Opening) (floor n : ℕ) → 1 ≤ floor → server_after (greeted L o floor n) (server_take cycle (greeted L o floor n) n floor Hello) ≡ greeted L o floor (n + 1)
+pub greets_alone : (L : Limits) (cycle : DeadlockTest) (o : Opening) (floor n : ℕ) → 1 ≤ floor → server_after (greeted L o floor n) (server_take cycle (greeted L o floor n) n floor Hello) ≡ greeted L o floor (n + 1)
 greets_alone L cycle o floor n l = ap (server_after s) (serves_new_hello cycle s n floor below) ∙ (after_append s (greets n floor) (settle_pages cycle admitted admitted.pages) ∙ (ap (server_after admitted) settled ∙ one_greeted L o floor n))
   where
     s : Server

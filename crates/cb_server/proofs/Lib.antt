@@ -10,6 +10,7 @@
 -- Committing: whether a commit is applied, and what is done.
 -- Flushing: what can be flushed, in the words of the commits and of the protocol.
 -- Serving: the server between two calls, and after each.
+-- Resuming: a server of a new life.
 -- LawsKept: what the protocol says of servers that arose, of each server.
 pub mod Counting
 pub mod Making
@@ -23,3 +24,4 @@ pub mod Committing
 pub mod Flushing
 pub mod Serving
 pub mod LawsKept
+pub mod Resuming

@@ -6,6 +6,7 @@ use Rattle.cb_outbox.specs.Saying.{OutboxState}
 use Rattle.cb_page.specs.Bounds.{Bounds}
 use Rattle.cb_protocol.specs.AnyMessages.{ReachedBy}
 use Rattle.cb_protocol.specs.Basics.{Limits}
+use Rattle.cb_protocol.specs.LivesWorld.{server_of_life}
 use Rattle.cb_protocol.specs.Numbers.{messages_for_pages}
 use Rattle.cb_protocol.specs.Ranges.{InputTaken, StoreFits}
 use Rattle.cb_protocol.specs.Server.{Server, new_server}
@@ -54,6 +55,15 @@ pub record IsNew (bounds : Bounds) (store : StoreState) (value : ServerValue) : 
   pub commits : commits_of value ≡ begun store
   pub server : server_of value ≡ new_server bounds.clients bounds.pages
       (opening_store (limits_of bounds) (opening_of store))
+
+-- A server as it begins over a store that a former life of it left: of each client it knows the
+-- floor, as its current incarnation, and nothing else.
+pub record IsResumed (bounds : Bounds) (store : StoreState) (floor : ℕ) (value : ServerValue)
+    : Type 0 where
+  pub limits : value.limits ≡ bounds
+  pub opening : (commits_of value).opening ≡ store
+  pub forgotten : (commits_of value).forgotten ≡ 0
+  pub server : server_of value ≡ server_of_life (limits_of bounds) (opening_of store) floor
 
 -- Nothing changes but room.
 pub record IsUnchanged (old new : ServerValue) : Type 0 where

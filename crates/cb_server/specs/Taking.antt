@@ -31,6 +31,11 @@ pub record Does (old : ServerValue) (input : Input) (messages : List Message) (n
   pub opening : (commits_of new).opening ≡ (commits_of old).opening
   pub forgotten : (commits_of new).forgotten ≡ (commits_of old).forgotten
 
+-- It takes a Hello of that incarnation of the client, and what it says is let go.
+abbrev pub Greets : ServerValue → (client incarnation : ℕ) → ServerValue → Type 0
+Greets old client incarnation new = (messages : List Message)
+    × Does old (MessageComes client incarnation protocol.Hello) messages new
+
 -- `again` would send a message.
 abbrev pub HasToSayAgain : ServerValue → Type 0
 HasToSayAgain state = messages_sent (input_steps on_cycle (server_of state) SendsAgain) ≢ []

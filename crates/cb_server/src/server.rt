@@ -1,6 +1,6 @@
 //! The type, its opening, what it takes, and what it shows.
 ghost use Rattle.std.specs.Prelude.{◌≡◌, ◌≢◌, ◌<◌, ◌≤◌, [], ◌∷◌, IfErr, IfOk, IfSome, OnErr};
-ghost use Rattle.std.specs.Prelude.{Err};
+ghost use Rattle.std.specs.Prelude.{Err, OnOk};
 ghost use Rattle.std.specs.Prelude.{slice_index, false, true};
 ghost use Rattle.std.specs.List.{AllByRecursion};
 ghost use Rattle.std.specs.Option.{option_map};
@@ -14,9 +14,10 @@ ghost use Rattle.cb_frame_types.specs.Grammar.{Fits};
 ghost use Rattle.cb_outbox.specs.Messages.{messages_of};
 ghost use Rattle.cb_protocol.specs.AnyMessages.{ReachesDisk, SendsAgain};
 ghost use Rattle.cb_protocol.specs.Flush.{can_flush, next_batch};
-ghost use Rattle.cb_server.specs.ServerValue.{IsNew, IsServer, IsUnchanged, commits_of, forgot};
+ghost use Rattle.cb_server.specs.ServerValue.{IsNew, IsResumed, IsServer, IsUnchanged, commits_of};
+ghost use Rattle.cb_server.specs.ServerValue.{forgot};
 ghost use Rattle.cb_server.specs.ServerValue.{most_frames, server_of};
-ghost use Rattle.cb_server.specs.Taking.{Does, HasToSayAgain, IsBytesFault, MayWantMemory};
+ghost use Rattle.cb_server.specs.Taking.{Does, Greets, HasToSayAgain, IsBytesFault, MayWantMemory};
 ghost use Rattle.cb_server.specs.Taking.{Refuses, Takes, TakesBytes, lacks_number_for};
 ghost use Rattle.cb_server_state.specs.Commits.{batch_of};
 ghost use Rattle.cb_server_state.specs.States.{AreOf, PartsAgree, newest_first};
@@ -26,9 +27,9 @@ use crate::engine::Engine;
 use crate::server_fault::ServerFault;
 use cb_callbacks::Callbacks;
 use cb_commit::{Batch, Commit, Store};
-use cb_frame::{BytesFault, Frame, decode};
+use cb_frame::{Body, BytesFault, Frame, ShortBody, decode};
 use cb_outbox::Outbox;
-use cb_page::{CommitNo, Limits};
+use cb_page::{ClientNo, CommitNo, Incarnation, Limits};
 use cb_server_state::ServerState;
 use cb_waits::View;
 use std::alloc::{AllocError, Global};
@@ -87,6 +88,48 @@ impl Server {
                 outbox: Outbox::new(alloc, limits),
             },
         })
+    }
+
+    /// A server over the store that a former life of it left, all of which counts as on disk. Of
+    /// each client it knows the floor, as its current incarnation, and nothing else: so it ignores
+    /// what any incarnation below it sent, whenever that comes.
+    ///
+    /// The store isn't copied. `AllocError` only where memory was refused.
+    pub fn resume(
+        alloc: Global,
+        limits: &Limits,
+        store: Store,
+        floor: Incarnation,
+    ) -> Result<Server, AllocError>
+        requires { IsOf limits.now store }
+        ensures { IfOk result (IsResumed limits.now store floor) }
+    {
+        let mut server = Server::new(alloc, limits, store)?;
+        for client in 0..limits.clients() {
+            server.greet(alloc, ClientNo::new(client), floor)?;
+        }
+        Ok(server)
+    }
+
+    /// Takes a Hello of the client, and lets go what is said.
+    fn greet(
+        &mut self,
+        alloc: Global,
+        client: ClientNo,
+        incarnation: Incarnation,
+    ) -> Result<(), AllocError>
+        requires client { client < self.old.limits.clients }
+        ensures { OnOk result (Greets self.old client incarnation self.new) }
+    {
+        let hello = Frame {
+            client,
+            incarnation,
+            body: Body::Short(ShortBody::Hello),
+        };
+        match self.take(alloc, &hello) {
+            Ok(_welcome) => Ok(()),
+            Err(_refused) => Err(AllocError),
+        }
     }
 
     /// The limits of its store and its clients. The server arose by the protocol's steps, whatever
