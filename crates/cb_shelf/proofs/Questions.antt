@@ -7,6 +7,7 @@ use Rattle.cb_sql.proofs.Asking.{asks, is_question}
 use Rattle.cb_shelf.specs.declared.reading.Generation.{Generation}
 use Rattle.cb_shelf.specs.declared.reading.Generation.TheVariants.{Older, Newer}
 use Rattle.cb_shelf.specs.Reading.{mark_text, pages_text, parts_text, version_text, part_text}
+use Rattle.cb_shelf.specs.Living.{below_text}
 use Rattle.cb_shelf.specs.Opening.{page_count, mark_count}
 
 older_mark : asks (first (mark_text Older)) ≡ true
@@ -74,3 +75,10 @@ page_count_asks = is_question page_count older_pages
 
 pub mark_count_asks : IsQuestion mark_count
 mark_count_asks = is_question mark_count older_marks
+
+below_is : asks (first below_text) ≡ true
+unfolding first everything
+below_is = refl
+
+pub below_asks : IsQuestion below_text
+below_asks = is_question below_text below_is

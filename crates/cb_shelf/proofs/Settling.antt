@@ -1,5 +1,5 @@
 -- Transactions that are committed, and a look before one.
-use Rattle.std.proofs.Common.{◌≡◌, inl, inr, List, Result, Ok, Err, IsTrue, OnOk, true, false, refl, subst, arith}
+use Rattle.std.proofs.Common.{◌≡◌, ℕ, inl, inr, List, Result, Ok, Err, IsTrue, OnOk, true, false, refl, subst, arith}
 use Rattle.sqlite.specs.Store.{Ghosts}
 use Rattle.sqlite.specs.State.{HasCleanDisk, Survives}
 use Rattle.sqlite.specs.Held.{Held, state}
@@ -7,6 +7,7 @@ use Rattle.sqlite.proofs.StateLemmas.{survives_then}
 use Rattle.sqlite.proofs.Callers.{survives_begin}
 use Rattle.cb_sql.specs.Statements.{Statement, MakesAll}
 use Rattle.cb_sql.specs.Inside.{Inside, IsSame}
+use Rattle.cb_shelf.specs.Living.{Begun, LifeState, TellsBelow, life_from, life_statements}
 use Rattle.cb_shelf.specs.Opening.{LaysOut, LaidBy, Opened, Finds, laid}
 use Rattle.cb_shelf.specs.declared.opening.Found.TheVariants.{Nothing, Old}
 use Rattle.cb_page.specs.Bounds.{Bounds}
@@ -58,6 +59,21 @@ module _ {S : Type 0} (g : Ghosts S) where
       let early : HasCleanDisk (state g mid) = omega (arith, made.clean) in
       let now = (same early).now laid_by.0 in
       (laid_by.1, inr (inl (found early, subst (λ (d : Database). MakesAll g (laid (zeros limits) false) d laid_by.1) now laid_by.2)), laid_by.3)) look made
+
+  -- what a crash leaves of a life's begin that follows a look
+  pub begun_survives : (below : ℕ) (life : LifeState) (old mid new : Held S) → life ≡ life_from below
+      → (HasCleanDisk (state g mid) → TellsBelow (state g old).now below)
+      → (HasCleanDisk (state g mid) → IsSame (state g old) (state g mid))
+      → Survives (state g old) (state g mid) (λ _. ⊥)
+      → Survives (state g mid) (state g new) (LaidBy g (life_statements life) mid)
+      → Survives (state g old) (state g new) (Begun g old)
+  begun_survives below life old mid new is told same look made =
+      survives_then (state g old) (state g mid) (state g new) (λ _. ⊥) (LaidBy g (life_statements life) mid) (Begun g old)
+      (λ _ db nothing. absurd nothing)
+      (λ clean db laid_by.
+      let early : HasCleanDisk (state g mid) = omega (arith, made.clean) in
+      let now = (same early).now laid_by.0 in
+      (life, (below, told early, is), (laid_by.1, subst (λ (d : Database). MakesAll g (life_statements life) d laid_by.1) now laid_by.2, laid_by.3))) look made
 
   -- zeros, or a copy, where a look found this
   pub lays_zeros : {X E : Type 0} (limits : Bounds) (old mid : Held S) (after : Database) (r : Result X E)

@@ -3,3 +3,4 @@ pub mod Opening
 pub mod Flushing
 pub mod Events
 pub mod Newer
+pub mod Living

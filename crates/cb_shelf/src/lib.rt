@@ -9,6 +9,7 @@
 
 mod flush;
 mod laws;
+mod life;
 mod opening;
 mod reading;
 mod shelf;
@@ -17,4 +18,5 @@ mod writing;
 pub use cb_sql::ShelfFault;
 pub use flush::{Reports, flush_once, write_and_report};
 pub use laws::tables_follow_commits;
+pub use life::Life;
 pub use shelf::Shelf;

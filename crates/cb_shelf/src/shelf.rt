@@ -1,21 +1,25 @@
 //! The shelf.
-ghost use Rattle.std.specs.Prelude.{◌≡◌, ◌==◌, ◌↔◌, if◌then◌else◌, Some, None, Err, IsTrue};
+ghost use Rattle.std.specs.Prelude.{◌≡◌, ◌≢◌, ◌≤◌, ◌<◌, ◌==◌, ◌↔◌, [], ◌∷◌, if◌then◌else◌, Some, None};
+ghost use Rattle.std.specs.Prelude.{Err, IsTrue};
 ghost use Rattle.std.specs.Prelude.{IfOk, IfErr, OnOk, OnErr};
 ghost use Rattle.sqlite.specs.State.{HasCleanDisk, Survives};
 ghost use Rattle.sqlite.specs.Held.{state};
 ghost use Rattle.cb_commit.specs.Stores.{IsOf};
 ghost use Rattle.cb_sql.specs.Statements.{MakesAll, batch_statements};
 ghost use Rattle.cb_sql.specs.Inside.{IsSame, IsSettled};
+ghost use Rattle.cb_shelf.specs.Living.{Begun, EndsLives, Follows, MadeBy, life_row};
+ghost use Rattle.cb_shelf.specs.Living.{life_statements, raise_end, raised};
 ghost use Rattle.cb_shelf.specs.Opening.{LaysOut, Opened, Misshapen};
 ghost use Rattle.cb_shelf.specs.Reading.{Holds, Misfits};
 ghost use Rattle.cb_shelf.specs.declared.reading.Generation.TheVariants.{Newer};
 ghost use Rattle.cb_sql.specs.Writing.{Fits, Wrote};
 
+use crate::life::{Life, begin, raise};
 use crate::opening::open_tables;
 use crate::reading::read_back;
 use crate::writing::write_batch;
 use cb_commit::{Batch, Store};
-use cb_page::Limits;
+use cb_page::{Incarnation, Limits};
 use cb_sql::{ShelfFault, fits};
 use sqlite::{Alter, Connection};
 use std::alloc::Global;
@@ -102,6 +106,55 @@ impl<S: Alter> Shelf<S> {
             (λ _. ⊥) }
     {
         read_back(alloc, &mut self.conn, &self.limits)
+    }
+
+    /// Begins the next life of a server over the tables, in one transaction: its floor is the number
+    /// that the tables tell, below which all incarnations are that former lives' servers knew; from
+    /// then on they tell a greater one. Tables with no such row were served by servers that kept
+    /// none: those are taken to have known no incarnation from 2^61 on.
+    ///
+    /// `Shape` only where the tables tell no number, or one from which no life is left.
+    pub fn begin_life(&mut self) -> Result<Life, ShelfFault>
+        ensures limits { self.new.limits ≡ self.old.limits }
+        ensures follows { HasCleanDisk (state S.Store self.new.conn)
+            → IfOk result (Follows (state S.Store self.old.conn).now) }
+        ensures made { HasCleanDisk (state S.Store self.new.conn)
+            → IfOk result (λ life. MakesAll S.Store (life_statements life)
+            (state S.Store self.old.conn).now (state S.Store self.new.conn).committed) }
+        ensures settled { HasCleanDisk (state S.Store self.new.conn)
+            → OnOk result (IsSettled (state S.Store self.new.conn)) }
+        ensures neither { HasCleanDisk (state S.Store self.new.conn)
+            → OnErr result (IsSame (state S.Store self.old.conn) (state S.Store self.new.conn)) }
+        ensures shape { HasCleanDisk (state S.Store self.new.conn) → result ≡ Err ShelfFault.Shape
+            → EndsLives (state S.Store self.old.conn).now }
+        ensures mode { self.new.conn.in_transaction ≡ self.old.conn.in_transaction }
+        ensures crash { Survives (state S.Store self.old.conn) (state S.Store self.new.conn)
+            (Begun S.Store self.old.conn) }
+    {
+        begin(&mut self.conn)
+    }
+
+    /// Gives the life room for a Hello of an incarnation, in one transaction: from then on the
+    /// tables tell a number above it. Where it is refused, the life is as before.
+    pub fn raise(&mut self, life: &mut Life, incarnation: Incarnation) -> Result<(), ShelfFault>
+        requires beyond { life.old.below ≤ incarnation }
+        requires room { incarnation < raise_end }
+        ensures limits { self.new.limits ≡ self.old.limits }
+        ensures raised { OnOk result (life.new ≡ raised life.old incarnation) }
+        ensures kept { OnErr result (life.new ≡ life.old) }
+        ensures made { HasCleanDisk (state S.Store self.new.conn)
+            → OnOk result (MakesAll S.Store (life_row (raised life.old incarnation) ∷ [])
+            (state S.Store self.old.conn).now (state S.Store self.new.conn).committed) }
+        ensures settled { HasCleanDisk (state S.Store self.new.conn)
+            → OnOk result (IsSettled (state S.Store self.new.conn)) }
+        ensures neither { HasCleanDisk (state S.Store self.new.conn)
+            → OnErr result (IsSame (state S.Store self.old.conn) (state S.Store self.new.conn)) }
+        ensures mode { self.new.conn.in_transaction ≡ self.old.conn.in_transaction }
+        ensures crash { Survives (state S.Store self.old.conn) (state S.Store self.new.conn)
+            (MadeBy S.Store (life_row (raised life.old incarnation) ∷ []) self.old.conn) }
+        ensures fault { result ≢ Err ShelfFault.Shape }
+    {
+        raise(&mut self.conn, life, incarnation)
     }
 
     /// Sets the pages and the number of a batch, in one transaction.

@@ -1,0 +1,244 @@
+//! The lives of a server over the tables.
+ghost use Rattle.std.specs.Prelude.{◌≡◌, ◌≢◌, ◌≤◌, ◌<◌, ◌+◌, [], ◌∷◌, nat_lt, Err, IfOk, OnOk, OnErr};
+ghost use Rattle.std.specs.Prelude.{IsTrue};
+ghost use Rattle.sqlite.specs.State.{HasCleanDisk, Survives};
+ghost use Rattle.sqlite.specs.Held.{state};
+ghost use Rattle.cb_sql.specs.Statements.{MakesAll};
+ghost use Rattle.cb_sql.specs.Inside.{Inside, IsAny, IsSame, IsSettled, Tells};
+ghost use Rattle.cb_shelf.specs.Living.{Begun, EndsLives, Follows, HasLifeFrom, MadeBy, TellsBelow};
+ghost use Rattle.cb_shelf.specs.Living.{TellsNone, life_from, life_row, life_statements, raise_end};
+ghost use Rattle.cb_shelf.specs.Living.{raised};
+ghost use Rattle.cb_shelf.specs.Opening.{LaidBy};
+
+use crate::reading::ask_number;
+use cb_page::{Incarnation, MAX_NUMBER};
+use cb_sql::{ShelfFault, is_there, run};
+use sqlite::{Alter, Connection, Transaction, params};
+use std::marker::Model;
+
+/// So many incarnations more may greet the server before the row is written again.
+const RANGE: u64 = 1 << 20;
+
+/// Above each incarnation that a server may know which kept no row of its lives.
+const UNKEPT: u64 = 1 << 61;
+
+/// A life of a server over a shelf. [`Shelf::begin_life`](crate::Shelf::begin_life) alone makes it,
+/// and no copy of it can be made.
+#[derive(Drop)]
+pub struct Life {
+    floor: Incarnation,
+    below: u64,
+}
+
+impl Model for Life {
+    ghost use Rattle.std.specs.Prelude.{◌<◌, ◌≤◌};
+    ghost use Rattle.cb_page.specs.Numbers.{max_number};
+    ghost use Rattle.cb_shelf.specs.Living.{LifeState};
+
+    ghost Value = { LifeState };
+
+    ghost view = { λ life. record { floor = life.floor; below = life.below } };
+
+    ghost invariant = { λ life. (life.floor < life.below) × (life.below ≤ max_number) };
+}
+
+impl Life {
+    /// The floor: its server ignores what any incarnation below it sent.
+    pub fn floor(&self) -> Incarnation
+        ensures { result ≡ self.now.floor }
+    {
+        self.floor
+    }
+
+    /// Whether the tables have room for a Hello of this incarnation.
+    pub fn has_room_for(&self, incarnation: Incarnation) -> bool
+        ensures { result ≡ nat_lt incarnation self.now.below }
+    {
+        incarnation.get() < self.below
+    }
+}
+
+/// Finds the number below which all incarnations are that former lives' servers knew.
+fn find_below<S: Alter>(tx: &mut Transaction<'_, S>) -> Result<u64, ShelfFault>
+    ensures same_reference { tx.new.conn.ghost_name ≡ tx.old.conn.ghost_name }
+    ensures inside { Inside S.Store IsAny tx.old.conn.now tx.new.conn.now result }
+    ensures tells { Tells S.Store TellsBelow TellsNone tx.old.conn.now tx.new.conn.now result }
+{
+    let there = is_there(tx, "SELECT below FROM life WHERE id = 1")?;
+    if !there {
+        return Ok(UNKEPT);
+    }
+    ask_number(tx, "SELECT below FROM life WHERE id = 1", &[])
+}
+
+/// Finds it in a transaction that is taken back.
+fn look_below<S: Alter>(conn: &mut Connection<S>) -> Result<u64, ShelfFault>
+    ensures told { HasCleanDisk (state S.Store conn.new)
+        → IfOk result (TellsBelow (state S.Store conn.old).now) }
+    ensures shape { HasCleanDisk (state S.Store conn.new) → result ≡ Err ShelfFault.Shape
+        → TellsNone (state S.Store conn.old).now }
+    ensures same { HasCleanDisk (state S.Store conn.new)
+        → IsSame (state S.Store conn.old) (state S.Store conn.new) }
+    ensures mode { conn.new.in_transaction ≡ conn.old.in_transaction }
+    ensures crash { Survives (state S.Store conn.old) (state S.Store conn.new) (λ _. ⊥) }
+{
+    if !conn.is_autocommit() {
+        return Err(ShelfFault::Store);
+    }
+    let mut tx = conn.transaction();
+    let found = find_below(&mut tx);
+    tx.rollback();
+    found
+}
+
+/// The life from this number on.
+fn life_from(below: u64) -> Result<Life, ShelfFault>
+    ensures ok { IfOk result (λ life. (life ≡ life_from below) × HasLifeFrom below) }
+    ensures err { OnErr result (¬ HasLifeFrom below) }
+{
+    if below < 1 || below > MAX_NUMBER - RANGE {
+        return Err(ShelfFault::Shape);
+    }
+    Ok(Life {
+        floor: Incarnation::new(below),
+        below: below + RANGE,
+    })
+}
+
+/// Puts the row of a life in, or sets it.
+fn put_life<S: Alter>(tx: &mut Transaction<'_, S>, life: &Life) -> Result<(), ShelfFault>
+    ensures same_reference { tx.new.conn.ghost_name ≡ tx.old.conn.ghost_name }
+    ensures inside { Inside S.Store (MakesAll S.Store (life_row life.now ∷ []))
+        tx.old.conn.now tx.new.conn.now result }
+    ensures open { HasCleanDisk (state S.Store tx.new.conn.now)
+        → IsTrue tx.old.conn.now.in_transaction
+        → OnOk result (IsTrue (state S.Store tx.old.conn.now).is_open) }
+    ensures fault { result ≢ Err ShelfFault.Shape }
+{
+    run(
+        tx,
+        "INSERT OR REPLACE INTO life (id, floor, below) VALUES (1, ?1, ?2)",
+        params![life.floor.get() as i64, life.below as i64],
+    )
+}
+
+/// Makes the table where there is none, and puts the row in.
+fn put_begin<S: Alter>(tx: &mut Transaction<'_, S>, life: &Life) -> Result<(), ShelfFault>
+    ensures same_reference { tx.new.conn.ghost_name ≡ tx.old.conn.ghost_name }
+    ensures inside { Inside S.Store (MakesAll S.Store (life_statements life.now))
+        tx.old.conn.now tx.new.conn.now result }
+    ensures open { HasCleanDisk (state S.Store tx.new.conn.now)
+        → IsTrue tx.old.conn.now.in_transaction
+        → OnOk result (IsTrue (state S.Store tx.old.conn.now).is_open) }
+    ensures fault { result ≢ Err ShelfFault.Shape }
+{
+    run(
+        tx,
+        "CREATE TABLE IF NOT EXISTS life(id INTEGER PRIMARY KEY, floor INTEGER NOT NULL, \
+        below INTEGER NOT NULL) STRICT",
+        &[],
+    )?;
+    put_life(tx, life)
+}
+
+/// Writes the row that a life begins with, in one transaction.
+fn write_begin<S: Alter>(conn: &mut Connection<S>, life: &Life) -> Result<(), ShelfFault>
+    ensures made { HasCleanDisk (state S.Store conn.new)
+        → OnOk result (MakesAll S.Store (life_statements life.now) (state S.Store conn.old).now
+        (state S.Store conn.new).committed) }
+    ensures open { HasCleanDisk (state S.Store conn.new)
+        → OnOk result (IsTrue (state S.Store conn.old).is_open) }
+    ensures neither { HasCleanDisk (state S.Store conn.new)
+        → OnErr result (IsSame (state S.Store conn.old) (state S.Store conn.new)) }
+    ensures settled { HasCleanDisk (state S.Store conn.new)
+        → OnOk result (IsSettled (state S.Store conn.new)) }
+    ensures mode { conn.new.in_transaction ≡ conn.old.in_transaction }
+    ensures crash { Survives (state S.Store conn.old) (state S.Store conn.new)
+        (LaidBy S.Store (life_statements life.now) conn.old) }
+    ensures fault { result ≢ Err ShelfFault.Shape }
+{
+    if !conn.is_autocommit() {
+        return Err(ShelfFault::Store);
+    }
+    let mut tx = conn.transaction();
+    put_begin(&mut tx, life)?;
+    tx.commit()?;
+    Ok(())
+}
+
+/// Begins the next life.
+pub(crate) fn begin<S: Alter>(conn: &mut Connection<S>) -> Result<Life, ShelfFault>
+    ensures follows { HasCleanDisk (state S.Store conn.new)
+        → IfOk result (Follows (state S.Store conn.old).now) }
+    ensures made { HasCleanDisk (state S.Store conn.new)
+        → IfOk result (λ life. MakesAll S.Store (life_statements life)
+        (state S.Store conn.old).now (state S.Store conn.new).committed) }
+    ensures settled { HasCleanDisk (state S.Store conn.new)
+        → OnOk result (IsSettled (state S.Store conn.new)) }
+    ensures neither { HasCleanDisk (state S.Store conn.new)
+        → OnErr result (IsSame (state S.Store conn.old) (state S.Store conn.new)) }
+    ensures shape { HasCleanDisk (state S.Store conn.new) → result ≡ Err ShelfFault.Shape
+        → EndsLives (state S.Store conn.old).now }
+    ensures mode { conn.new.in_transaction ≡ conn.old.in_transaction }
+    ensures crash { Survives (state S.Store conn.old) (state S.Store conn.new)
+        (Begun S.Store conn.old) }
+{
+    let below = look_below(conn)?;
+    let life = life_from(below)?;
+    write_begin(conn, &life)?;
+    Ok(life)
+}
+
+/// Sets the row of a life, in one transaction.
+fn write_row<S: Alter>(conn: &mut Connection<S>, life: &Life) -> Result<(), ShelfFault>
+    ensures made { HasCleanDisk (state S.Store conn.new)
+        → OnOk result (MakesAll S.Store (life_row life.now ∷ []) (state S.Store conn.old).now
+        (state S.Store conn.new).committed) }
+    ensures neither { HasCleanDisk (state S.Store conn.new)
+        → OnErr result (IsSame (state S.Store conn.old) (state S.Store conn.new)) }
+    ensures settled { HasCleanDisk (state S.Store conn.new)
+        → OnOk result (IsSettled (state S.Store conn.new)) }
+    ensures mode { conn.new.in_transaction ≡ conn.old.in_transaction }
+    ensures crash { Survives (state S.Store conn.old) (state S.Store conn.new)
+        (MadeBy S.Store (life_row life.now ∷ []) conn.old) }
+    ensures fault { result ≢ Err ShelfFault.Shape }
+{
+    if !conn.is_autocommit() {
+        return Err(ShelfFault::Store);
+    }
+    let mut tx = conn.transaction();
+    put_life(&mut tx, life)?;
+    tx.commit()?;
+    Ok(())
+}
+
+/// Gives the life room for an incarnation.
+pub(crate) fn raise<S: Alter>(
+    conn: &mut Connection<S>,
+    life: &mut Life,
+    incarnation: Incarnation,
+) -> Result<(), ShelfFault>
+    requires beyond { life.old.below ≤ incarnation }
+    requires room { incarnation < raise_end }
+    ensures raised { OnOk result (life.new ≡ raised life.old incarnation) }
+    ensures kept { OnErr result (life.new ≡ life.old) }
+    ensures made { HasCleanDisk (state S.Store conn.new)
+        → OnOk result (MakesAll S.Store (life_row (raised life.old incarnation) ∷ [])
+        (state S.Store conn.old).now (state S.Store conn.new).committed) }
+    ensures neither { HasCleanDisk (state S.Store conn.new)
+        → OnErr result (IsSame (state S.Store conn.old) (state S.Store conn.new)) }
+    ensures settled { HasCleanDisk (state S.Store conn.new)
+        → OnOk result (IsSettled (state S.Store conn.new)) }
+    ensures mode { conn.new.in_transaction ≡ conn.old.in_transaction }
+    ensures crash { Survives (state S.Store conn.old) (state S.Store conn.new)
+        (MadeBy S.Store (life_row (raised life.old incarnation) ∷ []) conn.old) }
+    ensures fault { result ≢ Err ShelfFault.Shape }
+{
+    let next = Life {
+        floor: life.floor,
+        below: incarnation.get() + RANGE,
+    };
+    write_row(conn, &next)?;
+    *life = next;
+    Ok(())
+}
