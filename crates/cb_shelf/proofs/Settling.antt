@@ -7,7 +7,8 @@ use Rattle.sqlite.proofs.StateLemmas.{survives_then}
 use Rattle.sqlite.proofs.Callers.{survives_begin}
 use Rattle.cb_sql.specs.Statements.{Statement, MakesAll}
 use Rattle.cb_sql.specs.Inside.{Inside, IsSame}
-use Rattle.cb_shelf.specs.Living.{Begun, LifeState, TellsBelow, life_from, life_statements}
+use Rattle.cb_shelf.specs.LifeRows.{LifeState}
+use Rattle.cb_shelf.specs.Living.{Begun, TellsBelow, life_from, life_statements}
 use Rattle.cb_shelf.specs.Opening.{LaysOut, LaidBy, Opened, Finds, laid}
 use Rattle.cb_shelf.specs.declared.opening.Found.TheVariants.{Nothing, Old}
 use Rattle.cb_page.specs.Bounds.{Bounds}

@@ -4,3 +4,4 @@ pub mod Flushing
 pub mod Events
 pub mod Newer
 pub mod Living
+pub mod LifeRows

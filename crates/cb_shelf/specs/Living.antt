@@ -1,6 +1,5 @@
 -- The lives of a server over a shelf, and the row that tells the next life of them.
-use Rattle.std.specs.Prelude.{◌≡◌, ◌⊎◌, ℕ, ◌+◌, ◌≤◌, ◌<◌, pos, true, false, List, [], ◌∷◌, codes}
-use Rattle.sqlite.specs.declared.types.Value.TheVariants.{Int}
+use Rattle.std.specs.Prelude.{◌≡◌, ◌⊎◌, ℕ, ◌+◌, ◌≤◌, true, false, List, [], ◌∷◌, codes}
 use Rattle.sqlite.specs.Store.{Ghosts}
 use Rattle.sqlite.specs.Effect.{Database}
 use Rattle.sqlite.specs.Tree.{Trees}
@@ -9,35 +8,17 @@ use Rattle.cb_page.specs.Numbers.{max_number}
 use Rattle.cb_sql.specs.Asking.{RepliesRow, RepliesElse}
 use Rattle.cb_sql.specs.Inside.{can_answer}
 use Rattle.cb_sql.specs.Statements.{Statement, MakesAll}
+use Rattle.cb_shelf.specs.LifeRows.{LifeState, life_row, life_table, unkept_below}
 use Rattle.cb_shelf.specs.Opening.{plain}
 use Rattle.cb_shelf.specs.Reading.{question, number_values, IsNumber}
-
--- A life of a server: its floor, and a number above each incarnation that its server may know.
-pub record LifeState : Type 0 where
-  pub floor : ℕ
-  pub below : ℕ
 
 -- so many incarnations more may greet the server before the row is written again
 abbrev pub life_range : ℕ
 life_range = 1048576
 
--- Above each incarnation that a server may know which kept no such row: 2^61 (this project's rule).
-abbrev pub unkept_below : ℕ
-unkept_below = 2305843009213693952
-
 -- From here on, 2^61 + 2^60, no incarnation is given room: so 2^40 lives are left, whoever greets.
 abbrev pub raise_end : ℕ
 raise_end = 3458764513820540928
-
-abbrev pub life_table : List ℕ
-life_table = codes "CREATE TABLE IF NOT EXISTS life(id INTEGER PRIMARY KEY, floor INTEGER NOT NULL, below INTEGER NOT NULL) STRICT"
-
--- puts the one row in, or sets it
-abbrev pub life_row : LifeState → Statement
-life_row life = record {
-  text = codes "INSERT OR REPLACE INTO life (id, floor, below) VALUES (1, ?1, ?2)";
-  params = Int (pos life.floor) ∷ Int (pos life.below) ∷ [];
-}
 
 -- what a life begins with
 abbrev pub life_statements : LifeState → List Statement

@@ -20,6 +20,7 @@ use Rattle.cb_sql.specs.Statements.{Statement, MakesAll, page_statements}
 use Rattle.cb_sql.specs.declared.writing.PageRows.TheVariants.{Absent}
 use Rattle.cb_sql.specs.Asking.{RepliesRow, RepliesElse}
 use Rattle.cb_shelf.specs.declared.reading.Generation.TheVariants.{Older, Newer}
+use Rattle.cb_shelf.specs.LifeRows.{life_row, life_table, unserved}
 use Rattle.cb_shelf.specs.Reading.{question, number_values, IsNumber, Holds, Misfits}
 
 -- a statement with no parameters
@@ -37,9 +38,10 @@ abbrev pub part_table : List ℕ
 part_table = codes "CREATE TABLE part(no INTEGER NOT NULL, place INTEGER NOT NULL, "
     ++ codes "body BLOB NOT NULL, PRIMARY KEY(no, place)) STRICT"
 
--- makes the three tables
+-- makes the four tables
 abbrev pub table_statements : List Statement
-table_statements = plain mark_table ∷ plain page_table ∷ plain part_table ∷ []
+table_statements =
+    plain mark_table ∷ plain page_table ∷ plain part_table ∷ plain life_table ∷ []
 
 -- puts a page of a store in
 abbrev pub stored_statements : StoreState → ℕ → List Statement
@@ -65,7 +67,7 @@ clear_statements = plain (codes "DELETE FROM page") ∷ plain (codes "DELETE FRO
 abbrev pub laid : StoreState → Bool → List Statement
 laid store copied = table_statements
     ++ (first_pages store (length store.pages)
-    ++ (mark_row store ∷ (if copied then clear_statements else [])))
+    ++ (mark_row store ∷ life_row (unserved copied) ∷ (if copied then clear_statements else [])))
 
 -- a database that statements make of the one which an open connection sees
 abbrev pub LaidBy : {S : Type 0} → Ghosts S → List Statement → Held S → Trees → Type 0

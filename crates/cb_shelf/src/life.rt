@@ -5,10 +5,11 @@ ghost use Rattle.sqlite.specs.State.{HasCleanDisk, Survives};
 ghost use Rattle.sqlite.specs.Held.{state};
 ghost use Rattle.cb_sql.specs.Statements.{MakesAll};
 ghost use Rattle.cb_sql.specs.Inside.{Inside, IsAny, IsSame, IsSettled, Tells};
+ghost use Rattle.cb_page.specs.Numbers.{max_number};
+ghost use Rattle.cb_shelf.specs.LifeRows.{life_row, life_table, unserved};
 ghost use Rattle.cb_shelf.specs.Living.{Begun, EndsLives, Follows, HasLifeFrom, MadeBy, TellsBelow};
-ghost use Rattle.cb_shelf.specs.Living.{TellsNone, life_from, life_row, life_statements, raise_end};
-ghost use Rattle.cb_shelf.specs.Living.{raised};
-ghost use Rattle.cb_shelf.specs.Opening.{LaidBy};
+ghost use Rattle.cb_shelf.specs.Living.{TellsNone, life_from, life_statements, raise_end, raised};
+ghost use Rattle.cb_shelf.specs.Opening.{LaidBy, plain};
 
 use crate::reading::ask_number;
 use cb_page::{Incarnation, MAX_NUMBER};
@@ -33,7 +34,7 @@ pub struct Life {
 impl Model for Life {
     ghost use Rattle.std.specs.Prelude.{◌<◌, ◌≤◌};
     ghost use Rattle.cb_page.specs.Numbers.{max_number};
-    ghost use Rattle.cb_shelf.specs.Living.{LifeState};
+    ghost use Rattle.cb_shelf.specs.LifeRows.{LifeState};
 
     ghost Value = { LifeState };
 
@@ -105,27 +106,10 @@ fn life_from(below: u64) -> Result<Life, ShelfFault>
     })
 }
 
-/// Puts the row of a life in, or sets it.
-fn put_life<S: Alter>(tx: &mut Transaction<'_, S>, life: &Life) -> Result<(), ShelfFault>
+/// Makes the table, where there is none.
+pub(crate) fn create_table<S: Alter>(tx: &mut Transaction<'_, S>) -> Result<(), ShelfFault>
     ensures same_reference { tx.new.conn.ghost_name ≡ tx.old.conn.ghost_name }
-    ensures inside { Inside S.Store (MakesAll S.Store (life_row life.now ∷ []))
-        tx.old.conn.now tx.new.conn.now result }
-    ensures open { HasCleanDisk (state S.Store tx.new.conn.now)
-        → IsTrue tx.old.conn.now.in_transaction
-        → OnOk result (IsTrue (state S.Store tx.old.conn.now).is_open) }
-    ensures fault { result ≢ Err ShelfFault.Shape }
-{
-    run(
-        tx,
-        "INSERT OR REPLACE INTO life (id, floor, below) VALUES (1, ?1, ?2)",
-        params![life.floor.get() as i64, life.below as i64],
-    )
-}
-
-/// Makes the table where there is none, and puts the row in.
-fn put_begin<S: Alter>(tx: &mut Transaction<'_, S>, life: &Life) -> Result<(), ShelfFault>
-    ensures same_reference { tx.new.conn.ghost_name ≡ tx.old.conn.ghost_name }
-    ensures inside { Inside S.Store (MakesAll S.Store (life_statements life.now))
+    ensures inside { Inside S.Store (MakesAll S.Store (plain life_table ∷ []))
         tx.old.conn.now tx.new.conn.now result }
     ensures open { HasCleanDisk (state S.Store tx.new.conn.now)
         → IsTrue tx.old.conn.now.in_transaction
@@ -137,7 +121,60 @@ fn put_begin<S: Alter>(tx: &mut Transaction<'_, S>, life: &Life) -> Result<(), S
         "CREATE TABLE IF NOT EXISTS life(id INTEGER PRIMARY KEY, floor INTEGER NOT NULL, \
         below INTEGER NOT NULL) STRICT",
         &[],
-    )?;
+    )
+}
+
+/// Puts the row in, or sets it.
+fn put_row<S: Alter>(tx: &mut Transaction<'_, S>, floor: u64, below: u64) -> Result<(), ShelfFault>
+    requires floor { floor ≤ max_number }
+    requires below { below ≤ max_number }
+    ensures same_reference { tx.new.conn.ghost_name ≡ tx.old.conn.ghost_name }
+    ensures inside { Inside S.Store
+        (MakesAll S.Store (life_row (record { floor = floor; below = below }) ∷ []))
+        tx.old.conn.now tx.new.conn.now result }
+    ensures fault { result ≢ Err ShelfFault.Shape }
+{
+    run(
+        tx,
+        "INSERT OR REPLACE INTO life (id, floor, below) VALUES (1, ?1, ?2)",
+        params![floor as i64, below as i64],
+    )
+}
+
+/// Puts the row of a life.
+fn put_life<S: Alter>(tx: &mut Transaction<'_, S>, life: &Life) -> Result<(), ShelfFault>
+    ensures same_reference { tx.new.conn.ghost_name ≡ tx.old.conn.ghost_name }
+    ensures inside { Inside S.Store (MakesAll S.Store (life_row life.now ∷ []))
+        tx.old.conn.now tx.new.conn.now result }
+    ensures fault { result ≢ Err ShelfFault.Shape }
+{
+    put_row(tx, life.floor.get(), life.below)
+}
+
+/// Puts the row of tables that no server has served, but for those that they are copied from.
+pub(crate) fn put_unserved<S: Alter>(
+    tx: &mut Transaction<'_, S>,
+    copied: bool,
+) -> Result<(), ShelfFault>
+    ensures same_reference { tx.new.conn.ghost_name ≡ tx.old.conn.ghost_name }
+    ensures inside { Inside S.Store (MakesAll S.Store (life_row (unserved copied) ∷ []))
+        tx.old.conn.now tx.new.conn.now result }
+    ensures fault { result ≢ Err ShelfFault.Shape }
+{
+    put_row(tx, 0, if copied { UNKEPT } else { 1 })
+}
+
+/// Makes the table where there is none, and puts the row of a life.
+fn put_begin<S: Alter>(tx: &mut Transaction<'_, S>, life: &Life) -> Result<(), ShelfFault>
+    ensures same_reference { tx.new.conn.ghost_name ≡ tx.old.conn.ghost_name }
+    ensures inside { Inside S.Store (MakesAll S.Store (life_statements life.now))
+        tx.old.conn.now tx.new.conn.now result }
+    ensures open { HasCleanDisk (state S.Store tx.new.conn.now)
+        → IsTrue tx.old.conn.now.in_transaction
+        → OnOk result (IsTrue (state S.Store tx.old.conn.now).is_open) }
+    ensures fault { result ≢ Err ShelfFault.Shape }
+{
+    create_table(tx)?;
     put_life(tx, life)
 }
 

@@ -13,6 +13,7 @@ ghost use Rattle.cb_shelf.specs.Opening.{IsMixed, tables_of, IsFoundIn, Finds, M
 ghost use Rattle.cb_shelf.specs.Opening.{Misshapen};
 ghost use Rattle.cb_shelf.specs.Opening.{clear_statements, first_pages, laid, mark_row};
 
+use crate::life::{create_table, put_unserved};
 use crate::reading::{Generation, ask_number, read_store};
 use cb_commit::Store;
 use cb_page::{Limits, PageNo};
@@ -215,7 +216,7 @@ fn look<S: Alter>(
     found
 }
 
-/// Makes the three tables.
+/// Makes the four tables.
 fn create_tables<S: Alter>(tx: &mut Transaction<'_, S>) -> Result<(), ShelfFault>
     ensures same_reference { tx.new.conn.ghost_name ≡ tx.old.conn.ghost_name }
     ensures inside { Inside S.Store (MakesAll S.Store table_statements)
@@ -241,7 +242,8 @@ fn create_tables<S: Alter>(tx: &mut Transaction<'_, S>) -> Result<(), ShelfFault
         "CREATE TABLE part(no INTEGER NOT NULL, place INTEGER NOT NULL, \
         body BLOB NOT NULL, PRIMARY KEY(no, place)) STRICT",
         &[],
-    )
+    )?;
+    create_table(tx)
 }
 
 /// Puts all pages of a store in.
@@ -327,6 +329,7 @@ fn put_tables<S: Alter>(
     create_tables(tx)?;
     put_store(tx, store, limits.pages())?;
     put_row(tx, store, limits)?;
+    put_unserved(tx, copied)?;
     clear_old(tx, copied)
 }
 
