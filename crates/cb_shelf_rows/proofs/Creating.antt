@@ -18,9 +18,10 @@ use Rattle.sqlite.specs.Listing.{understood}
 use Rattle.sqlite.specs.State.{State, Writes, Executes}
 use Rattle.sqlite.proofs.Callers.{command_of, statement_of, runs_as}
 use Rattle.cb_sql.specs.Statements.{Makes, MakesAll}
+use Rattle.cb_shelf.specs.LifeRows as life
 use Rattle.cb_shelf.specs.Opening as text
 use Rattle.cb_shelf.specs.Opening.{plain, table_statements}
-use Rattle.cb_shelf_rows.specs.Tables.{no_schema, old_schema, found_schema, schema, old_page_text, old_mark_text, old_page_table, old_mark_table, old_statements, mark_table, page_table, part_table, mark_tree, page_tree, part_tree}
+use Rattle.cb_shelf_rows.specs.Tables.{no_schema, old_schema, found_schema, schema, old_page_text, old_mark_text, old_page_table, old_mark_table, old_statements, unlived_schema, mark_table, page_table, part_table, life_table, mark_tree, page_tree, part_tree, life_tree}
 use Rattle.cb_shelf_rows.specs.Rows.{IsShelf, HasNoRows}
 use Rattle.cb_shelf_rows.proofs.Replacing.{went, same_value}
 
@@ -55,6 +56,11 @@ part_creates : (older : Bool) → Creates (two older) text.part_table part_table
 unfolding understood everything
 part_creates true = record { command = refl; plain = (refl, refl); whole = refl; defined = refl; uncounted = refl }
 part_creates false = record { command = refl; plain = (refl, refl); whole = refl; defined = refl; uncounted = refl }
+
+life_creates : (older : Bool) → Creates (unlived_schema older) life.life_table life_table
+unfolding understood everything
+life_creates true = record { command = refl; plain = (refl, refl); whole = refl; defined = refl; uncounted = refl }
+life_creates false = record { command = refl; plain = (refl, refl); whole = refl; defined = refl; uncounted = refl }
 
 old_page_creates : Creates no_schema old_page_text old_page_table
 unfolding understood everything
@@ -97,7 +103,7 @@ old_made g before after has m =
     let second = makes g (created no_schema old_page_table) old_mark_text old_mark_table m.0 m.2.0 old_mark_creates first.is m.2.1 in
     ap (λ (d : Database). d.schema) (sym m.2.2) ∙ second.is
 
--- ---- the three tables
+-- ---- the four tables
 
 first_is : (older : Bool) → created (found_schema older) mark_table ≡ one older
 first_is true = refl
@@ -107,9 +113,13 @@ second_is : (older : Bool) → created (one older) page_table ≡ two older
 second_is true = refl
 second_is false = refl
 
-third_is : (older : Bool) → created (two older) part_table ≡ schema older
+third_is : (older : Bool) → created (two older) part_table ≡ unlived_schema older
 third_is true = refl
 third_is false = refl
+
+fourth_is : (older : Bool) → created (unlived_schema older) life_table ≡ schema older
+fourth_is true = refl
+fourth_is false = refl
 
 mark_next : (older : Bool) → next_tree (found_schema older) ≡ mark_tree older
 mark_next true = refl
@@ -123,6 +133,10 @@ part_next : (older : Bool) → next_tree (two older) ≡ part_tree older
 part_next true = refl
 part_next false = refl
 
+life_next : (older : Bool) → next_tree (unlived_schema older) ≡ life_tree older
+life_next true = refl
+life_next false = refl
+
 keeps_one : (older : Bool) (a b : Trees) → KeepsRows (one older).tables a b → b (mark_tree older) ≡ a (mark_tree older)
 keeps_one true a b h = h.1.1.0
 keeps_one false a b h = h.0
@@ -131,23 +145,32 @@ keeps_two : (older : Bool) (a b : Trees) → KeepsRows (two older).tables a b �
 keeps_two true a b h = (h.1.1.0, h.1.1.1.0)
 keeps_two false a b h = (h.0, h.1.0)
 
--- the three tables are there, with no row
+keeps_three : (older : Bool) (a b : Trees) → KeepsRows (unlived_schema older).tables a b → (b (mark_tree older) ≡ a (mark_tree older)) × (b (page_tree older) ≡ a (page_tree older)) × (b (part_tree older) ≡ a (part_tree older))
+keeps_three true a b h = (h.1.1.0, h.1.1.1.0, h.1.1.1.1.0)
+keeps_three false a b h = (h.0, h.1.0, h.1.1.0)
+
+-- the four tables are there, with no row
 pub tables_made : {S : Type 0} (g : Ghosts S) (older : Bool) (before after : Database) → before.schema ≡ found_schema older → MakesAll g table_statements before after → IsShelf older after × HasNoRows older after
 tables_made g older before after has m =
     let first = makes g (found_schema older) text.mark_table mark_table before m.0 (mark_creates older) has m.1 in
     let second = makes g (one older) text.page_table page_table m.0 m.2.0 (page_creates older) (first.is ∙ first_is older) m.2.1 in
     let third = makes g (two older) text.part_table part_table m.2.0 m.2.2.0 (part_creates older) (second.is ∙ second_is older) m.2.2.1 in
-    let last = m.2.2.2 in
+    let fourth = makes g (unlived_schema older) life.life_table life_table m.2.2.0 m.2.2.2.0 (life_creates older) (third.is ∙ third_is older) m.2.2.2.1 in
+    let last = m.2.2.2.2 in
+    let db = m.2.2.2.0.trees in
     let kept = keeps_two older m.2.0.trees m.2.2.0.trees third.others in
-    let marks : m.2.2.0.trees (mark_tree older) ≡ [] = kept.0 ∙ keeps_one older m.0.trees m.2.0.trees second.others ∙ subst (λ t. m.0.trees t ≡ []) (mark_next older) first.empty in
-    let pages : m.2.2.0.trees (page_tree older) ≡ [] = kept.1 ∙ subst (λ t. m.2.0.trees t ≡ []) (page_next older) second.empty in
-    let parts : m.2.2.0.trees (part_tree older) ≡ [] = subst (λ t. m.2.2.0.trees t ≡ []) (part_next older) third.empty in
-    let none : HasNoRows older m.2.2.0 = record { marks = marks; pages = pages; parts = parts } in (
+    let still = keeps_three older m.2.2.0.trees db fourth.others in
+    let marks : db (mark_tree older) ≡ [] = still.0 ∙ kept.0 ∙ keeps_one older m.0.trees m.2.0.trees second.others ∙ subst (λ t. m.0.trees t ≡ []) (mark_next older) first.empty in
+    let pages : db (page_tree older) ≡ [] = still.1 ∙ kept.1 ∙ subst (λ t. m.2.0.trees t ≡ []) (page_next older) second.empty in
+    let parts : db (part_tree older) ≡ [] = still.2 ∙ subst (λ t. m.2.2.0.trees t ≡ []) (part_next older) third.empty in
+    let lives : db (life_tree older) ≡ [] = subst (λ t. db t ≡ []) (life_next older) fourth.empty in
+    let none : HasNoRows older m.2.2.2.0 = record { marks = marks; pages = pages; parts = parts; lives = lives } in (
       subst (IsShelf older) last (record {
-        schema = third.is ∙ third_is older;
+        schema = fourth.is ∙ fourth_is older;
         marks = subst (IsShaped shape) (sym marks) (tt, tt);
         pages = subst (IsShaped shape) (sym pages) (tt, tt);
         parts = subst (IsShaped shape) (sym parts) (tt, tt);
+        lives = subst (IsShaped shape) (sym lives) (tt, tt);
       }),
       subst (HasNoRows older) last none,
     )

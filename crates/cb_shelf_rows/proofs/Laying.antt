@@ -27,15 +27,17 @@ use Rattle.sqlite.proofs.Callers.{command_of, runs_as, one_step}
 use Rattle.cb_commit.specs.Stores.{StoreState, IsSound, no_page, version_at, bytes_at}
 use Rattle.cb_sql.specs.Statements.{Makes, MakesAll, part_at, part_count}
 use Rattle.cb_sql.specs.declared.writing.PageRows.TheVariants.{Absent}
+use Rattle.cb_shelf.specs.LifeRows.{life_row, unserved}
 use Rattle.cb_shelf.specs.Opening.{plain, stored_statements, first_pages, mark_row, laid, table_statements, clear_statements}
-use Rattle.cb_shelf_rows.specs.Tables.{schema, found_schema, old_page_table, old_mark_table, mark_tree, page_tree, part_tree}
+use Rattle.cb_shelf_rows.specs.Tables.{schema, found_schema, old_page_table, old_mark_table, mark_tree, page_tree, part_tree, life_tree}
 use Rattle.cb_shelf_rows.specs.Rows.{IsShelf, is_of_page, is_at, page_rows, part_rows, mark_columns, SetsNumber, HasVersion, HasPart, HasStore, HasFullPages}
 use Rattle.cb_shelf_rows.proofs.Creating.{tables_made}
+use Rattle.cb_shelf_rows.proofs.Living.{life_puts}
 use Rattle.cb_shelf_rows.proofs.Marking as marking
 use Rattle.cb_shelf_rows.proofs.Marking.{mark_cast}
 use Rattle.cb_shelf_rows.proofs.Paging.{has_or_not, in_range, makes_split, puts_page}
 use Rattle.cb_shelf_rows.proofs.Replacing.{went, same_value}
-use Rattle.cb_shelf_rows.proofs.Schemas.{mark_table, mark_there, mark_clear, page_clear, part_clear, no_works, did}
+use Rattle.cb_shelf_rows.proofs.Schemas.{mark_table, mark_there, mark_clear, page_clear, part_clear, life_clear, no_works, did}
 use Rattle.cb_shelf_rows.proofs.Texts.{clear_page_text, clear_mark_text, clear_query, clear_page, clear_page_plain, clear_mark, clear_mark_plain, first_text, first_terms, first_put, first_plain}
 
 module _ (older : Bool) where
@@ -60,16 +62,19 @@ module _ (older : Bool) where
       let marks : new.now.trees (mark_tree older) ≡ row ∷ [] = ap (λ (t : Trees). t (mark_tree older)) trees ∙ a.rows ∙ edit in
       let versions = ap (λ (t : Trees). t (page_tree older)) trees ∙ a.others (page_tree older) (λ e. omega (arith, e)) (page_clear older) in
       let parts = ap (λ (t : Trees). t (part_tree older)) trees ∙ a.others (part_tree older) (λ e. omega (arith, e)) (part_clear older) in
+      let lives = ap (λ (t : Trees). t (life_tree older)) trees ∙ a.others (life_tree older) (λ e. omega (arith, e)) (life_clear older) in
       record {
         shelf = record {
           schema = ap (λ (d : Database). d.schema) now;
           marks = subst (IsShaped shape) (sym marks) ((tt, tt), (refl, tt));
           pages = subst (IsShaped shape) (sym versions) shelf.pages;
           parts = subst (IsShaped shape) (sym parts) shelf.parts;
+          lives = subst (IsShaped shape) (sym lives) shelf.lives;
         };
         put = ap (map mark_columns) marks;
         versions = versions;
         parts = parts;
+        lives = lives;
       }
 
   first_set : {S : Type 0} (g : Ghosts S) (before after : Database) (store : StoreState) → IsShelf older before → before.trees (mark_tree older) ≡ [] → Makes g (mark_row store) before after
@@ -85,6 +90,7 @@ module _ (older : Bool) where
     other_versions : (page : ℕ) → (Has pages page → ⊥) → page_rows older after page ≡ page_rows older before page
     other_parts : (page at : ℕ) → (Has pages page → ⊥) → part_rows older after page at ≡ part_rows older before page at
     marks : after.trees (mark_tree older) ≡ before.trees (mark_tree older)
+    lives : after.trees (life_tree older) ≡ before.trees (life_tree older)
 
   puts_pages : {S : Type 0} (g : Ghosts S) (store : StoreState) (pages : List ℕ) (before after : Database) → IsShelf older before → MakesAll g (flat_map (stored_statements store) pages) before after → HasPages store pages before after
   puts_pages g store [] before after shelf m = record {
@@ -94,6 +100,7 @@ module _ (older : Bool) where
     other_versions = λ page none. ap (λ (d : Database). (page_rows older) d page) (sym m);
     other_parts = λ page at none. ap (λ (d : Database). (part_rows older) d page at) (sym m);
     marks = ap (λ (d : Database). d.trees (mark_tree older)) (sym m);
+    lives = ap (λ (d : Database). d.trees (life_tree older)) (sym m);
   }
   puts_pages g store (page ∷ pages) before after shelf m =
       let split = makes_split g (stored_statements store page) (flat_map (stored_statements store) pages) before after m in
@@ -123,6 +130,7 @@ module _ (older : Bool) where
         other_versions = λ other none. more.other_versions other (λ h. none (inr h)) ∙ p.other_versions other (λ e. none (inl e));
         other_parts = λ other at none. more.other_parts other at (λ h. none (inr h)) ∙ p.other_parts other at (λ e. none (inl e));
         marks = more.marks ∙ p.marks;
+        lives = more.lives ∙ p.lives;
       }
 
   -- a shelf's tables have the rows that they had
@@ -131,6 +139,7 @@ module _ (older : Bool) where
     marks : after.trees (mark_tree older) ≡ before.trees (mark_tree older)
     versions : after.trees (page_tree older) ≡ before.trees (page_tree older)
     parts : after.trees (part_tree older) ≡ before.trees (part_tree older)
+    lives : after.trees (life_tree older) ≡ before.trees (life_tree older)
 
 -- ---- the older tables are emptied
 
@@ -149,16 +158,19 @@ empties old new count at table sql q low is there command plain shelf h =
     let marks = ap (λ (t : Trees). t (mark_tree true)) trees ∙ a.others (mark_tree true) (λ e. omega (arith, e, low, is)) (mark_clear true) in
     let versions = ap (λ (t : Trees). t (page_tree true)) trees ∙ a.others (page_tree true) (λ e. omega (arith, e, low, is)) (page_clear true) in
     let parts = ap (λ (t : Trees). t (part_tree true)) trees ∙ a.others (part_tree true) (λ e. omega (arith, e, low, is)) (part_clear true) in
+    let lives = ap (λ (t : Trees). t (life_tree true)) trees ∙ a.others (life_tree true) (λ e. omega (arith, e, low, is)) (life_clear true) in
     record {
       shelf = record {
         schema = ap (λ (d : Database). d.schema) now;
         marks = subst (IsShaped shape) (sym marks) shelf.marks;
         pages = subst (IsShaped shape) (sym versions) shelf.pages;
         parts = subst (IsShaped shape) (sym parts) shelf.parts;
+        lives = subst (IsShaped shape) (sym lives) shelf.lives;
       };
       marks = marks;
       versions = versions;
       parts = parts;
+      lives = lives;
     }
 
 emptied : {S : Type 0} (g : Ghosts S) (before after : Database) (at : ℕ) (table : Table) (sql : List ℕ) (q : Program) → at < 2 → table.tree ≡ at → slice_get (schema true).tables at ≡ Some table
@@ -172,30 +184,32 @@ old_emptied g false before after shelf m = record {
   marks = ap (λ (d : Database). d.trees (mark_tree false)) (sym m);
   versions = ap (λ (d : Database). d.trees (page_tree false)) (sym m);
   parts = ap (λ (d : Database). d.trees (part_tree false)) (sym m);
+  lives = ap (λ (d : Database). d.trees (life_tree false)) (sym m);
 }
 old_emptied g true before after shelf m =
     let first = emptied g before m.0 0 old_page_table clear_page_text (clear_query 0) (omega arith) refl refl clear_page clear_page_plain shelf m.1 in
     let second = emptied g m.0 m.2.0 1 (record old_mark_table { tree = 1 }) clear_mark_text (clear_query 1) (omega arith) refl refl clear_mark clear_mark_plain first.shelf m.2.1 in
-    subst (Keeps true before) m.2.2 (record { shelf = second.shelf; marks = second.marks ∙ first.marks; versions = second.versions ∙ first.versions; parts = second.parts ∙ first.parts })
+    subst (Keeps true before) m.2.2 (record { shelf = second.shelf; marks = second.marks ∙ first.marks; versions = second.versions ∙ first.versions; parts = second.parts ∙ first.parts; lives = second.lives ∙ first.lives })
 
 -- a store with full pages that is put into new tables is what the rows are
 pub full_laid : {S : Type 0} (g : Ghosts S) (older : Bool) (store : StoreState) (before after : Database) → HasFullPages store → before.schema ≡ found_schema older → MakesAll g (laid store older) before after
     → HasStore older after store
 full_laid g older store before after full has m =
     let n = length store.pages in
-    let made = makes_split g table_statements (first_pages store n ++ mark_row store ∷ cond older clear_statements []) before after m in
+    let made = makes_split g table_statements (first_pages store n ++ mark_row store ∷ life_row (unserved older) ∷ cond older clear_statements []) before after m in
     let tables = tables_made g older before made.0 has made.1 in
-    let put = makes_split g (first_pages store n) (mark_row store ∷ cond older clear_statements []) made.0 after made.2 in
+    let put = makes_split g (first_pages store n) (mark_row store ∷ life_row (unserved older) ∷ cond older clear_statements []) made.0 after made.2 in
     let p = puts_pages older g store (range_with_len 0 n) made.0 put.0 tables.0 put.1 in
     let s = first_set older g put.0 put.2.0 store p.shelf (p.marks ∙ tables.1.marks) put.2.1 in
-    let k = old_emptied g older put.2.0 after s.shelf put.2.2 in
+    let l = life_puts older g put.2.0 put.2.2.0 (unserved older) s.shelf put.2.2.1 in
+    let k = old_emptied g older put.2.2.0 after l.shelf put.2.2.2 in
     let there : (page : ℕ) → page < n → Has (range_with_len 0 n) page = λ page low. in_range n 0 page (omega arith) (omega (arith, low)) in
     record {
       shelf = k.shelf;
-      mark = ap (map mark_columns) k.marks ∙ s.put;
-      versions = λ page low. ap (λ l. map (λ (r : Row). column r 2) (filter (is_of_page page) l)) (k.versions ∙ s.versions) ∙ p.versions page (there page low);
+      mark = ap (map mark_columns) (k.marks ∙ l.marks) ∙ s.put;
+      versions = λ page low. ap (λ l. map (λ (r : Row). column r 2) (filter (is_of_page page) l)) (k.versions ∙ l.pages ∙ s.versions) ∙ p.versions page (there page low);
       parts = λ page place low within.
-          ap (λ l. map (λ (r : Row). column r 3) (filter (is_at page place) l)) (k.parts ∙ s.parts)
+          ap (λ l. map (λ (r : Row). column r 3) (filter (is_at page place) l)) (k.parts ∙ l.parts ∙ s.parts)
           ∙ p.parts page place (there page low) (subst (λ k. place < part_count k) (sym (full page no_page low)) within);
     }
 

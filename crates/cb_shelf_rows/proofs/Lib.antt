@@ -5,6 +5,7 @@
 -- Replacing: what INSERT OR REPLACE of one row makes of a table.
 -- Equal: sQL's equality of a value and a number.
 -- Putting: what the statements that put a page in make of the tables.
+-- Living: what the statement that puts the row of life makes of the tables.
 -- Selecting: what a question by a key answers, by the rows that have the key.
 -- Setting: what the statements of a page whose rows are there make of the tables.
 -- Marking: what the statement of a batch's number makes of the tables.
@@ -21,6 +22,7 @@ pub mod Schemas
 pub mod Replacing
 pub mod Equal
 pub mod Putting
+pub mod Living
 pub mod Selecting
 pub mod Setting
 pub mod Marking

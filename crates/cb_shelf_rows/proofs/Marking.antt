@@ -29,12 +29,12 @@ use Rattle.sqlite.specs.Held.{state}
 use Rattle.sqlite.proofs.Callers.{runs_as, one_step}
 use Rattle.cb_sql.specs.Statements.{Makes, mark_statement}
 use Rattle.cb_shelf.specs.Reading.{mark_values}
-use Rattle.cb_shelf_rows.specs.Tables.{schema, mark_tree, page_tree, part_tree}
+use Rattle.cb_shelf_rows.specs.Tables.{schema, mark_tree, page_tree, part_tree, life_tree}
 use Rattle.cb_shelf_rows.specs.Rows.{IsShelf, mark_columns, IsMarked, SetsNumber}
 use Rattle.cb_shelf_rows.proofs.Equal.{equal_itself, cast_number, cast_null}
 use Rattle.cb_shelf_rows.proofs.Replacing.{went, same_value}
 use Rattle.cb_shelf_rows.proofs.Selecting.{program, passes, shown, tells_one}
-use Rattle.cb_shelf_rows.proofs.Schemas.{mark_table, mark_there, page_clear, part_clear, no_works, did}
+use Rattle.cb_shelf_rows.proofs.Schemas.{mark_table, mark_there, page_clear, part_clear, life_clear, no_works, did}
 use Rattle.cb_shelf_rows.proofs.Texts.{mark_text, mark_query, mark_put, mark_plain}
 
 -- one element is mapped to one
@@ -87,16 +87,19 @@ module _ (older : Bool) where
       let marks : new.now.trees (mark_tree older) ≡ row ∷ [] = ap (λ (t : Trees). t (mark_tree older)) trees ∙ a.rows ∙ edit in
       let versions = ap (λ (t : Trees). t (page_tree older)) trees ∙ a.others (page_tree older) (λ e. omega (arith, e)) (page_clear older) in
       let parts = ap (λ (t : Trees). t (part_tree older)) trees ∙ a.others (part_tree older) (λ e. omega (arith, e)) (part_clear older) in
+      let lives = ap (λ (t : Trees). t (life_tree older)) trees ∙ a.others (life_tree older) (λ e. omega (arith, e)) (life_clear older) in
       record {
         shelf = record {
           schema = ap (λ (d : Database). d.schema) now;
           marks = subst (IsShaped shape) (sym marks) ((tt, tt), (refl, tt));
           pages = subst (IsShaped shape) (sym versions) shelf.pages;
           parts = subst (IsShaped shape) (sym parts) shelf.parts;
+          lives = subst (IsShaped shape) (sym lives) shelf.lives;
         };
         put = ap (map mark_columns) marks;
         versions = versions;
         parts = parts;
+        lives = lives;
       }
 
   pub mark_sets : {S : Type 0} (g : Ghosts S) (before after : Database) (number old page_size pages : ℕ) → IsShelf older before → IsMarked older before old page_size pages → Makes g (mark_statement number) before after

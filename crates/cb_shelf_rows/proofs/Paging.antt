@@ -17,7 +17,7 @@ use Rattle.cb_sql.specs.Statements.{Statement, Makes, MakesAll, part_at, part_co
 use Rattle.cb_sql.specs.declared.writing.PageRows.{PageRows}
 use Rattle.cb_sql.specs.declared.writing.PageRows.TheVariants.{Absent, Present}
 use Rattle.cb_sql.specs.Writing.{IsOfSize, Fits}
-use Rattle.cb_shelf_rows.specs.Tables.{mark_tree, page_tree, part_tree}
+use Rattle.cb_shelf_rows.specs.Tables.{mark_tree, page_tree, part_tree, life_tree}
 use Rattle.cb_shelf_rows.specs.Rows.{IsShelf, is_of_page, is_at, page_rows, part_rows, PutsPart, mark_columns, IsMarked, HasVersion, HasPart, HasStore, IsAsLarge}
 use Rattle.cb_shelf_rows.proofs.Marking.{mark_sets, one_mapped}
 use Rattle.cb_shelf_rows.proofs.Putting.{page_puts, part_puts}
@@ -67,14 +67,15 @@ module _ (older : Bool) where
     count : length (page_rows older before page) ≡ 1 → length (after.trees (page_tree older)) ≡ length (before.trees (page_tree older))
     marks : after.trees (mark_tree older) ≡ before.trees (mark_tree older)
     parts : after.trees (part_tree older) ≡ before.trees (part_tree older)
+    lives : after.trees (life_tree older) ≡ before.trees (life_tree older)
 
   puts_version : {S : Type 0} (g : Ghosts S) (rows : PageRows) (before after : Database) (page version : ℕ) → IsShelf older before → MayPutVersion rows before page → Makes g (page_statement rows page version) before after → PutsVersionBy page version before after
   puts_version g Absent before after page version shelf may m =
       let p = page_puts older g before after page version shelf m in
-      record { shelf = p.shelf; put = ap (map (λ (r : Row). column r 2)) p.put; others = p.others; count = λ one. omega (arith, p.count, one); marks = p.marks; parts = p.parts }
+      record { shelf = p.shelf; put = ap (map (λ (r : Row). column r 2)) p.put; others = p.others; count = λ one. omega (arith, p.count, one); marks = p.marks; parts = p.parts; lives = p.lives }
   puts_version g Present before after page version shelf may m =
       let p = page_sets older g before after page may.0 version shelf may.1 m in
-      record { shelf = p.shelf; put = p.put; others = p.others; count = λ one. p.count; marks = p.marks; parts = p.parts }
+      record { shelf = p.shelf; put = p.put; others = p.others; count = λ one. p.count; marks = p.marks; parts = p.parts; lives = p.lives }
 
   -- ---- the parts of a page
 
@@ -107,15 +108,16 @@ module _ (older : Bool) where
     count : length (part_rows older before page place) ≡ 1 → length (after.trees (part_tree older)) ≡ length (before.trees (part_tree older))
     marks : after.trees (mark_tree older) ≡ before.trees (mark_tree older)
     pages : after.trees (page_tree older) ≡ before.trees (page_tree older)
+    lives : after.trees (life_tree older) ≡ before.trees (life_tree older)
 
   puts_part : {S : Type 0} (g : Ghosts S) (rows : PageRows) (before after : Database) (page place : ℕ) (bytes : List ℕ) → IsShelf older before → MayPutPart rows before page place → Makes g (part_statement rows page bytes place) before after
       → PutsPartBy page place (part_at bytes place) before after
   puts_part g Absent before after page place bytes shelf may m =
       let p = part_puts older g before after page place bytes shelf m in
-      record { shelf = p.shelf; put = part_there page place (part_at bytes place) before after p; others = p.others; count = λ one. omega (arith, p.count, one); marks = p.marks; pages = p.pages }
+      record { shelf = p.shelf; put = part_there page place (part_at bytes place) before after p; others = p.others; count = λ one. omega (arith, p.count, one); marks = p.marks; pages = p.pages; lives = p.lives }
   puts_part g Present before after page place bytes shelf may m =
       let p = part_sets older g before after page place may.0 bytes shelf may.1 m in
-      record { shelf = p.shelf; put = p.put; others = p.others; count = λ one. p.count; marks = p.marks; pages = p.pages }
+      record { shelf = p.shelf; put = p.put; others = p.others; count = λ one. p.count; marks = p.marks; pages = p.pages; lives = p.lives }
 
   record PutsParts (page : ℕ) (bytes : List ℕ) (places : List ℕ) (before after : Database) : Type 0 where
     shelf : IsShelf older after
@@ -124,6 +126,7 @@ module _ (older : Bool) where
     count : ((at : ℕ) → Has places at → length (part_rows older before page at) ≡ 1) → length (after.trees (part_tree older)) ≡ length (before.trees (part_tree older))
     marks : after.trees (mark_tree older) ≡ before.trees (mark_tree older)
     versions : after.trees (page_tree older) ≡ before.trees (page_tree older)
+    lives : after.trees (life_tree older) ≡ before.trees (life_tree older)
 
   puts_parts : {S : Type 0} (g : Ghosts S) (rows : PageRows) (page : ℕ) (bytes places : List ℕ) (before after : Database) → IsShelf older before → ((at : ℕ) → Has places at → MayPutPart rows before page at)
       → MakesAll g (map (part_statement rows page bytes) places) before after → PutsParts page bytes places before after
@@ -134,6 +137,7 @@ module _ (older : Bool) where
     count = λ ones. ap (λ (d : Database). length (d.trees (part_tree older))) (sym m);
     marks = ap (λ (d : Database). d.trees (mark_tree older)) (sym m);
     versions = ap (λ (d : Database). d.trees (page_tree older)) (sym m);
+    lives = ap (λ (d : Database). d.trees (life_tree older)) (sym m);
   }
   puts_parts g rows page bytes (place ∷ places) before after shelf may m =
       let mid = m.0 in
@@ -166,6 +170,7 @@ module _ (older : Bool) where
             ]) ∙ same;
         marks = more.marks ∙ one.marks;
         versions = more.versions ∙ one.pages;
+        lives = more.lives ∙ one.lives;
       }
 
   -- ---- a page
@@ -179,6 +184,7 @@ module _ (older : Bool) where
     pub count : length (page_rows older before page) ≡ 1 → length (after.trees (page_tree older)) ≡ length (before.trees (page_tree older))
     pub parts_count : ((at : ℕ) → at < part_count (length bytes) → length (part_rows older before page at) ≡ 1) → length (after.trees (part_tree older)) ≡ length (before.trees (part_tree older))
     pub marks : after.trees (mark_tree older) ≡ before.trees (mark_tree older)
+    pub lives : after.trees (life_tree older) ≡ before.trees (life_tree older)
 
   pub puts_page : {S : Type 0} (g : Ghosts S) (rows : PageRows) (page version : ℕ) (bytes : List ℕ) (before after : Database) → IsShelf older before → MayPutVersion rows before page
       → ((at : ℕ) → at < part_count (length bytes) → MayPutPart rows before page at) → MakesAll g (page_statements rows page version bytes) before after → PutsPage page version bytes before after
@@ -198,12 +204,13 @@ module _ (older : Bool) where
         parts_count = λ ones.
             more.count (λ at h. ap (λ l. length (filter (is_at page at) l)) one.parts ∙ ones at (omega (arith, of_range n 0 at h))) ∙ ap length one.parts;
         marks = more.marks ∙ one.marks;
+        lives = more.lives ∙ one.lives;
       }
 
   -- ---- the pages of a batch
 
   as_large : (a b c : Database) → IsAsLarge older a b → IsAsLarge older b c → IsAsLarge older a c
-  as_large a b c p q = record { versions = q.versions ∙ p.versions; parts = q.parts ∙ p.parts }
+  as_large a b c p q = record { versions = q.versions ∙ p.versions; parts = q.parts ∙ p.parts; lives = q.lives ∙ p.lives }
 
   -- a store with one page of a batch written over it
   abbrev with_page : StoreState → BatchPage → StoreState
@@ -241,13 +248,14 @@ module _ (older : Bool) where
         record {
           versions = p.count (one_long (λ (r : Row). column r 2) (page_rows older before w.page) _ (has.versions w.page low));
           parts = p.parts_count (λ at within. one_long (λ (r : Row). column r 3) (part_rows older before w.page at) _ (has_part at within));
+          lives = p.lives;
         },
       )
 
   writes_pages : {S : Type 0} (g : Ghosts S) (limits : Bounds) (pages : List BatchPage) (store : StoreState) (before after : Database) → IsOf limits store → AllByRecursion (IsOfSize limits) pages → HasStore older before store
       → MakesAll g (pages_statements pages) before after → HasStore older after (record store { pages = overwritten store.pages pages }) × IsAsLarge older before after
   writes_pages g limits [] store before after of fits has m =
-      (subst (λ d. (HasStore older) d store) m has, record { versions = ap (λ (d : Database). length (d.trees (page_tree older))) (sym m); parts = ap (λ (d : Database). length (d.trees (part_tree older))) (sym m) })
+      (subst (λ d. (HasStore older) d store) m has, record { versions = ap (λ (d : Database). length (d.trees (page_tree older))) (sym m); parts = ap (λ (d : Database). length (d.trees (part_tree older))) (sym m); lives = ap (λ (d : Database). d.trees (life_tree older)) (sym m) })
   writes_pages g limits (w ∷ pages) store before after of fits has m =
       let split = makes_split g (statements_of w) (pages_statements pages) before after m in
       let one = writes_page g limits store w before split.0 of fits.0 has split.1 in
@@ -270,5 +278,5 @@ module _ (older : Bool) where
           versions = λ page low. ap (λ l. map (λ (r : Row). column r 2) (filter (is_of_page page) l)) s.versions ∙ p.0.versions page low;
           parts = λ page place within low. ap (λ l. map (λ (r : Row). column r 3) (filter (is_at page place) l)) s.parts ∙ p.0.parts page place within low;
         },
-        record { versions = ap length s.versions ∙ p.1.versions; parts = ap length s.parts ∙ p.1.parts },
+        record { versions = ap length s.versions ∙ p.1.versions; parts = ap length s.parts ∙ p.1.parts; lives = s.lives ∙ p.1.lives },
       )

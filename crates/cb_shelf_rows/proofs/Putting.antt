@@ -31,16 +31,16 @@ use Rattle.sqlite.specs.Held.{state}
 use Rattle.sqlite.proofs.Callers.{runs_as}
 use Rattle.cb_sql.specs.Statements.{Makes, page_statement, part_statement, part_at}
 use Rattle.cb_sql.specs.declared.writing.PageRows.TheVariants.{Absent}
-use Rattle.cb_shelf_rows.specs.Tables.{schema, mark_tree, page_tree, part_tree}
+use Rattle.cb_shelf_rows.specs.Tables.{schema, mark_tree, page_tree, part_tree, life_tree}
 use Rattle.cb_shelf_rows.specs.Rows.{IsShelf, is_of_page, is_at, PutsVersion, PutsPart}
 use Rattle.cb_shelf_rows.proofs.Equal.{equal_ties, equal_itself, equal_numbers, equal_both, cast_number, cast_null, plain_key}
 use Rattle.cb_shelf_rows.proofs.Lists.{IsReplaced, alone_there, same_elsewhere, counted, filter_same}
 use Rattle.cb_shelf_rows.proofs.Replacing.{went, same_value, taken_out, IsPut, inserts}
-use Rattle.cb_shelf_rows.proofs.Schemas.{page_table, part_table, page_there, part_there, mark_clear, page_clear, part_clear, no_works, did}
+use Rattle.cb_shelf_rows.proofs.Schemas.{page_table, part_table, page_there, part_there, mark_clear, page_clear, part_clear, life_clear, no_works, did}
 use Rattle.cb_shelf_rows.proofs.Texts.{page_text, page_terms, page_put, page_plain, part_text, part_terms, part_put, part_plain}
 
 -- The row is put in place of those that pass the test.
-replaced : (task : Task) (new : Row) (db after : Trees) (found : List Row) (p : Row → Bool) → IsShaped shape (db task.table.tree)
+pub replaced : (task : Task) (new : Row) (db after : Trees) (found : List Row) (p : Row → Bool) → IsShaped shape (db task.table.tree)
     → AreConflicts None task.schema.indexes task.table (db task.table.tree) new found
     → ((r : Row) → Has (db task.table.tree) r → conflicts None task.schema.indexes task.table new r ≡ p r)
     → IsPut task new (ids_of found) db after → IsReplaced p new (db task.table.tree) (after task.table.tree)
@@ -86,12 +86,14 @@ module _ (older : Bool) where
       let s : IsReplaced (is_of_page page) row rows (new.now.trees (page_tree older)) = subst (λ (t : Trees). IsReplaced (is_of_page page) row rows (t (page_tree older))) (sym trees) r in
       let marks = ap (λ (t : Trees). t (mark_tree older)) trees ∙ i.2.others (mark_tree older) (λ e. omega (arith, e)) (mark_clear older) in
       let parts = ap (λ (t : Trees). t (part_tree older)) trees ∙ i.2.others (part_tree older) (λ e. omega (arith, e)) (part_clear older) in
+      let lives = ap (λ (t : Trees). t (life_tree older)) trees ∙ i.2.others (life_tree older) (λ e. omega (arith, e)) (life_clear older) in
       record {
         shelf = record {
           schema = ap (λ (d : Database). d.schema) now;
           marks = subst (IsShaped shape) (sym marks) shelf.marks;
           pages = subst (IsShaped shape) (sym s.is) (IsShaped-put_row row _ refl (IsShaped-filter shape _ rows shelf.pages));
           parts = subst (IsShaped shape) (sym parts) shelf.parts;
+          lives = subst (IsShaped shape) (sym lives) shelf.lives;
         };
         put = alone_there (is_of_page page) row rows _ s (equal_itself (pos page));
         others = λ other apart.
@@ -100,6 +102,7 @@ module _ (older : Bool) where
         count = counted (is_of_page page) row rows _ s;
         marks = marks;
         parts = parts;
+        lives = lives;
       }
 
   pub page_puts : {S : Type 0} (g : Ghosts S) (before after : Database) (page version : ℕ) → IsShelf older before → Makes g (page_statement Absent page version) before after → PutsVersion older page version before after
@@ -163,12 +166,14 @@ module _ (older : Bool) where
       let s : IsReplaced p row rows (new.now.trees (part_tree older)) = subst (λ (t : Trees). IsReplaced p row rows (t (part_tree older))) (sym trees) r in
       let marks = ap (λ (t : Trees). t (mark_tree older)) trees ∙ i.2.others (mark_tree older) (λ e. omega (arith, e)) (mark_clear older) in
       let pages = ap (λ (t : Trees). t (page_tree older)) trees ∙ i.2.others (page_tree older) (λ e. omega (arith, e)) (page_clear older) in
+      let lives = ap (λ (t : Trees). t (life_tree older)) trees ∙ i.2.others (life_tree older) (λ e. omega (arith, e)) (life_clear older) in
       record {
         shelf = record {
           schema = ap (λ (d : Database). d.schema) now;
           marks = subst (IsShaped shape) (sym marks) shelf.marks;
           pages = subst (IsShaped shape) (sym pages) shelf.pages;
           parts = subst (IsShaped shape) (sym s.is) (IsShaped-put_row row _ refl (IsShaped-filter shape _ rows shelf.parts));
+          lives = subst (IsShaped shape) (sym lives) shelf.lives;
         };
         put = ap (map (drop 1)) (alone_there p row rows _ s (and_from _ _ (equal_itself (pos page)) (equal_itself (pos place))));
         others = λ other at apart.
@@ -179,6 +184,7 @@ module _ (older : Bool) where
         count = counted p row rows _ s;
         marks = marks;
         pages = pages;
+        lives = lives;
       }
     where
       apart_at : (page place other at : ℕ) → (other ≢ page) ⊎ (at ≢ place) → page ≡ other → place ≡ at → ⊥

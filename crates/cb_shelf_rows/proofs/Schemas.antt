@@ -10,7 +10,7 @@ use Rattle.sqlite_rules.specs.Edit.{IsNoIndex}
 use Rattle.sqlite.specs.Does.{Tally, AtPlace, OnTable, OnRows}
 use Rattle.sqlite.specs.State.{State, mode_of}
 use Rattle.cb_shelf_rows.specs.Tables as tables
-use Rattle.cb_shelf_rows.specs.Tables.{schema, mark_tree, page_tree, part_tree}
+use Rattle.cb_shelf_rows.specs.Tables.{schema, mark_tree, page_tree, part_tree, life_tree, life_place}
 
 -- ---- the tables, as the schema has them
 
@@ -22,6 +22,9 @@ page_table older = record tables.page_table { tree = page_tree older }
 
 abbrev pub part_table : Bool → Table
 part_table older = record tables.part_table { tree = part_tree older }
+
+abbrev pub life_table : Bool → Table
+life_table older = record tables.life_table { tree = life_tree older }
 
 pub mark_there : (older : Bool) → slice_get (schema older).tables (mark_tree older) ≡ Some (mark_table older)
 mark_there true = refl
@@ -35,6 +38,10 @@ pub part_there : (older : Bool) → slice_get (schema older).tables (part_tree o
 part_there true = refl
 part_there false = refl
 
+pub life_there : (older : Bool) → slice_get (schema older).tables (life_place older) ≡ Some (life_table older)
+life_there true = refl
+life_there false = refl
+
 -- no tree of theirs is an index's
 pub mark_clear : (older : Bool) → IsNoIndex (schema older) (mark_tree older)
 mark_clear true = (λ e. omega (arith, e), tt)
@@ -47,6 +54,10 @@ page_clear false = (λ e. omega (arith, e), tt)
 pub part_clear : (older : Bool) → IsNoIndex (schema older) (part_tree older)
 part_clear true = (λ e. omega (arith, e), tt)
 part_clear false = (λ e. omega (arith, e), tt)
+
+pub life_clear : (older : Bool) → IsNoIndex (schema older) (life_tree older)
+life_clear true = (λ e. omega (arith, e), tt)
+life_clear false = (λ e. omega (arith, e), tt)
 
 -- no foreign key acts
 pub no_works : (older : Bool) (tree : ℕ) (olds news : List Row) → works (schema older) Enforced 0 tree olds news ≡ []

@@ -30,14 +30,14 @@ use Rattle.sqlite.specs.Held.{state}
 use Rattle.sqlite.proofs.Callers.{runs_as, one_step}
 use Rattle.cb_sql.specs.Statements.{Makes, page_statement, part_statement, part_at}
 use Rattle.cb_sql.specs.declared.writing.PageRows.TheVariants.{Present}
-use Rattle.cb_shelf_rows.specs.Tables.{schema, mark_tree, page_tree, part_tree}
+use Rattle.cb_shelf_rows.specs.Tables.{schema, mark_tree, page_tree, part_tree, life_tree}
 use Rattle.cb_shelf_rows.specs.Rows.{IsShelf, is_of_page, is_at, page_rows, part_rows, HasVersion, HasPart, SetsVersion, SetsPart}
 use Rattle.cb_shelf_rows.proofs.Equal.{equal_both, cast_number, cast_null, cast_equal}
 use Rattle.cb_shelf_rows.proofs.Lists.{IsReplaced, alone_there, same_elsewhere, counted, filter_same}
 use Rattle.cb_shelf_rows.proofs.Marking.{one_mapped}
 use Rattle.cb_shelf_rows.proofs.Replacing.{went, same_value, taken_out}
 use Rattle.cb_shelf_rows.proofs.Selecting.{program, passes, tells_one, one_test, two_tests}
-use Rattle.cb_shelf_rows.proofs.Schemas.{page_table, part_table, page_there, part_there, mark_clear, page_clear, part_clear, no_works, did}
+use Rattle.cb_shelf_rows.proofs.Schemas.{page_table, part_table, page_there, part_there, mark_clear, page_clear, part_clear, life_clear, no_works, did}
 use Rattle.cb_shelf_rows.proofs.Texts.{select, by_page, by_place, set_page_text, set_page_terms, set_page_put, set_page_plain, set_part_text, set_part_terms, set_part_put, set_part_plain}
 
 -- ---- the one row that passes a test is set
@@ -99,12 +99,14 @@ module _ (older : Bool) where
       let of : p row ≡ true = subst (λ v. equal Binary v (Int (pos page)) ≡ true) id (is_there p rows r one.1).1 in
       let marks = ap (λ (t : Trees). t (mark_tree older)) trees ∙ a.others (mark_tree older) (λ e. omega (arith, e)) (mark_clear older) in
       let parts = ap (λ (t : Trees). t (part_tree older)) trees ∙ a.others (part_tree older) (λ e. omega (arith, e)) (part_clear older) in
+      let lives = ap (λ (t : Trees). t (life_tree older)) trees ∙ a.others (life_tree older) (λ e. omega (arith, e)) (life_clear older) in
       record {
         shelf = record {
           schema = ap (λ (d : Database). d.schema) now;
           marks = subst (IsShaped shape) (sym marks) shelf.marks;
           pages = subst (IsShaped shape) (sym s.is) (IsShaped-put_row row _ refl (IsShaped-filter shape _ rows shelf.pages));
           parts = subst (IsShaped shape) (sym parts) shelf.parts;
+          lives = subst (IsShaped shape) (sym lives) shelf.lives;
         };
         put = ap (map (λ (x : Row). column x 2)) (alone_there p row rows _ s of);
         others = λ other apart.
@@ -113,6 +115,7 @@ module _ (older : Bool) where
         count = omega (arith, counted p row rows _ s, ap length one.1);
         marks = marks;
         parts = parts;
+        lives = lives;
       }
 
   pub page_sets : {S : Type 0} (g : Ghosts S) (before after : Database) (page old version : ℕ) → IsShelf older before → HasVersion older before page old → Makes g (page_statement Present page version) before after
@@ -157,12 +160,14 @@ module _ (older : Bool) where
       let of_place : equal Binary at (Int (pos place)) ≡ true = cast_equal (column r 2) (pos place) was.1 in
       let marks = ap (λ (t : Trees). t (mark_tree older)) trees ∙ a.others (mark_tree older) (λ e. omega (arith, e)) (mark_clear older) in
       let pages = ap (λ (t : Trees). t (page_tree older)) trees ∙ a.others (page_tree older) (λ e. omega (arith, e)) (page_clear older) in
+      let lives = ap (λ (t : Trees). t (life_tree older)) trees ∙ a.others (life_tree older) (λ e. omega (arith, e)) (life_clear older) in
       record {
         shelf = record {
           schema = ap (λ (d : Database). d.schema) now;
           marks = subst (IsShaped shape) (sym marks) shelf.marks;
           pages = subst (IsShaped shape) (sym pages) shelf.pages;
           parts = subst (IsShaped shape) (sym s.is) (IsShaped-put_row row _ refl (IsShaped-filter shape _ rows shelf.parts));
+          lives = subst (IsShaped shape) (sym lives) shelf.lives;
         };
         put = ap (map (λ (x : Row). column x 3)) (alone_there p row rows _ s (and_from _ _ of_page of_place));
         others = λ other beside apart.
@@ -173,6 +178,7 @@ module _ (older : Bool) where
         count = omega (arith, counted p row rows _ s, ap length one.1);
         marks = marks;
         pages = pages;
+        lives = lives;
       }
     where
       apart_at : (page place other at : ℕ) → (other ≢ page) ⊎ (at ≢ place) → page ≡ other → place ≡ at → ⊥

@@ -17,7 +17,9 @@ use Rattle.sqlite.specs.Listing.{understood, reads_listing}
 use Rattle.sqlite.proofs.Callers.{IsPlain, command_of}
 use Rattle.cb_sql.specs.Statements.{put_version_text, put_part_text, mark_statement}
 use Rattle.cb_sql.specs.declared.writing.PageRows.TheVariants.{Absent, Present}
-use Rattle.cb_shelf_rows.specs.Tables.{schema, mark_tree, page_tree, part_tree}
+use Rattle.cb_shelf.specs.LifeRows.{LifeState, life_row}
+use Rattle.cb_shelf.specs.Living.{below_text}
+use Rattle.cb_shelf_rows.specs.Tables.{schema, mark_tree, page_tree, part_tree, life_tree, life_place}
 
 -- ---- a page's version is put
 
@@ -262,3 +264,36 @@ clear_mark = refl
 pub clear_mark_plain : IsPlain (understood (schema true) clear_mark_text)
 unfolding understood everything
 clear_mark_plain = (refl, refl)
+
+-- ---- the row of life is put
+
+abbrev pub life_terms : List Term
+life_terms = lit (Int (pos 1)) ∷ lit Null ∷ col 0 0 ∷ col 0 1 ∷ []
+
+abbrev pub life_text : List ℕ
+life_text = (life_row (record { floor = 0; below = 0 })).text
+
+pub life_put : (older : Bool) → command_of (understood (schema older) life_text) ≡ InsertOr (life_place older) Replace (Values life_terms 4) []
+unfolding understood everything
+life_put true = refl
+life_put false = refl
+
+pub life_plain : (older : Bool) → IsPlain (understood (schema older) life_text)
+unfolding understood everything
+life_plain true = (refl, refl)
+life_plain false = (refl, refl)
+
+-- ---- and asked for
+
+abbrev pub below_query : Bool → Query
+below_query older = select (life_tree older) (op2 (Compare Eq Binary) (col 1 0) (lit (Int (pos 1))) ∷ []) (col 1 3 ∷ [])
+
+pub below_get : (older : Bool) → command_of (understood (schema older) below_text) ≡ Select (record { lets = []; body = below_query older }) (codes "below" ∷ [])
+unfolding understood everything
+below_get true = refl
+below_get false = refl
+
+pub below_unlisted : (older : Bool) → reads_listing (schema older) below_text ≡ false
+unfolding understood everything
+below_unlisted true = refl
+below_unlisted false = refl

@@ -12,16 +12,19 @@ use Rattle.sqlite_schema.specs.Rules.{equal}
 use Rattle.sqlite.specs.Effect.{Database}
 use Rattle.cb_commit.specs.Stores.{StoreState, version_at, bytes_at}
 use Rattle.cb_sql.specs.Statements.{part_at, part_count}
+use Rattle.cb_shelf.specs.LifeRows.{LifeState}
 use Rattle.cb_shelf.specs.Reading.{mark_values}
 use Rattle.cb_shelf_rows.specs.Tables.{schema, mark_tree, page_tree, part_tree}
+use Rattle.cb_shelf_rows.specs.Tables.{life_tree}
 
--- The three tables, and no other but those of an older generation where `older` says so. Their rows
+-- The four tables, and no other but those of an older generation where `older` says so. Their rows
 -- have whole numbers as rowids, which rise.
 pub record IsShelf (older : Bool) (db : Database) : Type 0 where
   pub schema : db.schema ≡ schema older
   pub marks : IsShaped table (db.trees (mark_tree older))
   pub pages : IsShaped table (db.trees (page_tree older))
   pub parts : IsShaped table (db.trees (part_tree older))
+  pub lives : IsShaped table (db.trees (life_tree older))
 
 -- a row of page2 is of this page, as SQL compares numbers
 abbrev pub is_of_page : ℕ → Row → Bool
@@ -51,6 +54,7 @@ pub record PutsVersion (older : Bool) (page version : ℕ) (before after : Datab
       ≡ length (before.trees (page_tree older)) + 1
   pub marks : after.trees (mark_tree older) ≡ before.trees (mark_tree older)
   pub parts : after.trees (part_tree older) ≡ before.trees (part_tree older)
+  pub lives : after.trees (life_tree older) ≡ before.trees (life_tree older)
 
 -- The same of a part: the page and the place have one row, with the bytes.
 pub record PutsPart (older : Bool) (page place : ℕ) (bytes : List ℕ) (before after : Database) :
@@ -64,6 +68,7 @@ pub record PutsPart (older : Bool) (page place : ℕ) (bytes : List ℕ) (before
       ≡ length (before.trees (part_tree older)) + 1
   pub marks : after.trees (mark_tree older) ≡ before.trees (mark_tree older)
   pub pages : after.trees (page_tree older) ≡ before.trees (page_tree older)
+  pub lives : after.trees (life_tree older) ≡ before.trees (life_tree older)
 
 -- what a row of mark2 says: its identity, the last commit, the bytes of a page, the count of pages
 abbrev pub mark_columns : Row → Row
@@ -82,6 +87,7 @@ pub record SetsNumber (older : Bool) (number page_size pages : ℕ) (before afte
   pub put : IsMarked older after number page_size pages
   pub versions : after.trees (page_tree older) ≡ before.trees (page_tree older)
   pub parts : after.trees (part_tree older) ≡ before.trees (part_tree older)
+  pub lives : after.trees (life_tree older) ≡ before.trees (life_tree older)
 
 -- page2 has one row for the page, with the version
 abbrev pub HasVersion : Bool → Database → ℕ → ℕ → Type 0
@@ -103,6 +109,7 @@ pub record SetsVersion (older : Bool) (page version : ℕ) (before after : Datab
   pub count : length (after.trees (page_tree older)) ≡ length (before.trees (page_tree older))
   pub marks : after.trees (mark_tree older) ≡ before.trees (mark_tree older)
   pub parts : after.trees (part_tree older) ≡ before.trees (part_tree older)
+  pub lives : after.trees (life_tree older) ≡ before.trees (life_tree older)
 
 -- The same of a part: the page and the place have one row, with the bytes.
 pub record SetsPart (older : Bool) (page place : ℕ) (bytes : List ℕ) (before after : Database) :
@@ -114,6 +121,7 @@ pub record SetsPart (older : Bool) (page place : ℕ) (bytes : List ℕ) (before
   pub count : length (after.trees (part_tree older)) ≡ length (before.trees (part_tree older))
   pub marks : after.trees (mark_tree older) ≡ before.trees (mark_tree older)
   pub pages : after.trees (page_tree older) ≡ before.trees (page_tree older)
+  pub lives : after.trees (life_tree older) ≡ before.trees (life_tree older)
 
 -- the rows of the tables are those of a store
 pub record HasStore (older : Bool) (db : Database) (store : StoreState) : Type 0 where
@@ -128,13 +136,32 @@ pub record HasStore (older : Bool) (db : Database) (store : StoreState) : Type 0
 abbrev pub HasFullPages : StoreState → Type 0
 HasFullPages store = All (λ page. length page.bytes ≡ store.page_size) store.pages
 
--- page2 and part have as many rows as before
+-- page2 and part have as many rows as before, and life has those that it had
 pub record IsAsLarge (older : Bool) (before after : Database) : Type 0 where
   pub versions : length (after.trees (page_tree older)) ≡ length (before.trees (page_tree older))
   pub parts : length (after.trees (part_tree older)) ≡ length (before.trees (part_tree older))
+  pub lives : after.trees (life_tree older) ≡ before.trees (life_tree older)
 
 -- the tables have no row
 pub record HasNoRows (older : Bool) (db : Database) : Type 0 where
   pub marks : db.trees (mark_tree older) ≡ []
   pub pages : db.trees (page_tree older) ≡ []
   pub parts : db.trees (part_tree older) ≡ []
+  pub lives : db.trees (life_tree older) ≡ []
+
+-- the rows of life that tell of the lives
+abbrev pub life_rows : Bool → Database → List Row
+life_rows older db = filter (is_of_page 1) (db.trees (life_tree older))
+
+-- what the row says
+abbrev pub IsLife : Bool → Database → LifeState → Type 0
+IsLife older db life =
+    life_rows older db ≡ (Int (pos 1) ∷ Null ∷ Int (pos life.floor) ∷ Int (pos life.below) ∷ []) ∷ []
+
+-- The row of life says this; the other tables have the rows that they had.
+pub record PutsLife (older : Bool) (life : LifeState) (before after : Database) : Type 0 where
+  pub shelf : IsShelf older after
+  pub put : IsLife older after life
+  pub marks : after.trees (mark_tree older) ≡ before.trees (mark_tree older)
+  pub pages : after.trees (page_tree older) ≡ before.trees (page_tree older)
+  pub parts : after.trees (part_tree older) ≡ before.trees (part_tree older)

@@ -66,6 +66,10 @@ part_table = record {
   is_counted = false;
 }
 
+abbrev pub life_table : Table
+life_table = keyed (codes "life") (column (codes "id") Integer false
+    ∷ column (codes "floor") Integer true ∷ column (codes "below") Integer true ∷ [])
+
 -- the tables of an older generation, which a shelf copies and leaves empty
 abbrev pub old_page_table : Table
 old_page_table = keyed (codes "page") (column (codes "no") Integer false
@@ -100,12 +104,21 @@ abbrev pub found_schema : Bool → Schema
 found_schema true = old_schema
 found_schema false = no_schema
 
--- the schema that the three statements make of it which create the tables
-abbrev pub schema : Bool → Schema
-schema true = created (created (created old_schema mark_table) page_table) part_table
-schema false = created (created (created no_schema mark_table) page_table) part_table
+-- the schema that the first three statements make of it which create the tables: also that of
+-- tables which a server served that kept no row of its lives
+abbrev pub unlived_schema : Bool → Schema
+unlived_schema true = created (created (created old_schema mark_table) page_table) part_table
+unlived_schema false = created (created (created no_schema mark_table) page_table) part_table
 
--- the trees of the rows of mark2, page2 and part: each table is at the place of its tree
+-- the schema that all four make
+abbrev pub schema : Bool → Schema
+schema true =
+    created (created (created (created old_schema mark_table) page_table) part_table) life_table
+schema false =
+    created (created (created (created no_schema mark_table) page_table) part_table) life_table
+
+-- the trees of the rows of mark2, page2, part and life; the first three are each at the place of
+-- its tree
 abbrev pub mark_tree : Bool → ℕ
 mark_tree true = 2
 mark_tree false = 0
@@ -115,3 +128,10 @@ page_tree older = mark_tree older + 1
 
 abbrev pub part_tree : Bool → ℕ
 part_tree older = mark_tree older + 2
+
+abbrev pub life_tree : Bool → ℕ
+life_tree older = mark_tree older + 4
+
+-- life is the fourth table; the tree between part's and its own is of part's key
+abbrev pub life_place : Bool → ℕ
+life_place older = mark_tree older + 3
