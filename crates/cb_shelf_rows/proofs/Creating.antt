@@ -35,7 +35,7 @@ two true = created (one true) page_table
 two false = created (one false) page_table
 
 -- a text creates a table under a schema
-record Creates (schema : Schema) (sql : List ℕ) (table : Table) : Type 0 where
+pub record Creates (schema : Schema) (sql : List ℕ) (table : Table) : Type 0 where
   command : command_of (understood schema sql) ≡ CreateTable
   plain : IsPlain (understood schema sql)
   whole : statement_of sql (understood schema sql) ≡ sql
@@ -57,7 +57,7 @@ unfolding understood everything
 part_creates true = record { command = refl; plain = (refl, refl); whole = refl; defined = refl; uncounted = refl }
 part_creates false = record { command = refl; plain = (refl, refl); whole = refl; defined = refl; uncounted = refl }
 
-life_creates : (older : Bool) → Creates (unlived_schema older) life.life_table life_table
+pub life_creates : (older : Bool) → Creates (unlived_schema older) life.life_table life_table
 unfolding understood everything
 life_creates true = record { command = refl; plain = (refl, refl); whole = refl; defined = refl; uncounted = refl }
 life_creates false = record { command = refl; plain = (refl, refl); whole = refl; defined = refl; uncounted = refl }
@@ -70,10 +70,10 @@ old_mark_creates : Creates (created no_schema old_page_table) old_mark_text old_
 unfolding understood everything
 old_mark_creates = record { command = refl; plain = (refl, refl); whole = refl; defined = refl; uncounted = refl }
 
-record IsCreated (schema : Schema) (table : Table) (before after : Database) : Type 0 where
-  is : after.schema ≡ created schema table
-  empty : after.trees (next_tree schema) ≡ []
-  others : KeepsRows schema.tables before.trees after.trees
+pub record IsCreated (schema : Schema) (table : Table) (before after : Database) : Type 0 where
+  pub is : after.schema ≡ created schema table
+  pub empty : after.trees (next_tree schema) ≡ []
+  pub others : KeepsRows schema.tables before.trees after.trees
 
 creates : (schema : Schema) (sql : List ℕ) (table : Table) (old new : State) (count : ℕ) → Creates schema sql table → old.now.schema ≡ schema → Executes sql [] old new (Ok count) → IsCreated schema table old.now new.now
 creates schema sql table old new count c has h =
@@ -92,7 +92,7 @@ creates schema sql table old new count c has h =
       others = subst (λ (d : Database). KeepsRows schema.tables old.now.trees d.trees) (sym now) (subst (λ (s : Schema). KeepsRows s.tables old.now.trees first.0.trees) has made.others);
     }
 
-makes : {S : Type 0} (g : Ghosts S) (schema : Schema) (sql : List ℕ) (table : Table) (before after : Database) → Creates schema sql table → before.schema ≡ schema → Makes g (plain sql) before after → IsCreated schema table before after
+pub makes : {S : Type 0} (g : Ghosts S) (schema : Schema) (sql : List ℕ) (table : Table) (before after : Database) → Creates schema sql table → before.schema ≡ schema → Makes g (plain sql) before after → IsCreated schema table before after
 makes g schema sql table before after c has m =
     subst₂ (IsCreated schema table) m.starts m.ends (creates schema sql table (state g m.from) (state g m.to) m.count c (ap (λ (d : Database). d.schema) m.starts ∙ has) m.runs)
 
@@ -117,7 +117,7 @@ third_is : (older : Bool) → created (two older) part_table ≡ unlived_schema 
 third_is true = refl
 third_is false = refl
 
-fourth_is : (older : Bool) → created (unlived_schema older) life_table ≡ schema older
+pub fourth_is : (older : Bool) → created (unlived_schema older) life_table ≡ schema older
 fourth_is true = refl
 fourth_is false = refl
 
@@ -133,7 +133,7 @@ part_next : (older : Bool) → next_tree (two older) ≡ part_tree older
 part_next true = refl
 part_next false = refl
 
-life_next : (older : Bool) → next_tree (unlived_schema older) ≡ life_tree older
+pub life_next : (older : Bool) → next_tree (unlived_schema older) ≡ life_tree older
 life_next true = refl
 life_next false = refl
 
@@ -145,7 +145,7 @@ keeps_two : (older : Bool) (a b : Trees) → KeepsRows (two older).tables a b �
 keeps_two true a b h = (h.1.1.0, h.1.1.1.0)
 keeps_two false a b h = (h.0, h.1.0)
 
-keeps_three : (older : Bool) (a b : Trees) → KeepsRows (unlived_schema older).tables a b → (b (mark_tree older) ≡ a (mark_tree older)) × (b (page_tree older) ≡ a (page_tree older)) × (b (part_tree older) ≡ a (part_tree older))
+pub keeps_three : (older : Bool) (a b : Trees) → KeepsRows (unlived_schema older).tables a b → (b (mark_tree older) ≡ a (mark_tree older)) × (b (page_tree older) ≡ a (page_tree older)) × (b (part_tree older) ≡ a (part_tree older))
 keeps_three true a b h = (h.1.1.0, h.1.1.1.0, h.1.1.1.1.0)
 keeps_three false a b h = (h.0, h.1.0, h.1.1.0)
 

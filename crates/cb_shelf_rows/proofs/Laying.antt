@@ -30,7 +30,7 @@ use Rattle.cb_sql.specs.declared.writing.PageRows.TheVariants.{Absent}
 use Rattle.cb_shelf.specs.LifeRows.{life_row, unserved}
 use Rattle.cb_shelf.specs.Opening.{plain, stored_statements, first_pages, mark_row, laid, table_statements, clear_statements}
 use Rattle.cb_shelf_rows.specs.Tables.{schema, found_schema, old_page_table, old_mark_table, mark_tree, page_tree, part_tree, life_tree}
-use Rattle.cb_shelf_rows.specs.Rows.{IsShelf, is_of_page, is_at, page_rows, part_rows, mark_columns, SetsNumber, HasVersion, HasPart, HasStore, HasFullPages}
+use Rattle.cb_shelf_rows.specs.Rows.{IsShelf, IsLife, is_of_page, is_at, page_rows, part_rows, mark_columns, SetsNumber, HasVersion, HasPart, HasStore, HasFullPages}
 use Rattle.cb_shelf_rows.proofs.Creating.{tables_made}
 use Rattle.cb_shelf_rows.proofs.Living.{life_puts}
 use Rattle.cb_shelf_rows.proofs.Marking as marking
@@ -216,3 +216,16 @@ full_laid g older store before after full has m =
 -- and so is a sound one
 pub store_laid : {S : Type 0} (g : Ghosts S) (older : Bool) (store : StoreState) (before after : Database) → IsSound store → before.schema ≡ found_schema older → MakesAll g (laid store older) before after → HasStore older after store
 store_laid g older store before after sound has m = full_laid g older store before after (λ page other low. (sound.pages page other low).size) has m
+
+-- and the row of life is that of tables that no server has served
+pub life_laid : {S : Type 0} (g : Ghosts S) (older : Bool) (store : StoreState) (before after : Database) → IsSound store → before.schema ≡ found_schema older → MakesAll g (laid store older) before after → IsLife older after (unserved older)
+life_laid g older store before after sound has m =
+    let n = length store.pages in
+    let made = makes_split g table_statements (first_pages store n ++ mark_row store ∷ life_row (unserved older) ∷ cond older clear_statements []) before after m in
+    let tables = tables_made g older before made.0 has made.1 in
+    let put = makes_split g (first_pages store n) (mark_row store ∷ life_row (unserved older) ∷ cond older clear_statements []) made.0 after made.2 in
+    let p = puts_pages older g store (range_with_len 0 n) made.0 put.0 tables.0 put.1 in
+    let s = first_set older g put.0 put.2.0 store p.shelf (p.marks ∙ tables.1.marks) put.2.1 in
+    let l = life_puts older g put.2.0 put.2.2.0 (unserved older) s.shelf put.2.2.1 in
+    let k = old_emptied g older put.2.2.0 after l.shelf put.2.2.2 in
+    ap (filter (is_of_page 1)) k.lives ∙ l.put

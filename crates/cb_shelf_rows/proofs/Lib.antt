@@ -14,6 +14,7 @@
 -- Holding: the rows of the tables are a store's where what the tables answer is that store.
 -- Creating: the statements that create the tables.
 -- Laying: the statements that put a store into tables that were just made.
+-- Lives: how a life begins, and which one follows.
 -- Answering: the store that tables answer is the one that their rows are.
 -- Following: what the tables answer after the open that made them, and the steps since.
 pub mod Lists
@@ -31,5 +32,6 @@ pub mod Paging
 pub mod Holding
 pub mod Creating
 pub mod Laying
+pub mod Lives
 pub mod Answering
 pub mod Following

@@ -17,7 +17,7 @@ use Rattle.sqlite.specs.Listing.{understood, reads_listing}
 use Rattle.sqlite.proofs.Callers.{IsPlain, command_of}
 use Rattle.cb_sql.specs.Statements.{put_version_text, put_part_text, mark_statement}
 use Rattle.cb_sql.specs.declared.writing.PageRows.TheVariants.{Absent, Present}
-use Rattle.cb_shelf.specs.LifeRows.{LifeState, life_row}
+use Rattle.cb_shelf.specs.LifeRows.{life_row}
 use Rattle.cb_shelf.specs.Living.{below_text}
 use Rattle.cb_shelf_rows.specs.Tables.{schema, mark_tree, page_tree, part_tree, life_tree, life_place}
 

@@ -1,3 +1,4 @@
 pub mod Tables
 pub mod Rows
 pub mod Laws
+pub mod LifeLaws

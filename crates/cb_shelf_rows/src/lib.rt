@@ -17,6 +17,9 @@ ghost use Rattle.cb_shelf_rows.specs.Laws.{BatchesAreWritten, BatchesAreHeld, Ta
 ghost use Rattle.cb_shelf_rows.specs.Laws.{AnswersAreTheRows, FirstLoadsAreZeros};
 ghost use Rattle.cb_shelf_rows.specs.Laws.{LoadsFollowBatches, OlderTablesAreMade};
 ghost use Rattle.cb_shelf_rows.specs.Laws.{LoadsFollowCopies, LoadsFollowFinds};
+ghost use Rattle.cb_shelf_rows.specs.LifeLaws.{BatchesKeepLives, LivesAreLaid, LivesArePut};
+ghost use Rattle.cb_shelf_rows.specs.LifeLaws.{LivesBegin, LivesFollow, UnlivedLivesBegin};
+ghost use Rattle.cb_shelf_rows.specs.LifeLaws.{UnlivedLivesFollow};
 
 use sqlite::Alter;
 
@@ -110,4 +113,22 @@ pub fn loads_follow_copies<S: Alter>()
 /// call tells it of a file.
 pub fn loads_follow_finds<S: Alter>()
     ensures law { LoadsFollowFinds S.Store }
+{}
+
+/// The statements with which a life begins, and that which gives it room, put its row, and leave
+/// all other tables as they are: also where the tables are those of a server that kept no such row.
+/// A batch leaves the row as it is. Tables that an open makes have it from the first on.
+pub fn lives_are_put<S: Alter>()
+    ensures put { LivesArePut S.Store }
+    ensures begin { LivesBegin S.Store }
+    ensures unlived { UnlivedLivesBegin S.Store }
+    ensures kept { BatchesKeepLives S.Store }
+    ensures laid { LivesAreLaid S.Store }
+{}
+
+/// The life that begins next has the number as its floor that the last row has, above each
+/// incarnation that the last life's server knew. Where no server kept a row it is 2^61.
+pub fn lives_follow()
+    ensures follow { LivesFollow }
+    ensures unlived { UnlivedLivesFollow }
 {}
