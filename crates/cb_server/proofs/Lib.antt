@@ -11,6 +11,8 @@
 -- Flushing: what can be flushed, in the words of the commits and of the protocol.
 -- Serving: the server between two calls, and after each.
 -- Resuming: a server of a new life.
+-- Onward: what a message other than Hello leaves of its own client's incarnation and transaction.
+-- Knowing: which incarnations a server knows.
 -- LawsKept: what the protocol says of servers that arose, of each server.
 pub mod Counting
 pub mod Making
@@ -25,3 +27,5 @@ pub mod Flushing
 pub mod Serving
 pub mod LawsKept
 pub mod Resuming
+pub mod Onward
+pub mod Knowing

@@ -3,3 +3,4 @@ pub mod Taking
 pub mod Answering
 pub mod ServerLaws
 pub mod FaultTexts
+pub mod Knowing

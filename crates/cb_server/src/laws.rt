@@ -1,5 +1,6 @@
 //! What holds of every server, whatever was called before, as laws over its contracts: a caller has
 //! `arose` of [`Server::limits`](crate::Server::limits) and the contract of the call that it made.
+ghost use Rattle.cb_server.specs.Knowing.{HellosAloneAreKnown, ResumedKnowTheFloor};
 ghost use Rattle.cb_server.specs.ServerLaws.{AsksAreFew, DoomedLayOnCycle, FramesAreTaken};
 ghost use Rattle.cb_server.specs.ServerLaws.{NewRowsAreAnswered, NoAskIsForgotten};
 ghost use Rattle.cb_server.specs.ServerLaws.{NobodyIsDeadlocked, NobodyWaitsInVain, RulesAreKept};
@@ -36,4 +37,11 @@ pub fn no_ask_is_forgotten()
 pub fn grants_come_at_once()
     ensures in_time { NobodyWaitsInVain }
     ensures sent { NewRowsAreAnswered }
+{}
+
+/// Where every incarnation that a server knows is below a number, it stays so by each input but
+/// a Hello of an incarnation from that number on. A server that was resumed knows the floor alone.
+pub fn hellos_alone_are_known()
+    ensures known { HellosAloneAreKnown }
+    ensures resumed { ResumedKnowTheFloor }
 {}

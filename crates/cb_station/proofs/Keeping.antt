@@ -15,7 +15,7 @@ use Rattle.cb_hands.specs.Hands.{HandState, IsHand, at_version, empty_hand, held
 use Rattle.cb_hands.specs.declared.grant.Held.{Held}
 use Rattle.cb_server_state.specs.States.{opening_of}
 use Rattle.cb_hands.specs.Joined.{Follow, stored_at}
-use Rattle.cb_station.proofs.Onward.{Onward, goes_on}
+use Rattle.cb_server.proofs.Onward.{Onward, goes_on}
 use Rattle.cb_station.proofs.Reached.{in_order, keeps_none}
 use Rattle.cb_server.proofs.LawsKept.{rules_kept}
 use Rattle.cb_station.specs.Moves.{committed, ended_if_over, is_by, is_lasting, is_over, received, told}

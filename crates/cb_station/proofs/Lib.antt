@@ -1,5 +1,4 @@
 -- What is proved where.
--- Onward: what a message other than Hello leaves of its own client's incarnation and transaction.
 -- Reached: what the protocol says of servers that arose, of a station's server.
 -- Keeping: what is stored of a hand stays as the server has it, by each step and each change.
 -- Following: a hand and what is stored of it, through several changes.
@@ -11,7 +10,6 @@
 -- Admitting: what a commit is answered, by why it is refused or that it is allowed.
 -- Telling: a station stays one whoever is told, and whatever threads tell each other.
 -- Committed: what a commit that was taken, and noted, leaves.
-pub mod Onward
 pub mod Reached
 pub mod Keeping
 pub mod Following
