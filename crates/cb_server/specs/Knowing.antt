@@ -12,6 +12,10 @@ use Rattle.cb_server.specs.ServerValue.{IsResumed, ServerValue, server_of}
 abbrev pub KnowsBelow : Server → ℕ → Type 0
 KnowsBelow server below = (client : ℕ) → (server.session client).current < below
 
+-- the current incarnation of each client is at most that number
+abbrev pub KnowsUpTo : Server → ℕ → Type 0
+KnowsUpTo server most = (client : ℕ) → (server.session client).current ≤ most
+
 -- the input is no Hello of an incarnation from that number on
 abbrev pub GreetsBelow : Input → ℕ → Type 0
 GreetsBelow input below = (client incarnation : ℕ)

@@ -14,13 +14,14 @@ ghost use Rattle.cb_frame_types.specs.Grammar.{Fits};
 ghost use Rattle.cb_outbox.specs.Messages.{messages_of};
 ghost use Rattle.cb_protocol.specs.AnyMessages.{ReachesDisk, SendsAgain};
 ghost use Rattle.cb_protocol.specs.Flush.{can_flush, next_batch};
+ghost use Rattle.cb_server.specs.Knowing.{KnowsUpTo};
 ghost use Rattle.cb_server.specs.ServerValue.{IsNew, IsResumed, IsServer, IsUnchanged, commits_of};
 ghost use Rattle.cb_server.specs.ServerValue.{forgot};
 ghost use Rattle.cb_server.specs.ServerValue.{most_frames, server_of};
 ghost use Rattle.cb_server.specs.Taking.{Does, Greets, HasToSayAgain, IsBytesFault, MayWantMemory};
 ghost use Rattle.cb_server.specs.Taking.{Refuses, Takes, TakesBytes, lacks_number_for};
 ghost use Rattle.cb_server_state.specs.Commits.{batch_of};
-ghost use Rattle.cb_server_state.specs.States.{AreOf, PartsAgree, newest_first};
+ghost use Rattle.cb_server_state.specs.States.{AreOf, PartsAgree, newest_first, or_zero};
 ghost use Rattle.cb_waits.specs.Follows.{Follows};
 
 use crate::engine::Engine;
@@ -327,10 +328,35 @@ impl Server {
         self.engine.callbacks.state()
     }
 
+    /// The greatest incarnation that is current for a client; `None` where no client is known.
+    pub fn greatest_known(&self) -> Option<Incarnation>
+        ensures { KnowsUpTo (server_of self.now) (or_zero result) }
+    {
+        let state = self.engine.callbacks.state();
+        let mut greatest = None;
+        for client in 0..self.limits.clients() {
+            let known = state.sessions.session(ClientNo::new(client)).incarnation;
+            greatest = greater(greatest, known);
+        }
+        greatest
+    }
+
     /// Who waits for whom, as it is kept.
     pub fn kept_view(&self) -> &View
         ensures { Follows result.now (server_of self.now) }
     {
         self.engine.callbacks.kept_view()
+    }
+}
+
+/// The greater one of two incarnations; none is less than any.
+fn greater(first: Option<Incarnation>, second: Option<Incarnation>) -> Option<Incarnation>
+    ensures first { or_zero first ≤ or_zero result }
+    ensures second { or_zero second ≤ or_zero result }
+{
+    match (first, second) {
+        (Some(a), Some(b)) => Some(if a < b { b } else { a }),
+        (Some(a), None) => Some(a),
+        (None, second) => second,
     }
 }
