@@ -6,3 +6,4 @@ pub mod Rounds
 pub mod Serving
 pub mod Steps
 pub mod Streams
+pub mod Living

@@ -7,6 +7,7 @@
 
 mod fault;
 mod front;
+mod lives;
 mod output;
 mod printing;
 mod round;

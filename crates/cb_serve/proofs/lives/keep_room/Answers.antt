@@ -1,0 +1,23 @@
+-- Goals of `keep_room`.
+use Rattle.std.proofs.Common.{◌≡◌, ◌≤◌, ℕ, [], ◌∷◌, Option, ap, arith, rules, subst, sym}
+use Rattle.sqlite.specs.Held.{state}
+use Rattle.cb_server.specs.Knowing.{KnowsUpTo}
+use Rattle.cb_server.specs.ServerValue.{server_of}
+use Rattle.cb_server_state.specs.States.{or_zero}
+use Rattle.cb_shelf.specs.LifeRows.{LifeState, life_row}
+use Rattle.cb_shelf.specs.Living.{raised}
+use Rattle.cb_sql.specs.Statements.{MakesAll}
+use Rattle.cb_serve.specs.Living.MakesRoom.{made}
+use Rattle.cb_serve.proofs.lives.keep_room.Goals as goal
+
+pub returns-in-Ok-clause-ok : goal.returns-in-Ok-clause-ok
+returns-in-Ok-clause-ok g c =
+    let is : c.raise.new.life ≡ raised c.args.life.now c.in-Some.greatest = search rules in
+    let beyond : c.args.life.now.below ≤ c.in-Some.greatest = search rules in
+    let known : KnowsUpTo (server_of c.args.server.now) c.in-Some.greatest = subst (λ (o : Option ℕ). KnowsUpTo (server_of c.args.server.now) (or_zero o)) c.in-Some.is c.greatest_known.ensures in
+    record {
+      room = made c.in-Some.greatest beyond is
+          (λ clean. subst (λ (life : LifeState). MakesAll g.S.Store (life_row life ∷ []) (state g.S.Store c.args.shelf.now.conn).now (state g.S.Store c.raise.new.self.conn).committed) (sym is) (c.in-Ok.ensures.made clean))
+          (λ clean. c.in-Ok.ensures.settled clean);
+      known = λ client. (let l = known client in let below = ap (λ (life : LifeState). life.below) is in omega (arith, l, below));
+    }
