@@ -1,7 +1,6 @@
 -- Rounds, one after another.
-use Rattle.std.proofs.Common.{◌≡◌, ◌∙◌, ◌≢◌, ◌⊎◌, inl, inr, ℕ, List, [], ◌∷◌, ◌++◌, Bool, true, false, Option, Some, None, IfSome, Result, Ok, Err, IfErr, OnOk, option_map, refl, sym, ap, subst, take, drop, length}
+use Rattle.std.proofs.Common.{◌≡◌, ◌∙◌, ◌≢◌, inl, inr, ℕ, List, [], ◌∷◌, ◌++◌, Bool, true, false, Option, Some, None, IfSome, Result, Ok, Err, IfErr, OnOk, option_map, refl, sym, ap, subst, take, drop}
 use Rattle.std.proofs.KnownBytes.{Appends-nil, Appends-trans, Consumes-nil, Consumes-trans}
-use Rattle.std.proofs.Math.Seq.{take-length}
 use Rattle.std.proofs.lemmas.Grind.{flat_map-append}
 use Rattle.std.proofs.lemmas.List.{append-nil, take-append-drop}
 use Rattle.std.specs.Io.KnownBytes.{Appends, Consumes, IsAtEnd}
@@ -12,16 +11,23 @@ use Rattle.cb_commit.specs.Stores.{StoreState}
 use Rattle.cb_page.specs.Bounds.{Bounds}
 use Rattle.cb_protocol.specs.Flush.{next_batch}
 use Rattle.cb_protocol.specs.Server.{Server}
-use Rattle.cb_server.specs.ServerValue.{IsNew, ServerValue, server_of}
+use Rattle.cb_protocol.specs.AnyMessages.{ReachesDisk}
+use Rattle.cb_server.proofs.Knowing.{knows_after}
+use Rattle.cb_server.specs.Knowing.{KnowsBelow}
+use Rattle.cb_server.specs.ServerValue.{IsResumed, ServerValue, server_of}
 use Rattle.cb_server_state.specs.Commits.{batch_of}
+use Rattle.cb_commit.specs.Batches.{BatchState}
+use Rattle.cb_shelf.specs.LifeRows.{LifeState}
 use Rattle.cb_sql.specs.Writing.{Fits}
 use Rattle.cb_serve.proofs.Faults.{IsOfOutput}
 use Rattle.cb_serve.proofs.Inputs.{spells_nothing}
 use Rattle.cb_serve.proofs.Writing.{survives_still}
 use Rattle.cb_serve.specs.Answering.{LacksNumber, Spells, after_inputs, inputs_in, said_to}
-use Rattle.cb_serve.specs.Parts.{Answered, Commits, DoesRound, EndsRound, PutsAnswers, PutsDones, StopsAnswering, StopsCommit, StopsReading, StopsRound, standing}
-use Rattle.cb_serve.specs.Rounds.{IsRound, Round, SaysDones, Standing, StaysUnwritten, Writes, WritesOrNot, counted_on, reached}
-use Rattle.cb_serve.specs.Serving.{AreRounds, Ends, IsStopped, Serves, Tells, opened, put_in, read_in}
+use Rattle.cb_serve.specs.Living.{IsRoundOfLife, KeepsRoom, MakesRoom}
+use Rattle.cb_serve.specs.Living.MakesRoom.{had}
+use Rattle.cb_serve.specs.Parts.{Answered, FindsNoRoom, Commits, DoesRound, EndsRound, PutsAnswers, PutsDones, StopsAnswering, StopsCommit, StopsReading, StopsRound, StopsWithin, standing}
+use Rattle.cb_serve.specs.Rounds.{Round, SaysDones, Standing, StaysUnwritten, Writes, WritesOrNot, counted_on, reached}
+use Rattle.cb_serve.specs.Serving.{AreRounds, Ends, IsStopped, Serves, StopsInLife, Tells, opened, put_in, read_in}
 use Rattle.cb_serve.specs.Steps.{RefusesFront, StopsTaking, TakesAll}
 use Rattle.cb_serve.specs.Streams.{IsNoFrame, IsPart, IsPiece, IsRest, bytes_of, count_passed}
 use Rattle.cb_serve.specs.declared.fault.RoundFault.{RoundFault}
@@ -89,47 +95,58 @@ rest_at : (limits : Bounds) (bytes : List ℕ) (ends : Bool) → (ends ≡ false
 rest_at limits bytes false part no_frame = inl (part refl)
 rest_at limits bytes true part no_frame = inr (no_frame refl)
 
+-- what was known stays known once commits are on disk
+known_on_disk : (server : Server) (batch : Option BatchState) (below : ℕ) → KnowsBelow server below → KnowsBelow (reached server batch) below
+known_on_disk server None below known = known
+known_on_disk server (Some batch) below known = knows_after server (ReachesDisk batch.number) below known (λ c i e. absurd cc)
+
 module _ {S : Type 0} (g : Ghosts S) where
   -- the parts of a round are a round
-  pub does_round : (limits : Bounds) (old mid new : ServerValue) (desk read_desk after : Desk) (tables later : Held S) (read : List ℕ) (taken : Taken)
-      (in1 in2 out1 out2 out3 : Option (List ℕ)) → old.limits ≡ limits
+  pub does_round : (limits : Bounds) (old mid new : ServerValue) (desk read_desk after : Desk) (first tables later : Held S) (life new_life : LifeState) (read : List ℕ) (taken : Taken)
+      (in1 in2 out1 out2 out3 : Option (List ℕ)) → KeepsRoom g (server_of mid) life new_life first tables → old.limits ≡ limits
       → read_desk.pending.items ≡ desk.pending.items ++ read → read_desk.passed_over ≡ desk.passed_over → Consumes in1 in2 read
       → Answered old read_desk after taken mid out1 out2 → Commits g mid tables later new out2 out3
-      → DoesRound g limits (standing g old desk tables) (standing g new after later) in1 in2 out1 out3
-  does_round limits old mid new desk read_desk after tables later read taken in1 in2 out1 out2 out3 same reads counts consumes a c =
+      → DoesRound g limits (standing g old desk first) (standing g new after later) life new_life in1 in2 out1 out3
+  does_round limits old mid new desk read_desk after first tables later life new_life read taken in1 in2 out1 out2 out3 keeps same reads counts consumes a c =
       let inputs = inputs_in a.pieces in
       let is : server_of mid ≡ after_inputs (server_of old) (inputs_in a.pieces) = a.takes.answers.becomes in
       let kept : mid.limits ≡ limits = a.takes.answers.limits ∙ same in
       record {
         round = record { read = read; pieces = a.pieces; answers = a.answers; batch = c.batch; dones = c.dones };
         is = record {
-          are = subst (λ (l : Bounds). AllByRecursion (IsPiece l) a.pieces) same a.takes.are;
-          cut = sym reads ∙ sym (take-append-drop taken.used read_desk.pending.items) ∙ ap (λ (k : List ℕ). k ++ drop taken.used read_desk.pending.items) a.takes.cut
-              ∙ ap (λ (k : List ℕ). flat_map bytes_of a.pieces ++ k) (sym a.rest);
-          rest = subst (λ (l : Bounds). IsRest l after.pending.items) same (rest_at old.limits after.pending.items taken.ends a.part a.no_frame);
-          passed = subst (λ (n : ℕ). after.passed_over ≡ counted_on n (count_passed a.pieces)) counts a.passed;
-          answers = subst (λ (l : Bounds). Spells l (said_to (server_of old) (inputs_in a.pieces)) a.answers) same a.takes.answers.says;
-          batch = subst (λ (s : Server). next_batch s ≡ option_map batch_of c.batch) is c.next;
-          written = subst (λ (l : Bounds). Writes g l c.batch tables later) kept c.written;
-          crash = c.crash;
-          dones = subst (λ (s : Server). SaysDones limits s c.batch c.dones) is (subst (λ (l : Bounds). SaysDones l (server_of mid) c.batch c.dones) kept c.says);
-          server = c.becomes ∙ ap (λ (s : Server). reached s c.batch) is;
-          all_on_disk = c.all_on_disk;
+          mid = tables;
+          room = keeps.room;
+          known = subst (λ (s : Server). KnowsBelow s new_life.below) (sym c.becomes) (known_on_disk (server_of mid) c.batch new_life.below keeps.known);
+          is = record {
+            are = subst (λ (l : Bounds). AllByRecursion (IsPiece l) a.pieces) same a.takes.are;
+            cut = sym reads ∙ sym (take-append-drop taken.used read_desk.pending.items) ∙ ap (λ (k : List ℕ). k ++ drop taken.used read_desk.pending.items) a.takes.cut
+                ∙ ap (λ (k : List ℕ). flat_map bytes_of a.pieces ++ k) (sym a.rest);
+            rest = subst (λ (l : Bounds). IsRest l after.pending.items) same (rest_at old.limits after.pending.items taken.ends a.part a.no_frame);
+            passed = subst (λ (n : ℕ). after.passed_over ≡ counted_on n (count_passed a.pieces)) counts a.passed;
+            answers = subst (λ (l : Bounds). Spells l (said_to (server_of old) (inputs_in a.pieces)) a.answers) same a.takes.answers.says;
+            batch = subst (λ (s : Server). next_batch s ≡ option_map batch_of c.batch) is c.next;
+            written = subst (λ (l : Bounds). Writes g l c.batch tables later) kept c.written;
+            crash = c.crash;
+            dones = subst (λ (s : Server). SaysDones limits s c.batch c.dones) is (subst (λ (l : Bounds). SaysDones l (server_of mid) c.batch c.dones) kept c.says);
+            server = c.becomes ∙ ap (λ (s : Server). reached s c.batch) is;
+            all_on_disk = c.all_on_disk;
+          };
         };
         reads = consumes;
         puts = Appends-trans out1 out2 out3 a.answers c.dones a.puts c.puts;
       }
 
   -- the input has ended
-  pub ended_round : (limits : Bounds) (server : ServerValue) (desk after : Desk) (tables : Held S) (read : List ℕ) (in1 in2 out : Option (List ℕ))
+  pub ended_round : (limits : Bounds) (server : ServerValue) (desk after : Desk) (tables : Held S) (life : LifeState) (read : List ℕ) (in1 in2 out : Option (List ℕ))
       → after.pending.items ≡ desk.pending.items ++ read → after.passed_over ≡ desk.passed_over → read ≡ [] → Consumes in1 in2 read → IsAtEnd in2
-      → EndsRound g limits end.Ended (standing g server desk tables) (standing g server after tables) in1 in2 out out
-  ended_round limits server desk after tables read in1 in2 out reads counts none consumes at_end =
+      → EndsRound g limits end.Ended (standing g server desk tables) (standing g server after tables) life life in1 in2 out out
+  ended_round limits server desk after tables life read in1 in2 out reads counts none consumes at_end =
       let waiting : after.pending.items ≡ desk.pending.items = reads ∙ ap (λ (k : List ℕ). desk.pending.items ++ k) none ∙ append-nil desk.pending.items in (
         ap (λ (k : List ℕ). record { server = server_of server; waiting = k; passed = after.passed_over; tables = tables }) waiting
             ∙ ap (λ (n : ℕ). record { server = server_of server; waiting = desk.pending.items; passed = n; tables = tables }) counts,
         subst (λ (k : List ℕ). Consumes in1 in2 k) none consumes,
         at_end,
+        refl,
         refl,
       )
 
@@ -161,35 +178,40 @@ module _ {S : Type 0} (g : Ghosts S) where
       told (round.Output e) wrong = absurd wrong
 
   -- a read failed
-  pub stops_reading : (limits : Bounds) (f : RoundFault) (old : Standing S) (read : List ℕ) (in1 in2 out : Option (List ℕ)) → StopsReading f → Consumes in1 in2 read
-      → StopsRound g limits f old old.tables in1 in2 out out
-  stops_reading limits f old read in1 in2 out why consumes =
-      record { read = read; reads = consumes; put = []; puts = Appends-nil out; stopped = stopped_still limits f old read why }
+  pub stops_reading : (limits : Bounds) (f : RoundFault) (old : Standing S) (life : LifeState) (read : List ℕ) (in1 in2 out : Option (List ℕ)) → StopsReading f → Consumes in1 in2 read
+      → StopsRound g limits f old life old.tables in1 in2 out out
+  stops_reading limits f old life read in1 in2 out why consumes =
+      record { read = read; reads = consumes; put = []; puts = Appends-nil out; stopped = λ begins. inl (old.tables, life, had refl refl, stopped_still limits f old read why begins) }
 
   -- some answers were put out
-  pub stops_answering : (limits : Bounds) (f : RoundFault) (old : ServerValue) (desk : Desk) (tables : Held S) (read bytes : List ℕ) (in1 in2 out1 out2 : Option (List ℕ)) → old.limits ≡ limits
-      → bytes ≡ desk.pending.items ++ read → Consumes in1 in2 read → StopsAnswering f old bytes out1 out2 → StopsRound g limits f (standing g old desk tables) tables in1 in2 out1 out2
-  stops_answering limits f old desk tables read bytes in1 in2 out1 out2 same reads consumes a = record {
+  pub stops_answering : (limits : Bounds) (f : RoundFault) (old : ServerValue) (desk : Desk) (first tables : Held S) (life new_life : LifeState) (read bytes : List ℕ) (in1 in2 out1 out2 : Option (List ℕ)) → MakesRoom g life new_life first tables → old.limits ≡ limits
+      → bytes ≡ desk.pending.items ++ read → Consumes in1 in2 read → StopsAnswering f old bytes out1 out2 → StopsRound g limits f (standing g old desk first) life tables in1 in2 out1 out2
+  stops_answering limits f old desk first tables life new_life read bytes in1 in2 out1 out2 room same reads consumes a = record {
     read = read;
     reads = consumes;
     put = a.put;
     puts = a.puts;
-    stopped = λ begins. record {
-      begins = begins;
-      pieces = a.pieces;
-      rest = a.rest;
-      are = subst (λ (l : Bounds). AllByRecursion (IsPiece l) a.pieces) same a.are;
-      cut = sym reads ∙ a.cut;
-      next = tt;
-      batch = None;
-      answers = a.answers;
-      dones = [];
-      fits = tt;
-      written = refl;
-      crash = survives_still g tables _;
-      says = subst (λ (l : Bounds). Spells l (said_to (server_of old) (inputs_in a.pieces)) a.answers) same a.says;
-      told = told f a.told;
-    };
+    stopped = λ begins. inl (
+      tables,
+      new_life,
+      room,
+      record {
+        begins = begins;
+        pieces = a.pieces;
+        rest = a.rest;
+        are = subst (λ (l : Bounds). AllByRecursion (IsPiece l) a.pieces) same a.are;
+        cut = sym reads ∙ a.cut;
+        next = tt;
+        batch = None;
+        answers = a.answers;
+        dones = [];
+        fits = tt;
+        written = refl;
+        crash = survives_still g tables _;
+        says = subst (λ (l : Bounds). Spells l (said_to (server_of old) (inputs_in a.pieces)) a.answers) same a.says;
+        told = told f a.told;
+      },
+    );
   }
     where
       told : (k : RoundFault) → PutsAnswers k old.limits a.put a.answers (after_inputs (server_of old) (inputs_in a.pieces)) a.rest
@@ -205,12 +227,39 @@ module _ {S : Type 0} (g : Ghosts S) where
       told round.Store wrong = absurd wrong
       told round.Input wrong = absurd wrong
 
+  -- there was no room for whom the server knew
+  pub stops_without_room : (limits : Bounds) (f : RoundFault) (old : ServerValue) (desk : Desk) (first tables : Held S) (life : LifeState) (read bytes : List ℕ) (in1 in2 out1 out2 : Option (List ℕ)) → old.limits ≡ limits
+      → bytes ≡ desk.pending.items ++ read → Consumes in1 in2 read → FindsNoRoom g f old bytes first tables out1 out2 → StopsRound g limits f (standing g old desk first) life tables in1 in2 out1 out2
+  stops_without_room limits f old desk first tables life read bytes in1 in2 out1 out2 same reads consumes a = record {
+    read = read;
+    reads = consumes;
+    put = [];
+    puts = subst (λ (o : Option (List ℕ)). Appends out1 o []) (sym a.unsaid) (Appends-nil out1);
+    stopped = λ begins. inr (record {
+      begins = begins;
+      pieces = a.pieces;
+      rest = a.rest;
+      are = subst (λ (l : Bounds). AllByRecursion (IsPiece l) a.pieces) same a.are;
+      cut = sym reads ∙ a.cut;
+      unsaid = refl;
+      told = a.told;
+    });
+  }
+
+  -- whichever of both it was
+  pub stops_within : (limits : Bounds) (f : RoundFault) (old : ServerValue) (desk : Desk) (first tables : Held S) (life : LifeState) (read bytes : List ℕ) (in1 in2 out1 out2 : Option (List ℕ)) → old.limits ≡ limits
+      → bytes ≡ desk.pending.items ++ read → Consumes in1 in2 read → StopsWithin g f old bytes life first tables out1 out2 → StopsRound g limits f (standing g old desk first) life tables in1 in2 out1 out2
+  stops_within limits f old desk first tables life read bytes in1 in2 out1 out2 same reads consumes (inl a) =
+      stops_answering limits f old desk first tables life a.0 read bytes in1 in2 out1 out2 a.1 same reads consumes a.2
+  stops_within limits f old desk first tables life read bytes in1 in2 out1 out2 same reads consumes (inr a) =
+      stops_without_room limits f old desk first tables life read bytes in1 in2 out1 out2 same reads consumes a
+
   -- the answers were put out, and some of the Dones, or none
-  pub stops_committing : (limits : Bounds) (f : RoundFault) (old mid : ServerValue) (desk read_desk after : Desk) (tables later : Held S) (read : List ℕ) (taken : Taken)
-      (in1 in2 out1 out2 out3 : Option (List ℕ)) → old.limits ≡ limits → read_desk.pending.items ≡ desk.pending.items ++ read → Consumes in1 in2 read
+  pub stops_committing : (limits : Bounds) (f : RoundFault) (old mid : ServerValue) (desk read_desk after : Desk) (first tables later : Held S) (life new_life : LifeState) (read : List ℕ) (taken : Taken)
+      (in1 in2 out1 out2 out3 : Option (List ℕ)) → MakesRoom g life new_life first tables → old.limits ≡ limits → read_desk.pending.items ≡ desk.pending.items ++ read → Consumes in1 in2 read
       → Answered old read_desk after taken mid out1 out2 → StopsCommit g f mid tables later out2 out3
-      → StopsRound g limits f (standing g old desk tables) later in1 in2 out1 out3
-  stops_committing limits f old mid desk read_desk after tables later read taken in1 in2 out1 out2 out3 same reads consumes a c =
+      → StopsRound g limits f (standing g old desk first) life later in1 in2 out1 out3
+  stops_committing limits f old mid desk read_desk after first tables later life new_life read taken in1 in2 out1 out2 out3 room same reads consumes a c =
       let is : server_of mid ≡ after_inputs (server_of old) (inputs_in a.pieces) = a.takes.answers.becomes in
       let kept : mid.limits ≡ limits = a.takes.answers.limits ∙ same in
       record {
@@ -218,22 +267,27 @@ module _ {S : Type 0} (g : Ghosts S) where
         reads = consumes;
         put = a.answers ++ c.put;
         puts = Appends-trans out1 out2 out3 a.answers c.put a.puts c.puts;
-        stopped = λ begins. record {
-          begins = begins;
-          pieces = a.pieces;
-          rest = drop taken.used read_desk.pending.items;
-          are = subst (λ (l : Bounds). AllByRecursion (IsPiece l) a.pieces) same a.takes.are;
-          cut = sym reads ∙ sym (take-append-drop taken.used read_desk.pending.items) ∙ ap (λ (k : List ℕ). k ++ drop taken.used read_desk.pending.items) a.takes.cut;
-          next = subst (λ (s : Server). IfSome c.batch (λ b. next_batch s ≡ Some (batch_of b))) is c.next;
-          batch = c.batch;
-          answers = a.answers;
-          dones = c.dones;
-          fits = subst (λ (l : Bounds). IfSome c.batch (Fits l)) kept c.fits;
-          written = subst (λ (l : Bounds). WritesOrNot g l c.batch tables later) kept c.written;
-          crash = c.crash;
-          says = subst (λ (l : Bounds). Spells l (said_to (server_of old) (inputs_in a.pieces)) a.answers) same a.takes.answers.says;
-          told = told is kept f c.told;
-        };
+        stopped = λ begins. inl (
+          tables,
+          new_life,
+          room,
+          record {
+            begins = begins;
+            pieces = a.pieces;
+            rest = drop taken.used read_desk.pending.items;
+            are = subst (λ (l : Bounds). AllByRecursion (IsPiece l) a.pieces) same a.takes.are;
+            cut = sym reads ∙ sym (take-append-drop taken.used read_desk.pending.items) ∙ ap (λ (k : List ℕ). k ++ drop taken.used read_desk.pending.items) a.takes.cut;
+            next = subst (λ (s : Server). IfSome c.batch (λ b. next_batch s ≡ Some (batch_of b))) is c.next;
+            batch = c.batch;
+            answers = a.answers;
+            dones = c.dones;
+            fits = subst (λ (l : Bounds). IfSome c.batch (Fits l)) kept c.fits;
+            written = subst (λ (l : Bounds). WritesOrNot g l c.batch tables later) kept c.written;
+            crash = c.crash;
+            says = subst (λ (l : Bounds). Spells l (said_to (server_of old) (inputs_in a.pieces)) a.answers) same a.takes.answers.says;
+            told = told is kept f c.told;
+          },
+        );
       }
     where
       told : server_of mid ≡ after_inputs (server_of old) (inputs_in a.pieces) → mid.limits ≡ limits
@@ -254,27 +308,27 @@ module _ {S : Type 0} (g : Ghosts S) where
       told is kept round.Input wrong = absurd wrong
 
   -- one round more
-  rounds_more : (limits : Bounds) (rounds : List Round) (round : Round) (a b c : Standing S) → AreRounds g limits rounds a b → IsPart limits b.waiting → IsRound g limits round b c
-      → AreRounds g limits (rounds ++ round ∷ []) a c
-  rounds_more limits [] round a b c are part is =
-      (subst (λ (s : Standing S). IsPart limits s.waiting) are part, c, subst (λ (s : Standing S). IsRound g limits round s c) are is, refl)
-  rounds_more limits (first ∷ rounds) round a b c are part is = (are.0, are.1, are.2, rounds_more limits rounds round are.1 b c are.3 part is)
+  rounds_more : (limits : Bounds) (rounds : List Round) (round : Round) (a b c : Standing S) (i j k : LifeState) → AreRounds g limits rounds a b i j → IsPart limits b.waiting → IsRoundOfLife g limits round b c j k
+      → AreRounds g limits (rounds ++ round ∷ []) a c i k
+  rounds_more limits [] round a b c i j k are part is =
+      (subst (λ (s : Standing S). IsPart limits s.waiting) are.0 part, c, k, subst (λ (s : Standing S). IsRoundOfLife g limits round s c i k) are.0 (subst (λ (l : LifeState). IsRoundOfLife g limits round b c l k) are.1 is), (refl, refl))
+  rounds_more limits (first ∷ rounds) round a b c i j k are part is = (are.0, are.1, are.2, are.3, rounds_more limits rounds round are.1 b c are.2 j k are.4 part is)
 
   -- How far a loop over rounds has come.
-  pub record Far (limits : Bounds) (start now : Standing S) (in0 in1 out0 out1 : Option (List ℕ)) : Type 0 where
+  pub record Far (limits : Bounds) (start now : Standing S) (begun life : LifeState) (in0 in1 out0 out1 : Option (List ℕ)) : Type 0 where
     pub rounds : List Round
-    pub are : AreRounds g limits rounds start now
+    pub are : AreRounds g limits rounds start now begun life
     pub reads : Consumes in0 in1 (read_in rounds)
     pub puts : Appends out0 out1 (put_in rounds)
 
-  pub far_nothing : (limits : Bounds) (start : Standing S) (in0 out0 : Option (List ℕ)) → Far limits start start in0 in0 out0 out0
-  far_nothing limits start in0 out0 = record { rounds = []; are = refl; reads = Consumes-nil in0; puts = Appends-nil out0 }
+  pub far_nothing : (limits : Bounds) (start : Standing S) (life : LifeState) (in0 out0 : Option (List ℕ)) → Far limits start start life life in0 in0 out0 out0
+  far_nothing limits start life in0 out0 = record { rounds = []; are = (refl, refl); reads = Consumes-nil in0; puts = Appends-nil out0 }
 
-  pub far_more : (limits : Bounds) (start now next : Standing S) (in0 in1 in2 out0 out1 out2 : Option (List ℕ)) → IsPart limits now.waiting → Far limits start now in0 in1 out0 out1
-      → DoesRound g limits now next in1 in2 out1 out2 → Far limits start next in0 in2 out0 out2
-  far_more limits start now next in0 in1 in2 out0 out1 out2 part far d = record {
+  pub far_more : (limits : Bounds) (start now next : Standing S) (begun life new_life : LifeState) (in0 in1 in2 out0 out1 out2 : Option (List ℕ)) → IsPart limits now.waiting → Far limits start now begun life in0 in1 out0 out1
+      → DoesRound g limits now next life new_life in1 in2 out1 out2 → Far limits start next begun new_life in0 in2 out0 out2
+  far_more limits start now next begun life new_life in0 in1 in2 out0 out1 out2 part far d = record {
     rounds = far.rounds ++ d.round ∷ [];
-    are = rounds_more limits far.rounds d.round start now next far.are part d.is;
+    are = rounds_more limits far.rounds d.round start now next begun life new_life far.are part d.is;
     reads = subst (λ (k : List ℕ). Consumes in0 in2 k) (sym (flat_map-append (λ (r : Round). r.read) far.rounds (d.round ∷ []) ∙ ap (λ (k : List ℕ). read_in far.rounds ++ k) (append-nil d.round.read)))
         (Consumes-trans in0 in1 in2 (read_in far.rounds) d.round.read far.reads d.reads);
     puts = subst (λ (k : List ℕ). Appends out0 out2 k)
@@ -283,12 +337,13 @@ module _ {S : Type 0} (g : Ghosts S) where
   }
 
   -- it ends there
-  pub serves_at : {E : Type 0} (limits : Bounds) (ending : Result E ServeFault) (start now : Standing S) (tables : Held S) (read put : List ℕ)
-      (in0 in1 in2 out0 out1 out2 : Option (List ℕ)) → Far limits start now in0 in1 out0 out1 → Consumes in1 in2 read → Appends out1 out2 put
-      → Ends g limits ending read put in2 now tables → Serves g limits ending start tables in0 in2 out0 out2
-  serves_at limits ending start now tables read put in0 in1 in2 out0 out1 out2 far consumes appends ends = record {
+  pub serves_at : {E : Type 0} (limits : Bounds) (ending : Result E ServeFault) (start now : Standing S) (begun life : LifeState) (tables : Held S) (read put : List ℕ)
+      (in0 in1 in2 out0 out1 out2 : Option (List ℕ)) → Far limits start now begun life in0 in1 out0 out1 → Consumes in1 in2 read → Appends out1 out2 put
+      → Ends g limits ending read put in2 now life tables → Serves g limits ending start begun tables in0 in2 out0 out2
+  serves_at limits ending start now begun life tables read put in0 in1 in2 out0 out1 out2 far consumes appends ends = record {
     rounds = far.rounds;
     last = now;
+    last_life = life;
     are = far.are;
     read = read;
     reads = Consumes-trans in0 in1 in2 (read_in far.rounds) read far.reads consumes;
@@ -298,64 +353,64 @@ module _ {S : Type 0} (g : Ghosts S) where
   }
 
   -- a round stops
-  pub serves_stopped : {E : Type 0} (limits l : Bounds) (start now : Standing S) (f : RoundFault) (tables : Held S) (in0 in1 in2 out0 out1 out2 : Option (List ℕ)) → l ≡ limits
-      → IsPart limits now.waiting → Far limits start now in0 in1 out0 out1 → StopsRound g l f now tables in1 in2 out1 out2 → Serves g limits {E = E} (Err (fault.Round f)) start tables in0 in2 out0 out2
-  serves_stopped limits l start now f tables in0 in1 in2 out0 out1 out2 same part far stops =
-      serves_at limits (Err (fault.Round f)) start now tables stops.read stops.put in0 in1 in2 out0 out1 out2 far stops.reads stops.puts
-      (subst (λ (k : Bounds). IsPart k now.waiting → IsStopped g k f stops.read stops.put now tables) same stops.stopped part)
+  pub serves_stopped : {E : Type 0} (limits l : Bounds) (start now : Standing S) (begun life : LifeState) (f : RoundFault) (tables : Held S) (in0 in1 in2 out0 out1 out2 : Option (List ℕ)) → l ≡ limits
+      → IsPart limits now.waiting → Far limits start now begun life in0 in1 out0 out1 → StopsRound g l f now life tables in1 in2 out1 out2 → Serves g limits {E = E} (Err (fault.Round f)) start begun tables in0 in2 out0 out2
+  serves_stopped limits l start now begun life f tables in0 in1 in2 out0 out1 out2 same part far stops =
+      serves_at limits (Err (fault.Round f)) start now begun life tables stops.read stops.put in0 in1 in2 out0 out1 out2 far stops.reads stops.puts
+      (subst (λ (k : Bounds). IsPart k now.waiting → StopsInLife g k f stops.read stops.put now life tables) same stops.stopped part)
 
   -- there are no more rounds
-  pub serves_tired : {E : Type 0} (limits : Bounds) (start now : Standing S) (in0 in1 out0 out1 : Option (List ℕ))
-      → IsPart limits now.waiting → Far limits start now in0 in1 out0 out1 → Serves g limits {E = E} (Err (fault.Round round.Input)) start now.tables in0 in1 out0 out1
-  serves_tired limits start now in0 in1 out0 out1 part far =
-      serves_at limits (Err (fault.Round round.Input)) start now now.tables [] [] in0 in1 in1 out0 out1 out1 far (Consumes-nil in1) (Appends-nil out1)
-      (stopped_still limits round.Input now [] tt part)
+  pub serves_tired : {E : Type 0} (limits : Bounds) (start now : Standing S) (begun life : LifeState) (in0 in1 out0 out1 : Option (List ℕ))
+      → IsPart limits now.waiting → Far limits start now begun life in0 in1 out0 out1 → Serves g limits {E = E} (Err (fault.Round round.Input)) start begun now.tables in0 in1 out0 out1
+  serves_tired limits start now begun life in0 in1 out0 out1 part far =
+      serves_at limits (Err (fault.Round round.Input)) start now begun life now.tables [] [] in0 in1 in1 out0 out1 out1 far (Consumes-nil in1) (Appends-nil out1)
+      (inl (now.tables, life, had refl refl, stopped_still limits round.Input now [] tt part))
 
-  round_at : (limits l : Bounds) (now next : Standing S) (in1 in2 out1 out2 : Option (List ℕ)) → l ≡ limits → DoesRound g l now next in1 in2 out1 out2 → DoesRound g limits now next in1 in2 out1 out2
-  round_at limits l now next in1 in2 out1 out2 same d = subst (λ (k : Bounds). DoesRound g k now next in1 in2 out1 out2) same d
+  round_at : (limits l : Bounds) (now next : Standing S) (i j : LifeState) (in1 in2 out1 out2 : Option (List ℕ)) → l ≡ limits → DoesRound g l now next i j in1 in2 out1 out2 → DoesRound g limits now next i j in1 in2 out1 out2
+  round_at limits l now next i j in1 in2 out1 out2 same d = subst (λ (k : Bounds). DoesRound g k now next i j in1 in2 out1 out2) same d
 
   -- a round was done, and the input goes on
-  pub goes_on : (limits l : Bounds) (start now next : Standing S) (e : RoundEnd) (in0 in1 in2 out0 out1 out2 : Option (List ℕ)) → l ≡ limits → e ≡ end.GoesOn
-      → IsPart limits now.waiting → Far limits start now in0 in1 out0 out1 → EndsRound g l e now next in1 in2 out1 out2 → IsPart limits next.waiting × Far limits start next in0 in2 out0 out2
-  goes_on limits l start now next e in0 in1 in2 out0 out1 out2 same is part far ends =
-      let d = subst (λ (k : RoundEnd). EndsRound g l k now next in1 in2 out1 out2) is ends in
-      (subst (λ (k : Bounds). IsPart k next.waiting) same d.1, far_more limits start now next in0 in1 in2 out0 out1 out2 part far (round_at limits l now next in1 in2 out1 out2 same d.0))
+  pub goes_on : (limits l : Bounds) (start now next : Standing S) (begun life new_life : LifeState) (e : RoundEnd) (in0 in1 in2 out0 out1 out2 : Option (List ℕ)) → l ≡ limits → e ≡ end.GoesOn
+      → IsPart limits now.waiting → Far limits start now begun life in0 in1 out0 out1 → EndsRound g l e now next life new_life in1 in2 out1 out2 → IsPart limits next.waiting × Far limits start next begun new_life in0 in2 out0 out2
+  goes_on limits l start now next begun life new_life e in0 in1 in2 out0 out1 out2 same is part far ends =
+      let d = subst (λ (k : RoundEnd). EndsRound g l k now next life new_life in1 in2 out1 out2) is ends in
+      (subst (λ (k : Bounds). IsPart k next.waiting) same d.1, far_more limits start now next begun life new_life in0 in1 in2 out0 out1 out2 part far (round_at limits l now next life new_life in1 in2 out1 out2 same d.0))
 
   -- a round was done, and the input goes on wrongly
-  pub serves_no_frame : {E : Type 0} (limits l : Bounds) (start now next : Standing S) (e : RoundEnd) (in0 in1 in2 out0 out1 out2 : Option (List ℕ)) → l ≡ limits → e ≡ end.NoFrame
-      → IsPart limits now.waiting → Far limits start now in0 in1 out0 out1 → EndsRound g l e now next in1 in2 out1 out2 → Serves g limits {E = E} (Err fault.NoFrame) start next.tables in0 in2 out0 out2
-  serves_no_frame limits l start now next e in0 in1 in2 out0 out1 out2 same is part far ends =
-      let d = subst (λ (k : RoundEnd). EndsRound g l k now next in1 in2 out1 out2) is ends in
-      serves_at limits (Err fault.NoFrame) start next next.tables [] [] in0 in2 in2 out0 out2 out2
-      (far_more limits start now next in0 in1 in2 out0 out1 out2 part far (round_at limits l now next in1 in2 out1 out2 same d.0)) (Consumes-nil in2) (Appends-nil out2)
+  pub serves_no_frame : {E : Type 0} (limits l : Bounds) (start now next : Standing S) (begun life new_life : LifeState) (e : RoundEnd) (in0 in1 in2 out0 out1 out2 : Option (List ℕ)) → l ≡ limits → e ≡ end.NoFrame
+      → IsPart limits now.waiting → Far limits start now begun life in0 in1 out0 out1 → EndsRound g l e now next life new_life in1 in2 out1 out2 → Serves g limits {E = E} (Err fault.NoFrame) start begun next.tables in0 in2 out0 out2
+  serves_no_frame limits l start now next begun life new_life e in0 in1 in2 out0 out1 out2 same is part far ends =
+      let d = subst (λ (k : RoundEnd). EndsRound g l k now next life new_life in1 in2 out1 out2) is ends in
+      serves_at limits (Err fault.NoFrame) start next begun new_life next.tables [] [] in0 in2 in2 out0 out2 out2
+      (far_more limits start now next begun life new_life in0 in1 in2 out0 out1 out2 part far (round_at limits l now next life new_life in1 in2 out1 out2 same d.0)) (Consumes-nil in2) (Appends-nil out2)
       (subst (λ (k : Bounds). IsNoFrame k next.waiting) same d.1, (refl, refl, refl))
 
   -- how it ends with the input
-  ends_with_input : {E : Type 0} (limits : Bounds) (r : Result E ServeFault) (now next : Standing S) (in2 : Option (List ℕ)) → next ≡ now → IsPart limits now.waiting → IsAtEnd in2
-      → OnOk r (next.waiting ≡ []) → IfErr r (λ f. (f ≡ fault.Cut) × (next.waiting ≢ [])) → Ends g limits r [] [] in2 now next.tables
-  ends_with_input limits (Ok x) now next in2 same part at_end ok err =
+  ends_with_input : {E : Type 0} (limits : Bounds) (r : Result E ServeFault) (now next : Standing S) (life : LifeState) (in2 : Option (List ℕ)) → next ≡ now → IsPart limits now.waiting → IsAtEnd in2
+      → OnOk r (next.waiting ≡ []) → IfErr r (λ f. (f ≡ fault.Cut) × (next.waiting ≢ [])) → Ends g limits r [] [] in2 now life next.tables
+  ends_with_input limits (Ok x) now next life in2 same part at_end ok err =
       (ap (λ (k : Standing S). k.waiting) (sym same) ∙ ok, at_end, (refl, refl, ap (λ (k : Standing S). k.tables) same))
-  ends_with_input {E} limits (Err f) now next in2 same part at_end ok err =
-      subst (λ (k : ServeFault). Ends g limits {E = E} (Err k) [] [] in2 now next.tables) (sym err.0)
+  ends_with_input {E} limits (Err f) now next life in2 same part at_end ok err =
+      subst (λ (k : ServeFault). Ends g limits {E = E} (Err k) [] [] in2 now life next.tables) (sym err.0)
       (part, (λ e. err.1 (ap (λ (k : Standing S). k.waiting) same ∙ e)), at_end, (refl, refl, ap (λ (k : Standing S). k.tables) same))
 
-  pub serves_ended : {E : Type 0} (limits l : Bounds) (r : Result E ServeFault) (start now next : Standing S) (e : RoundEnd) (waiting : List ℕ) (in0 in1 in2 out0 out1 out2 : Option (List ℕ))
-      → l ≡ limits → e ≡ end.Ended → waiting ≡ next.waiting → IsPart limits now.waiting → Far limits start now in0 in1 out0 out1
-      → EndsRound g l e now next in1 in2 out1 out2 → OnOk r (waiting ≡ []) → IfErr r (λ f. (f ≡ fault.Cut) × (waiting ≢ []))
-      → Serves g limits r start next.tables in0 in2 out0 out2
-  serves_ended limits l r start now next e waiting in0 in1 in2 out0 out1 out2 same is names part far ends ok err =
-      let d = subst (λ (k : RoundEnd). EndsRound g l k now next in1 in2 out1 out2) is ends in
-      serves_at limits r start now next.tables [] [] in0 in1 in2 out0 out1 out2 far d.1
+  pub serves_ended : {E : Type 0} (limits l : Bounds) (r : Result E ServeFault) (start now next : Standing S) (begun life new_life : LifeState) (e : RoundEnd) (waiting : List ℕ) (in0 in1 in2 out0 out1 out2 : Option (List ℕ))
+      → l ≡ limits → e ≡ end.Ended → waiting ≡ next.waiting → IsPart limits now.waiting → Far limits start now begun life in0 in1 out0 out1
+      → EndsRound g l e now next life new_life in1 in2 out1 out2 → OnOk r (waiting ≡ []) → IfErr r (λ f. (f ≡ fault.Cut) × (waiting ≢ []))
+      → Serves g limits r start begun next.tables in0 in2 out0 out2
+  serves_ended limits l r start now next begun life new_life e waiting in0 in1 in2 out0 out1 out2 same is names part far ends ok err =
+      let d = subst (λ (k : RoundEnd). EndsRound g l k now next life new_life in1 in2 out1 out2) is ends in
+      serves_at limits r start now begun life next.tables [] [] in0 in1 in2 out0 out1 out2 far d.1
       (subst (λ (o : Option (List ℕ)). Appends out1 o []) (sym d.3) (Appends-nil out1))
-      (ends_with_input limits r now next in2 d.0 part d.2 (subst (λ (k : List ℕ). OnOk r (k ≡ [])) names ok)
+      (ends_with_input limits r now next life in2 d.0 part d.2 (subst (λ (k : List ℕ). OnOk r (k ≡ [])) names ok)
       (subst (λ (k : List ℕ). IfErr r (λ f. (f ≡ fault.Cut) × (k ≢ []))) names err))
 
   -- the whole of it, over a store
-  pub serves_over : {E : Type 0} (limits : Bounds) (store : StoreState) (r : Result E ServeFault) (server : ServerValue) (pending : List ℕ) (old new : Held S)
-      (in0 in1 out0 out1 : Option (List ℕ)) → IsNew limits store server → pending ≡ []
-      → Serves g server.limits r (record { server = server_of server; waiting = pending; passed = 0; tables = old }) new in0 in1 out0 out1
-      → Serves g limits r (record { server = opened limits store; waiting = []; passed = 0; tables = old }) new in0 in1 out0 out1
-  serves_over limits store r server pending old new in0 in1 out0 out1 is empty serves =
-      subst (λ (l : Bounds). Serves g l r (record { server = opened limits store; waiting = []; passed = 0; tables = old }) new in0 in1 out0 out1) is.limits
-      (subst (λ (k : List ℕ). Serves g server.limits r (record { server = opened limits store; waiting = k; passed = 0; tables = old }) new in0 in1 out0 out1) empty
-      (subst (λ (s : Server). Serves g server.limits r (record { server = s; waiting = pending; passed = 0; tables = old }) new in0 in1 out0 out1) is.server serves))
+  pub serves_over : {E : Type 0} (limits : Bounds) (store : StoreState) (life : LifeState) (r : Result E ServeFault) (server : ServerValue) (pending : List ℕ) (old new : Held S)
+      (in0 in1 out0 out1 : Option (List ℕ)) → IsResumed limits store life.floor server → pending ≡ []
+      → Serves g server.limits r (record { server = server_of server; waiting = pending; passed = 0; tables = old }) life new in0 in1 out0 out1
+      → Serves g limits r (record { server = opened limits store life.floor; waiting = []; passed = 0; tables = old }) life new in0 in1 out0 out1
+  serves_over limits store life r server pending old new in0 in1 out0 out1 is empty serves =
+      subst (λ (l : Bounds). Serves g l r (record { server = opened limits store life.floor; waiting = []; passed = 0; tables = old }) life new in0 in1 out0 out1) is.limits
+      (subst (λ (k : List ℕ). Serves g server.limits r (record { server = opened limits store life.floor; waiting = k; passed = 0; tables = old }) life new in0 in1 out0 out1) empty
+      (subst (λ (s : Server). Serves g server.limits r (record { server = s; waiting = pending; passed = 0; tables = old }) life new in0 in1 out0 out1) is.server serves))

@@ -1,6 +1,6 @@
 -- A life of the server that a service has: its shelf has room for the incarnations that the server
 -- knows, before anything is said to them.
-use Rattle.std.specs.Prelude.{◌≡◌, ◌≤◌, ℕ, List, [], ◌∷◌}
+use Rattle.std.specs.Prelude.{◌≡◌, ◌≤◌, ℕ, [], ◌∷◌}
 use Rattle.sqlite.specs.Held.{Held, state}
 use Rattle.sqlite.specs.State.{HasCleanDisk}
 use Rattle.sqlite.specs.Store.{Ghosts}
@@ -9,11 +9,10 @@ use Rattle.cb_page.specs.Bounds.{Bounds}
 use Rattle.cb_protocol.specs.Server.{Server}
 use Rattle.cb_server.specs.Knowing.{KnowsBelow}
 use Rattle.cb_shelf.specs.LifeRows.{LifeState, life_row}
-use Rattle.cb_shelf.specs.Living.{MadeBy, raise_end, raised}
+use Rattle.cb_shelf.specs.Living.{MadeBy, raised}
 use Rattle.cb_sql.specs.Inside.{IsSame, IsSettled}
 use Rattle.cb_sql.specs.Statements.{MakesAll}
 use Rattle.cb_serve.specs.Rounds.{IsRound, Round, Standing}
-use Rattle.cb_serve.specs.Streams.{IsPart}
 use Rattle.cb_serve.specs.declared.fault.RoundFault.{RoundFault}
 use Rattle.cb_serve.specs.declared.fault.RoundFault.TheVariants as round
 
@@ -58,12 +57,3 @@ module _ {S : Type 0} (g : Ghosts S) where
     pub room : MakesRoom old_life new_life old.tables mid
     pub is : IsRound g limits step (record old { tables = mid }) new
     pub known : KnowsBelow new.server new_life.below
-
-  -- these rounds, one after another, of one life
-  abbrev pub AreRoundsOfLife : Bounds → List Round → (old new : Standing S)
-      → (old_life new_life : LifeState) → Type 0
-  AreRoundsOfLife limits [] old new old_life new_life = (new ≡ old) × (new_life ≡ old_life)
-  AreRoundsOfLife limits (step ∷ steps) old new old_life new_life = IsPart limits old.waiting
-      × (between : Standing S) × (life : LifeState)
-      × IsRoundOfLife limits step old between old_life life
-      × AreRoundsOfLife limits steps between new life new_life

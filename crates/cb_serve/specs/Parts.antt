@@ -1,5 +1,5 @@
 -- The parts of a round.
-use Rattle.std.specs.Prelude.{◌≡◌, ℕ, List, [], ◌++◌, take, drop, Option, None}
+use Rattle.std.specs.Prelude.{◌≡◌, ◌⊎◌, ℕ, List, [], ◌++◌, take, drop, Option, None}
 use Rattle.std.specs.Prelude.{Some, IfSome, option_map, true, false}
 use Rattle.std.specs.Io.KnownBytes.{Appends, Consumes, IsAtEnd}
 use Rattle.std.specs.List.{AllByRecursion, flat_map}
@@ -12,13 +12,15 @@ use Rattle.cb_protocol.specs.Flush.{next_batch}
 use Rattle.cb_protocol.specs.Server.{Server}
 use Rattle.cb_server.specs.ServerValue.{ServerValue, server_of}
 use Rattle.cb_server_state.specs.Commits.{batch_of}
+use Rattle.cb_shelf.specs.LifeRows.{LifeState}
 use Rattle.cb_sql.specs.Inside.{IsSame}
 use Rattle.cb_sql.specs.Writing.{Fits}
 use Rattle.cb_serve.specs.Answering.{LacksNumber, Spells, TakesPieces, after_inputs, inputs_in}
 use Rattle.cb_serve.specs.Answering.{said_to}
-use Rattle.cb_serve.specs.Rounds.{IsRound, LeavesBatch, Round, SaysDones, Standing, Writes}
+use Rattle.cb_serve.specs.Living.{IsRoundOfLife, MakesRoom, RefusesRoom}
+use Rattle.cb_serve.specs.Rounds.{LeavesBatch, Round, SaysDones, Standing, Writes}
 use Rattle.cb_serve.specs.Rounds.{StaysUnwritten, WritesOrNot, counted_on, reached}
-use Rattle.cb_serve.specs.Serving.{IsStopped}
+use Rattle.cb_serve.specs.Serving.{StopsInLife}
 use Rattle.cb_serve.specs.Streams.{IsNoFrame, IsPart, IsPiece, Piece, bytes_of, count_passed}
 use Rattle.cb_serve.specs.declared.fault.RoundFault.{RoundFault}
 use Rattle.cb_serve.specs.declared.fault.RoundFault.TheVariants as round
@@ -84,6 +86,24 @@ module _ {S : Type 0} (g : Ghosts S) where
     pub crash : LeavesBatch g old.limits batch old_tables new_tables
     pub puts : Appends old_out new_out dones
 
+  -- No room was found for whom the server knew once it had taken these pieces; nothing was put out.
+  pub record FindsNoRoom (fault : RoundFault) (old : ServerValue) (bytes : List ℕ)
+      (old_tables new_tables : Held S) (old_out new_out : Option (List ℕ)) : Type 0 where
+    pub pieces : List Piece
+    pub rest : List ℕ
+    pub are : AllByRecursion (IsPiece old.limits) pieces
+    pub cut : bytes ≡ flat_map bytes_of pieces ++ rest
+    pub unsaid : new_out ≡ old_out
+    pub told : RefusesRoom g fault old_tables new_tables
+
+  -- it wasn't answered, or not whole: with room, or for want of it
+  abbrev pub StopsWithin : RoundFault → ServerValue → (bytes : List ℕ) → LifeState
+      → (old_tables new_tables : Held S) → (old_out new_out : Option (List ℕ)) → Type 0
+  StopsWithin fault old bytes life old_tables new_tables old_out new_out =
+      ((new_life : LifeState) × MakesRoom g life new_life old_tables new_tables
+      × StopsAnswering fault old bytes old_out new_out)
+      ⊎ FindsNoRoom fault old bytes old_tables new_tables old_out new_out
+
   -- a batch that fits was refused, by the database or for want of memory: on a clean disk the
   -- tables are as before
   abbrev pub RefusesBatch : RoundFault → (old new : Held S) → Type 0
@@ -127,29 +147,31 @@ module _ {S : Type 0} (g : Ghosts S) where
   }
 
   -- A whole round was done, and puts these bytes out.
-  pub record DoesRound (limits : Bounds) (old new : Standing S)
+  pub record DoesRound (limits : Bounds) (old new : Standing S) (old_life new_life : LifeState)
       (old_in new_in old_out new_out : Option (List ℕ)) : Type 0 where
     pub round : Round
-    pub is : IsRound g limits round old new
+    pub is : IsRoundOfLife g limits round old new old_life new_life
     pub reads : Consumes old_in new_in round.read
     pub puts : Appends old_out new_out (round.answers ++ round.dones)
 
   -- how a round ends: the input has ended, and nothing was done; or it was done, and the input goes
   -- on, rightly or not
   abbrev pub EndsRound : Bounds → RoundEnd → (old new : Standing S)
-      → (old_in new_in old_out new_out : Option (List ℕ)) → Type 0
-  EndsRound limits end.Ended old new old_in new_in old_out new_out = (new ≡ old)
-      × Consumes old_in new_in [] × IsAtEnd new_in × (new_out ≡ old_out)
-  EndsRound limits end.GoesOn old new old_in new_in old_out new_out =
-      DoesRound limits old new old_in new_in old_out new_out × IsPart limits new.waiting
-  EndsRound limits end.NoFrame old new old_in new_in old_out new_out =
-      DoesRound limits old new old_in new_in old_out new_out × IsNoFrame limits new.waiting
+      → (old_life new_life : LifeState) → (old_in new_in old_out new_out : Option (List ℕ)) → Type 0
+  EndsRound limits end.Ended old new old_life new_life old_in new_in old_out new_out =
+      (new ≡ old) × Consumes old_in new_in [] × IsAtEnd new_in × (new_out ≡ old_out)
+      × (new_life ≡ old_life)
+  EndsRound limits end.GoesOn old new old_life new_life old_in new_in old_out new_out =
+      DoesRound limits old new old_life new_life old_in new_in old_out new_out × IsPart limits new.waiting
+  EndsRound limits end.NoFrame old new old_life new_life old_in new_in old_out new_out =
+      DoesRound limits old new old_life new_life old_in new_in old_out new_out × IsNoFrame limits new.waiting
 
   -- A round was begun and not finished, behind less than a whole piece.
-  pub record StopsRound (limits : Bounds) (fault : RoundFault) (old : Standing S) (tables : Held S)
-      (old_in new_in old_out new_out : Option (List ℕ)) : Type 0 where
+  pub record StopsRound (limits : Bounds) (fault : RoundFault) (old : Standing S)
+      (life : LifeState) (tables : Held S) (old_in new_in old_out new_out : Option (List ℕ)) : Type 0 where
     pub read : List ℕ
     pub reads : Consumes old_in new_in read
     pub put : List ℕ
     pub puts : Appends old_out new_out put
-    pub stopped : IsPart limits old.waiting → IsStopped g limits fault read put old tables
+    pub stopped : IsPart limits old.waiting
+        → StopsInLife g limits fault read put old life tables

@@ -10,14 +10,16 @@ use Rattle.cb_commit.specs.Batches.{BatchState}
 use Rattle.cb_commit.specs.Stores.{StoreState}
 use Rattle.cb_page.specs.Bounds.{Bounds}
 use Rattle.cb_protocol.specs.Flush.{next_batch}
-use Rattle.cb_protocol.specs.Server.{Server, new_server}
-use Rattle.cb_protocol.specs.World.{opening_store}
+use Rattle.cb_protocol.specs.LivesWorld.{server_of_life}
+use Rattle.cb_protocol.specs.Server.{Server}
 use Rattle.cb_server_state.specs.Commits.{batch_of}
 use Rattle.cb_server_state.specs.States.{limits_of, opening_of}
+use Rattle.cb_shelf.specs.LifeRows.{LifeState}
 use Rattle.cb_shelf.specs.Newer.{HoldsNewer}
 use Rattle.cb_sql.specs.Writing.{Fits}
 use Rattle.cb_serve.specs.Answering.{LacksNumber, Spells, after_inputs, inputs_in, said_to}
-use Rattle.cb_serve.specs.Rounds.{IsRound, LeavesBatch, Round, SaysDones, Standing, StaysUnwritten}
+use Rattle.cb_serve.specs.Living.{IsRoundOfLife, MakesRoom, RefusesRoom}
+use Rattle.cb_serve.specs.Rounds.{LeavesBatch, Round, SaysDones, Standing, StaysUnwritten}
 use Rattle.cb_serve.specs.Rounds.{Writes, WritesOrNot}
 use Rattle.cb_serve.specs.Streams.{IsNoFrame, IsPart, IsPiece, Piece, bytes_of}
 use Rattle.cb_serve.specs.declared.fault.RoundFault.{RoundFault}
@@ -32,10 +34,9 @@ read_in rounds = flat_map (λ (round : Round). round.read) rounds
 abbrev pub put_in : List Round → List ℕ
 put_in rounds = flat_map (λ (round : Round). round.answers ++ round.dones) rounds
 
--- the protocol's server over a store, before any frame
-abbrev pub opened : Bounds → StoreState → Server
-opened limits store =
-    new_server limits.clients limits.pages (opening_store (limits_of limits) (opening_of store))
+-- the protocol's server of a life over a store, before any frame
+abbrev pub opened : Bounds → StoreState → (floor : ℕ) → Server
+opened limits store floor = server_of_life (limits_of limits) (opening_of store) floor
 
 -- on a clean disk the tables hold the store, as long as the connection is open
 abbrev pub HoldsStore : {S : Type 0} → Ghosts S → StoreState → Held S → Type 0
@@ -44,10 +45,13 @@ HoldsStore g store tables = HasCleanDisk (state g tables) → IsTrue (state g ta
 
 module _ {S : Type 0} (g : Ghosts S) (limits : Bounds) where
   -- these rounds, one after another; each goes on from less than a whole piece
-  abbrev pub AreRounds : List Round → (old new : Standing S) → Type 0
-  AreRounds [] old new = new ≡ old
-  AreRounds (round ∷ rounds) old new = IsPart limits old.waiting × (between : Standing S)
-      × IsRound g limits round old between × AreRounds rounds between new
+  abbrev pub AreRounds : List Round → (old new : Standing S) → (old_life new_life : LifeState)
+      → Type 0
+  AreRounds [] old new old_life new_life = (new ≡ old) × (new_life ≡ old_life)
+  AreRounds (round ∷ rounds) old new old_life new_life = IsPart limits old.waiting
+      × (between : Standing S) × (life : LifeState)
+      × IsRoundOfLife g limits round old between old_life life
+      × AreRounds rounds between new life new_life
 
   -- a round came to no batch, and the tables are as before
   abbrev pub Untouched : Option BatchState → (old tables : Held S) → Type 0
@@ -100,6 +104,27 @@ module _ {S : Type 0} (g : Ghosts S) (limits : Bounds) where
     pub told : Tells f put pieces rest answers dones batch
         (after_inputs old.server (inputs_in pieces)) old.tables tables
 
+  -- A round that took these pieces, and found no room for whom the server knew then: nothing was
+  -- put out.
+  pub record LacksRoom (f : RoundFault) (read put : List ℕ) (old : Standing S) (tables : Held S)
+      : Type 0 where
+    pub begins : IsPart limits old.waiting
+    pub pieces : List Piece
+    pub rest : List ℕ
+    pub are : AllByRecursion (IsPiece limits) pieces
+    pub cut : old.waiting ++ read ≡ flat_map bytes_of pieces ++ rest
+    pub unsaid : put ≡ []
+    pub told : RefusesRoom g f old.tables tables
+
+  -- a round of a life that wasn't finished: it found no room, or it was stopped as any over the
+  -- tables that it left with room
+  abbrev pub StopsInLife : RoundFault → (read put : List ℕ) → Standing S → LifeState
+      → (tables : Held S) → Type 0
+  StopsInLife f read put old life tables = ((mid : Held S) × (new_life : LifeState)
+      × MakesRoom g life new_life old.tables mid
+      × IsStopped f read put (record old { tables = mid }) tables)
+      ⊎ LacksRoom f read put old tables
+
   -- behind the last round nothing was read or put out, and the tables stayed
   abbrev pub EndsQuietly : (read put : List ℕ) → Standing S → Held S → Type 0
   EndsQuietly read put last tables = (read ≡ []) × (put ≡ []) × (tables ≡ last.tables)
@@ -107,34 +132,37 @@ module _ {S : Type 0} (g : Ghosts S) (limits : Bounds) where
   -- how it ends behind the last round: with the input; with an input that goes on wrongly, or ends
   -- within a frame; or within a round
   abbrev pub Ends : {E : Type 0} → Result E ServeFault → (read put : List ℕ)
-      → (new_in : Option (List ℕ)) → Standing S → Held S → Type 0
-  Ends (Ok _) read put new_in last tables =
+      → (new_in : Option (List ℕ)) → Standing S → LifeState → Held S → Type 0
+  Ends (Ok _) read put new_in last life tables =
       (last.waiting ≡ []) × IsAtEnd new_in × EndsQuietly read put last tables
-  Ends (Err fault.NoFrame) read put new_in last tables =
+  Ends (Err fault.NoFrame) read put new_in last life tables =
       IsNoFrame limits last.waiting × EndsQuietly read put last tables
-  Ends (Err fault.Cut) read put new_in last tables = IsPart limits last.waiting
+  Ends (Err fault.Cut) read put new_in last life tables = IsPart limits last.waiting
       × (last.waiting ≢ []) × IsAtEnd new_in × EndsQuietly read put last tables
-  Ends (Err (fault.Round f)) read put new_in last tables = IsStopped f read put last tables
+  Ends (Err (fault.Round f)) read put new_in last life tables =
+      StopsInLife f read put last life tables
 
   -- Rounds from there on, and how they end.
-  pub record Serves {E : Type 0} (ending : Result E ServeFault) (old : Standing S) (tables : Held S)
-      (old_in new_in old_out new_out : Option (List ℕ)) : Type 0 where
+  pub record Serves {E : Type 0} (ending : Result E ServeFault) (old : Standing S)
+      (life : LifeState) (tables : Held S) (old_in new_in old_out new_out : Option (List ℕ)) : Type 0 where
     pub rounds : List Round
     pub last : Standing S
-    pub are : AreRounds rounds old last
+    pub last_life : LifeState
+    pub are : AreRounds rounds old last life last_life
     pub read : List ℕ
     pub reads : Consumes old_in new_in (read_in rounds ++ read)
     pub put : List ℕ
     pub puts : Appends old_out new_out (put_in rounds ++ put)
-    pub ends : Ends ending read put new_in last tables
+    pub ends : Ends ending read put new_in last last_life tables
 
-  -- Rounds over a store that the tables hold: the first of them begins with a new server over it,
-  -- and with these tables.
-  pub record ServesStore {E : Type 0} (store : StoreState) (ending : Result E ServeFault)
-      (old new : Held S) (old_in new_in old_out new_out : Option (List ℕ)) : Type 0 where
+  -- Rounds over a store that the tables hold: the first of them begins with the server of a life
+  -- over it, and with these tables.
+  pub record ServesStore {E : Type 0} (store : StoreState) (life : LifeState)
+      (ending : Result E ServeFault) (old new : Held S) (old_in new_in old_out new_out : Option (List ℕ)) : Type 0 where
     pub holds : HoldsStore g store old
     pub serves : Serves ending
-        (record { server = opened limits store; waiting = []; passed = 0; tables = old }) new
+        (record { server = opened limits store life.floor; waiting = []; passed = 0; tables = old })
+        life new
         old_in new_in old_out new_out
 
   -- It was refused before any round: memory was refused for a server, or for what is read. Nothing
@@ -148,8 +176,9 @@ module _ {S : Type 0} (g : Ghosts S) (limits : Bounds) where
     pub unsaid : new_out ≡ old_out
 
   -- a service over a store that the tables hold: rounds, or no memory to begin with
-  abbrev pub IsServed : {E : Type 0} → StoreState → Result E ServeFault → (old new : Held S)
+  abbrev pub IsServed : {E : Type 0} → StoreState → LifeState → Result E ServeFault
+      → (old new : Held S)
       → (old_in new_in old_out new_out : Option (List ℕ)) → Type 0
-  IsServed store ending old new old_in new_in old_out new_out =
-      ServesStore store ending old new old_in new_in old_out new_out
+  IsServed store life ending old new old_in new_in old_out new_out =
+      ServesStore store life ending old new old_in new_in old_out new_out
       ⊎ LacksMemory store ending old new old_in new_in old_out new_out

@@ -1,5 +1,5 @@
 //! The life of the server that a service has.
-ghost use Rattle.std.specs.Prelude.{◌≡◌, ◌<◌, IfErr, OnOk};
+ghost use Rattle.std.specs.Prelude.{◌≡◌, IfErr, OnOk};
 ghost use Rattle.sqlite.specs.Held.{state};
 ghost use Rattle.sqlite.specs.State.{Survives};
 ghost use Rattle.cb_server.specs.ServerValue.{server_of};
@@ -22,7 +22,6 @@ pub(crate) fn keep_room<S: Alter>(
     shelf: &mut Shelf<S>,
     life: &mut Life,
 ) -> Result<(), RoundFault>
-    requires { life.old.floor < life.old.below }
     ensures ok { OnOk result (KeepsRoom S.Store (server_of server.now) life.old life.new
         shelf.old.conn shelf.new.conn) }
     ensures err { IfErr result (λ fault. RefusesRoom S.Store fault shelf.old.conn
@@ -31,6 +30,8 @@ pub(crate) fn keep_room<S: Alter>(
         (MayMakeRoom S.Store life.old shelf.old.conn) }
     ensures limits { shelf.new.limits ≡ shelf.old.limits }
 {
+    // The number is above the floor.
+    let _known = life.floor();
     let Some(greatest) = server.greatest_known() else {
         return Ok(());
     };

@@ -10,15 +10,17 @@ ghost use Rattle.cb_server.specs.ServerValue.{server_of};
 ghost use Rattle.cb_server_state.specs.Commits.{batch_of};
 ghost use Rattle.cb_shelf.specs.Flushing.{WritesOne};
 ghost use Rattle.cb_sql.specs.Writing.{Fits, Wrote};
-ghost use Rattle.cb_serve.specs.Parts.{Answered, Commits, EndsRound, RefusesBatch, StopsAnswering};
-ghost use Rattle.cb_serve.specs.Parts.{StopsCommit, StopsReading, StopsRound, standing};
+ghost use Rattle.cb_serve.specs.Living.{KeepsRoom};
+ghost use Rattle.cb_serve.specs.Parts.{Answered, Commits, EndsRound, RefusesBatch, StopsCommit};
+ghost use Rattle.cb_serve.specs.Parts.{StopsReading, StopsRound, StopsWithin, standing};
 
 use crate::fault::RoundFault;
+use crate::lives::keep_room;
 use crate::output::{append_frames, put_out};
 use crate::taking::{Taken, take_all};
 use cb_commit::Batch;
 use cb_server::Server;
-use cb_shelf::Shelf;
+use cb_shelf::{Life, Shelf};
 use sqlite::Alter;
 use std::alloc::Global;
 use std::io::{ErrorKind, Read, Write};
@@ -81,22 +83,30 @@ fn drop_front(bytes: &mut Vec<u8>, count: usize)
     bytes.truncate(left);
 }
 
-/// Takes all whole pieces, and puts out what is said to them.
-fn answer<W: Write>(
+/// Takes all whole pieces, and puts out what is said to them, once the shelf has room for whom the
+/// server knows then.
+fn answer<S: Alter, W: Write>(
     alloc: Global,
     server: &mut Server,
     desk: &mut Desk,
+    shelf: &mut Shelf<S>,
+    life: &mut Life,
     output: &mut W,
 ) -> Result<Taken, RoundFault>
     ensures ok { IfOk result (λ taken. Answered server.old desk.old desk.new taken server.new
         (W.contents output.old) (W.contents output.new)) }
-    ensures err { IfErr result (λ fault. StopsAnswering fault server.old desk.old.pending.items
+    ensures room { OnOk result (KeepsRoom S.Store (server_of server.new) life.old life.new
+        shelf.old.conn shelf.new.conn) }
+    ensures err { IfErr result (λ fault. StopsWithin S.Store fault server.old
+        desk.old.pending.items life.old shelf.old.conn shelf.new.conn
         (W.contents output.old) (W.contents output.new)) }
+    ensures limits { shelf.new.limits ≡ shelf.old.limits }
 {
     desk.said.clear();
     let taken = take_all(alloc, server, desk.pending.as_slice(), &mut desk.said)?;
     drop_front(&mut desk.pending, taken.used);
     desk.passed_over = desk.passed_over.saturating_add(taken.passed_over as u64);
+    keep_room(server, shelf, life)?;
     match put_out(output, desk.said.as_slice()) {
         Ok(()) => Ok(taken),
         Err(error) => Err(RoundFault::Output(error)),
@@ -165,6 +175,7 @@ pub(crate) fn round<S: Alter, R: Read, W: Write>(
     desk: &mut Desk,
     room: &mut [u8],
     shelf: &mut Shelf<S>,
+    life: &mut Life,
     input: &mut R,
     output: &mut W,
 ) -> Result<RoundEnd, RoundFault>
@@ -172,11 +183,11 @@ pub(crate) fn round<S: Alter, R: Read, W: Write>(
     requires limits { shelf.old.limits ≡ server.old.limits }
     ensures ok { IfOk result (λ end. EndsRound S.Store server.old.limits end
         (standing S.Store server.old desk.old shelf.old.conn)
-        (standing S.Store server.new desk.new shelf.new.conn)
+        (standing S.Store server.new desk.new shelf.new.conn) life.old life.new
         (R.remaining input.old) (R.remaining input.new)
         (W.contents output.old) (W.contents output.new)) }
     ensures err { IfErr result (λ fault. StopsRound S.Store server.old.limits fault
-        (standing S.Store server.old desk.old shelf.old.conn) shelf.new.conn
+        (standing S.Store server.old desk.old shelf.old.conn) life.old shelf.new.conn
         (R.remaining input.old) (R.remaining input.new)
         (W.contents output.old) (W.contents output.new)) }
     ensures shelf { shelf.new.limits ≡ shelf.old.limits }
@@ -185,7 +196,7 @@ pub(crate) fn round<S: Alter, R: Read, W: Write>(
     if !read_more(input, room, &mut desk.pending)? {
         return Ok(RoundEnd::Ended);
     }
-    let taken = answer(alloc, server, desk, output)?;
+    let taken = answer(alloc, server, desk, shelf, life, output)?;
     commit(alloc, server, shelf, &mut desk.said, output)?;
     if taken.ends {
         return Ok(RoundEnd::NoFrame);

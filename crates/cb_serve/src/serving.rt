@@ -1,16 +1,16 @@
 //! Rounds until the input ends.
 ghost use Rattle.std.specs.Prelude.{◌≡◌, ◌≢◌, ◌<◌, [], length, Err, IfErr, IfOk, OnOk};
 ghost use Rattle.cb_commit.specs.Stores.{IsOf};
-ghost use Rattle.cb_server.specs.ServerValue.{IsNew};
+ghost use Rattle.cb_server.specs.ServerValue.{IsResumed};
 ghost use Rattle.cb_serve.specs.Parts.{standing};
 ghost use Rattle.cb_serve.specs.Serving.{HoldsStore, IsServed, Serves};
 
 use crate::fault::{RoundFault, ServeFault};
 use crate::round::{Desk, RoundEnd, round};
 use cb_commit::Store;
-use cb_page::Limits;
+use cb_page::{Incarnation, Limits};
 use cb_server::Server;
-use cb_shelf::Shelf;
+use cb_shelf::{Life, Shelf};
 use sqlite::Alter;
 use std::alloc::{AllocError, Global};
 use std::io::{Read, Write};
@@ -46,6 +46,7 @@ fn serve_rounds<S: Alter, R: Read, W: Write>(
     desk: &mut Desk,
     room: &mut [u8],
     shelf: &mut Shelf<S>,
+    life: &mut Life,
     input: &mut R,
     output: &mut W,
 ) -> Result<(), ServeFault>
@@ -53,13 +54,13 @@ fn serve_rounds<S: Alter, R: Read, W: Write>(
     requires limits { shelf.old.limits ≡ server.old.limits }
     requires empty { desk.old.pending.items ≡ [] }
     ensures serves { Serves S.Store server.old.limits result
-        (standing S.Store server.old desk.old shelf.old.conn) shelf.new.conn
+        (standing S.Store server.old desk.old shelf.old.conn) life.old shelf.new.conn
         (R.remaining input.old) (R.remaining input.new)
         (W.contents output.old) (W.contents output.new) }
     ensures limits { shelf.new.limits ≡ shelf.old.limits }
 {
     for _ in 0..u64::MAX {
-        let end = match round(alloc, server, desk, room, shelf, input, output) {
+        let end = match round(alloc, server, desk, room, shelf, life, input, output) {
             Ok(end) => end,
             Err(fault) => return Err(ServeFault::Round(fault)),
         };
@@ -84,7 +85,8 @@ fn ended(pending: &[u8]) -> Result<(), ServeFault>
     }
 }
 
-/// Serves the frames of the input over a store until the input ends: each frame is taken by the
+/// Serves the frames of the input over a store, as a life of the server, until the input ends: each
+/// frame is taken by the
 /// protocol's server in order, and what is said to it goes to the output. What was committed by the
 /// frames that were read at once is written in one transaction, and answered then. What can't be
 /// read is passed over.
@@ -95,6 +97,7 @@ pub fn serve<S: Alter, R: Read, W: Write>(
     alloc: Global,
     limits: &Limits,
     store: Store,
+    life: Life,
     shelf: &mut Shelf<S>,
     input: &mut R,
     output: &mut W,
@@ -102,11 +105,12 @@ pub fn serve<S: Alter, R: Read, W: Write>(
     requires shelf { shelf.old.limits ≡ limits.now }
     requires store { IsOf limits.now store }
     requires holds { HoldsStore S.Store store shelf.old.conn }
-    ensures { IsServed S.Store limits.now store result.ending shelf.old.conn shelf.new.conn
+    ensures { IsServed S.Store limits.now store life result.ending shelf.old.conn shelf.new.conn
         (R.remaining input.old) (R.remaining input.new)
         (W.contents output.old) (W.contents output.new) }
 {
-    match begin(alloc, limits, store) {
+    let mut life = life;
+    match begin(alloc, limits, store, life.floor()) {
         Err(AllocError) => Served::refused(RoundFault::Memory),
         Ok((mut server, mut room)) => {
             let mut desk = Desk {
@@ -120,6 +124,7 @@ pub fn serve<S: Alter, R: Read, W: Write>(
                 &mut desk,
                 room.as_mut_slice(),
                 shelf,
+                &mut life,
                 input,
                 output,
             );
@@ -131,13 +136,18 @@ pub fn serve<S: Alter, R: Read, W: Write>(
     }
 }
 
-/// A server over a store, and room for what is read.
-fn begin(alloc: Global, limits: &Limits, store: Store) -> Result<(Server, Vec<u8>), AllocError>
+/// The server of a life over a store, and room for what is read.
+fn begin(
+    alloc: Global,
+    limits: &Limits,
+    store: Store,
+    floor: Incarnation,
+) -> Result<(Server, Vec<u8>), AllocError>
     requires { IsOf limits.now store }
-    ensures server { IfOk result (λ made. IsNew limits.now store made.0) }
+    ensures server { IfOk result (λ made. IsResumed limits.now store floor made.0) }
     ensures room { IfOk result (λ made. 0 < length made.1.items) }
 {
-    let server = Server::new(alloc, limits, store)?;
+    let server = Server::resume(alloc, limits, store, floor)?;
     let room = vec![in alloc; 0u8; ROOM]?;
     Ok((server, room))
 }

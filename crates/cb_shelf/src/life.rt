@@ -46,7 +46,8 @@ impl Model for Life {
 impl Life {
     /// The floor: its server ignores what any incarnation below it sent.
     pub fn floor(&self) -> Incarnation
-        ensures { result ≡ self.now.floor }
+        ensures value { result ≡ self.now.floor }
+        ensures below { result < self.now.below }
     {
         self.floor
     }

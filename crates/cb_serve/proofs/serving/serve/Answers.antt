@@ -1,6 +1,6 @@
 -- Goals of `serve`.
 use Rattle.std.proofs.Common.{ap, inl, rules}
-use Rattle.cb_server.specs.ServerValue.{IsNew}
+use Rattle.cb_server.specs.ServerValue.{IsResumed}
 use Rattle.cb_serve.proofs.Holding.{lacks_memory}
 use Rattle.cb_serve.proofs.Rounds.{serves_over}
 use Rattle.cb_serve.specs.declared.serving.Served.{Served}
@@ -8,15 +8,15 @@ use Rattle.cb_serve.proofs.serving.serve.Goals as goal
 
 pub returns-in-Err : goal.returns-in-Err
 returns-in-Err g c =
-    lacks_memory g.S.Store c.args.limits.now c.args.store c.refused.result.ending c.args.shelf.now.conn (g.R.Read.remaining c.args.input.now) (g.W.Write.contents c.args.output.now)
+    lacks_memory g.S.Store c.args.limits.now c.args.store c.args.life c.refused.result.ending c.args.shelf.now.conn (g.R.Read.remaining c.args.input.now) (g.W.Write.contents c.args.output.now)
     c.requires.holds (ap (λ (s : Served). s.ending) c.refused.ensures)
 
 pub returns-in-Ok : goal.returns-in-Ok
 returns-in-Ok g c =
-    let new : IsNew c.args.limits.now c.args.store c.in-Ok.server = search rules in
+    let new : IsResumed c.args.limits.now c.args.store c.args.life.floor c.in-Ok.server = search rules in
     inl (record {
       holds = c.requires.holds;
-      serves = serves_over g.S.Store c.args.limits.now c.args.store c.serve_rounds-ending.result c.in-Ok.server c.new.result.items c.args.shelf.now.conn c.serve_rounds-ending.new.shelf.conn
+      serves = serves_over g.S.Store c.args.limits.now c.args.store c.args.life c.serve_rounds-ending.result c.in-Ok.server c.new.result.items c.args.shelf.now.conn c.serve_rounds-ending.new.shelf.conn
           (g.R.Read.remaining c.args.input.now) (g.R.Read.remaining c.serve_rounds-ending.new.input) (g.W.Write.contents c.args.output.now)
           (g.W.Write.contents c.serve_rounds-ending.new.output) new c.new.ensures.items c.serve_rounds-ending.ensures.serves;
     })
