@@ -15,10 +15,11 @@ use Rattle.cb_commit.specs.Batches.{BatchState, after_batch, overwritten}
 use Rattle.cb_sql.specs.Statements.{Statement, MakesAll, batch_statements, part_count}
 use Rattle.cb_sql.specs.Asking.{RepliesRow}
 use Rattle.cb_sql.specs.Writing.{Fits}
+use Rattle.cb_shelf.specs.LifeRows.{LifeState}
 use Rattle.cb_shelf.specs.Reading.{mark_values, number_values}
 use Rattle.cb_shelf.specs.Newer.{HoldsNewer}
 use Rattle.cb_shelf_rows.specs.Tables.{schema, mark_tree, page_tree, part_tree}
-use Rattle.cb_shelf_rows.specs.Rows.{IsShelf, is_of_page, page_rows, part_rows, mark_columns, IsMarked, HasVersion, HasPart, HasStore, IsAsLarge}
+use Rattle.cb_shelf_rows.specs.Rows.{IsShelf, is_of_page, page_rows, part_rows, mark_columns, IsMarked, HasVersion, HasPart, HasStore, PutsLife, is_at}
 use Rattle.cb_shelf_rows.proofs.Counting.{all_pass, tells_count}
 use Rattle.cb_shelf_rows.proofs.Lists.{filter_same}
 use Rattle.cb_shelf_rows.proofs.Marking.{one_mapped}
@@ -100,17 +101,17 @@ module _ (older : Bool) where
   }
 
   -- the rows that another database has instead are what it answers
-  rows_hold : (db after : Database) (store now : StoreState) → IsShelf older db → HoldsNewer db store → length now.pages ≡ length store.pages → now.page_size ≡ store.page_size → HasStore older after now → IsAsLarge older db after
+  rows_hold : (db after : Database) (store now : StoreState) → IsShelf older db → HoldsNewer db store → length now.pages ≡ length store.pages → now.page_size ≡ store.page_size → HasStore older after now → length (after.trees (page_tree older)) ≡ length (db.trees (page_tree older)) → length (after.trees (part_tree older)) ≡ length (db.trees (part_tree older))
       → HoldsNewer after now
-  rows_hold db after store now shelf holds pages size has large =
+  rows_hold db after store now shelf holds pages size has versions parts =
       let still = has.shelf.schema in
       record {
         mark = mark_tells db after store.number now.number now.page_size (length now.pages) shelf.schema still
             (subst₂ (λ s n. RepliesRow db (record { text = marks_text; params = [] }) (mark_values store.number s n)) (sym size) (sym pages) holds.mark) has.mark;
         pages = subst (λ n. RepliesRow after (record { text = pages_text; params = [] }) (number_values n)) (sym pages)
-            (tells_count (schema older) pages_text (page_tree older) _ (pages_get older) (pages_unlisted older) [] db after (number_values (length store.pages)) shelf.schema still large.versions holds.pages);
+            (tells_count (schema older) pages_text (page_tree older) _ (pages_get older) (pages_unlisted older) [] db after (number_values (length store.pages)) shelf.schema still versions holds.pages);
         parts = subst₂ (λ s n. RepliesRow after (record { text = parts_text; params = [] }) (number_values (n * part_count s))) (sym size) (sym pages)
-            (tells_count (schema older) parts_text (part_tree older) _ (parts_get older) (parts_unlisted older) [] db after (number_values (length store.pages * part_count store.page_size)) shelf.schema still large.parts holds.parts);
+            (tells_count (schema older) parts_text (part_tree older) _ (parts_get older) (parts_unlisted older) [] db after (number_values (length store.pages * part_count store.page_size)) shelf.schema still parts holds.parts);
         each = λ page low.
             let there = holds.each page (omega (arith, low, pages)) in record {
               version = version_tells db after page _ (version_at now page) shelf.schema still there.version (has.versions page low);
@@ -123,4 +124,15 @@ module _ (older : Bool) where
       → MakesAll g (batch_statements batch) before after → IsShelf older after × HoldsNewer after (after_batch store batch)
   batch_held g limits store batch before after shelf of holds fits m =
       let wrote = writes_batch older g limits batch store before after of fits (holds_rows before store shelf holds) m in
-      (wrote.0.shelf, rows_hold before after store (after_batch store batch) shelf holds (over_pages store.pages batch.pages) refl wrote.0 wrote.1)
+      (wrote.0.shelf, rows_hold before after store (after_batch store batch) shelf holds (over_pages store.pages batch.pages) refl wrote.0 wrote.1.versions wrote.1.parts)
+
+  -- The row of a life leaves the store that the tables hold.
+  pub life_held : (store : StoreState) (life : LifeState) (before after : Database) → IsShelf older before → HoldsNewer before store → PutsLife older life before after → HoldsNewer after store
+  life_held store life before after shelf holds p =
+      let has = holds_rows before store shelf holds in
+      rows_hold before after store store shelf holds refl refl (record {
+        shelf = p.shelf;
+        mark = ap (map mark_columns) p.marks ∙ has.mark;
+        versions = λ page low. ap (λ l. map (λ (r : Row). column r 2) (filter (is_of_page page) l)) p.pages ∙ has.versions page low;
+        parts = λ page place low within. ap (λ l. map (λ (r : Row). column r 3) (filter (is_at page place) l)) p.parts ∙ has.parts page place low within;
+      }) (ap length p.pages) (ap length p.parts)

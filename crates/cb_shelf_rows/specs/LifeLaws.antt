@@ -11,6 +11,7 @@ use Rattle.cb_sql.specs.Statements.{Makes, MakesAll, batch_statements}
 use Rattle.cb_sql.specs.Writing.{Fits}
 use Rattle.cb_shelf.specs.LifeRows.{LifeState, life_row, unkept_below, unserved}
 use Rattle.cb_shelf.specs.Living.{Follows, life_from, life_statements}
+use Rattle.cb_shelf.specs.Newer.{HoldsNewer}
 use Rattle.cb_shelf.specs.Opening.{laid}
 use Rattle.cb_shelf_rows.specs.Tables.{found_schema, unlived_schema, mark_tree, page_tree}
 use Rattle.cb_shelf_rows.specs.Tables.{part_tree}
@@ -57,6 +58,12 @@ module _ {S : Type 0} (g : Ghosts S) where
       (life : LifeState) (before after : Database) → IsOf limits store → Fits limits batch
       → HasStore older before store → IsLife older before life
       → MakesAll g (batch_statements batch) before after → IsLife older after life
+
+  -- and the row leaves the store that the tables hold
+  abbrev pub LivesKeepStores : Type 0
+  LivesKeepStores = (older : Bool) (store : StoreState) (life : LifeState)
+      (before after : Database) → IsShelf older before → HoldsNewer before store
+      → PutsLife older life before after → HoldsNewer after store
 
   -- the row of tables that an open makes
   abbrev pub LivesAreLaid : Type 0

@@ -18,7 +18,7 @@ ghost use Rattle.cb_shelf_rows.specs.Laws.{AnswersAreTheRows, FirstLoadsAreZeros
 ghost use Rattle.cb_shelf_rows.specs.Laws.{LoadsFollowBatches, OlderTablesAreMade};
 ghost use Rattle.cb_shelf_rows.specs.Laws.{LoadsFollowCopies, LoadsFollowFinds};
 ghost use Rattle.cb_shelf_rows.specs.LifeLaws.{BatchesKeepLives, LivesAreLaid, LivesArePut};
-ghost use Rattle.cb_shelf_rows.specs.LifeLaws.{LivesBegin, LivesFollow, UnlivedLivesBegin};
+ghost use Rattle.cb_shelf_rows.specs.LifeLaws.{LivesBegin, LivesFollow, LivesKeepStores, UnlivedLivesBegin};
 ghost use Rattle.cb_shelf_rows.specs.LifeLaws.{UnlivedLivesFollow};
 
 use sqlite::Alter;
@@ -123,6 +123,7 @@ pub fn lives_are_put<S: Alter>()
     ensures begin { LivesBegin S.Store }
     ensures unlived { UnlivedLivesBegin S.Store }
     ensures kept { BatchesKeepLives S.Store }
+    ensures stores { LivesKeepStores S.Store }
     ensures laid { LivesAreLaid S.Store }
 {}
 

@@ -8,7 +8,7 @@ use std::alloc::Global;
 use std::test::Fail;
 
 /// The floors of two lives, of which the first gets room for an incarnation.
-fn floors<S: Alter>(mut shelf: Shelf<S>, greatest: Incarnation) -> Option<[u64; 2]> {
+fn floors<S: Alter>(shelf: &mut Shelf<S>, greatest: Incarnation) -> Option<[u64; 2]> {
     let mut life = shelf.begin_life().ok()?;
     let first = life.floor().get();
     if !life.has_room_for(greatest) {
@@ -29,18 +29,18 @@ fn floors_over(
 ) -> Option<[u64; 2]> {
     let mut conn = Connection::open_in_memory(alloc).ok()?;
     conn.execute_batch(text).ok()?;
-    let Ok(shelf) = Shelf::open(alloc, conn, limits) else {
+    let Ok(mut shelf) = Shelf::open(alloc, conn, limits) else {
         return None;
     };
     if !taken_out {
-        return floors(shelf, greatest);
+        return floors(&mut shelf, greatest);
     }
     let mut conn = shelf.close();
     conn.execute_batch("DROP TABLE life").ok()?;
-    let Ok(shelf) = Shelf::open(alloc, conn, limits) else {
+    let Ok(mut shelf) = Shelf::open(alloc, conn, limits) else {
         return None;
     };
-    floors(shelf, greatest)
+    floors(&mut shelf, greatest)
 }
 
 #[test]

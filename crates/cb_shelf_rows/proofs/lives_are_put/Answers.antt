@@ -1,4 +1,5 @@
 -- Goals of `lives_are_put`.
+use Rattle.cb_shelf_rows.proofs.Holding.{life_held}
 use Rattle.cb_shelf_rows.proofs.Laying.{life_laid}
 use Rattle.cb_shelf_rows.proofs.Lives.{batch_keeps, begins, puts, unlived_begins}
 use Rattle.cb_shelf_rows.proofs.lives_are_put.Goals as goal
@@ -17,3 +18,6 @@ returns-clause-kept g c = batch_keeps g.S.Store
 
 pub returns-clause-laid : goal.returns-clause-laid
 returns-clause-laid g c = life_laid g.S.Store
+
+pub returns-clause-stores : goal.returns-clause-stores
+returns-clause-stores g c = life_held
