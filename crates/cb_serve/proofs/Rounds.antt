@@ -229,7 +229,7 @@ module _ {S : Type 0} (g : Ghosts S) where
 
   -- there was no room for whom the server knew
   pub stops_without_room : (limits : Bounds) (f : RoundFault) (old : ServerValue) (desk : Desk) (first tables : Held S) (life : LifeState) (read bytes : List ℕ) (in1 in2 out1 out2 : Option (List ℕ)) → old.limits ≡ limits
-      → bytes ≡ desk.pending.items ++ read → Consumes in1 in2 read → FindsNoRoom g f old bytes first tables out1 out2 → StopsRound g limits f (standing g old desk first) life tables in1 in2 out1 out2
+      → bytes ≡ desk.pending.items ++ read → Consumes in1 in2 read → FindsNoRoom g f old bytes life first tables out1 out2 → StopsRound g limits f (standing g old desk first) life tables in1 in2 out1 out2
   stops_without_room limits f old desk first tables life read bytes in1 in2 out1 out2 same reads consumes a = record {
     read = read;
     reads = consumes;
@@ -243,6 +243,7 @@ module _ {S : Type 0} (g : Ghosts S) where
       cut = sym reads ∙ a.cut;
       unsaid = refl;
       told = a.told;
+      crash = a.crash;
     });
   }
 

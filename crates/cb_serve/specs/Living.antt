@@ -2,7 +2,7 @@
 -- knows, before anything is said to them.
 use Rattle.std.specs.Prelude.{◌≡◌, ◌≤◌, ℕ, [], ◌∷◌}
 use Rattle.sqlite.specs.Held.{Held, state}
-use Rattle.sqlite.specs.State.{HasCleanDisk}
+use Rattle.sqlite.specs.State.{HasCleanDisk, Survives}
 use Rattle.sqlite.specs.Store.{Ghosts}
 use Rattle.sqlite.specs.Tree.{Trees}
 use Rattle.cb_page.specs.Bounds.{Bounds}
@@ -25,6 +25,7 @@ module _ {S : Type 0} (g : Ghosts S) where
         → (HasCleanDisk (state g new_tables)
         → MakesAll g (life_row new ∷ []) (state g old_tables).now (state g new_tables).committed)
         → (HasCleanDisk (state g new_tables) → IsSettled (state g new_tables))
+        → Survives (state g old_tables) (state g new_tables) (MadeBy g (life_row new ∷ []) old_tables)
         → MakesRoom old new old_tables new_tables
 
   -- The tables have room for all that the server knows.

@@ -4,7 +4,7 @@ use Rattle.std.specs.Prelude.{Some, IfSome, option_map, true, false}
 use Rattle.std.specs.Io.KnownBytes.{Appends, Consumes, IsAtEnd}
 use Rattle.std.specs.List.{AllByRecursion, flat_map}
 use Rattle.sqlite.specs.Held.{Held, state}
-use Rattle.sqlite.specs.State.{HasCleanDisk}
+use Rattle.sqlite.specs.State.{HasCleanDisk, Survives}
 use Rattle.sqlite.specs.Store.{Ghosts}
 use Rattle.cb_commit.specs.Batches.{BatchState}
 use Rattle.cb_page.specs.Bounds.{Bounds}
@@ -17,7 +17,7 @@ use Rattle.cb_sql.specs.Inside.{IsSame}
 use Rattle.cb_sql.specs.Writing.{Fits}
 use Rattle.cb_serve.specs.Answering.{LacksNumber, Spells, TakesPieces, after_inputs, inputs_in}
 use Rattle.cb_serve.specs.Answering.{said_to}
-use Rattle.cb_serve.specs.Living.{IsRoundOfLife, MakesRoom, RefusesRoom}
+use Rattle.cb_serve.specs.Living.{IsRoundOfLife, MakesRoom, MayMakeRoom, RefusesRoom}
 use Rattle.cb_serve.specs.Rounds.{LeavesBatch, Round, SaysDones, Standing, Writes}
 use Rattle.cb_serve.specs.Rounds.{StaysUnwritten, WritesOrNot, counted_on, reached}
 use Rattle.cb_serve.specs.Serving.{StopsInLife}
@@ -88,13 +88,14 @@ module _ {S : Type 0} (g : Ghosts S) where
 
   -- No room was found for whom the server knew once it had taken these pieces; nothing was put out.
   pub record FindsNoRoom (fault : RoundFault) (old : ServerValue) (bytes : List ℕ)
-      (old_tables new_tables : Held S) (old_out new_out : Option (List ℕ)) : Type 0 where
+      (life : LifeState) (old_tables new_tables : Held S) (old_out new_out : Option (List ℕ)) : Type 0 where
     pub pieces : List Piece
     pub rest : List ℕ
     pub are : AllByRecursion (IsPiece old.limits) pieces
     pub cut : bytes ≡ flat_map bytes_of pieces ++ rest
     pub unsaid : new_out ≡ old_out
     pub told : RefusesRoom g fault old_tables new_tables
+    pub crash : Survives (state g old_tables) (state g new_tables) (MayMakeRoom g life old_tables)
 
   -- it wasn't answered, or not whole: with room, or for want of it
   abbrev pub StopsWithin : RoundFault → ServerValue → (bytes : List ℕ) → LifeState
@@ -102,7 +103,7 @@ module _ {S : Type 0} (g : Ghosts S) where
   StopsWithin fault old bytes life old_tables new_tables old_out new_out =
       ((new_life : LifeState) × MakesRoom g life new_life old_tables new_tables
       × StopsAnswering fault old bytes old_out new_out)
-      ⊎ FindsNoRoom fault old bytes old_tables new_tables old_out new_out
+      ⊎ FindsNoRoom fault old bytes life old_tables new_tables old_out new_out
 
   -- a batch that fits was refused, by the database or for want of memory: on a clean disk the
   -- tables are as before

@@ -4,7 +4,7 @@ use Rattle.std.specs.Prelude.{Some, None, IfSome, Result, Ok, Err, IsTrue}
 use Rattle.std.specs.List.{AllByRecursion, flat_map}
 use Rattle.std.specs.Io.KnownBytes.{Appends, Consumes, IsAtEnd}
 use Rattle.sqlite.specs.Held.{Held, state}
-use Rattle.sqlite.specs.State.{HasCleanDisk}
+use Rattle.sqlite.specs.State.{HasCleanDisk, Survives}
 use Rattle.sqlite.specs.Store.{Ghosts}
 use Rattle.cb_commit.specs.Batches.{BatchState}
 use Rattle.cb_commit.specs.Stores.{StoreState}
@@ -18,7 +18,7 @@ use Rattle.cb_shelf.specs.LifeRows.{LifeState}
 use Rattle.cb_shelf.specs.Newer.{HoldsNewer}
 use Rattle.cb_sql.specs.Writing.{Fits}
 use Rattle.cb_serve.specs.Answering.{LacksNumber, Spells, after_inputs, inputs_in, said_to}
-use Rattle.cb_serve.specs.Living.{IsRoundOfLife, MakesRoom, RefusesRoom}
+use Rattle.cb_serve.specs.Living.{IsRoundOfLife, MakesRoom, MayMakeRoom, RefusesRoom}
 use Rattle.cb_serve.specs.Rounds.{LeavesBatch, Round, SaysDones, Standing, StaysUnwritten}
 use Rattle.cb_serve.specs.Rounds.{Writes, WritesOrNot}
 use Rattle.cb_serve.specs.Streams.{IsNoFrame, IsPart, IsPiece, Piece, bytes_of}
@@ -106,8 +106,8 @@ module _ {S : Type 0} (g : Ghosts S) (limits : Bounds) where
 
   -- A round that took these pieces, and found no room for whom the server knew then: nothing was
   -- put out.
-  pub record LacksRoom (f : RoundFault) (read put : List ℕ) (old : Standing S) (tables : Held S)
-      : Type 0 where
+  pub record LacksRoom (f : RoundFault) (read put : List ℕ) (old : Standing S) (life : LifeState)
+      (tables : Held S) : Type 0 where
     pub begins : IsPart limits old.waiting
     pub pieces : List Piece
     pub rest : List ℕ
@@ -115,6 +115,7 @@ module _ {S : Type 0} (g : Ghosts S) (limits : Bounds) where
     pub cut : old.waiting ++ read ≡ flat_map bytes_of pieces ++ rest
     pub unsaid : put ≡ []
     pub told : RefusesRoom g f old.tables tables
+    pub crash : Survives (state g old.tables) (state g tables) (MayMakeRoom g life old.tables)
 
   -- a round of a life that wasn't finished: it found no room, or it was stopped as any over the
   -- tables that it left with room
@@ -123,7 +124,7 @@ module _ {S : Type 0} (g : Ghosts S) (limits : Bounds) where
   StopsInLife f read put old life tables = ((mid : Held S) × (new_life : LifeState)
       × MakesRoom g life new_life old.tables mid
       × IsStopped f read put (record old { tables = mid }) tables)
-      ⊎ LacksRoom f read put old tables
+      ⊎ LacksRoom f read put old life tables
 
   -- behind the last round nothing was read or put out, and the tables stayed
   abbrev pub EndsQuietly : (read put : List ℕ) → Standing S → Held S → Type 0

@@ -1,11 +1,12 @@
 -- Goals of `keep_room`.
 use Rattle.std.proofs.Common.{◌≡◌, ◌≤◌, ℕ, [], ◌∷◌, Option, ap, arith, rules, subst, sym}
 use Rattle.sqlite.specs.Held.{state}
+use Rattle.sqlite.specs.State.{Survives}
 use Rattle.cb_server.specs.Knowing.{KnowsUpTo}
 use Rattle.cb_server.specs.ServerValue.{server_of}
 use Rattle.cb_server_state.specs.States.{or_zero}
 use Rattle.cb_shelf.specs.LifeRows.{LifeState, life_row}
-use Rattle.cb_shelf.specs.Living.{raised}
+use Rattle.cb_shelf.specs.Living.{MadeBy, raised}
 use Rattle.cb_sql.specs.Statements.{MakesAll}
 use Rattle.cb_serve.specs.Living.MakesRoom.{made}
 use Rattle.cb_serve.proofs.lives.keep_room.Goals as goal
@@ -18,6 +19,7 @@ returns-in-Ok-clause-ok g c =
     record {
       room = made c.in-Some.greatest beyond is
           (λ clean. subst (λ (life : LifeState). MakesAll g.S.Store (life_row life ∷ []) (state g.S.Store c.args.shelf.now.conn).now (state g.S.Store c.raise.new.self.conn).committed) (sym is) (c.in-Ok.ensures.made clean))
-          (λ clean. c.in-Ok.ensures.settled clean);
+          (λ clean. c.in-Ok.ensures.settled clean)
+          (subst (λ (life : LifeState). Survives (state g.S.Store c.args.shelf.now.conn) (state g.S.Store c.raise.new.self.conn) (MadeBy g.S.Store (life_row life ∷ []) c.args.shelf.now.conn)) (sym is) c.in-Ok.ensures.crash);
       known = λ client. (let l = known client in let below = ap (λ (life : LifeState). life.below) is in omega (arith, l, below));
     }

@@ -35,6 +35,7 @@ returns-in_err-keep_room-clause-err g c =
       cut = sym (take-append-drop c.in_ok-taken.taken.used c.args.desk.now.pending.items) ∙ ap (λ (k : List ℕ). k ++ drop c.in_ok-taken.taken.used c.args.desk.now.pending.items) t.takes.cut;
       unsaid = refl;
       told = c.in_err-keep_room.ensures.err;
+      crash = c.in_err-keep_room.ensures.crash;
     }))
 
 pub returns-in-Err-clause-err : goal.returns-in-Err-clause-err
