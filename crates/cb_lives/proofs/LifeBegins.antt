@@ -104,4 +104,4 @@ lives_are_reached L cycle o floor l = record {
 }
 
 pub ranges_give_floors : RangesGiveFloors
-ranges_give_floors lives life later e l f = record { rises = omega (arith, e, l); unused = λ c. (let k = f c in omega (arith, l, k)) }
+ranges_give_floors lives life later e l f = record { rises = omega (arith, e, l); admitted = λ c near. (let k = f c near in omega (arith, l, k)) }

@@ -1,7 +1,7 @@
 -- What can happen next in the world over all lives, and that it goes on so.
-use Rattle.std.proofs.Common.{Bool, List, None, Option, Some, [], arith, false, if◌then◌else◌, nat_lt, refl, subst, sym, true, ℕ, ◌&&◌, ◌++◌, ◌+◌, ◌==◌, ◌∙◌, ◌∷◌, ◌≡◌, ◌≤◌}
-use Rattle.cb_protocol.proofs.LifeSends.{Sends, event_sends}
-use Rattle.cb_protocol.proofs.LivesProof.{Stands, life_of, promised, stands_after, stands_along, stands_first}
+use Rattle.std.proofs.Common.{Bool, List, None, Option, Some, [], ap, arith, false, if◌then◌else◌, inl, inr, nat_lt, refl, suc, sym, subst, true, zero, ℕ, ◌&&◌, ◌++◌, ◌+◌, ◌<◌, ◌==◌, ◌∙◌, ◌∷◌, ◌≡◌, ◌≢◌, ◌≤◌}
+use Rattle.cb_protocol.proofs.LifeEvents.{near_or_far}
+use Rattle.cb_protocol.proofs.LivesProof.{Stands, promised, stands_along, stands_first}
 use Rattle.cb_protocol.proofs.PoolRoom.{Roomy, may_choose, roomy_new}
 use Rattle.cb_lives.proofs.PoolSteps.{roomy_along}
 use Rattle.cb_protocol.specs.Basics.{Bytes, Limits}
@@ -10,10 +10,11 @@ use Rattle.cb_protocol.specs.Client.{ChangeCache, Client, NoAsk, SetAsk, asks_to
 use Rattle.cb_protocol.specs.ClientEnd.{refuse_grant}
 use Rattle.cb_protocol.specs.ClientMessages.{ChoiceAllowed, brings_page, client_take, let_page_go, take_granted, take_granted_held, take_new_grant}
 use Rattle.cb_lives.specs.LivesEvents.{CanGoOn, LivesGoOn}
-use Rattle.cb_protocol.specs.LivesWorld.{LeadsTo, Lives, LivesEvent, LivesEventAllowed, ServerRestarts, WithinLife, first_life, lives_step}
+use Rattle.cb_protocol.specs.LivesWorld.{LeadsTo, Lives, LivesEvent, LivesEventAllowed, first_life, lives_step}
 use Rattle.cb_protocol.specs.Messages.{Body, Granted, Message}
 use Rattle.cb_protocol.specs.Server.{DeadlockTest}
-use Rattle.cb_protocol.specs.World.{Event, EventChoiceAllowed, MessageChoiceAllowed, Opening, TakePacket, World, packet_at, step}
+use Rattle.cb_protocol.specs.Session.{Session}
+use Rattle.cb_protocol.specs.World.{Event, EventChoiceAllowed, MessageChoiceAllowed, Opening, TakePacket, World, packet_at}
 
 -- a page comes in only where it was asked for
 new_asked : (k : Client) (p g v : ℕ) (b : Bytes) (o : Option ℕ) → brings_page (take_new_grant k p g v b o) ≡ true → asks_to_read k.ask p ≡ true
@@ -63,29 +64,30 @@ event_chosen : (L : Limits) (v : World) (e : Event) → ((c : ℕ) → Roomy L (
 event_chosen L v (TakePacket n) f = message_chosen L v (packet_at v.packets n) f
 event_chosen L v _ f = (None, tt)
 
--- no client's incarnation is above it
-abbrev Bounded : Lives → Type 0
-Bounded lives = (most : ℕ) × ((c : ℕ) → lives.world.incarnation c ≤ most)
-
-bounded_step : (L : Limits) (cycle : DeadlockTest) (o : Opening) (lives : Lives) (e : LivesEvent) (let_go : Option ℕ) → Stands L o lives → Bounded lives → Bounded (lives_step L cycle lives e let_go)
-bounded_step L cycle o lives (WithinLife e) let_go h b = (b.0 + 1, λ c. (let l = r.by_one c in let k = b.1 c in omega (arith, l, k)))
+-- a number above those of the clients below n
+above_all : (f : ℕ → ℕ) (n : ℕ) → (most : ℕ) × ((c : ℕ) → c < n → f c < most)
+above_all f zero = (0, λ c l. absurd (omega (arith, l)))
+above_all f (suc n) = let r = above_all f n in (r.0 + f n + 1, λ c l. go r.0 r.1 c l (c == n) refl)
   where
-    r : Sends L.clients lives.floor lives.world (step L cycle lives.world e let_go).world
-    r = event_sends L cycle (life_of lives h.told) lives.world h.machine e let_go h.image h.spoken
-bounded_step L cycle o lives (ServerRestarts floor n) let_go h b = (b.0, b.1)
+    go : (most : ℕ) → ((c : ℕ) → c < n → f c < most) → (c : ℕ) → c < suc n → (u : Bool) → (c == n) ≡ u → f c < most + f n + 1
+    go most h c l true e = let q : c ≡ n = grind arith in let k = ap f q in omega (arith, k)
+    go most h c l false e = let q : c ≢ n = grind arith in let k = h c (omega (arith, l, q)) in omega (arith, k)
 
-bounded_along : (L : Limits) (cycle : DeadlockTest) (o : Opening) (es : List LivesEvent) (lives after : Lives) → LeadsTo L cycle lives es after → Stands L o lives → Bounded lives → Bounded after
-bounded_along L cycle o [] lives after p h b = subst (λ (x : Lives). Bounded x) p b
-bounded_along L cycle o (e ∷ es) lives after p h b = let s : Lives = lives_step L cycle lives e p.0 in
-    bounded_along L cycle o es s after p.2 (stands_after L cycle o lives e p.0 p.1 h) (bounded_step L cycle o lives e p.0 h b)
+-- a client's incarnation that was admitted is one that it has had, or the floor
+admitted_had : (L : Limits) (o : Opening) (lives : Lives) (floor : ℕ) → Stands L o lives → lives.floor < floor → ((c : ℕ) → lives.world.incarnation c < floor) → (c : ℕ) → (lives.world.server.session c).current < floor
+admitted_had L o lives floor h l f c = let a = h.image.safe.behind c in let s = ap (λ (t : ℕ → Session). (t c).current) h.image.session in elim (near_or_far lives.floor (lives.world.incarnation c)) [
+  | inl n ↦ (let e = h.image.incarnation c n in let k = f c in omega (arith, a, s, e, k))
+  | inr n ↦ (let e = (h.image.waits c n).0 in omega (arith, a, s, e, l))
+]
 
 -- what can happen next
-next_can : (L : Limits) (cycle : DeadlockTest) (o : Opening) (lives : Lives) → Stands L o lives → Bounded lives → ((c : ℕ) → Roomy L (lives.world.client c)) → CanGoOn L lives
-next_can L cycle o lives h b f = record {
+next_can : (L : Limits) (cycle : DeadlockTest) (o : Opening) (lives : Lives) → Stands L o lives → ((c : ℕ) → Roomy L (lives.world.client c)) → CanGoOn L lives
+next_can L cycle o lives h f = record {
   allowed = λ e let_go a. a;
   events = λ e. event_chosen L lives.world e f;
-  restarts = λ floor n rises unused reported made. (record { rises = rises; unused = unused }, record { reported = reported; made = made });
-  floors = (lives.floor + b.0 + 1, λ floor l. (omega (arith, l), λ c. (let k = b.1 c in omega (arith, l, k))));
+  restarts = λ floor n rises admitted reported made. (record { rises = rises; admitted = admitted }, record { reported = reported; made = made });
+  floors = (let r = above_all (λ c. (lives.world.server.session c).current) lives.world.server.clients in (lives.floor + r.0 + 1, λ floor l. record { rises = omega (arith, l); admitted = λ c near. (let k = r.1 c near in omega (arith, l, k)) }));
+  unused = λ floor l k. record { rises = l; admitted = λ c near. admitted_had L o lives floor h l k c };
   reported = record { reported = omega arith; made = disk };
   all = record { reported = disk; made = omega arith };
 }
@@ -101,7 +103,6 @@ leads_on L cycle (x ∷ es) lives after e let_go p a = (p.0, p.1, leads_on L cyc
 pub lives_go_on : (L : Limits) (cycle : DeadlockTest) → LivesGoOn L cycle
 lives_go_on L cycle = record {
   next = λ o es lives s p. next_can L cycle o lives (stands_along L cycle o es (first_life L o) lives p (stands_first L o s))
-      (bounded_along L cycle o es (first_life L o) lives p (stands_first L o s) (1, λ c. omega arith))
       (roomy_along L cycle es (first_life L o) lives p (λ c. roomy_new L));
   goes_on = λ o es lives e let_go p a. leads_on L cycle es (first_life L o) lives e let_go p a;
 }

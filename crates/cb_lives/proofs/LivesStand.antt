@@ -4,7 +4,7 @@ use Rattle.cb_protocol.proofs.Cases.{serves_no_old_hello}
 use Rattle.cb_protocol.proofs.LifeImage.{SentBy, SentInLife, in_append, in_left, in_right}
 use Rattle.cb_protocol.proofs.LifeSends.{Sends, event_sends}
 use Rattle.cb_protocol.proofs.LivesHistory.{survives}
-use Rattle.cb_protocol.proofs.LivesProof.{Stands, ended_numbers, life_of, nothing_of, promised, stands_after, stands_along, stands_first}
+use Rattle.cb_protocol.proofs.LivesProof.{Ends, Stands, ended_numbers, ends, life_of, nothing_of, promised, stands_after, stands_along, stands_first}
 use Rattle.cb_protocol.specs.AnyMessages.{IsCommit, Numbered}
 use Rattle.cb_protocol.specs.Answers.{Taken}
 use Rattle.cb_protocol.specs.Basics.{IsIn, Limits}
@@ -74,7 +74,9 @@ restarts_leave L cycle o es lives floor n let_go s p a = record {
   incarnation = refl;
   transcript = refl;
   heeds = refl;
-  commits = loses L o lives n (reached L cycle o es lives s p) a.1.reported a.1.made;
+  hellos = e.sent;
+  unwelcomed = e.fresh;
+  commits = loses L o lives n h a.1.reported a.1.made;
   own = refl;
   last = refl;
   flushed = refl;
@@ -82,6 +84,12 @@ restarts_leave L cycle o es lives floor n let_go s p a = record {
   fits = record { clients = refl; pages = refl; keep_write = refl };
   opening = refl;
 }
+  where
+    h : Stands L o lives
+    h = reached L cycle o es lives s p
+
+    e : Ends L lives h.told h.machine floor
+    e = ends L lives h.told h.machine floor h.image a.0
 
 pub events_send : (L : Limits) (cycle : DeadlockTest) → EventsSendInTheirLife L cycle
 events_send L cycle o es lives e let_go s p a = record {

@@ -1,7 +1,7 @@
 -- Worked schedules over several lives of the server. What is answered was worked out by hand from the rules as docs/PROTOCOL.md tells them.
 use Rattle.std.proofs.Common.{Bool, List, [], ap, arith, false, length, map, refl, true, ℕ, ◌++◌, ◌+◌, ◌∷◌, ◌≡◌}
 use Rattle.cb_protocol.proofs.LivesProof.{lives_headline}
-use Rattle.cb_lives.proofs.LivesText.{FloorsNew, LivesGive, LivesLine, LivesOutput, Restarts, commit, event_of, lines_lead, lives_of, lives_output, within}
+use Rattle.cb_lives.proofs.LivesText.{LivesGive, LivesLine, LivesOutput, Restarts, commit, event_of, lines_lead, lives_of, lives_output, within}
 use Rattle.cb_protocol.proofs.ScheduleText.{Line, at, begin, drop_txn, finish, flush_all, flush_to, hello, limits, page_of, peek, read, resend, restart, sent, server_resends, take, want, write, zeros}
 use Rattle.cb_protocol.specs.Answers.{AnsweredBytes, AnsweredOk, Asked, Flushed, NoPacket, NotWelcome, Nothing, Permitted, Refused, Taken, TransactionOpen, Waiting}
 use Rattle.cb_protocol.specs.Basics.{Bytes}
@@ -345,13 +345,42 @@ hello_at_the_floor : LivesGive (limits 2 8 4 false) (Restarts 2 0 ∷ within (at
 unfolding client_call call_fault client_take server_take step
 hello_at_the_floor = refl
 
--- these lines are a list of events of the headline, and what they lead to keeps the promise
-floors_are_new : FloorsNew (limits 2 8 4 false) (first_life (limits 2 8 4 false) zeros) two_restarts_lines
-unfolding client_call call_fault client_take server_take step
-floors_are_new = (record { rises = omega arith; unused = λ c. omega arith }, (record { rises = omega arith; unused = λ c. omega arith }, tt))
+-- A client that is above the new floor as the server restarts, and was never welcomed there: the Hello that it sent to the former life is welcomed by the new one. It reads what was on disk, and commits.
+abbrev ahead_lines : List LivesLine
+ahead_lines = within (finished ++ at (take 6) Taken [] ∷ at flush_all (Flushed 1) (sent 7 69 0 ∷ []) ∷ at (restart 1) AnsweredOk [] ∷ at (restart 1) AnsweredOk [] ∷ at (hello 1) AnsweredOk (sent 8 1 1 ∷ []) ∷ []) ++ Restarts 2 1 ∷ within (at (take 8) Taken (sent 9 65 1 ∷ [])
+    ∷ at (take 9) Taken []
+    ∷ at (begin 1) AnsweredOk []
+    ∷ at (read 1 5) Asked (sent 10 2 1 ∷ [])
+    ∷ at (take 10) Taken (sent 11 66 1 ∷ [])
+    ∷ at (take 11) Taken []
+    ∷ at (read 1 5) (AnsweredBytes (page_of 7)) []
+    ∷ at (finish 1) AnsweredOk (sent 12 6 1 ∷ [])
+    ∷ at (take 12) Taken []
+    ∷ at flush_all (Flushed 2) (sent 13 69 1 ∷ []) ∷ [])
 
+ahead_of_the_floor : LivesGive (limits 2 8 4 false) ahead_lines (commit 1 3 1 2 ∷ commit 0 1 1 1 ∷ [])
+unfolding client_call call_fault client_take server_take step
+ahead_of_the_floor = refl
+
+-- Where nobody was welcomed, the floor may be the incarnation with which clients begin.
+nobody_came : LivesGive (limits 2 8 4 false) (within (at (hello 0) AnsweredOk (sent 0 1 0 ∷ []) ∷ []) ++ Restarts 1 0 ∷ within (at (take 0) Taken (sent 1 65 0 ∷ []) ∷ at (take 1) Taken [] ∷ at (begin 0) AnsweredOk [] ∷ [])) []
+unfolding client_call call_fault client_take server_take step
+nobody_came = refl
+
+-- Once it was, that isn't a new floor.
+floor_that_was_admitted : (may_happen (within finished ++ Restarts 1 0 ∷ []) ≡ false) × (may_happen (ahead_lines ++ Restarts 3 2 ∷ []) ≡ false) × (may_happen (ahead_lines ++ Restarts 4 2 ∷ []) ≡ true)
+unfolding client_call call_fault client_take server_take step
+floor_that_was_admitted = (refl, refl, refl)
+
+-- these lines are a list of events of the headline, and what they lead to keeps the promise
 two_restarts_lead : LeadsTo (limits 2 8 4 false) on_cycle (first_life (limits 2 8 4 false) zeros) (map event_of two_restarts_lines) (lives_of (limits 2 8 4 false) two_restarts_lines)
-two_restarts_lead = lines_lead (limits 2 8 4 false) (first_life (limits 2 8 4 false) zeros) two_restarts_lines (ap (λ (x : LivesOutput). x.allowed) two_restarts.0) floors_are_new
+two_restarts_lead = lines_lead (limits 2 8 4 false) (first_life (limits 2 8 4 false) zeros) two_restarts_lines (ap (λ (x : LivesOutput). x.allowed) two_restarts.0)
 
 two_restarts_are_kept : LivesPromise zeros (lives_of (limits 2 8 4 false) two_restarts_lines)
 two_restarts_are_kept = lives_headline (limits 2 8 4 false) on_cycle zeros (map event_of two_restarts_lines) (lives_of (limits 2 8 4 false) two_restarts_lines) (λ p. omega arith) two_restarts_lead
+
+ahead_lead : LeadsTo (limits 2 8 4 false) on_cycle (first_life (limits 2 8 4 false) zeros) (map event_of ahead_lines) (lives_of (limits 2 8 4 false) ahead_lines)
+ahead_lead = lines_lead (limits 2 8 4 false) (first_life (limits 2 8 4 false) zeros) ahead_lines (ap (λ (x : LivesOutput). x.allowed) ahead_of_the_floor)
+
+ahead_is_kept : LivesPromise zeros (lives_of (limits 2 8 4 false) ahead_lines)
+ahead_is_kept = lives_headline (limits 2 8 4 false) on_cycle zeros (map event_of ahead_lines) (lives_of (limits 2 8 4 false) ahead_lines) (λ p. omega arith) ahead_lead

@@ -34,12 +34,13 @@ LivesAreReached = (limits : Limits) (cycle : DeadlockTest) (opening : Opening) (
 abbrev pub floor_of_life : (life : ℕ) → ℕ
 floor_of_life life = life * 4294967296
 
--- While every client is below the next range, the floor of each later life is a new one. So a
--- number that a start took, and that served nobody, need not be taken again.
+-- While the server admitted nobody of the next range or above, the floor of each later life is
+-- a new one. So a number that a start took, and that served nobody, need not be taken again.
 abbrev pub RangesGiveFloors : Type 0
 RangesGiveFloors = (lives : Lives) (life later : ℕ) → lives.floor ≡ floor_of_life life
     → life < later
-    → ((client : ℕ) → lives.world.incarnation client < floor_of_life (life + 1))
+    → ((client : ℕ) → client < lives.world.server.clients
+    → (lives.world.server.session client).current < floor_of_life (life + 1))
     → IsNewFloor lives (floor_of_life later)
 
 -- Of the lives behind the first, those with a number below 2^30 have a floor that is an

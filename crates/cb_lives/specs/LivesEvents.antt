@@ -4,10 +4,11 @@ use Rattle.std.specs.Prelude.{◌≡◌, ◌<◌, ◌≤◌, ℕ, true, false, L
 use Rattle.std.specs.Prelude.{Some}
 use Rattle.cb_protocol.specs.AnyMessages.{IsCommit}
 use Rattle.cb_protocol.specs.Basics.{IsIn, Limits}
+use Rattle.cb_protocol.specs.Cache.{new_cache}
 use Rattle.cb_protocol.specs.Headline.{DoneSent, SoundOpening}
 use Rattle.cb_protocol.specs.HelloLaws.{OnlyGreeted}
 use Rattle.cb_protocol.specs.Lives.{WelcomeSent, lives_commits, welcome_to}
-use Rattle.cb_protocol.specs.LivesWorld.{LeadsTo, Lives, LivesEvent, LivesEventAllowed}
+use Rattle.cb_protocol.specs.LivesWorld.{IsNewFloor, LeadsTo, Lives, LivesEvent, LivesEventAllowed}
 use Rattle.cb_protocol.specs.LivesWorld.{MayBeOnDisk, Reaches, ServerRestarts, WithinLife}
 use Rattle.cb_protocol.specs.LivesWorld.{lives_step}
 use Rattle.cb_protocol.specs.Messages.{Commit, Hello, Message, to_server}
@@ -46,6 +47,12 @@ pub record RestartLeaves (limits : Limits) (floor number : ℕ) (before after : 
   pub transcript : after.world.transcript ≡ before.world.transcript
   -- The new life has the floor that the event names: below it the new server heeds nothing.
   pub heeds : after.floor ≡ floor
+  -- From the floor on nothing was sent yet but Hellos. A client that stands there already was never
+  -- welcomed: its cache is that of a new one.
+  pub hellos : (message : Message) → IsIn message before.world.packets
+      → floor ≤ message.incarnation → message.body ≡ Hello
+  pub unwelcomed : (client : ℕ) → floor ≤ before.world.incarnation client
+      → (before.world.client client).cache ≡ new_cache
   -- of the commits that count, those stay that are on disk
   pub commits : LosesAbove number (lives_commits before) (lives_commits after)
   -- they are all of former lives: the new one has made none
@@ -184,16 +191,20 @@ pub record CanGoOn (limits : Limits) (lives : Lives) : Type 0 where
   -- .. and there is always such a choice
   pub events : (event : Event)
       → (let_go : Option ℕ) × LivesEventAllowed limits lives (WithinLife event) let_go
-  -- A restart of the server, with any floor above the present one and above every client, where the
-  -- disk has all that was reported, and any part of what was made behind that ..
+  -- A restart of the server, with any floor above the present one and above each incarnation that
+  -- the server admitted, where the disk has all that was reported, and any part of what was made
+  -- behind that ..
   pub restarts : (floor number : ℕ) → lives.floor < floor
-      → ((client : ℕ) → lives.world.incarnation client < floor)
+      → ((client : ℕ) → client < lives.world.server.clients
+      → (lives.world.server.session client).current < floor)
       → lives.world.server.flushed ≤ number
       → number ≤ lives.world.server.store.last_commit
       → LivesEventAllowed limits lives (ServerRestarts floor number) None
   -- .. and there are such floors: from some number on they all are
-  pub floors : (lowest : ℕ) × ((floor : ℕ) → lowest ≤ floor
-      → (lives.floor < floor) × ((client : ℕ) → lives.world.incarnation client < floor))
+  pub floors : (lowest : ℕ) × ((floor : ℕ) → lowest ≤ floor → IsNewFloor lives floor)
+  -- A floor above the present one and above the incarnation of every client is one of them.
+  pub unused : (floor : ℕ) → lives.floor < floor
+      → ((client : ℕ) → lives.world.incarnation client < floor) → IsNewFloor lives floor
   -- nothing but what was reported may be on disk, or all that was made
   pub reported : MayBeOnDisk lives.world.server lives.world.server.flushed
   pub all : MayBeOnDisk lives.world.server lives.world.server.store.last_commit

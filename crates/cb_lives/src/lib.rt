@@ -18,12 +18,13 @@ ghost use Rattle.cb_protocol.specs.Server.{DeadlockTest};
 
 /// What each event leaves, and what stands for ever. A restart of the server leaves all that was
 /// sent, the clients, the transcript, and of the commits exactly those that are on disk; its server
-/// has nothing of any client but the floor. An event within a life is that of the world of one
-/// life: it leaves floor, opening store and former commits as they were, and puts new commits in
-/// front of those of the life, each of an incarnation that the life had welcomed before, and that
-/// had sent it. What is on disk stands, whatever comes after: each Done that was sent, and each
-/// outcome that a client was told, names a commit that counts. And at each moment the server can
-/// restart, with any floor above all that were, and any other event can happen.
+/// has nothing of any client but the floor, and from the floor on nothing was sent yet but Hellos.
+/// An event within a life is that of the world of one life: it leaves floor, opening store and
+/// former commits as they were, and puts new commits in front of those of the life, each of an
+/// incarnation that the life had welcomed before, and that had sent it. What is on disk stands,
+/// whatever comes after: each Done that was sent, and each outcome that a client was told, names a
+/// commit that counts. And at each moment the server can restart, with any floor above the present
+/// one and above each incarnation that it admitted, and any other event can happen.
 pub fn lives_keep_the_disk()
     ensures restarts { (L : Limits) (cycle : DeadlockTest) → RestartsLeaveTheDisk L cycle }
     ensures keeps { (L : Limits) (cycle : DeadlockTest) → EventsKeepTheirLife L cycle }
@@ -58,10 +59,10 @@ pub fn lives_begin_as_servers_do()
 
 /// All lives have the same limits: at each moment the server has as many clients and pages, and
 /// keeps write permission, as they say. Each client's incarnation is from 1 to 2^62 - 1. Where each
-/// life has a range of 2^32 incarnations, and no client is beyond the present life's, the floor of
-/// each later life is a new one; of those behind the first, the lives below number 2^30 have
-/// a floor that is an incarnation. To a floor above 2^62 - 1 nobody comes: then nothing commits any
-/// more, and what is on disk stands.
+/// life has a range of 2^32 incarnations, and the server admitted none beyond the present life's,
+/// the floor of each later life is a new one; of those behind the first, the lives below number
+/// 2^30 have a floor that is an incarnation. To a floor above 2^62 - 1 nobody comes: then nothing
+/// commits any more, and what is on disk stands.
 pub fn lives_stay_in_range()
     ensures limits { (L : Limits) (cycle : DeadlockTest) → ServersHaveLimits L cycle }
     ensures incarnations { (L : Limits) (cycle : DeadlockTest) → IncarnationsStayInRange L cycle }

@@ -185,13 +185,14 @@ image_first L first s = record {
   safe = safe_start L first s;
   kept = kept_start L first;
   recorded = told_start L first;
-  above = record { current = λ c l. omega arith; come = λ c. omega arith; said = λ c i x ws s. absurd s; sent = λ c i y l s. absurd s; made = λ c i x n e. absurd cc; welcomed = λ c i e. absurd cc; committed = λ c i x n e. absurd cc };
+  above = record { current = λ c l. omega arith; come = λ c. omega arith; said = λ c i x ws s. absurd s; sent = λ c i y l s. absurd s; made = λ c i x n e. absurd cc; welcomed = λ c i e. absurd cc; committed = λ c i x n e. absurd cc; performed = λ o i. absurd i };
   leaves = tt;
   store = refl;
   session = refl;
   names = refl;
   keep_write = refl;
   clients = refl;
+  nobody = λ c l. refl;
   orderly = orderly_start _ L first;
   books = books_start L first;
   committed = omega arith;

@@ -10,8 +10,8 @@ use Rattle.cb_protocol.proofs.InvariantKept.{put_each}
 use Rattle.cb_protocol.proofs.LedgerKept.{Books, books_all, made_stays, told_done}
 use Rattle.cb_protocol.proofs.LifeMachine.{Above, EachLeaves, above_run, leaves_all}
 use Rattle.cb_protocol.proofs.LifeOperations.{IsPast, life_lines, of_life, other_incarnation, past_stays}
-use Rattle.cb_protocol.proofs.Machine.{Machine, MachineMayRun, MachineStep, WasSent, present_cache, run}
-use Rattle.cb_protocol.proofs.ServerOrder.{Orderly, StepsRight}
+use Rattle.cb_protocol.proofs.Machine.{Machine, MachineMayRun, MachineStep, ServerMayChange, WasSent, present_cache, run}
+use Rattle.cb_protocol.proofs.ServerOrder.{Orderly, ServerStepMay, ServerStepsMay, StepsRight}
 use Rattle.cb_protocol.proofs.ServerSteps.{ServerStepped, sent_near, server_machine_steps, server_steps_leave, server_steps_more}
 use Rattle.cb_protocol.proofs.SettlingRight.{clients_served}
 use Rattle.cb_protocol.proofs.TranscriptKept.{all_kept}
@@ -20,10 +20,10 @@ use Rattle.cb_protocol.specs.Answers.{AnswerWord}
 use Rattle.cb_protocol.specs.Basics.{IsIn, Limits, update}
 use Rattle.cb_protocol.specs.Cache.{Cache, new_cache}
 use Rattle.cb_protocol.specs.Client.{Client, ClientStep, bodies_said, client_after}
-use Rattle.cb_protocol.specs.Messages.{Body, Done, Message}
+use Rattle.cb_protocol.specs.Messages.{Body, Done, Hello, Message}
 use Rattle.cb_protocol.specs.Serial.{Operation, PerformedOperation, transaction_operations}
-use Rattle.cb_protocol.specs.Server.{AppliedCommit, Server, ServerStep, after_server_step, server_after}
-use Rattle.cb_protocol.specs.Session.{Store}
+use Rattle.cb_protocol.specs.Server.{AppliedCommit, ChangeSession, Server, ServerStep, after_server_step, server_after}
+use Rattle.cb_protocol.specs.Session.{Admit, SessionChange, Store, session_after}
 use Rattle.cb_protocol.specs.Transcript.{incarnation_at, transaction_at, transcript_operations}
 use Rattle.cb_protocol.specs.World.{Event, Opening, World, answer_only, client_does, messages_said, messages_sent, server_does}
 
@@ -56,6 +56,7 @@ pub record Image (L : Limits) (b : Life) (v : World) (w : Machine) : Type 0 wher
   pub names : history_names w.history ≡ committed_names v.server.commits
   pub keep_write : v.server.store.keep_write ≡ L.keep_write
   pub clients : v.server.clients ≡ L.clients
+  pub nobody : (c : ℕ) → L.clients ≤ c → (v.server.session c).current ≡ 0
   pub orderly : Orderly (SentInLife b.floor v) v.server
   pub books : Books b.opening v.server
   pub committed : v.server.flushed ≤ v.server.store.last_commit
@@ -176,6 +177,7 @@ only_answered L b v w e word m ln bg rs = record {
   names = m.names;
   keep_write = m.keep_write;
   clients = m.clients;
+  nobody = m.nobody;
   orderly = orderly_more (SentInLife b.floor v) _ v.server (λ c i y j. (j.0, in_left _ v.packets [] j.1)) m.orderly;
   books = m.books;
   committed = m.committed;
@@ -224,6 +226,7 @@ client_acts L b v w c e word steps m near within may fit ln mine others rs = rec
     names = ap history_names r.history ∙ m.names;
     keep_write = m.keep_write;
     clients = m.clients;
+    nobody = m.nobody;
     orderly = orderly_more (SentInLife b.floor v) (SentInLife b.floor v') v.server (λ d i y j. (j.0, in_left _ v.packets new j.1)) m.orderly;
     books = m.books;
     committed = m.committed;
@@ -322,6 +325,7 @@ stale_acts L b v w c e word steps m far within speaks ln still mine others rs = 
   names = m.names;
   keep_write = m.keep_write;
   clients = m.clients;
+  nobody = m.nobody;
   orderly = orderly_more (SentInLife b.floor v) (SentInLife b.floor v') v.server (λ d i y j. (j.0, in_left _ v.packets new j.1)) m.orderly;
   books = m.books;
   committed = m.committed;
@@ -364,6 +368,26 @@ keep_served : (s : Server) (ds : List ServerStep) → (server_after s ds).store.
 keep_served s [] = refl
 keep_served s (d ∷ ds) = keep_served (after_server_step s d) ds ∙ keep_after s d
 
+-- of a client of which nothing came the current incarnation stays
+current_stays : (Came : ℕ → ℕ → Body → Type 0) (s : Server) (c : ℕ) (m : SessionChange) (d : ℕ) → ((i : ℕ) (b : Body) → Came d i b → ⊥) → ServerStepMay Came s (ChangeSession c m) → ((after_server_step s (ChangeSession c m)).session d).current ≡ (s.session d).current
+current_stays Came s c m d n a = go (d == c) refl
+  where
+    same : (d == c) ≡ true → c ≡ d
+    same h = grind arith
+
+    kept : (m : SessionChange) → ServerMayChange (Came c) s.store s.session c m → c ≡ d → (session_after (s.session c) m).current ≡ (s.session d).current
+    kept (Admit i) b q = absurd (n i Hello (subst (λ (x : ℕ). Came x i Hello) q b.0))
+    kept _ b q = ap (λ (x : ℕ). (s.session x).current) q
+
+    go : (r : Bool) → (d == c) ≡ r → (if r then session_after (s.session c) m else s.session d).current ≡ (s.session d).current
+    go true e = kept m a.0 (same e)
+    go false e = refl
+
+far_current : (Came : ℕ → ℕ → Body → Type 0) (s : Server) (ds : List ServerStep) (d : ℕ) → ((i : ℕ) (b : Body) → Came d i b → ⊥) → ServerStepsMay Came s ds → ((server_after s ds).session d).current ≡ (s.session d).current
+far_current Came s [] d n a = refl
+far_current Came s (ChangeSession c m ∷ ds) d n a = far_current Came (after_server_step s (ChangeSession c m)) ds d n a.1 ∙ current_stays Came s c m d n a.0
+far_current Came s (x ∷ ds) d n a = far_current Came (after_server_step s x) ds d n a.1
+
 -- the server makes steps
 pub server_acts : (L : Limits) (b : Life) (v : World) (w : Machine) (e : Event) (word : AnswerWord) (ds : List ServerStep) → Image L b v w → StepsRight (SentInLife b.floor v) v.server ds → FromDisk v.server ds
     → transcript_operations (record { event = e; word = word } ∷ v.transcript) ≡ transcript_operations v.transcript
@@ -383,6 +407,7 @@ server_acts L b v w e word ds m right disk ln bg rs = record {
     names = r.names;
     keep_write = keep_served v.server ds ∙ m.keep_write;
     clients = clients_served v.server ds ∙ m.clients;
+    nobody = λ c l. far_current (SentInLife b.floor v) v.server ds c (λ i y j. let z = m.addressed _ j.1 in omega (arith, l, z)) right.0 ∙ m.nobody c l;
     orderly = orderly_more (SentInLife b.floor v) (SentInLife b.floor v') (server_after v.server ds) (λ d i y j. (j.0, in_left _ v.packets new j.1)) right.1;
     books = books_all b.opening (SentInLife b.floor v) v.server ds m.books right.0;
     committed = disk.committed m.committed;

@@ -1,46 +1,112 @@
 -- The machine of one life, opened at any incarnation, and what its steps keep beside the invariant.
-use Rattle.std.proofs.Common.{Bool, List, Option, Some, [], ap, arith, false, if◌then◌else◌, inl, inr, nat_lt, refl, subst, sym, true, ℕ, ◌+◌, ◌<◌, ◌∙◌, ◌∷◌, ◌≡◌, ◌≤◌}
+use Rattle.std.proofs.Common.{Bool, List, Option, Some, [], ap, arith, false, if◌then◌else◌, inl, inr, nat_le, nat_lt, refl, subst, sym, true, ℕ, ◌+◌, ◌<◌, ◌∙◌, ◌∷◌, ◌≡◌, ◌≤◌}
 use Rattle.std.specs.Prelude.{⊤}
 use Rattle.cb_protocol.proofs.HistoryKept.{Kept, Recorded, history_operations}
-use Rattle.cb_protocol.proofs.Invariant.{Invariant, MessageFact, SessionFacts, cache_at_session}
+use Rattle.cb_protocol.proofs.Invariant.{Invariant, MessageFact, MessageHolds, SessionFacts, cache_at_session}
 use Rattle.cb_protocol.proofs.InvariantKept.{put_each}
 use Rattle.cb_protocol.proofs.LedgerKept.{Books, books_all}
-use Rattle.cb_protocol.proofs.Machine.{CommittedTransaction, ClientChanges, ClientMayChange, ClientRestarts, ClientSays, Machine, MachineMay, MachineMayRun, MachineStep, ServerChanges, ServerMaySend, ServerSends, WasSent, happens, present_cache, run}
+use Rattle.cb_protocol.proofs.Machine.{CommittedTransaction, ClientChanges, ClientMayChange, ClientRestarts, ClientSays, Machine, MachineMay, MachineMayRun, MachineStep, ServerChanges, ServerMaySend, ServerSends, WasSent, happens, performed_after, present_cache, run}
 use Rattle.cb_protocol.proofs.MachineSteps.{came_now, kept_happens, safe_happens}
 use Rattle.cb_protocol.proofs.ServerOrder.{Orderly, ServerStepsMay}
 use Rattle.cb_protocol.proofs.ServerSteps.{server_machine_steps}
 use Rattle.cb_protocol.proofs.TranscriptKept.{put_both}
 use Rattle.cb_protocol.specs.AnyMessages.{bytes_after}
-use Rattle.cb_protocol.specs.Basics.{Bytes, Limits, update}
-use Rattle.cb_protocol.specs.Cache.{Cache, CacheChange, Committing, Idle, cache_after, new_cache}
+use Rattle.cb_protocol.specs.Basics.{Bytes, IsIn, Limits, update}
+use Rattle.cb_protocol.specs.Cache.{Cache, CacheChange, Committing, Idle, Read, WriteBytes, cache_after, new_cache}
 use Rattle.cb_protocol.specs.Headline.{SoundOpening}
 use Rattle.cb_protocol.specs.LivesWorld.{server_of_life, session_at}
-use Rattle.cb_protocol.specs.Messages.{AbortNow, Body, Callback, Commit, Done, Downgrade, Granted, MayWrite, Message, PageWrite, Welcome}
-use Rattle.cb_protocol.specs.Serial.{store_left}
+use Rattle.cb_protocol.specs.Messages.{AbortNow, Body, Callback, Commit, Done, Downgrade, Granted, Hello, MayWrite, Message, PageWrite, Welcome}
+use Rattle.cb_protocol.specs.Serial.{PerformedOperation, store_left}
 use Rattle.cb_protocol.specs.Server.{AppliedCommit, ChangeSession, Doom, EnterQueue, ForgetTransaction, LeaveQueue, MarkCalledBack, MarkDowngradeSent, MarkInUse, RemoveAsk, Send, Server, ServerStep, SetFlushed, UnmarkInUse, after_server_step, server_after}
 use Rattle.cb_protocol.specs.Session.{Admit, ApplyCommit, BeginTransaction, DropTransaction, EndPermission, GrantRow, PermitWrite, RemoveRow, Session, SessionChange, Store, session_after, set_commit_number, store_after}
 use Rattle.cb_protocol.specs.World.{Opening, opening_store}
 
--- the opening store of a life: every client is new at its floor, which is the server's current incarnation
-abbrev pub start_at : Limits → Opening → ℕ → Machine
-start_at L o floor = record {
+-- the messages of the floor and above
+abbrev pub from_floor : ℕ → List Message → List Message
+from_floor floor [] = []
+from_floor floor (f ∷ fs) = if nat_le floor f.incarnation then f ∷ from_floor floor fs else from_floor floor fs
+
+pub in_from_floor : (floor : ℕ) (fs : List Message) (f : Message) → floor ≤ f.incarnation → IsIn f fs → IsIn f (from_floor floor fs)
+in_from_floor floor [] f l i = i
+in_from_floor floor (g ∷ fs) f l i = go (nat_le floor g.incarnation) refl (in_from_floor floor fs f l)
+  where
+    stale : nat_le floor g.incarnation ≡ false → g ≡ f → ⊥
+    stale e q = let k : g.incarnation < floor = grind arith in let z = ap (λ (h : Message). h.incarnation) q in omega (arith, k, z, l)
+
+    go : (r : Bool) → nat_le floor g.incarnation ≡ r → (IsIn f fs → IsIn f (from_floor floor fs)) → IsIn f (if r then g ∷ from_floor floor fs else from_floor floor fs)
+    go true e h = elim i [ inl q ↦ inl q | inr j ↦ inr (h j) ]
+    go false e h = elim i [ inl q ↦ absurd (stale e q) | inr j ↦ h j ]
+
+pub of_from_floor : (floor : ℕ) (fs : List Message) (f : Message) → IsIn f (from_floor floor fs) → IsIn f fs × (floor ≤ f.incarnation)
+of_from_floor floor [] f i = absurd i
+of_from_floor floor (g ∷ fs) f i = go (nat_le floor g.incarnation) refl (of_from_floor floor fs f) i
+  where
+    above : nat_le floor g.incarnation ≡ true → floor ≤ g.incarnation
+    above e = grind arith
+
+    go : (r : Bool) → nat_le floor g.incarnation ≡ r → (IsIn f (from_floor floor fs) → IsIn f fs × (floor ≤ f.incarnation)) → IsIn f (if r then g ∷ from_floor floor fs else from_floor floor fs) → IsIn f (g ∷ fs) × (floor ≤ f.incarnation)
+    go true e h j = elim j [ inl q ↦ (inl q, subst (λ (m : Message). floor ≤ m.incarnation) q (above e)) | inr k ↦ (inr (h k).0, (h k).1) ]
+    go false e h j = (inr (h j).0, (h j).1)
+
+-- The opening store of a life. Every client is new there: at its floor, which is the server's current incarnation, or above it where it stands there already. Of what was sent the machine has the messages of the floor and above.
+abbrev pub start_at : Limits → Opening → ℕ → (ℕ → ℕ) → List Message → Machine
+start_at L o floor incarnation packets = record {
   store = opening_store L o;
   session = λ c. session_at (if nat_lt c L.clients then floor else 0);
-  incarnation = λ c. floor;
+  incarnation = λ c. if nat_le floor (incarnation c) then incarnation c else floor;
   client = λ c i. new_cache;
-  packets = [];
+  packets = from_floor floor packets;
   history = [];
   performed = [];
 }
 
-pub safe_at : (L : Limits) (o : Opening) (floor : ℕ) → SoundOpening o → Invariant (start_at L o floor)
-safe_at L o floor v = grind (arith, v)
+-- These are Hellos, of incarnations that their clients have had.
+abbrev pub OnlyHellos : ℕ → (ℕ → ℕ) → List Message → Type 0
+OnlyHellos floor incarnation packets = (f : Message) → IsIn f packets → floor ≤ f.incarnation → (f.body ≡ Hello) × (f.incarnation ≤ incarnation f.client)
 
-pub kept_at : (L : Limits) (o : Opening) (floor : ℕ) → Kept o.bytes (start_at L o floor)
-kept_at L o floor = record { legal = tt; leaves = λ p. refl }
+-- a Hello holds where its client has had the incarnation
+hello_holds : (c : ℕ) (s : Store) (t : Session) (k : Cache) (last i : ℕ) (y : Body) → y ≡ Hello → i ≤ last → MessageHolds c s t k last i y
+hello_holds c s t k last i y e l = subst (λ (b : Body). MessageHolds c s t k last i b) (sym e) l
 
-pub recorded_at : (L : Limits) (o : Opening) (floor : ℕ) → Recorded (start_at L o floor)
-recorded_at L o floor = record { now = λ c i n. absurd (n refl); later = λ c i x l. refl; entries = λ e i. absurd i; once = tt }
+-- what is ahead of the server is a Hello
+pub hello_ahead : (c : ℕ) (s : Store) (t : Session) (k : Cache) (last i : ℕ) (y : Body) → MessageHolds c s t k last i y → t.current < i → y ≡ Hello
+hello_ahead c s t k last i Hello h l = refl
+hello_ahead c s t k last i _ h l = absurd (let a = h.0 in omega (arith, a, l))
+
+-- who stands at the floor or above stays there, and the others are at it
+pub stands_at : (floor i : ℕ) → floor ≤ i → (if nat_le floor i then i else floor) ≡ i
+stands_at floor i l = grind (arith, l)
+
+pub waits_at : (floor i : ℕ) → i < floor → (if nat_le floor i then i else floor) ≡ floor
+waits_at floor i l = grind (arith, l)
+
+at_least : (floor i : ℕ) → floor ≤ (if nat_le floor i then i else floor)
+at_least floor i = grind arith
+
+at_most : (floor i j : ℕ) → floor ≤ j → j ≤ i → j ≤ (if nat_le floor i then i else floor)
+at_most floor i j l h = grind (arith, l, h)
+
+behind_at : (floor i : ℕ) (r : Bool) → (if r then floor else 0) ≤ (if nat_le floor i then i else floor)
+behind_at floor i r = grind arith
+
+facts_at : (L : Limits) (o : Opening) (c i : ℕ) → SessionFacts c (opening_store L o) (session_at i) new_cache
+facts_at L o c i = grind arith
+
+pub safe_at : (L : Limits) (o : Opening) (floor : ℕ) (incarnation : ℕ → ℕ) (packets : List Message) → SoundOpening o → OnlyHellos floor incarnation packets → Invariant (start_at L o floor incarnation packets)
+safe_at L o floor incarnation packets v h = record {
+  behind = λ c. behind_at floor (incarnation c) (nat_lt c L.clients);
+  ahead = λ c i l. refl;
+  commit_number = λ c i x n e. absurd cc;
+  versions = v;
+  good = λ c. facts_at L o c (if nat_lt c L.clients then floor else 0);
+  fine = λ f i. (let j = of_from_floor floor packets f i in let k = h f j.0 j.1 in hello_holds f.client (opening_store L o) (session_at (if nat_lt f.client L.clients then floor else 0)) new_cache (if nat_le floor (incarnation f.client) then incarnation f.client else floor) f.incarnation f.body k.0 (at_most floor (incarnation f.client) f.incarnation j.1 k.1));
+}
+
+pub kept_at : (L : Limits) (o : Opening) (floor : ℕ) (incarnation : ℕ → ℕ) (packets : List Message) → Kept o.bytes (start_at L o floor incarnation packets)
+kept_at L o floor incarnation packets = record { legal = tt; leaves = λ p. refl }
+
+pub recorded_at : (L : Limits) (o : Opening) (floor : ℕ) (incarnation : ℕ → ℕ) (packets : List Message) → Recorded (start_at L o floor incarnation packets)
+recorded_at L o floor incarnation packets = record { now = λ c i n. absurd (n refl); later = λ c i x l. refl; entries = λ e i. absurd i; once = tt }
 
 pub books_at : (L : Limits) (o : Opening) (floor : ℕ) → Books o (server_of_life L o floor)
 books_at L o floor = record {
@@ -71,7 +137,7 @@ orderly_at Came L o floor = record {
   listed = λ x i. absurd i;
 }
 
--- Of the clients below n nobody below the floor is current, and no packet is of below it; nobody below it commits; and whoever committed was welcomed.
+-- Of the clients below n nobody below the floor is current, and no packet is of below it; nobody below it commits; and whoever committed was welcomed, or performed an operation.
 pub record Above (n floor : ℕ) (w : Machine) : Type 0 where
   pub current : (c : ℕ) → c < n → floor ≤ (w.session c).current
   pub come : (c : ℕ) → floor ≤ w.incarnation c
@@ -80,6 +146,27 @@ pub record Above (n floor : ℕ) (w : Machine) : Type 0 where
   pub made : (c i x k : ℕ) → w.store.commit_number c i x ≡ Some k → (floor ≤ i) × (1 ≤ x)
   pub welcomed : (c i : ℕ) → (w.client c i).welcomed ≡ true → WasSent w c i Welcome
   pub committed : (c i x k : ℕ) → w.store.commit_number c i x ≡ Some k → WasSent w c i Welcome
+  pub performed : (o : PerformedOperation) → IsIn o w.performed → WasSent w o.client o.incarnation Welcome
+
+-- so it is as a life begins
+pub above_at : (L : Limits) (o : Opening) (floor : ℕ) (incarnation : ℕ → ℕ) (packets : List Message) → Above L.clients floor (start_at L o floor incarnation packets)
+above_at L o floor incarnation packets = record {
+  current = λ c l. grind (arith, l);
+  come = λ c. at_least floor (incarnation c);
+  said = λ c i x ws s. (of_from_floor floor packets _ s).1;
+  sent = λ c i y l s. (of_from_floor floor packets _ s).1;
+  made = λ c i x n e. absurd cc;
+  welcomed = λ c i e. absurd cc;
+  committed = λ c i x n e. absurd cc;
+  performed = λ o i. absurd i;
+}
+
+-- who performs an operation is welcomed
+performs : (P : ℕ → ℕ → Type 0) (Came : Body → Type 0) (ls : List PerformedOperation) (c i x : ℕ) (k : Cache) (m : CacheChange) → ClientMayChange Came k m → (k.welcomed ≡ true → P c i) → ((o : PerformedOperation) → IsIn o ls → P o.client o.incarnation)
+    → (o : PerformedOperation) → IsIn o (performed_after ls c i x m) → P o.client o.incarnation
+performs P Came ls c i x k (Read p b) a f h o j = elim j [ inl e ↦ subst (λ (o : PerformedOperation). P o.client o.incarnation) e (f a.0) | inr j ↦ h o j ]
+performs P Came ls c i x k (WriteBytes p b) a f h o j = elim j [ inl e ↦ subst (λ (o : PerformedOperation). P o.client o.incarnation) e (f a.0) | inr j ↦ h o j ]
+performs P Came ls c i x k _ a f h o j = h o j
 
 -- a change of a cache that makes it welcomed
 welcomes : (b : Bool) (Came : Body → Type 0) (k : Cache) (m : CacheChange) → ClientMayChange Came k m → (k.welcomed ≡ true → Came Welcome) → (cache_after b k m).welcomed ≡ true → Came Welcome
@@ -109,6 +196,7 @@ above_client n floor w c m a h = record {
   welcomed = put_both (λ d i k. k.welcomed ≡ true → WasSent w d i Welcome) w.client c (w.incarnation c) (cache_after w.store.keep_write (present_cache w c) m)
       (welcomes w.store.keep_write (WasSent w c (w.incarnation c)) (present_cache w c) m a (h.welcomed c (w.incarnation c))) (λ d i _. h.welcomed d i);
   committed = h.committed;
+  performed = performs (λ d i. WasSent w d i Welcome) (WasSent w c (w.incarnation c)) w.performed c (w.incarnation c) (present_cache w c).number (present_cache w c) m a (h.welcomed c (w.incarnation c)) h.performed;
 }
 
 -- one more message: it is from the floor on
@@ -127,6 +215,7 @@ above_says n floor w c i y h f g = record {
   made = h.made;
   welcomed = λ d j e. inr (h.welcomed d j e);
   committed = λ d j x k e. inr (h.committed d j x k e);
+  performed = λ o j. inr (h.performed o j);
 }
 
 -- a change of a session
@@ -140,6 +229,7 @@ above_session n floor w c m h l f = record {
   made = λ d i x k e. (let z = f d i x k e in (z.0, z.1));
   welcomed = h.welcomed;
   committed = λ d i x k e. (f d i x k e).2;
+  performed = h.performed;
 }
 
 above_commits : (n floor : ℕ) (w : Machine) → Above n floor w → (d i x k : ℕ) → w.store.commit_number d i x ≡ Some k → (floor ≤ i) × (1 ≤ x) × WasSent w d i Welcome
@@ -188,6 +278,7 @@ above_happens n floor w (ClientRestarts c) v a h = record {
   made = h.made;
   welcomed = h.welcomed;
   committed = h.committed;
+  performed = h.performed;
 }
 
 pub above_run : (n floor : ℕ) (es : List MachineStep) (w : Machine) → Invariant w → MachineMayRun es w → Above n floor w → Above n floor (run es w)

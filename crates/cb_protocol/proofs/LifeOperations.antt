@@ -1,16 +1,16 @@
 -- The operations of one life within the transcript of all, and what a client of a former life still does.
-use Rattle.std.proofs.Common.{Bool, List, None, Option, Some, [], ap, arith, false, if◌then◌else◌, nat_le, refl, subst, sym, ℕ, ◌<◌, ◌∙◌, ◌∷◌, ◌≡◌, ◌≢◌, ◌≤◌}
+use Rattle.std.proofs.Common.{Bool, List, None, Option, Some, [], ap, arith, false, if◌then◌else◌, inl, inr, nat_le, refl, subst, sym, true, ℕ, ◌<◌, ◌∙◌, ◌∷◌, ◌≡◌, ◌≢◌, ◌≤◌}
 use Rattle.cb_protocol.proofs.Cases.{call_refused, fault_of_read, fault_of_write}
 use Rattle.cb_protocol.proofs.ClientSteps.{cache_after_steps, cache_of, performed_by_steps}
 use Rattle.cb_protocol.proofs.Machine.{performed_after}
 use Rattle.cb_protocol.specs.Answers.{AnswerWord, ClientFault}
-use Rattle.cb_protocol.specs.Basics.{Bytes, Limits}
+use Rattle.cb_protocol.specs.Basics.{Bytes, IsIn, Limits}
 use Rattle.cb_protocol.specs.Cache.{Cache, CacheChange, Committing, Idle, Open, TransactionState, cache_after, is_committing, is_idle}
 use Rattle.cb_protocol.specs.Client.{Client, ClientStep, ChangeCache, EndTransaction, MarkDue, MarkDueDowngrade, MarkWanted, Say, SetAsk, client_after}
 use Rattle.cb_protocol.specs.ClientCalls.{Call, CallAgain, CallBegin, CallDrop, CallFinish, CallHello, CallPeek, CallRead, CallWant, CallWrite, call_fault, client_call}
 use Rattle.cb_protocol.specs.Serial.{PerformedOperation, transaction_operations}
-use Rattle.cb_protocol.specs.Transcript.{call_operation, incarnation_at, transaction_at, transcript_operations}
-use Rattle.cb_protocol.specs.World.{ClientCalls, Event, FlushAll, FlushTo, Restart, ServerAgain, TakePacket, TranscriptEntry}
+use Rattle.cb_protocol.specs.Transcript.{call_operation, incarnation_at, transaction_at}
+use Rattle.cb_protocol.specs.World.{TranscriptEntry}
 
 -- the operations of incarnations from the floor on
 abbrev pub of_life : ℕ → List PerformedOperation → List PerformedOperation
@@ -65,27 +65,29 @@ other_incarnation b ls c i k (MarkDue p ∷ steps) d j x ne = other_incarnation 
 other_incarnation b ls c i k (MarkDueDowngrade p y ∷ steps) d j x ne = other_incarnation b ls c i k steps d j x ne
 other_incarnation b ls c i k (EndTransaction y ∷ steps) d j x ne = other_incarnation b ls c i k steps d j x ne
 
-incarnation_rises : (e : TranscriptEntry) (es : List TranscriptEntry) (c : ℕ) → incarnation_at es c ≤ incarnation_at (e ∷ es) c
-incarnation_rises e es c = grind arith
-
-none_more : (floor : ℕ) (hs : List TranscriptEntry) (c : ℕ) (x : Call) (word : AnswerWord) (ls : List PerformedOperation) → incarnation_at hs c < floor → of_life floor ls ≡ [] → of_life floor (call_operation hs c x word ls) ≡ []
-none_more floor hs c x word ls l e = grind arith
-
--- where all clients are below the floor, there is no operation of the life
-pub none_of_life : (floor : ℕ) (hs : List TranscriptEntry) → ((c : ℕ) → incarnation_at hs c < floor) → of_life floor (transcript_operations hs) ≡ []
-none_of_life floor [] f = refl
-none_of_life floor (e ∷ hs) f = go (none_of_life floor hs before) e.event
+-- an operation from the floor on is of the life
+pub in_life : (floor : ℕ) (ls : List PerformedOperation) (o : PerformedOperation) → floor ≤ o.incarnation → IsIn o ls → IsIn o (of_life floor ls)
+in_life floor [] o l i = i
+in_life floor (p ∷ ls) o l i = go (nat_le floor p.incarnation) refl (in_life floor ls o l)
   where
-    before : (c : ℕ) → incarnation_at hs c < floor
-    before c = let a = f c in let b = incarnation_rises e hs c in omega arith
+    stale : nat_le floor p.incarnation ≡ false → p ≡ o → ⊥
+    stale e q = let k : p.incarnation < floor = grind arith in let z = ap (λ (x : PerformedOperation). x.incarnation) q in omega (arith, k, z, l)
 
-    go : of_life floor (transcript_operations hs) ≡ [] → (x : Event) → of_life floor (elim x [ ClientCalls c y ↦ call_operation hs c y e.word (transcript_operations hs) | _ ↦ transcript_operations hs ]) ≡ []
-    go r (ClientCalls c y) = none_more floor hs c y e.word (transcript_operations hs) (before c) r
-    go r (TakePacket n) = r
-    go r (Restart c) = r
-    go r ServerAgain = r
-    go r FlushAll = r
-    go r (FlushTo n) = r
+    go : (r : Bool) → nat_le floor p.incarnation ≡ r → (IsIn o ls → IsIn o (of_life floor ls)) → IsIn o (if r then p ∷ of_life floor ls else of_life floor ls)
+    go true e h = elim i [ inl q ↦ inl q | inr j ↦ inr (h j) ]
+    go false e h = elim i [ inl q ↦ absurd (stale e q) | inr j ↦ h j ]
+
+-- where all operations are of below the floor, there is none of the life
+pub none_of_life : (floor : ℕ) (ls : List PerformedOperation) → ((o : PerformedOperation) → IsIn o ls → o.incarnation < floor) → of_life floor ls ≡ []
+none_of_life floor [] f = refl
+none_of_life floor (o ∷ ls) f = go (nat_le floor o.incarnation) refl (none_of_life floor ls (λ x i. f x (inr i)))
+  where
+    below : nat_le floor o.incarnation ≡ true → ⊥
+    below e = let l : floor ≤ o.incarnation = grind arith in let k = f o (inl refl) in omega (arith, l, k)
+
+    go : (r : Bool) → nat_le floor o.incarnation ≡ r → of_life floor ls ≡ [] → (if r then o ∷ of_life floor ls else of_life floor ls) ≡ []
+    go true e h = absurd (below e)
+    go false e h = h
 
 -- the client's transaction t can perform nothing more
 abbrev pub IsPast : Cache → ℕ → Type 0

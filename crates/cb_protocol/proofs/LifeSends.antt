@@ -48,7 +48,6 @@ pub record Sends (n floor : ℕ) (v v' : World) : Type 0 where
   pub by_server : (f : Message) → IsIn f sent → to_server f.body ≡ false → (floor ≤ f.incarnation) × (f.incarnation ≤ v.incarnation f.client)
   pub welcome : (c i : ℕ) → IsIn (welcome_to c i) sent → HelloSent v c i
   pub rises : (c : ℕ) → v.incarnation c ≤ v'.incarnation c
-  pub by_one : (c : ℕ) → v'.incarnation c ≤ v.incarnation c + 1
   pub flushed : v.server.flushed ≤ v'.server.flushed
   pub commits : (x : AppliedCommit) → IsIn x v.server.commits → IsIn x v'.server.commits
   pub nothing : (c : ℕ) → c < n → v.incarnation c < floor → OnlyGreeted v'.server c floor
@@ -62,7 +61,6 @@ only_answers n floor v e word h = record {
   by_server = λ f i. absurd i;
   welcome = λ c i j. absurd j;
   rises = λ c. omega arith;
-  by_one = λ c. omega arith;
   flushed = omega arith;
   commits = λ x i. i;
   nothing = h.nothing;
@@ -90,7 +88,6 @@ client_sends L n floor v e c word steps h a = record {
   by_server = λ f i t. absurd (let r = said_by c (v.incarnation c) steps f a i in let q : true ≡ false = sym r.2 ∙ t in cc);
   welcome = λ d k i. absurd (let r = said_by c (v.incarnation c) steps (welcome_to d k) a i in let q : false ≡ true = r.2 in cc);
   rises = λ d. omega arith;
-  by_one = λ d. omega arith;
   flushed = omega arith;
   commits = λ x i. i;
   nothing = h.nothing;
@@ -144,7 +141,6 @@ server_sends L b v w e word ds m right disk greeted h passes = record {
   );
   welcome = greeted;
   rises = λ c. omega arith;
-  by_one = λ c. omega arith;
   flushed = disk;
   commits = λ x i. server_keeps v.server ds x i;
   nothing = λ c l far. greeted_after c b.floor v.server ds (passes c l far) (h.nothing c l far);
@@ -208,9 +204,6 @@ restart_sends n floor v c h = go (nat_le max_number (v.incarnation c))
     higher : (d : ℕ) → v.incarnation d ≤ update v.incarnation c (v.incarnation c + 1) d
     higher d = grind arith
 
-    next : (d : ℕ) → update v.incarnation c (v.incarnation c + 1) d ≤ v.incarnation d + 1
-    next d = grind arith
-
     go : (r : Bool) → Sends n floor v (if r then answer_only v (Restart c) (Refused Exhausted)
         else answer_with v (Restart c) AnsweredOk [] (record v { client = update v.client c new_client; incarnation = update v.incarnation c (v.incarnation c + 1) })).world
     go true = only_answers n floor v (Restart c) (Refused Exhausted) h
@@ -221,7 +214,6 @@ restart_sends n floor v c h = go (nat_le max_number (v.incarnation c))
       by_server = λ f i. absurd i;
       welcome = λ c i j. absurd j;
       rises = higher;
-      by_one = next;
       flushed = omega arith;
       commits = λ x i. i;
       nothing = h.nothing;

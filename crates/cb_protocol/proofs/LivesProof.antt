@@ -6,9 +6,9 @@ use Rattle.cb_protocol.proofs.Invariant.{HasCommitNumber, SessionFacts, cache_at
 use Rattle.cb_protocol.proofs.InvariantKept.{agree, alone}
 use Rattle.cb_protocol.proofs.LifeEvents.{event_follows, image_first, near_or_far}
 use Rattle.cb_protocol.proofs.LifeImage.{Follows, Image, Life, in_append, in_left, in_right}
-use Rattle.cb_protocol.proofs.LifeMachine.{books_at, kept_at, orderly_at, recorded_at, safe_at, start_at}
-use Rattle.cb_protocol.proofs.LifeOperations.{IsPast, life_transaction, none_of_life}
-use Rattle.cb_protocol.proofs.LifeSends.{Spoken, event_sends, message_below, spoken_after}
+use Rattle.cb_protocol.proofs.LifeMachine.{above_at, books_at, hello_ahead, in_from_floor, kept_at, of_from_floor, orderly_at, recorded_at, safe_at, stands_at, start_at, waits_at}
+use Rattle.cb_protocol.proofs.LifeOperations.{IsPast, in_life, life_transaction, none_of_life}
+use Rattle.cb_protocol.proofs.LifeSends.{Spoken, event_sends, spoken_after}
 use Rattle.cb_protocol.proofs.LivesHistory.{bytes_append, left_append, numbered_append, once_append, operations_append, operations_by, same_operations, serial_append, survived, survives, survivors_numbered, survivors_once, survivors_serial, survivors_sound, version_append}
 use Rattle.cb_protocol.proofs.Machine.{Machine, WasSent, present_cache, run, start}
 use Rattle.cb_protocol.proofs.MachineSteps.{present_good}
@@ -20,7 +20,7 @@ use Rattle.cb_protocol.specs.Headline.{SoundOpening}
 use Rattle.cb_protocol.specs.HelloLaws.{OnlyGreeted}
 use Rattle.cb_protocol.specs.Lives.{BackedOfLife, CommitWelcomed, DonesStand, IsOfLife, LivesKeepThePromise, LivesLedger, LivesPromise, WelcomedAlone, lives_history}
 use Rattle.cb_protocol.specs.LivesWorld.{IsNewFloor, LeadsTo, Lives, LivesEvent, LivesEventAllowed, MayBeOnDisk, ServerRestarts, WithinLife, commits_on_disk, first_life, lives_step, restart_server, server_of_life, store_on_disk}
-use Rattle.cb_protocol.specs.Messages.{GiveBack, Message}
+use Rattle.cb_protocol.specs.Messages.{Done, GiveBack, Hello, Message, Welcome}
 use Rattle.cb_protocol.specs.Serial.{EachOnce, IsSerial, Operation, PerformedOperation, TransactionName, committed_operations, store_left, transaction_operations}
 use Rattle.cb_protocol.specs.Server.{AppliedCommit, DeadlockTest}
 use Rattle.cb_protocol.specs.Session.{Session, Store}
@@ -91,41 +91,45 @@ present_commits L lives told w m x i = elim (near_or_far lives.floor (v.incarnat
     far x i l = let y = in_session x i in let z = m.safe.behind x.client in let e = m.waits x.client l in let o = m.above.made x.client x.incarnation x.txn x.number (numbered x i) in let p = e.0 in let u = o.0 in
         none_there x.client w.store (w.session x.client) (present_cache w x.client) x.incarnation x.txn x.number (facts x.client (omega (arith, y, z, p, u))) (numbered x i) (omega (arith, y, z, p, u)) e.1 o.1
 
--- at the end of a life
-record Ends (L : Limits) (lives : Lives) (told : ℕ → ℕ → ℕ → List Operation) (w : Machine) (floor : ℕ) : Type 0 where
-  machine : (c : ℕ) → w.incarnation c < floor
-  sent : (f : Message) → IsIn f lives.world.packets → f.incarnation < floor
-  commits : (x : AppliedCommit) → IsIn x lives.world.server.commits → (lives.floor ≤ x.incarnation) × (x.incarnation < floor)
-  past : (x : AppliedCommit) → IsIn x lives.world.server.commits → (x.incarnation ≤ lives.world.incarnation x.client) × (x.incarnation ≡ lives.world.incarnation x.client → IsPast (lives.world.client x.client).cache x.txn)
+-- At the end of a life: the server took nothing of the new floor or above, and clients that stand there sent Hellos alone.
+pub record Ends (L : Limits) (lives : Lives) (told : ℕ → ℕ → ℕ → List Operation) (w : Machine) (floor : ℕ) : Type 0 where
+  pub below : (c : ℕ) → (w.session c).current < floor
+  pub sent : (f : Message) → IsIn f lives.world.packets → floor ≤ f.incarnation → f.body ≡ Hello
+  pub operations : (o : PerformedOperation) → IsIn o (transcript_operations lives.world.transcript) → o.incarnation < floor
+  pub fresh : (c : ℕ) → floor ≤ lives.world.incarnation c → (lives.world.client c).cache ≡ new_cache
+  pub commits : (x : AppliedCommit) → IsIn x lives.world.server.commits → (lives.floor ≤ x.incarnation) × (x.incarnation < floor)
+  pub past : (x : AppliedCommit) → IsIn x lives.world.server.commits → (x.incarnation ≤ lives.world.incarnation x.client) × (x.incarnation ≡ lives.world.incarnation x.client → IsPast (lives.world.client x.client).cache x.txn)
 
-ends : (L : Limits) (lives : Lives) (told : ℕ → ℕ → ℕ → List Operation) (w : Machine) (floor : ℕ) → Image L (life_of lives told) lives.world w → IsNewFloor lives floor → Ends L lives told w floor
+pub ends : (L : Limits) (lives : Lives) (told : ℕ → ℕ → ℕ → List Operation) (w : Machine) (floor : ℕ) → Image L (life_of lives told) lives.world w → IsNewFloor lives floor → Ends L lives told w floor
 ends L lives told w floor m a = record {
-  machine = below;
-  sent = λ f i. elim (near_or_far lives.floor f.incarnation) [
-    | inl l ↦ (let k = message_below f.client w.store (w.session f.client) (cache_at_session w f.client) (w.incarnation f.client) f.incarnation f.body (m.safe.behind f.client) (m.safe.fine f (m.packets f l i)) in let z = below f.client in omega (arith, k, z))
-    | inr l ↦ (let z = a.rises in omega (arith, l, z))
-  ];
-  commits = λ x i. ((m.above.made x.client x.incarnation x.txn x.number (numbered x i)).0, let y = (reached x i) in let z = below x.client in omega (arith, y, z));
+  below = below;
+  sent = λ f i l. hello_ahead f.client w.store (w.session f.client) (cache_at_session w f.client) (w.incarnation f.client) f.incarnation f.body (m.safe.fine f (m.packets f (near f.incarnation l) i)) (let z = below f.client in omega (arith, l, z));
+  operations = λ o i. elim (near_or_far floor o.incarnation) [ inl l ↦ absurd (unwelcomed o.client o.incarnation l (m.above.performed o (subst (λ (ls : List PerformedOperation). IsIn o ls) (sym m.performed) (in_life lives.floor (transcript_operations v.transcript) o (near o.incarnation l) i)))) | inr l ↦ l ];
+  fresh = λ c l. sym (m.cache c (near (v.incarnation c) l)) ∙ m.safe.ahead c (w.incarnation c) (let e = m.incarnation c (near (v.incarnation c) l) in let z = below c in omega (arith, e, l, z));
+  commits = λ x i. ((m.above.made x.client x.incarnation x.txn x.number (numbered x i)).0, let y = in_session x i in let z = below x.client in omega (arith, y, z));
   past = present_commits L lives told w m;
 }
   where
     v : World
     v = lives.world
 
-    below : (c : ℕ) → w.incarnation c < floor
-    below c = elim (near_or_far lives.floor (v.incarnation c)) [
-      | inl l ↦ (let e = m.incarnation c l in let z = a.unused c in omega (arith, e, z))
-      | inr l ↦ (let e = (m.waits c l).0 in let z = a.rises in omega (arith, e, z))
-    ]
+    near : (i : ℕ) → floor ≤ i → lives.floor ≤ i
+    near i l = let z = a.rises in omega (arith, l, z)
+
+    below : (c : ℕ) → (w.session c).current < floor
+    below c = subst (λ (t : ℕ → Session). (t c).current < floor) (sym m.session) (elim (near_or_far v.server.clients c) [
+      | inl l ↦ (let e = m.nobody c (rw (sym m.clients) l) in let z = a.rises in omega (arith, e, z))
+      | inr l ↦ a.admitted c l
+    ])
+
+    unwelcomed : (c i : ℕ) → floor ≤ i → WasSent w c i Welcome → ⊥
+    unwelcomed c i l s = let k : (i ≤ (w.session c).current) × (i ≡ (w.session c).current → Unit {0}) = m.safe.fine _ s in let y = k.0 in let z = below c in omega (arith, y, z, l)
 
     numbered : (x : AppliedCommit) → IsIn x v.server.commits → HasCommitNumber w.store x.client x.incarnation x.txn x.number
     numbered x i = ap (λ (s : Store). s.commit_number x.client x.incarnation x.txn) m.store ∙ m.books.listed x i
 
     in_session : (x : AppliedCommit) → IsIn x v.server.commits → x.incarnation ≤ (w.session x.client).current
     in_session x i = m.safe.commit_number x.client x.incarnation x.txn x.number (numbered x i)
-
-    reached : (x : AppliedCommit) → IsIn x v.server.commits → x.incarnation ≤ w.incarnation x.client
-    reached x i = let y = in_session x i in let z = m.safe.behind x.client in omega (arith, y, z)
 
 -- after a restart the operations of each transaction are as the transcript has them
 abbrev told_after : Lives → ℕ → ℕ → ℕ → List Operation
@@ -143,34 +147,35 @@ ended_numbers L lives told w n m d = survivors_numbered lives.opening.number n l
 ended_sound : (L : Limits) (lives : Lives) (told : ℕ → ℕ → ℕ → List Operation) (w : Machine) (n : ℕ) → Image L (life_of lives told) lives.world w → MayBeOnDisk lives.world.server n → SoundOpening lives.opening → SoundOpening (store_on_disk lives.opening lives.world.server n)
 ended_sound L lives told w n m d s = survivors_sound lives.opening n (commits_on_disk lives.world.server n) s (ended_numbers L lives told w n m d)
 
--- the server restarts: the next life's machine is a new one
-image_restarts : (L : Limits) (lives : Lives) (told : ℕ → ℕ → ℕ → List Operation) (w : Machine) (floor n : ℕ) → Image L (life_of lives told) lives.world w → IsNewFloor lives floor → MayBeOnDisk lives.world.server n → SoundOpening lives.opening
-    → Image L (life_of (restart_server L lives floor n) (told_after lives)) (restart_server L lives floor n).world (start_at L (store_on_disk lives.opening lives.world.server n) floor)
-image_restarts L lives told w floor n m a k s = record {
-  safe = safe_at L o floor (ended_sound L lives told w n m k s);
-  kept = kept_at L o floor;
-  recorded = recorded_at L o floor;
-  above = record { current = at_floor; come = λ c. omega arith; said = λ c i x ws s. absurd s; sent = λ c i y l s. absurd s; made = λ c i x n e. absurd cc; welcomed = λ c i e. absurd cc; committed = λ c i x n e. absurd cc };
+-- the server restarts: the next life's machine is a new one, in which clients stand at the floor or above
+image_restarts : (L : Limits) (lives : Lives) (told : ℕ → ℕ → ℕ → List Operation) (w : Machine) (floor n : ℕ) → Image L (life_of lives told) lives.world w → Spoken L.clients lives.floor lives.world → IsNewFloor lives floor → MayBeOnDisk lives.world.server n → SoundOpening lives.opening
+    → Image L (life_of (restart_server L lives floor n) (told_after lives)) (restart_server L lives floor n).world (start_at L (store_on_disk lives.opening lives.world.server n) floor lives.world.incarnation lives.world.packets)
+image_restarts L lives told w floor n m h a k s = record {
+  safe = safe_at L o floor v.incarnation v.packets (ended_sound L lives told w n m k s) (λ f i l. (e.sent f i l, h.past f i));
+  kept = kept_at L o floor v.incarnation v.packets;
+  recorded = recorded_at L o floor v.incarnation v.packets;
+  above = above_at L o floor v.incarnation v.packets;
   leaves = tt;
   store = refl;
   session = refl;
   names = refl;
   keep_write = refl;
   clients = refl;
+  nobody = none_current;
   orderly = orderly_at _ L o floor;
   books = books_at L o floor;
   committed = omega arith;
   opened = omega arith;
-  incarnation = λ c l. absurd (nobody c l);
-  cache = λ c l. absurd (nobody c l);
-  ready = λ c l. absurd (nobody c l);
-  waits = λ c l. (refl, refl);
-  packets = λ f l i. absurd (let z = e.sent f i in omega (arith, l, z));
-  sent = λ f i. absurd i;
+  incarnation = λ c l. stands_at floor (v.incarnation c) l;
+  cache = λ c l. sym (e.fresh c l);
+  ready = λ c l. m.ready c (let z = a.rises in omega (arith, l, z));
+  waits = λ c l. (waits_at floor (v.incarnation c) l, refl);
+  packets = λ f l i. in_from_floor floor v.packets f l i;
+  sent = λ f i. (of_from_floor floor v.packets f i).0;
   addressed = m.addressed;
-  dones = λ c i t n l x. absurd (let z = e.sent _ x in omega (arith, l, z));
+  dones = λ c i t n l x. absurd (let z : Done t n ≡ Hello = e.sent _ x l in cc);
   on_disk = λ c i t x y. (let q = m.on_disk c i t x y in let r = k.reported in omega (arith, q, r));
-  performed = sym (none_of_life floor v.transcript (λ c. rw (m.restarts c) (a.unused c)));
+  performed = sym (none_of_life floor (transcript_operations v.transcript) e.operations);
   restarts = m.restarts;
   begins = m.begins;
   earlier = ended_commits (λ x. x.incarnation < floor) lives n (λ x i. (e.commits x i).1) (λ x i. let l = m.earlier x i in let r = a.rises in omega (arith, l, r));
@@ -191,11 +196,8 @@ image_restarts L lives told w floor n m a k s = record {
     e : Ends L lives told w floor
     e = ends L lives told w floor m a
 
-    at_floor : (c : ℕ) → c < L.clients → floor ≤ (if nat_lt c L.clients then floor else 0)
-    at_floor c l = grind arith
-
-    nobody : (c : ℕ) → floor ≤ v.incarnation c → ⊥
-    nobody c l = let z = a.unused c in omega (arith, l, z)
+    none_current : (c : ℕ) → L.clients ≤ c → (if nat_lt c L.clients then floor else 0) ≡ 0
+    none_current c l = grind (arith, l)
 
 -- a transaction of the life, by the transcript of all
 of_present : (L : Limits) (lives : Lives) (told : ℕ → ℕ → ℕ → List Operation) (w : Machine) → Image L (life_of lives told) lives.world w
@@ -385,8 +387,8 @@ stands_after L cycle first lives (WithinLife e) let_go a r =
     }
 stands_after L cycle first lives (ServerRestarts floor n) let_go a r = record {
   told = told_after lives;
-  machine = start_at L (store_on_disk lives.opening lives.world.server n) floor;
-  image = image_restarts L lives r.told r.machine floor n r.image a.0 a.1 r.left.sound;
+  machine = start_at L (store_on_disk lives.opening lives.world.server n) floor lives.world.incarnation lives.world.packets;
+  image = image_restarts L lives r.told r.machine floor n r.image r.spoken a.0 a.1 r.left.sound;
   left = left_restarts L first lives r.told r.machine floor n r.image a.0 a.1 r.left;
   spoken = record { past = r.spoken.past; greeted = r.spoken.greeted; nothing = λ c l far. nothing_of L (store_on_disk lives.opening lives.world.server n) floor c l };
 }

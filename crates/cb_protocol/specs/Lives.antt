@@ -80,7 +80,7 @@ HelloSent world client incarnation =
 -- What was sent, in whatever life, is of no incarnation that is still to come.
 pub record PacketsArePast (lives : Lives) : Type 0 where
   -- Each message, from a client or to it, is of the client's present incarnation or an earlier one.
-  -- So one of the floor or above was sent in the present life, by or to a client that has come to it.
+  -- So one of the floor or above is by or to a client that has come to it.
   pub past : (message : Message) → IsIn message lives.world.packets
       → message.incarnation ≤ lives.world.incarnation message.client
   -- who was welcomed had greeted

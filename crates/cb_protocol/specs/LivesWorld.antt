@@ -61,8 +61,8 @@ session_at incarnation =
     record { current = incarnation; row = λ page. None; txn = 0; ended = 0 }
 
 -- The server as a life begins: a new one over its store, except that the current incarnation of
--- each client is the floor. No client has had that incarnation yet, or a greater one: so whatever
--- was sent before is ignored.
+-- each client is the floor. No such incarnation was welcomed yet, nor a greater one. So of all that
+-- was sent before, Hellos alone aren't ignored: those of a client that has come to the floor.
 abbrev pub server_of_life : Limits → Opening → (floor : ℕ) → Server
 server_of_life limits opening floor =
     record (new_server limits.clients limits.pages (opening_store limits opening)) {
@@ -86,14 +86,16 @@ lives_step limits cycle lives (WithinLife event) let_go =
 lives_step limits cycle lives (ServerRestarts floor number) let_go =
     restart_server limits lives floor number
 
--- A new floor. In this world a client's restart takes the next incarnation: a client that goes to
--- the first one of a life's range restarts so often, and sends nothing in between.
+-- A new floor, as the server can tell. In this world a client's restart takes the next incarnation:
+-- a client that goes to the first one of a life's range restarts so often.
 pub record IsNewFloor (lives : Lives) (floor : ℕ) : Type 0 where
   -- It is above the present floor, also where nobody has come to the present life: each start of
   -- a server takes a number of its own.
   pub rises : lives.floor < floor
-  -- and above the incarnation of every client
-  pub unused : (client : ℕ) → lives.world.incarnation client < floor
+  -- And it is above each incarnation that the server took a Hello of. A client may have one of the
+  -- floor or above already: the server knows nothing of it, and never welcomed it.
+  pub admitted : (client : ℕ) → client < lives.world.server.clients
+      → (lives.world.server.session client).current < floor
 
 -- The disk may have the commits up to that number: at least all that were reported to the server as
 -- on disk, and none that it didn't make. Of those between, the first ones may have been written
