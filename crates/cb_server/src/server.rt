@@ -1,6 +1,6 @@
 //! The type, its opening, what it takes, and what it shows.
 ghost use Rattle.std.specs.Prelude.{◌≡◌, ◌≢◌, ◌<◌, ◌≤◌, [], ◌∷◌, IfErr, IfOk, IfSome, OnErr};
-ghost use Rattle.std.specs.Prelude.{Err, OnOk};
+ghost use Rattle.std.specs.Prelude.{◌⊎◌, ℕ, Err, OnOk};
 ghost use Rattle.std.specs.Prelude.{slice_index, false, true};
 ghost use Rattle.std.specs.List.{AllByRecursion};
 ghost use Rattle.std.specs.Option.{option_map};
@@ -14,7 +14,7 @@ ghost use Rattle.cb_frame_types.specs.Grammar.{Fits};
 ghost use Rattle.cb_outbox.specs.Messages.{messages_of};
 ghost use Rattle.cb_protocol.specs.AnyMessages.{ReachesDisk, SendsAgain};
 ghost use Rattle.cb_protocol.specs.Flush.{can_flush, next_batch};
-ghost use Rattle.cb_server.specs.Knowing.{KnowsUpTo};
+ghost use Rattle.cb_server.specs.Knowing.{KnowsBelow, KnowsUpTo};
 ghost use Rattle.cb_server.specs.ServerValue.{IsNew, IsResumed, IsServer, IsUnchanged, commits_of};
 ghost use Rattle.cb_server.specs.ServerValue.{forgot};
 ghost use Rattle.cb_server.specs.ServerValue.{most_frames, server_of};
@@ -330,7 +330,9 @@ impl Server {
 
     /// The greatest incarnation that is current for a client; `None` where no client is known.
     pub fn greatest_known(&self) -> Option<Incarnation>
-        ensures { KnowsUpTo (server_of self.now) (or_zero result) }
+        ensures most { KnowsUpTo (server_of self.now) (or_zero result) }
+        ensures least { (below : ℕ) → KnowsBelow (server_of self.now) below
+            → or_zero result < below }
     {
         let state = self.engine.callbacks.state();
         let mut greatest = None;
@@ -353,6 +355,7 @@ impl Server {
 fn greater(first: Option<Incarnation>, second: Option<Incarnation>) -> Option<Incarnation>
     ensures first { or_zero first ≤ or_zero result }
     ensures second { or_zero second ≤ or_zero result }
+    ensures either { (or_zero result ≡ or_zero first) ⊎ (or_zero result ≡ or_zero second) }
 {
     match (first, second) {
         (Some(a), Some(b)) => Some(if a < b { b } else { a }),
