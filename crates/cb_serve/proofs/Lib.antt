@@ -1,5 +1,6 @@
 pub mod Faults
 pub mod Fitting
+pub mod Hearing
 pub mod Holding
 pub mod Inputs
 pub mod Pieces

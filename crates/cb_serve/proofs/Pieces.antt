@@ -1,24 +1,27 @@
 -- Pieces, one after another.
-use Rattle.std.proofs.Common.{◌≡◌, ◌∙◌, ℕ, zero, suc, ◌+◌, ◌<◌, ◌≤◌, List, [], ◌∷◌, ◌++◌, refl, sym, ap, subst, take, drop, length, length-drop, append_assoc, arith, true, false}
+use Rattle.std.proofs.Common.{◌≡◌, ◌∙◌, ℕ, zero, suc, ◌+◌, ◌<◌, ◌≤◌, ◌&&◌, nat_le, Bool, if◌then◌else◌, List, [], ◌∷◌, ◌++◌, refl, sym, ap, subst, take, drop, length, length-drop, append_assoc, arith, true, false, true≢false}
 use Rattle.std.proofs.Math.Seq.{take-add}
+use Rattle.std.proofs.lemmas.Bool.Decides.{nat_tests}
 use Rattle.std.proofs.lemmas.Grind.{flat_map-append}
 use Rattle.std.proofs.lemmas.List.{append-nil}
 use Rattle.std.specs.List.{AllByRecursion, flat_map}
 use Rattle.cb_frame_types.specs.Grammar.{IsFrameInSome}
+use Rattle.cb_frame_types.specs.Kinds.{kind_of_body}
 use Rattle.cb_frame_types.specs.Spelling.{spelling_in}
 use Rattle.cb_frame_types.specs.declared.frame.Frame.{Frame}
 use Rattle.cb_page.specs.Bounds.{Bounds}
 use Rattle.cb_protocol.specs.AnyMessages.{Input, SendsAgain}
 use Rattle.cb_server.specs.ServerValue.{ServerValue}
+use Rattle.cb_shelf.specs.Living.{raise_end}
 use Rattle.cb_server.specs.Taking.{Refuses, input_of}
 use Rattle.cb_server.specs.declared.server_fault.ServerFault.{ServerFault}
 use Rattle.cb_server.specs.declared.server_fault.ServerFault.TheVariants as server
 use Rattle.cb_serve.proofs.Inputs.{all_append, answers_nothing, answers_then}
-use Rattle.cb_serve.specs.Answering.{Answers, TakesPieces, inputs_in, inputs_of}
+use Rattle.cb_serve.specs.Answering.{Answers, TakesPieces, heard, inputs_in, inputs_of}
 use Rattle.cb_serve.specs.Endings.{becomes_of_server}
 use Rattle.cb_serve.specs.Fronts.{IsFront}
 use Rattle.cb_serve.specs.Steps.{RefusesFrame, RefusesFront, StopsTaking, TakesAll, TakesFront}
-use Rattle.cb_serve.specs.Streams.{IsNoFrame, IsPart, IsPiece, Piece, asks_again, bytes_of, comes, count_passed, passed_over}
+use Rattle.cb_serve.specs.Streams.{IsNoFrame, IsPart, IsPiece, Piece, asks_again, bytes_of, comes, count_passed, greets_from, is_hello, let_go, passed_over}
 use Rattle.cb_serve.specs.declared.fault.RoundFault.{RoundFault}
 use Rattle.cb_serve.specs.declared.fault.RoundFault.TheVariants as round
 use Rattle.cb_serve.specs.declared.front.Front.TheVariants as front
@@ -48,6 +51,7 @@ one_passed : (piece : Piece) → count_passed (piece ∷ []) ≤ 1
 one_passed (comes frame bytes) = omega arith
 one_passed asks_again = omega arith
 one_passed (passed_over bytes) = omega arith
+one_passed (let_go frame bytes) = omega arith
 
 -- a frame has bytes
 frame_long : (l : Bounds) (f : Frame) (bytes : List ℕ) (used : ℕ) → IsFrameInSome l f (take used bytes) → 0 < used
@@ -55,20 +59,42 @@ unfolding spelling_in
 frame_long l f bytes zero is = absurd (let e = is.1.spelled in cc)
 frame_long l f bytes (suc n) is = omega arith
 
+-- both, or neither
+both : (a b : Bool) → (a && b) ≡ true → (a ≡ true) × (b ≡ true)
+both true b e = (refl, e)
+both false b e = absurd (true≢false (sym e))
+
+-- a Hello from a number on is one from each lower number on
+lower : (low high : ℕ) (f : Frame) → low ≤ high → greets_from high f ≡ true → greets_from low f ≡ true
+lower low high f less e =
+    let p = both (nat_le high f.incarnation) (is_hello (kind_of_body f.body)) e in
+    let before : nat_le low f.incarnation ≡ true = (let far = p.0 in grind (arith, nat_tests)) in
+    rw before p.1
+
 -- the first piece is taken, by what it is
-pub front_frame : (old new : ServerValue) (l : Bounds) (bytes : List ℕ) (f : Frame) (used : ℕ) (more : List ℕ) → l ≡ old.limits
-    → IsFront l bytes (front.Frame f used) → Answers old (input_of f ∷ []) more new → TakesFront old bytes (step.Taken used 0) more new
-front_frame old new l bytes f used more same is answers = (
-  frame_long l f bytes used is.0,
-  comes f (take used bytes),
-  record {
-    are = (subst (λ (k : Bounds). IsFrameInSome k f (take used bytes)) same is.0, tt);
-    within = is.1;
-    cut = sym (append-nil (take used bytes));
-    answers = answers;
-  },
-  refl,
-)
+pub front_frame : (old new : ServerValue) (l : Bounds) (bytes : List ℕ) (f : Frame) (used end : ℕ) (more : List ℕ) → l ≡ old.limits → raise_end ≤ end
+    → IsFront l bytes (front.Frame f used) → Answers old (heard end f) more new → TakesFront old bytes (step.Taken used 0) more new
+front_frame old new l bytes f used end more same far is answers = go (greets_from end f) refl
+  where
+    framed : IsFrameInSome old.limits f (take used bytes)
+    framed = subst (λ (k : Bounds). IsFrameInSome k f (take used bytes)) same is.0
+
+    told : (b : Bool) → greets_from end f ≡ b → Answers old (if b then [] else input_of f ∷ []) more new
+    told b e = subst (λ (t : Bool). Answers old (if t then [] else input_of f ∷ []) more new) e answers
+
+    go : (b : Bool) → greets_from end f ≡ b → TakesFront old bytes (step.Taken used 0) more new
+    go true e = (
+      frame_long l f bytes used is.0,
+      let_go f (take used bytes),
+      record { are = ((framed, lower raise_end end f far e), tt); within = is.1; cut = sym (append-nil (take used bytes)); answers = told true e },
+      refl,
+    )
+    go false e = (
+      frame_long l f bytes used is.0,
+      comes f (take used bytes),
+      record { are = (framed, tt); within = is.1; cut = sym (append-nil (take used bytes)); answers = told false e },
+      refl,
+    )
 
 pub front_again : (old new : ServerValue) (l : Bounds) (bytes more : List ℕ) → IsFront l bytes front.Again → Answers old (SendsAgain ∷ []) more new
     → TakesFront old bytes (step.Taken 16 0) more new

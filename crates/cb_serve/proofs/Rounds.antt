@@ -101,6 +101,12 @@ known_on_disk server None below known = known
 known_on_disk server (Some batch) below known = knows_after server (ReachesDisk batch.number) below known (λ c i e. absurd cc)
 
 module _ {S : Type 0} (g : Ghosts S) where
+  -- whom the server knew as the tables had room is known still once all is on disk
+  pub known_then : (mid new : ServerValue) (life new_life : LifeState) (first tables later : Held S) (out1 out2 : Option (List ℕ)) → KeepsRoom g (server_of mid) life new_life first tables → Commits g mid tables later new out1 out2
+      → KnowsBelow (server_of new) new_life.below
+  known_then mid new life new_life first tables later out1 out2 keeps c =
+      subst (λ (s : Server). KnowsBelow s new_life.below) (sym c.becomes) (known_on_disk (server_of mid) c.batch new_life.below keeps.known)
+
   -- the parts of a round are a round
   pub does_round : (limits : Bounds) (old mid new : ServerValue) (desk read_desk after : Desk) (first tables later : Held S) (life new_life : LifeState) (read : List ℕ) (taken : Taken)
       (in1 in2 out1 out2 out3 : Option (List ℕ)) → KeepsRoom g (server_of mid) life new_life first tables → old.limits ≡ limits
@@ -116,7 +122,7 @@ module _ {S : Type 0} (g : Ghosts S) where
         is = record {
           mid = tables;
           room = keeps.room;
-          known = subst (λ (s : Server). KnowsBelow s new_life.below) (sym c.becomes) (known_on_disk (server_of mid) c.batch new_life.below keeps.known);
+          known = known_then mid new life new_life first tables later out2 out3 keeps c;
           is = record {
             are = subst (λ (l : Bounds). AllByRecursion (IsPiece l) a.pieces) same a.takes.are;
             cut = sym reads ∙ sym (take-append-drop taken.used read_desk.pending.items) ∙ ap (λ (k : List ℕ). k ++ drop taken.used read_desk.pending.items) a.takes.cut

@@ -1,5 +1,5 @@
 -- What the protocol's server says to pieces of a stream, and the bytes of that.
-use Rattle.std.specs.Prelude.{◌≡◌, ◌≤◌, ℕ, List, [], ◌∷◌, ◌++◌, length, take, true}
+use Rattle.std.specs.Prelude.{◌≡◌, ◌≤◌, ℕ, List, [], ◌∷◌, ◌++◌, length, take, true, if◌then◌else◌}
 use Rattle.std.specs.List.{AllByRecursion, flat_map}
 use Rattle.cb_frame_types.specs.Grammar.{Fits, IsFrameInSome}
 use Rattle.cb_frame_types.specs.Spelling.{spelling}
@@ -14,8 +14,8 @@ use Rattle.cb_protocol.specs.WaitsFor.{on_cycle}
 use Rattle.cb_protocol.specs.World.{messages_sent}
 use Rattle.cb_server.specs.ServerValue.{ServerValue, commits_of, server_of}
 use Rattle.cb_server.specs.Taking.{input_of}
-use Rattle.cb_serve.specs.Streams.{IsPiece, Piece, bytes_of, asks_again, comes}
-use Rattle.cb_serve.specs.Streams.{passed_over}
+use Rattle.cb_serve.specs.Streams.{IsPiece, Piece, bytes_of, asks_again, comes, let_go}
+use Rattle.cb_serve.specs.Streams.{greets_from, passed_over}
 
 -- the server once it was called with these, the first one first
 abbrev pub after_inputs : Server → List Input → Server
@@ -34,6 +34,11 @@ abbrev pub inputs_of : Piece → List Input
 inputs_of (comes frame bytes) = input_of frame ∷ []
 inputs_of asks_again = SendsAgain ∷ []
 inputs_of (passed_over bytes) = []
+inputs_of (let_go frame bytes) = []
+
+-- what a frame calls the server with in a life that takes no Hello from that incarnation on
+abbrev pub heard : (end : ℕ) → Frame → List Input
+heard end frame = if greets_from end frame then [] else input_of frame ∷ []
 
 abbrev pub inputs_in : List Piece → List Input
 inputs_in pieces = flat_map inputs_of pieces

@@ -1,9 +1,10 @@
+pub mod Announcing
 pub mod Answering
 pub mod Endings
 pub mod Fronts
+pub mod Living
 pub mod Parts
 pub mod Rounds
 pub mod Serving
 pub mod Steps
 pub mod Streams
-pub mod Living

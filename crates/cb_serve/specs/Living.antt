@@ -34,10 +34,8 @@ module _ {S : Type 0} (g : Ghosts S) where
     pub room : MakesRoom old new old_tables new_tables
     pub known : KnowsBelow server new.below
 
-  -- why there is no room: an incarnation is known for which none is given, or the row was refused;
-  -- on a clean disk the tables are as before
+  -- why there is no room: the row was refused; on a clean disk the tables are as before
   abbrev pub RefusesRoom : RoundFault → (old new : Held S) → Type 0
-  RefusesRoom round.Exhausted old new = new ≡ old
   RefusesRoom round.Store old new =
       HasCleanDisk (state g new) → IsSame (state g old) (state g new)
   RefusesRoom round.Memory old new =

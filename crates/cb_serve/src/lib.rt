@@ -5,6 +5,7 @@
 //! commits share a sync, and none is answered before it is on disk.
 #![tactic(auto)]
 
+mod announcing;
 mod fault;
 mod front;
 mod lives;
@@ -14,6 +15,7 @@ mod round;
 mod serving;
 mod taking;
 
+pub use announcing::announce;
 pub use fault::{RoundFault, ServeFault};
 pub use printing::print_served;
 pub use serving::{Served, serve};

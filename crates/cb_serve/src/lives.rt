@@ -2,7 +2,9 @@
 ghost use Rattle.std.specs.Prelude.{◌≡◌, IfErr, OnOk};
 ghost use Rattle.sqlite.specs.Held.{state};
 ghost use Rattle.sqlite.specs.State.{Survives};
+ghost use Rattle.cb_server.specs.Knowing.{KnowsBelow};
 ghost use Rattle.cb_server.specs.ServerValue.{server_of};
+ghost use Rattle.cb_shelf.specs.Living.{life_end};
 ghost use Rattle.cb_serve.specs.Living.{KeepsRoom, MayMakeRoom, RefusesRoom};
 
 use crate::fault::RoundFault;
@@ -10,18 +12,14 @@ use cb_server::Server;
 use cb_shelf::{Life, Shelf};
 use sqlite::Alter;
 
-/// From here on, 2^61 + 2^60, no incarnation is given room.
-const RAISE_END: u64 = 3 << 60;
-
 /// Gives a life room for all that its server knows. It comes before what is said goes out: so who
 /// was welcomed is below the number that the tables tell.
-///
-/// `Exhausted` where an incarnation is known for which no room is given.
 pub(crate) fn keep_room<S: Alter>(
     server: &Server,
     shelf: &mut Shelf<S>,
     life: &mut Life,
 ) -> Result<(), RoundFault>
+    requires { KnowsBelow (server_of server.now) (life_end life.old) }
     ensures ok { OnOk result (KeepsRoom S.Store (server_of server.now) life.old life.new
         shelf.old.conn shelf.new.conn) }
     ensures err { IfErr result (λ fault. RefusesRoom S.Store fault shelf.old.conn
@@ -37,9 +35,6 @@ pub(crate) fn keep_room<S: Alter>(
     };
     if life.has_room_for(greatest) {
         return Ok(());
-    }
-    if greatest.get() >= RAISE_END {
-        return Err(RoundFault::Exhausted);
     }
     match shelf.raise(life, greatest) {
         Ok(()) => Ok(()),

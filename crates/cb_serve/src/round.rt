@@ -6,6 +6,7 @@ ghost use Rattle.std.specs.Io.KnownBytes.{Consumes, IsAtEnd};
 ghost use Rattle.sqlite.specs.Held.{state};
 ghost use Rattle.sqlite.specs.State.{Survives};
 ghost use Rattle.cb_protocol.specs.Flush.{next_batch};
+ghost use Rattle.cb_server.specs.Knowing.{KnowsBelow};
 ghost use Rattle.cb_server.specs.ServerValue.{server_of};
 ghost use Rattle.cb_server_state.specs.Commits.{batch_of};
 ghost use Rattle.cb_shelf.specs.Flushing.{WritesOne};
@@ -93,6 +94,7 @@ fn answer<S: Alter, W: Write>(
     life: &mut Life,
     output: &mut W,
 ) -> Result<Taken, RoundFault>
+    requires { KnowsBelow (server_of server.old) life.old.below }
     ensures ok { IfOk result (λ taken. Answered server.old desk.old desk.new taken server.new
         (W.contents output.old) (W.contents output.new)) }
     ensures room { OnOk result (KeepsRoom S.Store (server_of server.new) life.old life.new
@@ -103,7 +105,13 @@ fn answer<S: Alter, W: Write>(
     ensures limits { shelf.new.limits ≡ shelf.old.limits }
 {
     desk.said.clear();
-    let taken = take_all(alloc, server, desk.pending.as_slice(), &mut desk.said)?;
+    let taken = take_all(
+        alloc,
+        server,
+        life.end(),
+        desk.pending.as_slice(),
+        &mut desk.said,
+    )?;
     drop_front(&mut desk.pending, taken.used);
     desk.passed_over = desk.passed_over.saturating_add(taken.passed_over as u64);
     keep_room(server, shelf, life)?;
@@ -181,6 +189,7 @@ pub(crate) fn round<S: Alter, R: Read, W: Write>(
 ) -> Result<RoundEnd, RoundFault>
     requires room { 0 < length room.old }
     requires limits { shelf.old.limits ≡ server.old.limits }
+    requires known { KnowsBelow (server_of server.old) life.old.below }
     ensures ok { IfOk result (λ end. EndsRound S.Store server.old.limits end
         (standing S.Store server.old desk.old shelf.old.conn)
         (standing S.Store server.new desk.new shelf.new.conn) life.old life.new
@@ -192,6 +201,7 @@ pub(crate) fn round<S: Alter, R: Read, W: Write>(
         (W.contents output.old) (W.contents output.new)) }
     ensures shelf { shelf.new.limits ≡ shelf.old.limits }
     ensures server { OnOk result (server.new.limits ≡ server.old.limits) }
+    ensures known { OnOk result (KnowsBelow (server_of server.new) life.new.below) }
 {
     if !read_more(input, room, &mut desk.pending)? {
         return Ok(RoundEnd::Ended);

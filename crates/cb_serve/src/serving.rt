@@ -1,7 +1,8 @@
 //! Rounds until the input ends.
 ghost use Rattle.std.specs.Prelude.{◌≡◌, ◌≢◌, ◌<◌, [], length, Err, IfErr, IfOk, OnOk};
 ghost use Rattle.cb_commit.specs.Stores.{IsOf};
-ghost use Rattle.cb_server.specs.ServerValue.{IsResumed};
+ghost use Rattle.cb_server.specs.Knowing.{KnowsBelow};
+ghost use Rattle.cb_server.specs.ServerValue.{IsResumed, server_of};
 ghost use Rattle.cb_serve.specs.Parts.{standing};
 ghost use Rattle.cb_serve.specs.Serving.{HoldsStore, IsServed, Serves};
 
@@ -53,6 +54,7 @@ fn serve_rounds<S: Alter, R: Read, W: Write>(
     requires room { 0 < length room.old }
     requires limits { shelf.old.limits ≡ server.old.limits }
     requires empty { desk.old.pending.items ≡ [] }
+    requires known { KnowsBelow (server_of server.old) life.old.below }
     ensures serves { Serves S.Store server.old.limits result
         (standing S.Store server.old desk.old shelf.old.conn) life.old shelf.new.conn
         (R.remaining input.old) (R.remaining input.new)
@@ -86,10 +88,10 @@ fn ended(pending: &[u8]) -> Result<(), ServeFault>
 }
 
 /// Serves the frames of the input over a store, as a life of the server, until the input ends: each
-/// frame is taken by the
-/// protocol's server in order, and what is said to it goes to the output. What was committed by the
-/// frames that were read at once is written in one transaction, and answered then. What can't be
-/// read is passed over.
+/// frame is taken by the protocol's server in order, and what is said to it goes to the output. What
+/// was committed by the frames that were read at once is written in one transaction, and answered
+/// then. What can't be read is passed over. A Hello for which the life can't be given room is let
+/// go; of any other incarnation the tables tell a number above it before it is welcomed.
 ///
 /// The shelf's tables hold the store, as a load of them says, so what each round writes goes over
 /// that store. It is refused before any round only for want of memory.

@@ -1,16 +1,19 @@
 //! The pieces of a stream are taken.
-ghost use Rattle.std.specs.Prelude.{◌≡◌, ◌++◌, [], ◌∷◌, List, ℕ, IfErr, IfOk, OnOk};
+ghost use Rattle.std.specs.Prelude.{◌≡◌, ◌≤◌, ◌++◌, [], ◌∷◌, List, ℕ, IfErr, IfOk, OnOk};
 ghost use Rattle.cb_frame_types.specs.Grammar.{Fits};
 ghost use Rattle.cb_protocol.specs.AnyMessages.{SendsAgain};
-ghost use Rattle.cb_server.specs.Taking.{input_of};
-ghost use Rattle.cb_serve.specs.Answering.{Answers};
+ghost use Rattle.cb_server.specs.Knowing.{KnowsBelow};
+ghost use Rattle.cb_server.specs.ServerValue.{server_of};
+ghost use Rattle.cb_shelf.specs.Living.{raise_end};
+ghost use Rattle.cb_serve.specs.Answering.{Answers, heard};
 ghost use Rattle.cb_serve.specs.Steps.{RefusesFrame, RefusesFront, StopsTaking, TakesAll};
 ghost use Rattle.cb_serve.specs.Steps.{TakesFront};
+ghost use Rattle.cb_serve.specs.Streams.{greets_from, is_hello};
 
 use crate::fault::RoundFault;
 use crate::front::{Front, read_front};
 use crate::output::append_frames;
-use cb_frame::Frame;
+use cb_frame::{Frame, Kind};
 use cb_server::Server;
 use std::alloc::Global;
 
@@ -36,18 +39,41 @@ pub(crate) struct Taken {
     pub(crate) ends: bool,
 }
 
-/// Takes a frame, and appends what is said to it.
+/// Whether it is the kind of a Hello.
+fn is_hello(kind: Kind) -> bool
+    ensures { result ≡ is_hello kind }
+{
+    match kind {
+        Kind::Hello => true,
+        _ => false,
+    }
+}
+
+/// Whether a frame is a Hello of that incarnation or a greater one.
+fn greets_from(end: u64, frame: &Frame) -> bool
+    ensures { result ≡ greets_from end frame.now }
+{
+    end <= frame.incarnation.get() && is_hello(frame.kind())
+}
+
+/// Takes a frame, and appends what is said to it. A Hello from `end` on is let go.
 fn take_frame(
     alloc: Global,
     server: &mut Server,
+    end: u64,
     frame: Frame,
     said: &mut Vec<u8>,
 ) -> Result<(), RoundFault>
     requires { Fits server.old.limits frame }
     ensures ok { OnOk result ((more : List ℕ) × (said.new.items ≡ said.old.items ++ more)
-        × Answers server.old (input_of frame ∷ []) more server.new) }
+        × Answers server.old (heard end frame) more server.new) }
+    ensures known { KnowsBelow (server_of server.old) end
+        → OnOk result (KnowsBelow (server_of server.new) end) }
     ensures err { IfErr result (RefusesFrame server.old frame) }
 {
+    if greets_from(end, &frame) {
+        return Ok(());
+    }
     match server.take_owned(alloc, frame) {
         Ok(answers) => {
             append_frames(alloc, server.limits(), answers.as_slice(), said)?;
@@ -61,6 +87,8 @@ fn take_frame(
 fn say_again(alloc: Global, server: &mut Server, said: &mut Vec<u8>) -> Result<(), RoundFault>
     ensures ok { OnOk result ((more : List ℕ) × (said.new.items ≡ said.old.items ++ more)
         × Answers server.old (SendsAgain ∷ []) more server.new) }
+    ensures known { (end : ℕ) → KnowsBelow (server_of server.old) end
+        → OnOk result (KnowsBelow (server_of server.new) end) }
     ensures err { IfErr result (λ fault. fault ≡ RoundFault.Memory) }
 {
     let answers = server.again(alloc)?;
@@ -72,17 +100,21 @@ fn say_again(alloc: Global, server: &mut Server, said: &mut Vec<u8>) -> Result<(
 fn take_front(
     alloc: Global,
     server: &mut Server,
+    end: u64,
     bytes: &[u8],
     said: &mut Vec<u8>,
 ) -> Result<Step, RoundFault>
+    requires { raise_end ≤ end }
     ensures ok { IfOk result (λ step. (more : List ℕ) × (said.new.items ≡ said.old.items ++ more)
         × TakesFront server.old bytes.now step more server.new) }
+    ensures known { KnowsBelow (server_of server.old) end
+        → OnOk result (KnowsBelow (server_of server.new) end) }
     ensures err { IfErr result (RefusesFront server.old bytes.now) }
 {
     let front = read_front(alloc, server.limits(), bytes)?;
     match front {
         Front::Frame(frame, used) => {
-            take_frame(alloc, server, frame, said)?;
+            take_frame(alloc, server, end, frame, said)?;
             Ok(Step::Taken(used, 0))
         }
         Front::Again => {
@@ -95,21 +127,26 @@ fn take_front(
     }
 }
 
-/// Takes all whole pieces of the bytes, and appends what is said to them.
+/// Takes all whole pieces of the bytes, and appends what is said to them. Hellos from `end` on are
+/// let go.
 pub(crate) fn take_all(
     alloc: Global,
     server: &mut Server,
+    end: u64,
     bytes: &[u8],
     said: &mut Vec<u8>,
 ) -> Result<Taken, RoundFault>
+    requires { raise_end ≤ end }
     ensures ok { IfOk result (λ taken. TakesAll server.old bytes.now said.old.items taken
         said.new.items server.new) }
+    ensures known { KnowsBelow (server_of server.old) end
+        → OnOk result (KnowsBelow (server_of server.new) end) }
     ensures err { IfErr result (StopsTaking server.old bytes.now) }
 {
     let mut used = 0;
     let mut passed_over = 0;
     loop {
-        let step = take_front(alloc, server, &bytes[used..], said)?;
+        let step = take_front(alloc, server, end, &bytes[used..], said)?;
         match step {
             Step::Taken(count, passed) => {
                 used += count;

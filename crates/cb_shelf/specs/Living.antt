@@ -1,5 +1,6 @@
 -- The lives of a server over a shelf, and the row that tells the next life of them.
-use Rattle.std.specs.Prelude.{◌≡◌, ◌⊎◌, ℕ, ◌+◌, ◌≤◌, true, false, List, [], ◌∷◌, codes}
+use Rattle.std.specs.Prelude.{◌≡◌, ◌⊎◌, ℕ, ◌+◌, ◌≤◌, nat_lt, if◌then◌else◌, true, false, List, []}
+use Rattle.std.specs.Prelude.{◌∷◌, codes}
 use Rattle.sqlite.specs.Store.{Ghosts}
 use Rattle.sqlite.specs.Effect.{Database}
 use Rattle.sqlite.specs.Tree.{Trees}
@@ -19,6 +20,10 @@ life_range = 1048576
 -- From here on, 2^61 + 2^60, no incarnation is given room: so 2^40 lives are left, whoever greets.
 abbrev pub raise_end : ℕ
 raise_end = 3458764513820540928
+
+-- In a life no Hello is taken of this incarnation or a greater one: it could be given no room.
+abbrev pub life_end : LifeState → ℕ
+life_end life = if nat_lt life.below raise_end then raise_end else life.below
 
 -- what a life begins with
 abbrev pub life_statements : LifeState → List Statement

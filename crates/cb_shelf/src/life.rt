@@ -8,7 +8,8 @@ ghost use Rattle.cb_sql.specs.Inside.{Inside, IsAny, IsSame, IsSettled, Tells};
 ghost use Rattle.cb_page.specs.Numbers.{max_number};
 ghost use Rattle.cb_shelf.specs.LifeRows.{life_row, life_table, unserved};
 ghost use Rattle.cb_shelf.specs.Living.{Begun, EndsLives, Follows, HasLifeFrom, MadeBy, TellsBelow};
-ghost use Rattle.cb_shelf.specs.Living.{TellsNone, life_from, life_statements, raise_end, raised};
+ghost use Rattle.cb_shelf.specs.Living.{TellsNone, life_end, life_from, life_statements, raise_end};
+ghost use Rattle.cb_shelf.specs.Living.{raised};
 ghost use Rattle.cb_shelf.specs.Opening.{LaidBy, plain};
 
 use crate::reading::ask_number;
@@ -22,6 +23,9 @@ const RANGE: u64 = 1 << 20;
 
 /// Above each incarnation that a server may know which kept no row of its lives.
 const UNKEPT: u64 = 1 << 61;
+
+/// From here on, 2^61 + 2^60, no incarnation is given room.
+const RAISE_END: u64 = 3 << 60;
 
 /// A life of a server over a shelf. [`Shelf::begin_life`](crate::Shelf::begin_life) alone makes it,
 /// and no copy of it can be made.
@@ -57,6 +61,19 @@ impl Life {
         ensures { result ≡ nat_lt incarnation self.now.below }
     {
         incarnation.get() < self.below
+    }
+
+    /// A Hello of this incarnation or a greater one can't be given room: 2^61 + 2^60, or the number
+    /// that the tables tell, where that is greater.
+    pub fn end(&self) -> u64
+        ensures value { result ≡ life_end self.now }
+        ensures far { raise_end ≤ result }
+        ensures above { self.now.below ≤ result }
+    {
+        if self.below < RAISE_END {
+            return RAISE_END;
+        }
+        self.below
     }
 }
 

@@ -1,7 +1,7 @@
 -- Goals of `round`.
 use Rattle.std.proofs.Common.{◌≡◌, Err, refl, rules}
 use Rattle.cb_serve.proofs.Faults.{on_fault}
-use Rattle.cb_serve.proofs.Rounds.{does_round, stops_committing, stops_reading, stops_within}
+use Rattle.cb_serve.proofs.Rounds.{does_round, known_then, stops_committing, stops_reading, stops_within}
 use Rattle.cb_serve.specs.Parts.{StopsRound, standing}
 use Rattle.cb_serve.specs.declared.fault.RoundFault.{RoundFault}
 use Rattle.cb_serve.proofs.round.round.Goals as goal
@@ -56,3 +56,13 @@ returns-clause-ok g c = (
       c.in_ok-taken.ensures.room refl c.in_ok-read_more.ensures.ok.1 refl c.in_ok-read_more.ensures.ok.2 c.in_ok-taken.ensures.ok c.in_ok-commit.ensures.ok,
   c.in_ok-taken.ensures.ok.part c.if-taken.false,
 )
+
+pub returns-then-taken-clause-known : goal.returns-then-taken-clause-known
+returns-then-taken-clause-known g c =
+    known_then g.S.Store c.answer.new.server c.commit.new.server c.args.life.now c.answer.new.life c.args.shelf.now.conn c.answer.new.shelf.conn c.commit.new.shelf.conn
+    (g.W.Write.contents c.answer.new.output) (g.W.Write.contents c.commit.new.output) c.in_ok-taken.ensures.room c.in_ok-commit.ensures.ok
+
+pub returns-clause-known : goal.returns-clause-known
+returns-clause-known g c =
+    known_then g.S.Store c.answer.new.server c.commit.new.server c.args.life.now c.answer.new.life c.args.shelf.now.conn c.answer.new.shelf.conn c.commit.new.shelf.conn
+    (g.W.Write.contents c.answer.new.output) (g.W.Write.contents c.commit.new.output) c.in_ok-taken.ensures.room c.in_ok-commit.ensures.ok

@@ -1,10 +1,17 @@
 -- Goals of `serve`.
-use Rattle.std.proofs.Common.{ap, inl, rules}
+use Rattle.std.proofs.Common.{◌<◌, ap, inl, rules}
+use Rattle.cb_server.proofs.Knowing.{knows_floor}
 use Rattle.cb_server.specs.ServerValue.{IsResumed}
 use Rattle.cb_serve.proofs.Holding.{lacks_memory}
 use Rattle.cb_serve.proofs.Rounds.{serves_over}
 use Rattle.cb_serve.specs.declared.serving.Served.{Served}
 use Rattle.cb_serve.proofs.serving.serve.Goals as goal
+
+pub serve_rounds-ending-requires-clause-known : goal.serve_rounds-ending-requires-clause-known
+serve_rounds-ending-requires-clause-known g c =
+    let new : IsResumed c.args.limits.now c.args.store c.args.life.floor c.in-Ok.server = search rules in
+    let below : c.args.life.floor < c.args.life.below = search rules in
+    knows_floor c.args.limits.now c.args.store c.args.life.floor c.args.life.below c.in-Ok.server new below
 
 pub returns-in-Err : goal.returns-in-Err
 returns-in-Err g c =

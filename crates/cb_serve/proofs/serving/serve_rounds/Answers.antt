@@ -20,7 +20,7 @@ returns-in-Ended-clause-serves g c =
 pub loop-preserved : goal.loop-preserved
 loop-preserved g c =
     let more = goes_on g.S.Store c.args.server.now.limits c.loop.server.limits _ _ (standing g.S.Store c.round.new.server c.round.new.desk c.round.new.shelf.conn) _ _ c.round.new.life c.in-Ok.end _ _ _ _ _ _ c.loop.invariant.1 c.in-GoesOn.is c.loop.invariant.2 c.loop.invariant.3 c.in-Ok.ensures.ok in
-    (c.round.ensures.shelf ∙ c.loop.invariant.0, c.in-Ok.ensures.server ∙ c.loop.invariant.1, more.0, more.1)
+    (c.round.ensures.shelf ∙ c.loop.invariant.0, c.in-Ok.ensures.server ∙ c.loop.invariant.1, more.0, more.1, c.in-Ok.ensures.known)
 
 pub returns-clause-serves : goal.returns-clause-serves
 returns-clause-serves g c = serves_tired g.S.Store c.args.server.now.limits _ _ _ _ _ _ _ _ c.loop.invariant.2 c.loop.invariant.3

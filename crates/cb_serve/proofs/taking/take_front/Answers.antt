@@ -19,7 +19,7 @@ pub returns-in_ok-take_frame-in-Frame-clause-ok : goal.returns-in_ok-take_frame-
 returns-in_ok-take_frame-in-Frame-clause-ok c = (
   c.in_ok-take_frame-in-Frame.ensures.ok.0,
   c.in_ok-take_frame-in-Frame.ensures.ok.1,
-  front_frame c.args.server.now c.take_frame.new.server c.limits.result.now c.args.bytes.now c.in-Frame.frame c.in-Frame.used c.in_ok-take_frame-in-Frame.ensures.ok.0 c.limits.ensures.value
+  front_frame c.args.server.now c.take_frame.new.server c.limits.result.now c.args.bytes.now c.in-Frame.frame c.in-Frame.used c.args.end c.in_ok-take_frame-in-Frame.ensures.ok.0 c.limits.ensures.value c.requires
       (subst (λ (x : Front). IsFront c.limits.result.now c.args.bytes.now x) c.in-Frame.is c.in_ok-front.ensures) c.in_ok-take_frame-in-Frame.ensures.ok.2,
 )
 
