@@ -13,7 +13,7 @@ ghost use Rattle.cb_page.specs.Clients.{has, with, without};
 ghost use Rattle.cb_protocol.specs.AnyMessages.{MessageComes, ReachesDisk};
 ghost use Rattle.cb_protocol.specs.Flush.{can_flush};
 ghost use Rattle.cb_protocol.specs.Messages.{Hello};
-ghost use Rattle.cb_server.specs.ServerValue.{IsNew, IsServer, IsUnchanged as IsSame};
+ghost use Rattle.cb_server.specs.ServerValue.{IsNew, IsResumed, IsServer, IsUnchanged as IsSame};
 ghost use Rattle.cb_server.specs.Taking.{Does, Refuses, input_of, lacks_number_for};
 
 use crate::mailboxes::Mailboxes;
@@ -68,6 +68,30 @@ impl Dispatcher {
         let mailboxes = Mailboxes::new(alloc, limits.clients())?;
         let server = Server::new(alloc, limits, store)?;
         // A new server has arisen.
+        let _known = server.limits();
+        Ok(Dispatcher { server, mailboxes })
+    }
+
+    /// The same with the server of a later life, as [`Server::resume`] makes it: of each client the
+    /// floor is known, and nothing else.
+    ///
+    /// The store isn't copied. `AllocError` only where memory was refused.
+    pub fn resume(
+        alloc: Global,
+        limits: &Limits,
+        store: Store,
+        floor: Incarnation,
+    ) -> Result<Dispatcher, AllocError>
+        requires { IsOf limits.now store }
+        ensures resumed { IfOk result (λ d. IsResumed limits.now store floor d.server) }
+        ensures mailbox { IfOk result (λ d. (client : ℕ) → mailbox_of d client ≡ []) }
+        ensures untold { IfOk result (λ d. IsNobody (untold_in d)) }
+        ensures arose { IfOk result (λ d. IsServer d.server) }
+    {
+        let clients = limits.clients();
+        let mailboxes = Mailboxes::new(alloc, clients)?;
+        let server = Server::resume(alloc, limits, store, floor)?;
+        // A resumed server has arisen.
         let _known = server.limits();
         Ok(Dispatcher { server, mailboxes })
     }

@@ -35,26 +35,28 @@ use Rattle.cb_protocol.proofs.HelloStarts.{greater_hello}
 use Rattle.cb_protocol.proofs.OthersKeep.{others_keep_rows_and_permissions}
 use Rattle.cb_protocol.proofs.ServedSteps.{no_other_applies}
 use Rattle.cb_protocol.specs.AnyMessages.{MessageComes, ReachesDisk}
-use Rattle.cb_protocol.specs.Basics.{IsIn}
+use Rattle.cb_protocol.specs.Basics.{IsIn, Limits}
 use Rattle.cb_protocol.specs.CommitLaws.{IsApplied}
+use Rattle.cb_protocol.specs.LivesWorld.{server_of_life}
 use Rattle.cb_protocol.specs.Messages as protocol
 use Rattle.cb_protocol.specs.Messages.{Commit, GiveBack, Hello, Message, PageWrite}
 use Rattle.cb_protocol.specs.Server.{Server}
 use Rattle.cb_protocol.specs.StepsKeep.{KeepsClient}
 use Rattle.cb_protocol.specs.WaitsFor.{on_cycle}
-use Rattle.cb_server.specs.ServerValue.{IsNew, IsServer, ServerValue, commits_of, server_of as server_in}
+use Rattle.cb_protocol.specs.World.{Opening}
+use Rattle.cb_server.specs.ServerValue.{IsNew, IsResumed, IsServer, ServerValue, commits_of, server_of as server_in}
 use Rattle.cb_server.specs.Taking.{Does}
 
--- a new station
-pub new_station : (limits : Bounds) (store : StoreState) (station : StationState) → IsNew limits store station.dispatcher.server → IsServer station.dispatcher.server → limits.keep_write ≡ false
+-- a station that has just opened
+opened_station : (limits : Bounds) (store : StoreState) (station : StationState) → station.dispatcher.server.limits ≡ limits → (commits_of station.dispatcher.server).opening ≡ store
+    → Replays (opening_in store) [] (server_of station) → IsServer station.dispatcher.server → limits.keep_write ≡ false
     → station.hands ≡ replicate limits.clients None → station.history ≡ [] → AreFlags station.flags → IsStation station
-new_station limits store station new arisen plain hands history flags = record {
+opened_station limits store station same opening noted arisen plain hands history flags = record {
   arisen = arisen;
-  plain = ap (λ (b : Bounds). b.keep_write) new.limits ∙ plain;
-  clients = ap length hands ∙ length-replicate limits.clients None ∙ sym (ap (λ (b : Bounds). b.clients) new.limits);
+  plain = ap (λ (b : Bounds). b.keep_write) same ∙ plain;
+  clients = ap length hands ∙ length-replicate limits.clients None ∙ sym (ap (λ (b : Bounds). b.clients) same);
   legal = rw history tt;
-  replays = rw history (subst (λ (o : StoreState). Replays (opening_in o) [] (server_of station)) (sym (ap (λ (k : CommitsState). k.opening) new.commits))
-      (subst (λ (s : Server). Replays (opening_in store) [] s) (sym new.server) (new_server_is_noted (limits_of limits) (opening_in store))));
+  replays = rw history (subst (λ (o : StoreState). Replays (opening_in o) [] (server_of station)) (sym opening) noted);
   flags = flags;
   hand = λ client hand e. absurd (nobody client hand (ap (λ (l : List (Option HandState)). stored_at l client) (sym hands) ∙ e) (cases_lt client limits.clients));
 }
@@ -63,6 +65,24 @@ new_station limits store station new arisen plain hands history flags = record {
     nobody client hand e (inl lt) = let z : None ≡ Some hand = sym (get_or-replicate limits.clients client None None lt) ∙ e in cc
     nobody client hand e (inr le) = let n : Option HandState = None in let l = length-replicate limits.clients n in
         let z : None ≡ Some hand = sym (get_or_past (replicate limits.clients n) client n (omega (arith, l, le))) ∙ e in cc
+
+-- a new one
+pub new_station : (limits : Bounds) (store : StoreState) (station : StationState) → IsNew limits store station.dispatcher.server → IsServer station.dispatcher.server → limits.keep_write ≡ false
+    → station.hands ≡ replicate limits.clients None → station.history ≡ [] → AreFlags station.flags → IsStation station
+new_station limits store station new =
+    opened_station limits store station new.limits (ap (λ (k : CommitsState). k.opening) new.commits)
+    (subst (λ (s : Server). Replays (opening_in store) [] s) (sym new.server) (new_server_is_noted (limits_of limits) (opening_in store)))
+
+-- no entries replay to the server of a life, as it begins
+resumed_is_noted : (limits : Limits) (opening : Opening) (floor : ℕ) → Replays opening [] (server_of_life limits opening floor)
+resumed_is_noted limits opening floor = record { commits = refl; version = λ page. refl; bytes = λ page. refl }
+
+-- a resumed one
+pub resumed_station : (limits : Bounds) (store : StoreState) (floor : ℕ) (station : StationState) → IsResumed limits store floor station.dispatcher.server → IsServer station.dispatcher.server
+    → limits.keep_write ≡ false → station.hands ≡ replicate limits.clients None → station.history ≡ [] → AreFlags station.flags → IsStation station
+resumed_station limits store floor station is =
+    opened_station limits store station is.limits is.opening
+    (subst (λ (s : Server). Replays (opening_in store) [] s) (sym is.server) (resumed_is_noted (limits_of limits) (opening_in store) floor))
 
 -- two stored hands
 pub meets : (station : StationState) (one other : HandState) → IsStation station → IsHeld station.hands one → IsHeld station.hands other → one.client ≢ other.client → Meet one other

@@ -15,7 +15,7 @@ ghost use Rattle.cb_station.specs.Telling.{IsTold, untold_in, with_untold};
 ghost use Rattle.cb_page.specs.Clients.{has, without};
 ghost use Rattle.cb_page.specs.Numbers.{max_number};
 ghost use Rattle.cb_protocol.specs.Flush.{can_flush, next_batch};
-ghost use Rattle.cb_server.specs.ServerValue.{IsNew, commits_of};
+ghost use Rattle.cb_server.specs.ServerValue.{IsNew, IsResumed, commits_of};
 
 mod admitting;
 mod collecting;
@@ -31,7 +31,7 @@ use cb_commit::{Batch, Store};
 use cb_frame::Frame;
 use cb_hands::{Entry, Hand, JoinedHands};
 use cb_mailboxes::Dispatcher;
-use cb_page::{ClientNo, ClientSet, CommitNo, Limits};
+use cb_page::{ClientNo, ClientSet, CommitNo, Incarnation, Limits};
 use cb_past::Past;
 use std::alloc::{AllocError, Global};
 use std::marker::Model;
@@ -124,6 +124,44 @@ impl Station {
         Ok(Station {
             dispatcher: Dispatcher::new(alloc, limits, store)?,
             hands: JoinedHands::new(alloc, limits.clients())?,
+            history: Past::new(alloc),
+            flags: Flags::new(),
+        })
+    }
+
+    /// The same in a later life of the server, as [`Server::resume`](cb_server::Server::resume)
+    /// makes it: who joins has an incarnation above the floor. So the clients of former lives, and
+    /// what they sent, are ignored.
+    pub fn resume(
+        alloc: Global,
+        limits: &Limits,
+        store: Store,
+        floor: Incarnation,
+    ) -> Result<Station, AllocError>
+        requires store { IsOf limits.now store }
+        requires plain { limits.now.keep_write ≡ false }
+        ensures resumed { IfOk result (λ station.
+            IsResumed limits.now store floor station.dispatcher.server) }
+        ensures mailbox { IfOk result (λ station.
+            (client : ℕ) → mailbox_of station client ≡ []) }
+        ensures hands { IfOk result (λ station.
+            station.hands ≡ replicate limits.now.clients None) }
+        ensures history { IfOk result (λ station. station.history ≡ []) }
+        ensures flags { IfOk result (λ station. station.flags ≡ record {
+          closed = false;
+          halted = false;
+          left = 1;
+          working = 0;
+          window = station.flags.window;
+          news = false;
+        }) }
+        ensures window { IfOk result (λ station. IsNewWindow station.flags.window) }
+        ensures told { IfOk result IsTold }
+    {
+        let clients = limits.clients();
+        Ok(Station {
+            dispatcher: Dispatcher::resume(alloc, limits, store, floor)?,
+            hands: JoinedHands::new(alloc, clients)?,
             history: Past::new(alloc),
             flags: Flags::new(),
         })

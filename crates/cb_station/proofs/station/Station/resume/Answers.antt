@@ -1,0 +1,18 @@
+-- Goals of `Station::resume`.
+use Rattle.std.proofs.Common.{rules, ℕ, Option, None, ◌∙◌, ap, sym, replicate}
+use Rattle.cb_hands.specs.Hands.{HandState}
+use Rattle.cb_station.proofs.Calls.{resumed_station}
+use Rattle.cb_station.proofs.station.Station.resume.Goals as goal
+
+pub invariant_of-result : goal.invariant_of-result
+invariant_of-result c =
+    let none : Option HandState = None in (
+      resumed_station c.args.limits.now c.args.store c.args.floor _ c.in_ok-resume.ensures.resumed c.in_ok-resume.ensures.arose c.requires.plain
+          (c.in_ok-new.ensures ∙ ap (λ (n : ℕ). replicate n none) c.clients-clients.ensures.value) (search rules) (search rules),
+      c.new-2.ensures.forgotten ∙ sym c.in_ok-resume.ensures.resumed.forgotten,
+    )
+
+pub returns-clause-hands : goal.returns-clause-hands
+returns-clause-hands c =
+    let none : Option HandState = None in
+    c.in_ok-new.ensures ∙ ap (λ (n : ℕ). replicate n none) c.clients-clients.ensures.value
