@@ -22,9 +22,10 @@ use Rattle.cb_threads.proofs.Worlds.{lent}
 use Rattle.cb_threads.specs.ByContracts.{BeginsAreSteps, CommitsAreSteps, FlushesAreSteps}
 use Rattle.cb_threads.specs.ByContracts.{ForgetsAreSteps, HitsAreSteps, JoinsAreSteps}
 use Rattle.cb_threads.specs.ByContracts.{LeavesAreSteps, NewStationsHaveOpened, RefusalsAreSteps}
-use Rattle.cb_threads.specs.ByContracts.{RestartsAreSteps}
+use Rattle.cb_threads.specs.ByContracts.{RestartsAreSteps, ResumedStationsHaveOpened}
 use Rattle.cb_threads.specs.ByContracts.{TellsAreSteps, TurnsAreSteps, WritesAreSteps, with_worker}
 use Rattle.cb_threads.specs.Programs.{Program, limits_in, new_worker}
+use Rattle.cb_threads.specs.Programs.HasBegun.{anew, in_life}
 use Rattle.cb_threads.specs.Steps.{Becomes, CallsClient, OthersStay, operation_of, performs}
 use Rattle.cb_worker.proofs.Keeping.{read_free}
 use Rattle.cb_worker.proofs.Reading.{reads as read_is, three}
@@ -33,7 +34,17 @@ use Rattle.cb_worker.specs.Workers.{Hit, WorkerState, after_hit, shows_copy, wit
 pub new_stations_have_opened : NewStationsHaveOpened
 new_stations_have_opened limits store station sound new mailbox hands = record {
   sound = sound;
-  server = new;
+  server = anew new;
+  hands = hands;
+  mailbox = mailbox;
+  nobody = λ client. refl;
+  nothing = refl;
+}
+
+pub resumed_stations_have_opened : ResumedStationsHaveOpened
+resumed_stations_have_opened limits store floor station sound least most resumed mailbox hands = record {
+  sound = sound;
+  server = in_life floor least most resumed;
   hands = hands;
   mailbox = mailbox;
   nobody = λ client. refl;

@@ -99,17 +99,15 @@ not_all : (a b : Bool) → b ≡ false → (a && b) ≡ false
 not_all true b e = e
 not_all false b e = refl
 
-module _ (L : Limits) (o : Origin L) (w : World) (c i : ℕ) (s new : ServerValue)
-    (messages : List Message) (lt : c < L.clients) (there : c < s.limits.clients)
-    (same : w.server ≡ server.server_of s) (arisen : IsServer s)
-    (does : Does s (MessageComes c i Hello) messages new) where
-  greets : (v : World) → Reached L o v → v.server ≡ server.server_of s → v.client c ≡ new_client
+-- a client that is new says its Hello
+module _ (L : Limits) (o : Origin L) (c i : ℕ) (lt : c < L.clients) where
+  pub greets : (v : World) → Reached L o v → v.client c ≡ new_client
       → v.incarnation c ≡ i → (x : World) × Reached L o x × (x.server ≡ v.server)
       × (x.client c ≡ new_client) × (x.incarnation c ≡ i)
       × ((d : ℕ) → d ≢ c → (x.client d ≡ v.client d) × (x.incarnation d ≡ v.incarnation d))
       × Grows v x × IsIn (hello c i) x.packets
       × (transcript_operations x.transcript ≡ transcript_operations v.transcript)
-  greets v r e k n = (
+  greets v r k n = (
     called_world L v c CallHello,
     calls_reach L o v c CallHello lt r,
     refl,
@@ -132,10 +130,13 @@ module _ (L : Limits) (o : Origin L) (w : World) (c i : ℕ) (s new : ServerValu
     refl,
   )
 
+module _ (L : Limits) (o : Origin L) (w : World) (c i : ℕ) (s new : ServerValue)
+    (messages : List Message) (lt : c < L.clients) (there : c < s.limits.clients)
+    (same : w.server ≡ server.server_of s) (arisen : IsServer s)
+    (does : Does s (MessageComes c i Hello) messages new) where
   pub greeted : Renewed L o w c i w.server → Greeted L o w c i (server.server_of new) messages
   greeted renewed =
-      let g = greets renewed.world renewed.reached (renewed.server_is ∙ same) renewed.client
-      renewed.incarnation in
+      let g = greets L o c i lt renewed.world renewed.reached renewed.client renewed.incarnation in
       let moved : ServerMoved L o g.0 (server.server_of new) messages =
       moved_by_message L o g.0 s new (hello c i) messages g.1 (g.2 ∙ renewed.server_is ∙ same)
       arisen g.7 refl there (not_all (i == ((server.server_of s).session c).current) false refl)

@@ -30,7 +30,7 @@ use Rattle.cb_threads.proofs.Committing.{committed_kept}
 use Rattle.cb_threads.proofs.Joining.{joined_kept}
 use Rattle.cb_threads.proofs.Leaving.{abandoned_kept, left_kept}
 use Rattle.cb_threads.proofs.Events.{Origin, onwards, opening_world, whole}
-use Rattle.cb_threads.proofs.Opening.{opening_kept}
+use Rattle.cb_threads.proofs.Opening.{begun_kept, opening_kept}
 use Rattle.cb_threads.proofs.Restarting.{restarted_kept}
 use Rattle.cb_threads.proofs.Standing.{Kept, is_world_of}
 use Rattle.cb_threads.proofs.Telling.{flushed_kept, forgotten_kept, refused_kept, told_kept}
@@ -247,9 +247,11 @@ pub runs_go_along : RunsGoAlong
 runs_go_along limits store program moments opens sound runs =
     let origin : Origin (limits_of limits)
     = opening_world (limits_of limits) (opening_of store) in
-    let kept : Kept limits origin program = opening_kept limits store program opens sound in (
-      is_world_of limits origin program kept,
-      goes_along limits origin program moments kept runs,
+    let begun = begun_kept limits store program opens.server opens sound in (
+      begun.0.world,
+      begun.1,
+      is_world_of limits origin program begun.0,
+      goes_along limits origin program moments begun.0 runs,
     )
 
 pub runs_are_worlds : RunsAreWorlds

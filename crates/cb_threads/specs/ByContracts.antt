@@ -1,6 +1,6 @@
 -- Which public calls are steps, by what their contracts say. Each has the clauses of one call as
 -- premises, and says which step it is, of whatever program it was called in.
-use Rattle.std.specs.Prelude.{◌≡◌, ℕ, true, [], Bool, Option, Some, None, Result, Ok}
+use Rattle.std.specs.Prelude.{◌≡◌, ◌≤◌, ℕ, true, [], Bool, Option, Some, None, Result, Ok}
 use Rattle.std.specs.Prelude.{replicate}
 use Rattle.cb_client.specs.CallAnswers.{Begins, Writes}
 use Rattle.cb_client_core.specs.ClientState.{IsClient}
@@ -10,11 +10,11 @@ use Rattle.cb_hands.specs.Hands.{HandState}
 use Rattle.cb_mailboxes.specs.Dispatching.{Everybody, Posts}
 use Rattle.cb_page.specs.Bounds.{Bounds}
 use Rattle.cb_protocol.specs.AnyMessages.{ReachesDisk}
-use Rattle.cb_protocol.specs.Basics.{Bytes, update}
+use Rattle.cb_protocol.specs.Basics.{Bytes, max_number, update}
 use Rattle.cb_protocol.specs.ClientCalls.{CallBegin, CallRead, CallWrite}
 use Rattle.cb_protocol.specs.Flush.{can_flush}
 use Rattle.cb_protocol.specs.Serial.{Put, Saw}
-use Rattle.cb_server.specs.ServerValue.{IsNew}
+use Rattle.cb_server.specs.ServerValue.{IsNew, IsResumed}
 use Rattle.cb_station.specs.Stations.{IsUnchanged, StationState, forgot, mailbox_of, server_of}
 use Rattle.cb_station.specs.Telling as telling
 use Rattle.cb_station.specs.Telling.{untold_in, with_untold}
@@ -42,6 +42,14 @@ with_worker program station client worker = record program {
 abbrev pub NewStationsHaveOpened : Type 0
 NewStationsHaveOpened = (limits : Bounds) (store : StoreState) (station : StationState)
     → stores.IsSound store → IsNew limits store station.dispatcher.server
+    → ((client : ℕ) → mailbox_of station client ≡ [])
+    → station.hands ≡ replicate limits.clients None → HasOpened limits store (opened station)
+
+-- `Station::resume`
+abbrev pub ResumedStationsHaveOpened : Type 0
+ResumedStationsHaveOpened = (limits : Bounds) (store : StoreState) (floor : ℕ)
+    (station : StationState) → stores.IsSound store → 1 ≤ floor → floor ≤ max_number
+    → IsResumed limits store floor station.dispatcher.server
     → ((client : ℕ) → mailbox_of station client ≡ [])
     → station.hands ≡ replicate limits.clients None → HasOpened limits store (opened station)
 

@@ -11,10 +11,13 @@ use Rattle.cb_protocol.specs.Headline.{Promise}
 use Rattle.cb_protocol.specs.Messages.{Granted}
 use Rattle.cb_protocol.specs.Serial.{IsSerial, Operation, committed_operations, store_left}
 use Rattle.cb_protocol.specs.StoreLimits.{limits_of}
-use Rattle.cb_protocol.specs.World.{World, new_world}
+use Rattle.cb_protocol.specs.WaitsFor.{on_cycle}
+use Rattle.cb_protocol.specs.World.{ReachedWorld, World, new_world}
+use Rattle.cb_server.specs.ServerValue.{ServerValue}
 use Rattle.cb_server_state.specs.States.{opening_of}
 use Rattle.cb_station.specs.Stations.{mailbox_of, server_of}
-use Rattle.cb_threads.specs.Programs.{HasOpened, IsSound, Program}
+use Rattle.cb_threads.specs.Programs.{HasBegun, HasOpened, IsSound, Program}
+use Rattle.cb_threads.specs.Programs.HasBegun.{anew, in_life}
 use Rattle.cb_threads.specs.Steps.{Moment, Runs, program_after}
 use Rattle.cb_threads.specs.Worlds.{GoesAlong, IsReachedWorldOf, IsWorldOf}
 use Rattle.cb_worker.specs.Waiting.{MayWrite}
@@ -27,14 +30,23 @@ AfterEveryRun Claim = (limits : Bounds) (store : StoreState) (program : Program)
     (moments : List Moment) → HasOpened limits store program → IsSound program
     → Runs program moments → Claim limits store (program_after program moments)
 
+-- The world that a run begins with: the opening one for a new server. For that of a later life it
+-- is one that is reached: there each client has greeted the server at the floor.
+abbrev pub IsFirst : (limits : Bounds) (store : StoreState) (server : ServerValue)
+    → HasBegun limits store server → World → Type 0
+IsFirst limits store server (anew new) world =
+    world ≡ new_world (limits_of limits) (opening_of store)
+IsFirst limits store server (in_life floor least most life) world =
+    ReachedWorld (limits_of limits) on_cycle (opening_of store) world
+
 -- A run of the protocol's world goes along with each run of a program that has just opened: it
--- begins with the opening world, which is that program, and has on its way a world for each step,
--- which is the program after it.
+-- begins with that program's first world, which is the program, and has on its way a world for each
+-- step, which is the program after it.
 abbrev pub RunsGoAlong : Type 0
 RunsGoAlong = (limits : Bounds) (store : StoreState) (program : Program) (moments : List Moment)
-    → HasOpened limits store program → IsSound program → Runs program moments
-    → IsWorldOf (new_world (limits_of limits) (opening_of store)) program
-    × GoesAlong (limits_of limits) (new_world (limits_of limits) (opening_of store)) moments
+    → (opens : HasOpened limits store program) → IsSound program → Runs program moments
+    → (first : World) × IsFirst limits store program.station.dispatcher.server opens.server first
+    × IsWorldOf first program × GoesAlong (limits_of limits) first moments
 
 -- So the program is a world of the protocol, which is reached.
 abbrev pub RunsAreWorlds : Type 0

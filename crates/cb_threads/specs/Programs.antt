@@ -1,12 +1,13 @@
 -- A running program: a station, with the workers that share it.
-use Rattle.std.specs.Prelude.{◌≡◌, ℕ, List, [], Option, Some, None, replicate}
+use Rattle.std.specs.Prelude.{◌≡◌, ◌≤◌, ℕ, List, [], Option, Some, None, replicate}
 use Rattle.cb_client_core.specs.ClientState.{IsClient, new_state}
 use Rattle.cb_commit.specs.Stores as stores
 use Rattle.cb_commit.specs.Stores.{StoreState}
 use Rattle.cb_hands.specs.Hands.{HandState}
 use Rattle.cb_page.specs.Bounds.{Bounds}
+use Rattle.cb_protocol.specs.Basics.{max_number}
 use Rattle.cb_protocol.specs.Serial.{PerformedOperation}
-use Rattle.cb_server.specs.ServerValue.{IsNew}
+use Rattle.cb_server.specs.ServerValue.{IsNew, IsResumed, ServerValue}
 use Rattle.cb_station.specs.Stations.{IsStation, StationState, mailbox_of}
 use Rattle.cb_worker.specs.Workers.{WorkerState}
 
@@ -21,11 +22,17 @@ pub record Program : Type 0 where
 abbrev pub limits_in : Program → Bounds
 limits_in program = program.station.dispatcher.server.limits
 
+-- How a server begins over a store: as a new one, or as that of a later life, at its floor.
+pub data HasBegun (limits : Bounds) (store : StoreState) (server : ServerValue) : Type 0 where
+  anew : IsNew limits store server → HasBegun limits store server
+  in_life : (floor : ℕ) → 1 ≤ floor → floor ≤ max_number → IsResumed limits store floor server
+      → HasBegun limits store server
+
 -- It has just opened with these limits, over a store that is as its type says: nobody has joined,
 -- and nothing is to be sent.
 pub record HasOpened (limits : Bounds) (store : StoreState) (program : Program) : Type 0 where
   pub sound : stores.IsSound store
-  pub server : IsNew limits store program.station.dispatcher.server
+  pub server : HasBegun limits store program.station.dispatcher.server
   pub hands : program.station.hands ≡ replicate limits.clients None
   pub mailbox : (client : ℕ) → mailbox_of program.station client ≡ []
   pub nobody : (client : ℕ) → program.worker client ≡ None

@@ -9,7 +9,8 @@
 ghost use Rattle.cb_threads.specs.ByContracts.{BeginsAreSteps, CommitsAreSteps, FlushesAreSteps};
 ghost use Rattle.cb_threads.specs.ByContracts.{ForgetsAreSteps, HitsAreSteps, JoinsAreSteps};
 ghost use Rattle.cb_threads.specs.ByContracts.{LeavesAreSteps, NewStationsHaveOpened};
-ghost use Rattle.cb_threads.specs.ByContracts.{RefusalsAreSteps, RestartsAreSteps, TellsAreSteps};
+ghost use Rattle.cb_threads.specs.ByContracts.{RefusalsAreSteps, RestartsAreSteps};
+ghost use Rattle.cb_threads.specs.ByContracts.{ResumedStationsHaveOpened, TellsAreSteps};
 ghost use Rattle.cb_threads.specs.ByContracts.{TurnsAreSteps, WritesAreSteps};
 ghost use Rattle.cb_threads.specs.Laws.{HitsAgree, HitsAreTheStores, MailIsTheStores};
 ghost use Rattle.cb_threads.specs.Laws.{RunsAreSerial, RunsAreWorlds, RunsGoAlong};
@@ -36,9 +37,10 @@ pub fn runs_are_worlds()
 
 /// What the contracts of these calls say makes each of them a step, whatever the program is: the
 /// calls of a station and an office that change it; of a worker `begin`, `write`, `hit`, `turn_at`
-/// and `commit_at`. A new station, of which nobody has a worker, has just opened.
+/// and `commit_at`. A station that is new or resumed, of which nobody has a worker, has just opened.
 pub fn calls_are_steps()
     ensures opens { NewStationsHaveOpened }
+    ensures resumes { ResumedStationsHaveOpened }
     ensures joins { JoinsAreSteps }
     ensures restarts { RestartsAreSteps }
     ensures leaves { LeavesAreSteps }

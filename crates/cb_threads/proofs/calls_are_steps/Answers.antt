@@ -2,12 +2,16 @@
 use Rattle.cb_threads.proofs.ByContracts.{begins_are_steps, commits_are_steps, flushes_are_steps}
 use Rattle.cb_threads.proofs.ByContracts.{forgets_are_steps, hits_are_steps, joins_are_steps}
 use Rattle.cb_threads.proofs.ByContracts.{leaves_are_steps, new_stations_have_opened}
-use Rattle.cb_threads.proofs.ByContracts.{refusals_are_steps, restarts_are_steps, tells_are_steps}
+use Rattle.cb_threads.proofs.ByContracts.{refusals_are_steps, restarts_are_steps}
+use Rattle.cb_threads.proofs.ByContracts.{resumed_stations_have_opened, tells_are_steps}
 use Rattle.cb_threads.proofs.ByContracts.{turns_are_steps, writes_are_steps}
 use Rattle.cb_threads.proofs.calls_are_steps.Goals as goal
 
 pub returns-clause-opens : goal.returns-clause-opens
 returns-clause-opens c = new_stations_have_opened
+
+pub returns-clause-resumes : goal.returns-clause-resumes
+returns-clause-resumes c = resumed_stations_have_opened
 
 pub returns-clause-joins : goal.returns-clause-joins
 returns-clause-joins c = joins_are_steps
