@@ -21,10 +21,11 @@ use Rattle.cb_shelf.specs.Opening.{laid, LaysOut}
 use Rattle.cb_shelf_rows.specs.Tables.{schema, no_schema, old_schema}
 use Rattle.cb_shelf_rows.specs.Rows.{IsShelf, HasStore, HasFullPages}
 use Rattle.cb_shelf_rows.specs.Laws.{Step, MakesSteps, after_steps}
-use Rattle.cb_shelf_rows.specs.Laws.Step.{reopened, written}
+use Rattle.cb_shelf_rows.specs.Laws.Step.{reopened, written, lived, raised}
 use Rattle.cb_shelf_rows.proofs.Answering.{answered_rows}
 use Rattle.cb_shelf_rows.proofs.Holding.{over_pages, holds_rows}
 use Rattle.cb_shelf_rows.proofs.Laying.{full_laid}
+use Rattle.cb_shelf_rows.proofs.Lives.{begins, row_set, store_left}
 use Rattle.cb_shelf_rows.proofs.Paging.{writes_batch}
 
 -- ---- an open
@@ -49,13 +50,13 @@ cant_differ : {X : Type 0} (one other : Schema) (query : List ℕ) → one ≡ o
 cant_differ one other query same does isnt = absurd (true≢false (sym does ∙ ap (λ s. can_answer s query) same ∙ isnt))
 
 -- where there is no table it makes them, with zeros
-lays_zeros : {S : Type 0} (g : Ghosts S) (limits : Bounds) (before after : Database) → before.schema ≡ no_schema → LaysOut g limits before after → MakesAll g (laid (zeros limits) false) before after
+pub lays_zeros : {S : Type 0} (g : Ghosts S) (limits : Bounds) (before after : Database) → before.schema ≡ no_schema → LaysOut g limits before after → MakesAll g (laid (zeros limits) false) before after
 lays_zeros g limits before after has (inl found) = cant_differ before.schema no_schema _ has found.0.0.0.0 no_mark
 lays_zeros g limits before after has (inr (inl made)) = made.1
 lays_zeros g limits before after has (inr (inr old)) = cant_differ before.schema no_schema _ has old.1.0.0.0 no_old_page
 
 -- over a shelf it changes nothing
-leaves_shelf : {S : Type 0} (g : Ghosts S) (older : Bool) (limits : Bounds) (before after : Database) → IsShelf older before → LaysOut g limits before after → before ≡ after
+pub leaves_shelf : {S : Type 0} (g : Ghosts S) (older : Bool) (limits : Bounds) (before after : Database) → IsShelf older before → LaysOut g limits before after → before ≡ after
 leaves_shelf g older limits before after shelf (inl found) = found.1
 leaves_shelf g older limits before after shelf (inr (inl made)) = cant_differ (schema older) before.schema _ (sym shelf.schema) (mark_there older) made.0.0.1.0
 leaves_shelf g older limits before after shelf (inr (inr old)) = cant_differ (schema older) before.schema _ (sym shelf.schema) (mark_there older) old.1.0.2.0
@@ -65,7 +66,7 @@ leaves_shelf g older limits before after shelf (inr (inr old)) = cant_differ (sc
 abbrev AreFull : ℕ → List StoredPage → Type 0
 AreFull size pages = All (λ page. length page.bytes ≡ size) pages
 
-zeros_full : (limits : Bounds) → HasFullPages (zeros limits)
+pub zeros_full : (limits : Bounds) → HasFullPages (zeros limits)
 zeros_full limits = All-replicate (λ (page : StoredPage). length page.bytes ≡ limits.page_size) limits.pages (zero_page limits.page_size) (length-replicate limits.page_size 0)
 
 over_full : (limits : Bounds) (batch : List BatchPage) (pages : List StoredPage) → AllByRecursion (IsOfSize limits) batch → AreFull limits.page_size pages → AreFull limits.page_size (overwritten pages batch)
@@ -89,9 +90,13 @@ follows g older limits (reopened ∷ steps) store before after of full has m =
 follows g older limits (written batch ∷ steps) store before after of full has m =
     let now : IsOf limits (after_batch store batch) = record { count = over_pages store.pages batch.pages ∙ of.count; page_size = of.page_size } in
     follows g older limits steps (after_batch store batch) m.1 after now (batch_full limits store batch of m.0 full) (writes_batch older g limits batch store before m.1 of m.0 has m.2).0 m.3
+follows g older limits (lived life ∷ steps) store before after of full has m =
+    follows g older limits steps store m.0 after of full (store_left older store life before m.0 has (begins g older life before m.0 has.shelf m.1)) m.2
+follows g older limits (raised life ∷ steps) store before after of full has m =
+    follows g older limits steps store m.0 after of full (store_left older store life before m.0 has (row_set g older life before m.0 has.shelf m.1)) m.2
 
 -- and what the tables answer is that store
-steps_answer : {S : Type 0} (g : Ghosts S) (older : Bool) (limits : Bounds) (steps : List Step) (store answered : StoreState) (before after : Database) → IsOf limits store → HasFullPages store → HasStore older before store
+pub steps_answer : {S : Type 0} (g : Ghosts S) (older : Bool) (limits : Bounds) (steps : List Step) (store answered : StoreState) (before after : Database) → IsOf limits store → HasFullPages store → HasStore older before store
     → MakesSteps g limits steps before after → HasFullPages answered → HoldsNewer after answered → answered ≡ after_steps store steps
 steps_answer g older limits steps store answered before after of full has m also_full holds =
     let now = follows g older limits steps store before after of full has m in answered_rows older (after_steps store steps) answered after now.0 also_full now.1 holds

@@ -32,16 +32,16 @@ pub over_pages : (pages : List StoredPage) (batch : List BatchPage) → length (
 over_pages pages [] = refl
 over_pages pages (w ∷ batch) = over_pages _ batch ∙ length-set pages w.page _
 
-abbrev version_of : ℕ → Statement
+abbrev pub version_of : ℕ → Statement
 version_of page = record { text = version_text; params = Int (pos page) ∷ [] }
 
-abbrev part_of : ℕ → ℕ → Statement
+abbrev pub part_of : ℕ → ℕ → Statement
 part_of page place = record { text = bytes_text; params = Int (pos page) ∷ Int (pos place) ∷ [] }
 
 module _ (older : Bool) where
   -- ---- the version of a page
 
-  of_page : (db : Database) (page : ℕ) → filter (passes (page_tree older) by_page (col 1 2 ∷ []) (Int (pos page) ∷ [])) (db.trees (page_tree older)) ≡ page_rows older db page
+  pub of_page : (db : Database) (page : ℕ) → filter (passes (page_tree older) by_page (col 1 2 ∷ []) (Int (pos page) ∷ [])) (db.trees (page_tree older)) ≡ page_rows older db page
   of_page db page = filter_same _ _ (db.trees (page_tree older)) (λ r here. one_test (is_of_page page r))
 
   version_told : (db : Database) (page version : ℕ) → db.schema ≡ schema older → RepliesRow db (version_of page) (number_values version) → HasVersion older db page version
@@ -57,7 +57,7 @@ module _ (older : Bool) where
 
   -- ---- a part
 
-  at_place : (db : Database) (page place : ℕ) → filter (passes (part_tree older) by_place (col 1 3 ∷ []) (Int (pos page) ∷ Int (pos place) ∷ [])) (db.trees (part_tree older)) ≡ part_rows older db page place
+  pub at_place : (db : Database) (page place : ℕ) → filter (passes (part_tree older) by_place (col 1 3 ∷ []) (Int (pos page) ∷ Int (pos place) ∷ [])) (db.trees (part_tree older)) ≡ part_rows older db page place
   at_place db page place = filter_same _ _ (db.trees (part_tree older)) (λ r here. two_tests (equal Binary (column r 1) (Int (pos page))) (equal Binary (column r 2) (Int (pos place))))
 
   part_told : (db : Database) (page place : ℕ) (bytes : List ℕ) → db.schema ≡ schema older → RepliesRow db (part_of page place) (Blob bytes ∷ []) → HasPart older db page place bytes
@@ -74,7 +74,7 @@ module _ (older : Bool) where
 
   -- ---- the mark
 
-  abbrev mark_shown : List Term
+  abbrev pub mark_shown : List Term
   mark_shown = col 1 0 ∷ col 1 2 ∷ col 1 3 ∷ col 1 4 ∷ []
 
   mark_told : (db : Database) (number page_size pages : ℕ) → db.schema ≡ schema older → RepliesRow db (record { text = marks_text; params = [] }) (mark_values number page_size pages) → IsMarked older db number page_size pages

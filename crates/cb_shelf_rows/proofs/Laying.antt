@@ -218,8 +218,8 @@ pub store_laid : {S : Type 0} (g : Ghosts S) (older : Bool) (store : StoreState)
 store_laid g older store before after sound has m = full_laid g older store before after (λ page other low. (sound.pages page other low).size) has m
 
 -- and the row of life is that of tables that no server has served
-pub life_laid : {S : Type 0} (g : Ghosts S) (older : Bool) (store : StoreState) (before after : Database) → IsSound store → before.schema ≡ found_schema older → MakesAll g (laid store older) before after → IsLife older after (unserved older)
-life_laid g older store before after sound has m =
+pub life_laid : {S : Type 0} (g : Ghosts S) (older : Bool) (store : StoreState) (before after : Database) → before.schema ≡ found_schema older → MakesAll g (laid store older) before after → IsLife older after (unserved older)
+life_laid g older store before after has m =
     let n = length store.pages in
     let made = makes_split g table_statements (first_pages store n ++ mark_row store ∷ life_row (unserved older) ∷ cond older clear_statements []) before after m in
     let tables = tables_made g older before made.0 has made.1 in

@@ -15,6 +15,7 @@
 -- Creating: the statements that create the tables.
 -- Laying: the statements that put a store into tables that were just made.
 -- Lives: how a life begins, and which one follows.
+-- Unlived: what tables without lives hold stays when their first life begins.
 -- Answering: the store that tables answer is the one that their rows are.
 -- Following: what the tables answer after the open that made them, and the steps since.
 pub mod Lists
@@ -33,5 +34,6 @@ pub mod Holding
 pub mod Creating
 pub mod Laying
 pub mod Lives
+pub mod Unlived
 pub mod Answering
 pub mod Following

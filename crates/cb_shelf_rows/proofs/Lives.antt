@@ -1,5 +1,5 @@
 -- How a life begins, and which life follows those that the tables tell of.
-use Rattle.std.proofs.Common.{◌≡◌, inl, inr, ℕ, pos, Bool, true, false, List, [], ◌∷◌, filter, refl, sym, ap, ◌∙◌, subst, subst₂, true≢false}
+use Rattle.std.proofs.Common.{◌≡◌, inl, inr, ℕ, pos, Bool, true, false, List, [], ◌∷◌, filter, map, refl, sym, ap, ◌∙◌, subst, subst₂, true≢false}
 use Rattle.sqlite_tied.specs.Compute.{everything}
 use Rattle.sqlite_value.specs.declared.value.Value.TheVariants.{Null, Int}
 use Rattle.sqlite_value.specs.declared.keys.Collation.TheVariants.{Binary}
@@ -29,7 +29,7 @@ use Rattle.cb_shelf.specs.Opening.{plain}
 use Rattle.cb_shelf.specs.Reading.{number_values}
 use Rattle.cb_shelf_rows.specs.LifeLaws.{IsUnlived}
 use Rattle.cb_shelf_rows.specs.Tables.{schema, unlived_schema, life_table, life_tree}
-use Rattle.cb_shelf_rows.specs.Rows.{IsShelf, IsLife, PutsLife, HasStore, is_of_page}
+use Rattle.cb_shelf_rows.specs.Rows.{IsShelf, IsLife, PutsLife, HasStore, is_at, is_of_page, mark_columns}
 use Rattle.cb_shelf_rows.proofs.Creating.{fourth_is, keeps_three, life_creates, life_next, makes}
 use Rattle.cb_shelf_rows.proofs.Lists.{filter_same}
 use Rattle.cb_shelf_rows.proofs.Living.{life_puts}
@@ -59,6 +59,10 @@ stays_made g older before after has m =
 pub puts : {S : Type 0} (g : Ghosts S) (older : Bool) (life : LifeState) (before after : Database) → IsShelf older before → Makes g (life_row life) before after → PutsLife older life before after
 puts g older life before after shelf m = life_puts older g before after life shelf m
 
+-- by itself
+pub row_set : {S : Type 0} (g : Ghosts S) (older : Bool) (life : LifeState) (before after : Database) → IsShelf older before → MakesAll g (life_row life ∷ []) before after → PutsLife older life before after
+row_set g older life before after shelf m = subst (PutsLife older life before) m.2 (puts g older life before m.0 shelf m.1)
+
 pub begins : {S : Type 0} (g : Ghosts S) (older : Bool) (life : LifeState) (before after : Database) → IsShelf older before → MakesAll g (life_statements life) before after → PutsLife older life before after
 begins g older life before after shelf m =
     let same = stays_made g older before m.0 shelf.schema m.1 in
@@ -82,6 +86,15 @@ pub batch_keeps : {S : Type 0} (g : Ghosts S) (older : Bool) (limits : Bounds) (
     → HasStore older before store → IsLife older before life → MakesAll g (batch_statements batch) before after → IsLife older after life
 batch_keeps g older limits batch store life before after of fits has is m =
     ap (filter (is_of_page 1)) (writes_batch older g limits batch store before after of fits has m).1.lives ∙ is
+
+-- the rows of the store stay
+pub store_left : (older : Bool) (store : StoreState) (life : LifeState) (before after : Database) → HasStore older before store → PutsLife older life before after → HasStore older after store
+store_left older store life before after has p = record {
+  shelf = p.shelf;
+  mark = ap (map mark_columns) p.marks ∙ has.mark;
+  versions = λ page low. ap (λ l. map (λ (r : Row). column r 2) (filter (is_of_page page) l)) p.pages ∙ has.versions page low;
+  parts = λ page place low within. ap (λ l. map (λ (r : Row). column r 3) (filter (is_at page place) l)) p.parts ∙ has.parts page place low within;
+}
 
 -- ---- what they tell
 

@@ -9,6 +9,8 @@ use Rattle.cb_sql.specs.Statements.{Makes, MakesAll, page_statement, part_statem
 use Rattle.cb_sql.specs.Statements.{mark_statement, batch_statements, part_at}
 use Rattle.cb_sql.specs.declared.writing.PageRows.TheVariants.{Absent, Present}
 use Rattle.cb_sql.specs.Writing.{Fits}
+use Rattle.cb_shelf.specs.LifeRows.{LifeState, life_row}
+use Rattle.cb_shelf.specs.Living.{life_statements}
 use Rattle.cb_shelf.specs.Newer.{HoldsNewer}
 use Rattle.cb_shelf.specs.Opening.{laid, table_statements, LaysOut}
 use Rattle.cb_shelf_rows.specs.Tables.{no_schema, old_schema, found_schema, old_statements}
@@ -16,10 +18,13 @@ use Rattle.cb_shelf_rows.specs.Rows.{IsShelf, PutsVersion, PutsPart, SetsNumber,
 use Rattle.cb_shelf_rows.specs.Rows.{HasFullPages, IsAsLarge, HasNoRows, HasVersion, HasPart}
 use Rattle.cb_shelf_rows.specs.Rows.{SetsVersion, SetsPart}
 
--- What a shelf does to tables that it made: it opens them again, or it writes a batch.
+-- What a shelf does to tables that it made: it opens them again, or it writes a batch; a life of
+-- a server begins over them, with this row, or its row is set to this one.
 pub data Step : Type 0 where
   reopened : Step
   written : BatchState → Step
+  lived : LifeState → Step
+  raised : LifeState → Step
 
 -- steps made one database of another, one after the other, and every batch fits the limits
 abbrev pub MakesSteps : {S : Type 0} → Ghosts S → Bounds → List Step → Database → Database → Type 0
@@ -28,12 +33,18 @@ MakesSteps g limits (reopened ∷ steps) before after = (between : Database)
     × LaysOut g limits before between × MakesSteps g limits steps between after
 MakesSteps g limits (written batch ∷ steps) before after = Fits limits batch × (between : Database)
     × MakesAll g (batch_statements batch) before between × MakesSteps g limits steps between after
+MakesSteps g limits (lived life ∷ steps) before after = (between : Database)
+    × MakesAll g (life_statements life) before between × MakesSteps g limits steps between after
+MakesSteps g limits (raised life ∷ steps) before after = (between : Database)
+    × MakesAll g (life_row life ∷ []) before between × MakesSteps g limits steps between after
 
 -- a store with the batches of these steps written over it, in order
 abbrev pub after_steps : StoreState → List Step → StoreState
 after_steps store [] = store
 after_steps store (reopened ∷ steps) = after_steps store steps
 after_steps store (written batch ∷ steps) = after_steps (after_batch store batch) steps
+after_steps store (lived life ∷ steps) = after_steps store steps
+after_steps store (raised life ∷ steps) = after_steps store steps
 
 -- what tables answer that have the rows of a store
 abbrev pub AnswersAreTheRows : Type 0

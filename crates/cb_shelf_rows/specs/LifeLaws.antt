@@ -5,7 +5,7 @@ use Rattle.sqlite_trees.specs.View.{IsShaped}
 use Rattle.sqlite.specs.Store.{Ghosts}
 use Rattle.sqlite.specs.Effect.{Database}
 use Rattle.cb_page.specs.Bounds.{Bounds}
-use Rattle.cb_commit.specs.Stores.{StoreState, IsOf, IsSound}
+use Rattle.cb_commit.specs.Stores.{StoreState, IsOf}
 use Rattle.cb_commit.specs.Batches.{BatchState}
 use Rattle.cb_sql.specs.Statements.{Makes, MakesAll, batch_statements}
 use Rattle.cb_sql.specs.Writing.{Fits}
@@ -65,8 +65,15 @@ module _ {S : Type 0} (g : Ghosts S) where
       (before after : Database) → IsShelf older before → HoldsNewer before store
       → PutsLife older life before after → HoldsNewer after store
 
+  -- The first life over tables that had no row of one leaves the store that they hold: their rows
+  -- are that store's.
+  abbrev pub UnlivedKeepStores : Type 0
+  UnlivedKeepStores = (older : Bool) (store : StoreState) (life : LifeState)
+      (before after : Database) → IsUnlived older before → HoldsNewer before store
+      → PutsLife older life before after → HasStore older after store
+
   -- the row of tables that an open makes
   abbrev pub LivesAreLaid : Type 0
-  LivesAreLaid = (older : Bool) (store : StoreState) (before after : Database) → IsSound store
+  LivesAreLaid = (older : Bool) (store : StoreState) (before after : Database)
       → before.schema ≡ found_schema older → MakesAll g (laid store older) before after
       → IsLife older after (unserved older)

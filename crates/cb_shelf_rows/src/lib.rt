@@ -1,10 +1,10 @@
 //! What the statements of a batch make of the rows of a shelf's tables, as laws by name.
 //!
 //! The crate has no code: each function carries one law in its contract, over the definitions of
-//! `cb_sql` and `cb_shelf`. The laws are about a database whose schema is that of the three
-//! tables `mark2`, `page2` and `part`, as they are made where no other was or where the two of an
+//! `cb_sql` and `cb_shelf`. The laws are about a database whose schema is that of the four tables
+//! `mark2`, `page2`, `part` and `life`, as they are made where no other was or where the two of an
 //! older generation were, and whose rows have whole numbers as rowids, which rise (`IsShelf`). Each
-//! statement keeps this.
+//! statement keeps this. Some are about tables to which `life` is lacking (`IsUnlived`).
 //!
 //! A table is stated as a map from its key to its rows: `page_rows` and `part_rows`.
 //! `cb_shelf::Shelf::write` says that the statements of its batch ran (`MakesAll`), and
@@ -18,7 +18,8 @@ ghost use Rattle.cb_shelf_rows.specs.Laws.{AnswersAreTheRows, FirstLoadsAreZeros
 ghost use Rattle.cb_shelf_rows.specs.Laws.{LoadsFollowBatches, OlderTablesAreMade};
 ghost use Rattle.cb_shelf_rows.specs.Laws.{LoadsFollowCopies, LoadsFollowFinds};
 ghost use Rattle.cb_shelf_rows.specs.LifeLaws.{BatchesKeepLives, LivesAreLaid, LivesArePut};
-ghost use Rattle.cb_shelf_rows.specs.LifeLaws.{LivesBegin, LivesFollow, LivesKeepStores, UnlivedLivesBegin};
+ghost use Rattle.cb_shelf_rows.specs.LifeLaws.{LivesBegin, LivesFollow, LivesKeepStores};
+ghost use Rattle.cb_shelf_rows.specs.LifeLaws.{UnlivedKeepStores, UnlivedLivesBegin};
 ghost use Rattle.cb_shelf_rows.specs.LifeLaws.{UnlivedLivesFollow};
 
 use sqlite::Alter;
@@ -95,14 +96,14 @@ pub fn first_loads_are_zeros<S: Alter>()
 
 /// What the tables answer after an open over a database with no table, and then batches that fit,
 /// is the store of zeros with these batches written over it in their order. Later opens of the same
-/// limits, before, between or after the batches, change nothing.
+/// limits, and rows of lives, before, between or after the batches, change nothing.
 pub fn loads_follow_batches<S: Alter>()
     ensures law { LoadsFollowBatches S.Store }
 {}
 
 /// What the tables answer after an open that copied a store of older tables, and then batches that
-/// fit and opens of the same limits, in any order, is that store with the batches written over it
-/// in their order. The premises are that the older tables were the only ones, as their statements
+/// fit, opens of the same limits and rows of lives, in any order, is that store with the batches
+/// written over it in their order. The premises are that the older tables were the only ones, as their statements
 /// make them, and that each page of the store has its size.
 pub fn loads_follow_copies<S: Alter>()
     ensures law { LoadsFollowCopies S.Store }
@@ -117,13 +118,15 @@ pub fn loads_follow_finds<S: Alter>()
 
 /// The statements with which a life begins, and that which gives it room, put its row, and leave
 /// all other tables as they are: also where the tables are those of a server that kept no such row.
-/// A batch leaves the row as it is. Tables that an open makes have it from the first on.
+/// So the store stays that they hold. A batch leaves the row as it is. Tables that an open makes have
+/// it from the first on.
 pub fn lives_are_put<S: Alter>()
     ensures put { LivesArePut S.Store }
     ensures begin { LivesBegin S.Store }
     ensures unlived { UnlivedLivesBegin S.Store }
     ensures kept { BatchesKeepLives S.Store }
     ensures stores { LivesKeepStores S.Store }
+    ensures unlived_stores { UnlivedKeepStores S.Store }
     ensures laid { LivesAreLaid S.Store }
 {}
 

@@ -13,6 +13,8 @@ use Rattle.cb_commit.specs.Stores.{StoreState}
 use Rattle.cb_commit.specs.Batches.{BatchState}
 use Rattle.cb_commit.specs.History.{AreCommits, CanFlush, CommitsState, Numbered, done_of, dones_between, store_after, written as with_commit}
 use Rattle.cb_commit.proofs.Folding.{dones_part}
+use Rattle.cb_shelf.specs.LifeRows.{LifeState}
+use Rattle.cb_shelf.specs.Living as living
 use Rattle.cb_shelf.specs.Newer.{HoldsNewer}
 use Rattle.cb_shelf.specs.Flushing.{once_written, dones_of}
 use Rattle.cb_shelf.specs.Events.{Event, MayCome, after_event, rewritten_tables}
@@ -20,11 +22,13 @@ use Rattle.cb_shelf.specs.Events.Event.{committed, taken, written, reported}
 use Rattle.cb_shelf.proofs.Following.{IsAt, keeps, begins}
 use Rattle.cb_shelf_rows.specs.Rows.{HasFullPages}
 use Rattle.cb_shelf_rows.specs.Laws.{Step as RowStep, MakesSteps as MakesRows, after_steps as after_rows}
-use Rattle.cb_shelf_rows.specs.Laws.Step.{reopened as row_reopened, written as row_written}
-use Rattle.cb_shelf_rows.proofs.Following.{load_follows, load_follows_copy, load_follows_find}
+use Rattle.cb_shelf_rows.specs.Laws.Step.{reopened as row_reopened, written as row_written, lived as row_lived, raised as row_raised}
+use Rattle.cb_shelf_rows.proofs.Following.{load_follows, load_follows_copy, load_follows_find, steps_answer}
+use Rattle.cb_shelf_rows.proofs.Lives.{unlived_begins}
+use Rattle.cb_shelf_rows.proofs.Unlived.{unlived_kept}
 use Rattle.cb_shelf_stops.specs.Stops.{Step, Course, begun, commits_of, commits_in, restarted, after_step, after_steps, FirstOpen, IsDoneOf, Writes, MakesStep, MakesSteps, LoadsFollowCommits}
-use Rattle.cb_shelf_stops.specs.Stops.FirstOpen.{made, copied, found}
-use Rattle.cb_shelf_stops.specs.Stops.Step.{happened, refused, reopened, stopped}
+use Rattle.cb_shelf_stops.specs.Stops.FirstOpen.{made, copied, found, unlived}
+use Rattle.cb_shelf_stops.specs.Stops.Step.{happened, refused, reopened, lived, raised, stopped}
 
 -- ---- lists of commits
 
@@ -212,6 +216,8 @@ steps_on : {S : Type 0} (g : Ghosts S) (limits : Bounds) (first : StoreState) (c
 steps_on g limits first c (happened event) before after m h = happens first c event m.0 h
 steps_on g limits first c refused before after m h = h
 steps_on g limits first c reopened before after m h = h
+steps_on g limits first c (lived life) before after m h = record { number = h.number; at = h.at; base = h.base; count = h.count; numbered = h.numbered; dones = h.dones }
+steps_on g limits first c (raised incarnation) before after m h = record { number = h.number; at = h.at; base = h.base; count = h.count; numbered = h.numbered; dones = h.dones }
 steps_on g limits first c (stopped false) before after m h = stops first c h
 steps_on g limits first c (stopped true) before after m h = let next = keeps c.present written h.number tt h.at in
     stops first (record c { present = after_event c.present written }) (record { number = next.0; at = next.1; base = h.base; count = h.count; numbered = h.numbered; dones = h.dones })
@@ -232,6 +238,8 @@ row_step c (happened written) rest = wrote c.present.held rest
 row_step c (happened event) rest = rest
 row_step c refused rest = rest
 row_step c reopened rest = row_reopened ∷ rest
+row_step c (lived life) rest = row_lived life ∷ rest
+row_step c (raised incarnation) rest = row_raised (living.raised c.life incarnation) ∷ rest
 row_step c (stopped false) rest = row_reopened ∷ rest
 row_step c (stopped true) rest = wrote c.present.held (row_reopened ∷ rest)
 
@@ -251,6 +259,8 @@ made_step g limits c (happened written) rest before between after m rows = wrote
 made_step g limits c (happened reported) rest before between after m rows = subst (λ db. MakesRows g limits rest db after) (sym m.1) rows
 made_step g limits c refused rest before between after m rows = subst (λ db. MakesRows g limits rest db after) (sym m) rows
 made_step g limits c reopened rest before between after m rows = (between, m, rows)
+made_step g limits c (lived life) rest before between after m rows = (between, m.1, rows)
+made_step g limits c (raised incarnation) rest before between after m rows = (between, m.1, rows)
 made_step g limits c (stopped false) rest before between after m rows = (between, m, rows)
 made_step g limits c (stopped true) rest before between after m rows = wrote_rows g limits c.present.held (row_reopened ∷ rest) before m.0 after m.1 (between, m.2, rows)
 
@@ -269,6 +279,8 @@ step_tables c (happened written) rest = wrote_tables c.present.held rest c.prese
 step_tables c (happened reported) rest = refl
 step_tables c refused rest = refl
 step_tables c reopened rest = refl
+step_tables c (lived life) rest = refl
+step_tables c (raised incarnation) rest = refl
 step_tables c (stopped false) rest = refl
 step_tables c (stopped true) rest = wrote_tables c.present.held (row_reopened ∷ rest) c.present.tables
 
@@ -277,16 +289,18 @@ all_tables [] c = refl
 all_tables (step ∷ steps) c = step_tables c step (row_steps (after_step c step) steps) ∙ all_tables steps (after_step c step)
 
 -- what the tables answer, whatever the first open found
-rows_follow : {S : Type 0} (g : Ghosts S) (limits : Bounds) (steps : List RowStep) (opening answered : StoreState) (before first after : Database) → FirstOpen g limits opening before first
+rows_follow : {S : Type 0} (g : Ghosts S) (limits : Bounds) (steps : List RowStep) (opening answered : StoreState) (life : LifeState) (before first after : Database) → FirstOpen g limits opening life before first
     → MakesRows g limits steps first after → HasFullPages answered → HoldsNewer after answered → answered ≡ after_rows opening steps
-rows_follow g limits steps opening answered before first after (made none lays is) m full holds = load_follows g limits steps answered before first after none lays m full holds ∙ ap (λ s. after_rows s steps) (sym is)
-rows_follow g limits steps opening answered before first after (copied old laid of pages) m full holds = load_follows_copy g limits steps opening answered before first after old of pages laid m full holds
-rows_follow g limits steps opening answered before first after (found older shelf there lays of pages) m full holds = load_follows_find g older limits (row_reopened ∷ steps) opening answered before after shelf of pages there (first, lays, m) full holds
+rows_follow g limits steps opening answered life before first after (made none lays is served) m full holds = load_follows g limits steps answered before first after none lays m full holds ∙ ap (λ s. after_rows s steps) (sym is)
+rows_follow g limits steps opening answered life before first after (copied old laid of pages served) m full holds = load_follows_copy g limits steps opening answered before first after old of pages laid m full holds
+rows_follow g limits steps opening answered life before first after (found older shelf told there lays of pages) m full holds = load_follows_find g older limits (row_reopened ∷ steps) opening answered before after shelf of pages there (first, lays, m) full holds
+rows_follow g limits steps opening answered life before first after (unlived older none there follows lives of pages) m full holds =
+    steps_answer g older limits steps opening answered first after of pages (unlived_kept older opening life before first none there (unlived_begins g older life before first none lives)) m full holds
 
 -- ---- both
 
-begun_stands : (first : StoreState) → Stands first (begun first)
-begun_stands first = record { number = first.number; at = begins first; base = refl; count = omega arith; numbered = tt; dones = λ k d lt. absurd (omega (arith, lt)) }
+begun_stands : (first : StoreState) (life : LifeState) → Stands first (begun first life)
+begun_stands first life = record { number = first.number; at = begins first; base = refl; count = omega arith; numbered = tt; dones = λ k d lt. absurd (omega (arith, lt)) }
 
 -- a Done of one of the first commits has no number above theirs
 dones_within : (cs : List Commit) (last count most : ℕ) (frames : List Frame) → Numbered last cs → most ≡ last + count → All (IsOfOne (take count cs)) frames → All (IsDoneOf (take count cs) most) frames
@@ -294,14 +308,14 @@ dones_within cs last count most frames numbered is h = λ k d lt. let one = h k 
     (one.0, one.1, All-contains (λ (c : Commit). c.number ≤ most) (take count cs) one.0 (numbers_within count cs last most numbered (omega (arith, is))) one.1, one.2)
 
 pub loads_follow : {S : Type 0} (g : Ghosts S) → LoadsFollowCommits g
-loads_follow g limits steps opening answered before first after opens m full holds =
-    let c = after_steps (begun opening) steps in
-    let h = all_steps g limits opening steps (begun opening) first after m (begun_stands opening) in
+loads_follow g limits steps opening answered life before first after opens m full holds =
+    let c = after_steps (begun opening life) steps in
+    let h = all_steps g limits opening steps (begun opening life) first after m (begun_stands opening life) in
     let s = c.present.commits in
     let count = h.number - opening.number in
     let from = h.at.are.from_opening in
     let is : take count (commits_of c) ≡ c.former ++ take (h.number - s.opening.number) s.commits = split c.former s.commits opening.number s.opening.number h.number h.count (omega (arith, from, h.at.least)) in
-    let tables = rows_follow g limits (row_steps (begun opening) steps) opening answered before first after opens (made_steps g limits steps (begun opening) first after m) full holds ∙ all_tables steps (begun opening) in
+    let tables = rows_follow g limits (row_steps (begun opening life) steps) opening answered life before first after opens (made_steps g limits steps (begun opening life) first after m) full holds ∙ all_tables steps (begun opening life) in
     let store : answered ≡ store_after opening (take count (commits_of c)) = tables ∙ stored opening c h ∙ sym (ap (store_after opening) is) in
     let most : count ≤ length (commits_of c) = omega (arith, length-append c.former s.commits, h.count, h.at.are.count, h.at.most) in
     let numbered : Numbered opening.number (commits_of c) = numbered_append c.former s.commits opening.number h.numbered (subst (λ n. Numbered n s.commits) (sym h.count) h.at.are.numbered) in

@@ -2,6 +2,7 @@
 use Rattle.cb_shelf_rows.proofs.Holding.{life_held}
 use Rattle.cb_shelf_rows.proofs.Laying.{life_laid}
 use Rattle.cb_shelf_rows.proofs.Lives.{batch_keeps, begins, puts, unlived_begins}
+use Rattle.cb_shelf_rows.proofs.Unlived.{unlived_kept}
 use Rattle.cb_shelf_rows.proofs.lives_are_put.Goals as goal
 
 pub returns-clause-put : goal.returns-clause-put
@@ -21,3 +22,6 @@ returns-clause-laid g c = life_laid g.S.Store
 
 pub returns-clause-stores : goal.returns-clause-stores
 returns-clause-stores g c = life_held
+
+pub returns-clause-unlived_stores : goal.returns-clause-unlived_stores
+returns-clause-unlived_stores g c = unlived_kept
