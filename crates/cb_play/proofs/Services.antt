@@ -1,31 +1,56 @@
 -- A service over the tables of a database that was opened.
-use Rattle.std.proofs.Common.{◌≡◌, ℕ, List, Option, Result, inl, subst, sym}
+use Rattle.std.proofs.Common.{◌≡◌, ℕ, Bool, List, Option, Result, Err, inl, inr, refl, subst, sym}
 use Rattle.sqlite.specs.Held.{Held, state}
 use Rattle.sqlite.specs.State.{HasCleanDisk}
 use Rattle.sqlite.specs.Store.{Ghosts}
 use Rattle.cb_commit.specs.Stores.{StoreState}
 use Rattle.cb_page.specs.Bounds.{Bounds}
-use Rattle.cb_serve.specs.Serving.{IsServed}
+use Rattle.cb_serve.specs.Announcing.{StaysUnannounced}
+use Rattle.cb_serve.specs.Endings.{becomes_of_shelf}
+use Rattle.cb_serve.specs.declared.fault.RoundFault.{RoundFault}
 use Rattle.cb_serve.specs.declared.fault.ServeFault.{ServeFault}
+use Rattle.cb_serve.specs.declared.fault.ServeFault.TheVariants as fault
+use Rattle.cb_shelf.specs.LifeRows.{LifeState}
 use Rattle.cb_shelf.specs.Newer.{HoldsNewer}
 use Rattle.cb_sql.specs.Inside.{IsSame}
-use Rattle.cb_play.specs.Services.{ServesDatabase, ServesTables}
-use Rattle.cb_play.specs.StoreFiles.{OpensShelf}
+use Rattle.cb_sql.specs.declared.fault.ShelfFault.{ShelfFault}
+use Rattle.cb_play.specs.Services.{ServesDatabase, ServesLife, ServesTables}
+use Rattle.cb_play.specs.StoreFiles.{BeginsLife, OpensShelf}
 use Rattle.cb_play.specs.declared.store_file.Reach.{Reach}
 use Rattle.cb_play.specs.declared.store_file.Reach.TheVariants as reach
 
 -- it was served, and the connection given back
-pub opened_and_served : {S : Type 0} (g : Ghosts S) {E : Type 0} (limits : Bounds) (came : Reach) (ending : Result E ServeFault) (old opened after new : Held S)
-    (in1 in2 out1 out2 : Option (List ℕ)) → new ≡ after → OpensShelf g limits old opened → ServesTables g limits came ending opened after in1 in2 out1 out2
-    → ServesDatabase g limits came ending old new in1 in2 out1 out2
-opened_and_served {S} g limits came ending old opened after new in1 in2 out1 out2 same opens served =
-    inl (opened, opens, subst (λ (h : Held S). ServesTables g limits came ending opened h in1 in2 out1 out2) (sym same) served)
+pub opened_and_served : {S : Type 0} (g : Ghosts S) {E : Type 0} (limits : Bounds) (announces : Bool) (came : Reach) (ending : Result E ServeFault) (old opened after new : Held S)
+    (in1 in2 out1 out2 : Option (List ℕ)) → new ≡ after → OpensShelf g limits old opened → ServesTables g limits announces came ending opened after in1 in2 out1 out2
+    → ServesDatabase g limits announces came ending old new in1 in2 out1 out2
+opened_and_served {S} g limits announces came ending old opened after new in1 in2 out1 out2 same opens served =
+    inl (opened, opens, subst (λ (h : Held S). ServesTables g limits announces came ending opened h in1 in2 out1 out2) (sym same) served)
 
--- the store in its tables was read, and served over
-pub read_and_served : {S : Type 0} (g : Ghosts S) {E : Type 0} (limits : Bounds) (store : StoreState) (came : Reach) (ending : Result E ServeFault) (old tables new : Held S)
-    (in1 in2 out1 out2 : Option (List ℕ)) → came ≡ reach.Read
-    → (HasCleanDisk (state g tables) → HoldsNewer (state g old).now store) → (HasCleanDisk (state g tables) → IsSame (state g old) (state g tables))
-    → IsServed g limits store ending tables new in1 in2 out1 out2 → ServesTables g limits came ending old new in1 in2 out1 out2
-read_and_served g limits store came ending old tables new in1 in2 out1 out2 was_read holds same served =
-    subst (λ (r : Reach). ServesTables g limits r ending old new in1 in2 out1 out2) (sym was_read)
-    (record { store = store; tables = tables; reads = record { holds = holds; same = same }; serves = served })
+-- a life began over its tables, the store in them was read, and served over in that life
+pub read_and_served : {S : Type 0} (g : Ghosts S) {E : Type 0} (limits : Bounds) (announces : Bool) (store : StoreState) (life : LifeState) (came : Reach) (ending : Result E ServeFault) (old begun tables new : Held S)
+    (in1 in2 out1 out2 : Option (List ℕ)) → came ≡ reach.Read → BeginsLife g life old begun
+    → (HasCleanDisk (state g tables) → HoldsNewer (state g begun).now store) → (HasCleanDisk (state g tables) → IsSame (state g begun) (state g tables))
+    → ServesLife g limits announces store life ending tables new in1 in2 out1 out2 → ServesTables g limits announces came ending old new in1 in2 out1 out2
+read_and_served g limits announces store life came ending old begun tables new in1 in2 out1 out2 was_read begins holds same served =
+    subst (λ (r : Reach). ServesTables g limits announces r ending old new in1 in2 out1 out2) (sym was_read)
+    (record { life = life; begun = begun; begins = begins; store = store; tables = tables; reads = record { holds = holds; same = same }; serves = served })
+
+-- no life could begin
+pub refused_at_begin : {S : Type 0} (g : Ghosts S) {E : Type 0} (limits : Bounds) (announces : Bool) (e : ShelfFault) (came : Reach) (ending : Result E ServeFault) (old new : Held S) (ins outs : Option (List ℕ))
+    → came ≡ reach.Refused e → ending ≡ Err (fault.Round (becomes_of_shelf e)) → (HasCleanDisk (state g new) → IsSame (state g old) (state g new))
+    → ServesTables g limits announces came ending old new ins ins outs outs
+refused_at_begin g limits announces e came ending old new ins outs was_refused told same =
+    subst (λ (r : Reach). ServesTables g limits announces r ending old new ins ins outs outs) (sym was_refused) (told, refl, refl, inl same)
+
+-- the store couldn't be read in a life that had begun
+pub refused_at_read : {S : Type 0} (g : Ghosts S) {E : Type 0} (limits : Bounds) (announces : Bool) (e : ShelfFault) (life : LifeState) (came : Reach) (ending : Result E ServeFault) (old begun new : Held S) (ins outs : Option (List ℕ))
+    → came ≡ reach.Refused e → ending ≡ Err (fault.Round (becomes_of_shelf e)) → BeginsLife g life old begun → (HasCleanDisk (state g new) → IsSame (state g begun) (state g new))
+    → ServesTables g limits announces came ending old new ins ins outs outs
+refused_at_read g limits announces e life came ending old begun new ins outs was_refused told begins same =
+    subst (λ (r : Reach). ServesTables g limits announces r ending old new ins ins outs outs) (sym was_refused)
+    (told, refl, refl, inr (record { life = life; begun = begun; begins = begins; same = same }))
+
+-- the life wasn't told
+pub untold : {S : Type 0} (g : Ghosts S) {E : Type 0} (limits : Bounds) (announces : Bool) (store : StoreState) (life : LifeState) (f : RoundFault) (ending : Result E ServeFault) (tables : Held S) (ins out1 out2 : Option (List ℕ))
+    → ending ≡ Err (fault.Round f) → StaysUnannounced f life.floor out1 out2 → ServesLife g limits announces store life ending tables tables ins ins out1 out2
+untold g limits announces store life f ending tables ins out1 out2 told stays = inr (f, told, stays, refl, refl)

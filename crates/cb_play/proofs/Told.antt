@@ -48,6 +48,7 @@ told_all : {S : Type 0} (g : Ghosts S) (settings : Config) (after : Held S) (cam
     → PrintsReached came (HasAll settings) status old_out new_out old_err new_err
 told_all g settings after reach.Opened status old_out new_out old_err new_err prints = prints
 told_all g settings after reach.LaidOut status old_out new_out old_err new_err prints = prints
+told_all g settings after reach.Begun status old_out new_out old_err new_err prints = prints
 told_all g settings after reach.Read status old_out new_out old_err new_err prints =
     record { outcome = prints.outcome; prints = prints.prints; counts = IfOk-weaker prints.outcome _ _ (has_all g settings after) prints.counts }
 told_all g settings after (reach.Refused fault) status old_out new_out old_err new_err prints = prints

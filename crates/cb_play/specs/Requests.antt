@@ -18,7 +18,7 @@ IsOver path ended old_out new_out = MatchOption ended.file
 -- the path of the store that a request names, if it names one
 abbrev pub store_of : Request → Option (List ℕ)
 store_of (request.Run workers) = Some workers.store.now
-store_of (request.Serve config store) = Some store.now
+store_of (request.Serve config store announces) = Some store.now
 store_of _ = None
 
 -- a request over a store opens the file that it names
@@ -54,8 +54,9 @@ IsMadeBy name rows (request.Run workers) = (name ≡ codes "run")
     × IsText rows (codes "CONFIG") workers.config.now
     × IsText rows (codes "STORE") workers.store.now
     × IsFlag rows (codes "progress") workers.progress
-IsMadeBy name rows (request.Serve config store) = (name ≡ codes "serve")
+IsMadeBy name rows (request.Serve config store announces) = (name ≡ codes "serve")
     × IsText rows (codes "CONFIG") config.now × IsText rows (codes "STORE") store.now
+    × IsFlag rows (codes "announce") announces
 IsMadeBy name rows (request.Sides file) =
     (name ≡ codes "sides") × IsText rows (codes "FILE") file.now
 IsMadeBy name rows (request.Script file) =

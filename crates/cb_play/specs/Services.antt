@@ -1,5 +1,7 @@
 -- What a service over a store's file does, and what is said of it. This project's rules.
-use Rattle.std.specs.Prelude.{◌≡◌, ◌⊎◌, ℕ, Option, Some, None, Result, Ok, Err, List}
+use Rattle.std.specs.Prelude.{◌≡◌, ◌⊎◌, ℕ, Bool, true, false, Option, Some, None, Result, Ok, Err}
+use Rattle.std.specs.Prelude.{List}
+use Rattle.std.specs.Io.KnownBytes.{Appends}
 use Rattle.sqlite.specs.Held.{Held, state}
 use Rattle.sqlite.specs.State.{HasCleanDisk}
 use Rattle.sqlite.specs.Store.{Ghosts}
@@ -10,34 +12,64 @@ use Rattle.cb_console.specs.declared.config.ConfigFault.{ConfigFault}
 use Rattle.cb_console.specs.declared.running.RunFault.{RunFault}
 use Rattle.cb_commit.specs.Stores.{StoreState}
 use Rattle.cb_page.specs.Bounds.{Bounds}
+use Rattle.cb_serve.specs.Announcing.{StaysUnannounced, announcement}
 use Rattle.cb_serve.specs.Endings.{PrintsEnding, becomes_of_shelf}
 use Rattle.cb_serve.specs.Serving.{IsServed}
+use Rattle.cb_serve.specs.declared.fault.RoundFault.{RoundFault}
 use Rattle.cb_serve.specs.declared.fault.ServeFault.{ServeFault}
 use Rattle.cb_serve.specs.declared.fault.ServeFault.TheVariants as fault
 use Rattle.cb_serve.specs.declared.serving.Served.{Served}
+use Rattle.cb_shelf.specs.LifeRows.{LifeState}
 use Rattle.cb_sql.specs.Inside.{IsSame}
-use Rattle.cb_play.specs.StoreFiles.{OpensShelf, ReadsStore}
+use Rattle.cb_play.specs.StoreFiles.{BeginsLife, OpensShelf, ReadsStore}
 use Rattle.cb_play.specs.declared.store_file.Reach.{Reach}
 use Rattle.cb_play.specs.declared.store_file.Reach.TheVariants as reach
 use Rattle.cb_play.specs.declared.store_file.StoreEnd.{StoreEnd}
 use Rattle.cb_play.specs.declared.store_file.StoreFile.{StoreFile}
 
-module _ {S : Type 0} (g : Ghosts S) (limits : Bounds) where
-  -- The store in the tables was read, and the frames were served over it.
+-- what goes out before the first frame is read: the life's announcement, or nothing
+abbrev pub TellsLife : (announces : Bool) → (floor : ℕ) → (old_out new_out : Option (List ℕ)) → Type 0
+TellsLife true floor old_out new_out = Appends old_out new_out (announcement floor)
+TellsLife false floor old_out new_out = new_out ≡ old_out
+
+module _ {S : Type 0} (g : Ghosts S) (limits : Bounds) (announces : Bool) where
+  -- the life was told, if it is to be, and the frames were served over the store; or it wasn't told
+  -- whole, no frame was read, and the tables are as before
+  abbrev pub ServesLife : {E : Type 0} → StoreState → LifeState → Result E ServeFault
+      → (old new : Held S) → (old_in new_in old_out new_out : Option (List ℕ)) → Type 0
+  ServesLife store life ending old new old_in new_in old_out new_out =
+      ((told : Option (List ℕ)) × TellsLife announces life.floor old_out told
+      × IsServed g limits store life ending old new old_in new_in told new_out)
+      ⊎ ((f : RoundFault) × (ending ≡ Err (fault.Round f))
+      × StaysUnannounced f life.floor old_out new_out × (new_in ≡ old_in) × (new ≡ old))
+
+  -- A life of the server began over the tables, the store in them was read, and the frames were
+  -- served over it in that life.
   pub record ServesStore {E : Type 0} (ending : Result E ServeFault) (old new : Held S)
       (old_in new_in old_out new_out : Option (List ℕ)) : Type 0 where
+    pub life : LifeState
+    pub begun : Held S
+    pub begins : BeginsLife g life old begun
     pub store : StoreState
     pub tables : Held S
-    pub reads : ReadsStore g limits store old tables
-    pub serves : IsServed g limits store ending tables new old_in new_in old_out new_out
+    pub reads : ReadsStore g limits store begun tables
+    pub serves : ServesLife store life ending tables new old_in new_in old_out new_out
+
+  -- A life began over the tables, and else they stayed.
+  pub record BeginsAlone (old new : Held S) : Type 0 where
+    pub life : LifeState
+    pub begun : Held S
+    pub begins : BeginsLife g life old begun
+    pub same : HasCleanDisk (state g new) → IsSame (state g begun) (state g new)
 
   -- a store that came so far was refused, and its very fault is told: nothing was read or put out,
-  -- and on a clean disk the database is as before, as long as the connection is open
+  -- and on a clean disk the database is as before, as long as the connection is open; but for a
+  -- life that may have begun
   abbrev pub IsRefused : {E : Type 0} → Reach → Result E ServeFault → (old new : Held S)
       → (old_in new_in old_out new_out : Option (List ℕ)) → Type 0
   IsRefused (reach.Refused e) ending old new old_in new_in old_out new_out =
       (ending ≡ Err (fault.Round (becomes_of_shelf e))) × (new_in ≡ old_in) × (new_out ≡ old_out)
-      × (HasCleanDisk (state g new) → IsSame (state g old) (state g new))
+      × ((HasCleanDisk (state g new) → IsSame (state g old) (state g new)) ⊎ BeginsAlone old new)
   IsRefused _ ending old new old_in new_in old_out new_out = ⊥
 
   -- what came of the tables of a shelf, whose store came so far: it was read, or refused

@@ -30,16 +30,27 @@ pub(crate) struct RunRequest<'a> {
 #[derive(Clone, Copy)]
 pub(crate) enum Request<'a> {
     /// Play a schedule: the paths of the configuration and of the schedule.
-    Play { config: &'a str, schedule: &'a str },
+    Play {
+        config: &'a str,
+        schedule: &'a str,
+    },
     /// Draw the picture of a schedule that is played: the paths of the configuration and of the
     /// schedule.
-    Chart { config: &'a str, schedule: &'a str },
+    Chart {
+        config: &'a str,
+        schedule: &'a str,
+    },
     /// Draw a schedule.
     Draw(DrawRequest<'a>),
     /// Run workers.
     Run(RunRequest<'a>),
-    /// Serve frames: the paths of the configuration and of the store.
-    Serve { config: &'a str, store: &'a str },
+    /// Serve frames: the paths of the configuration and of the store, and whether the life is told
+    /// before any frame.
+    Serve {
+        config: &'a str,
+        store: &'a str,
+        announces: bool,
+    },
     /// Play the lists of frames and calls in the file of this path, each at one side alone.
     Sides(&'a str),
     /// Do the command lines in the file of this path.
@@ -186,6 +197,10 @@ A frame that can't be read is passed over by the length in its header; how many 
 end, on the standard error. A header of version 2 and kind 0, whose other bytes are 0, stands alone:
 what may be lost is said again.
 
+Each start begins a life of the store, whose floor is above every incarnation that was ever welcome:
+frames of incarnations below it are let go. With --announce such a header goes out first, whose
+incarnation is the floor.
+
 CONFIG is as for play; jobs counts for nothing.
 
 Statuses:
@@ -294,7 +309,13 @@ fn serve_command<'a>(alloc: Global) -> Result<Command<'a>, AllocError> {
         .about(SERVE_ABOUT)
         .after_help(SERVE_HELP)
         .arg(path(alloc, "CONFIG", "File with the settings, as TOML"))?
-        .arg(path(alloc, "STORE", "File with the store's tables"))
+        .arg(path(alloc, "STORE", "File with the store's tables"))?
+        .arg(
+            Arg::new(alloc, "announce")
+                .long("announce")
+                .action(ArgAction::SetTrue)
+                .help("Tell the life's floor before anything else"),
+        )
 }
 
 /// A command that reads one file.
@@ -381,6 +402,7 @@ fn asked<'a>(matches: &ArgMatches<'a>) -> Option<Request<'a>>
         Some(("serve", matches)) => Some(Request::Serve {
             config: matches.get_str("CONFIG")?,
             store: matches.get_str("STORE")?,
+            announces: matches.get_flag("announce"),
         }),
         Some(("sides", matches)) => Some(Request::Sides(matches.get_str("FILE")?)),
         Some(("script", matches)) => Some(Request::Script(matches.get_str("FILE")?)),

@@ -109,7 +109,11 @@ pub(crate) fn do_request<'a, R: Threads + Wait + Clock + Sync, O: Write, E: Writ
         }
         Request::Draw(request) => Ok(StoreEnd::none(draw_file(rt, &request, out, err)?)),
         Request::Run(request) => run_workers(rt, threads, &request, out, err),
-        Request::Serve { config, store } => serve_frames(rt, config, store, out, err),
+        Request::Serve {
+            config,
+            store,
+            announces,
+        } => serve_frames(rt, config, store, announces, out, err),
         Request::Sides(file) => Ok(StoreEnd::none(play_sides(rt, file, out, err)?)),
         Request::Script(_) => {
             writeln!(err, "script: a script in a script")?;
@@ -268,6 +272,7 @@ fn serve_frames<'a, O: Write, E: Write>(
     rt: &HostRuntime,
     config: &str,
     store: &'a str,
+    announces: bool,
     out: &mut O,
     err: &mut E,
 ) -> io::Result<StoreEnd<'a>>
@@ -279,7 +284,15 @@ fn serve_frames<'a, O: Write, E: Write>(
         return Ok(StoreEnd::none(WRONG_INPUT));
     };
     let mut input = rt.stdin();
-    serve_store(rt, config.as_slice(), store, &mut input, out, err)
+    serve_store(
+        rt,
+        config.as_slice(),
+        store,
+        announces,
+        &mut input,
+        out,
+        err,
+    )
 }
 
 /// Plays the lists of a file, each at one side alone.

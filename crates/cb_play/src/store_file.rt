@@ -1,7 +1,7 @@
 //! The file that a command opens as its store: which one, and how far it came.
-ghost use Rattle.std.specs.Prelude.{◌≡◌, Some, None, codes, IfErr, IfOk};
+ghost use Rattle.std.specs.Prelude.{◌≡◌, Some, None, codes, IfErr, IfOk, OnErr};
 ghost use Rattle.cb_commit.specs.Stores.{IsOf};
-ghost use Rattle.cb_play.specs.StoreFiles.{OpensShelf};
+ghost use Rattle.cb_play.specs.StoreFiles.{BeginsLife, OpensShelf};
 ghost use Rattle.cb_shelf.specs.Newer.{HoldsNewer};
 ghost use Rattle.cb_sql.specs.Inside.{IsSame};
 ghost use Rattle.sqlite.specs.Held.{state};
@@ -9,7 +9,7 @@ ghost use Rattle.sqlite.specs.State.{HasCleanDisk};
 
 use cb_commit::Store;
 use cb_page::Limits;
-use cb_shelf::{Shelf, ShelfFault};
+use cb_shelf::{Life, Shelf, ShelfFault};
 use sqlite::{Alter, Connection, File, FileStore};
 use std::alloc::Global;
 
@@ -20,6 +20,8 @@ pub(crate) enum Reach {
     Opened,
     /// Its tables are those of a store.
     LaidOut,
+    /// A life of the server has begun over them.
+    Begun,
     /// The store in them was read.
     Read,
     /// It was refused.
@@ -113,6 +115,29 @@ impl<'a> StoreFile<'a> {
             Err((fault, conn)) => {
                 self.reach = Reach::Refused(fault);
                 Err((fault, conn))
+            }
+        }
+    }
+
+    /// Begins the next life of the server over its tables.
+    pub(crate) fn begin_life<S: Alter>(&mut self, shelf: &mut Shelf<S>) -> Result<Life, ShelfFault>
+        ensures path { self.new.path.now ≡ self.old.path.now }
+        ensures begun { IfOk result (λ _. self.new.reach ≡ Reach.Begun) }
+        ensures refused { IfErr result (λ fault. self.new.reach ≡ Reach.Refused fault) }
+        ensures limits { shelf.new.limits ≡ shelf.old.limits }
+        ensures begins { IfOk result (λ life.
+            BeginsLife S.Store life shelf.old.conn shelf.new.conn) }
+        ensures neither { OnErr result (HasCleanDisk (state S.Store shelf.new.conn)
+            → IsSame (state S.Store shelf.old.conn) (state S.Store shelf.new.conn)) }
+    {
+        match shelf.begin_life() {
+            Ok(life) => {
+                self.reach = Reach::Begun;
+                Ok(life)
+            }
+            Err(refused) => {
+                self.reach = Reach::Refused(refused);
+                Err(refused)
             }
         }
     }

@@ -9,9 +9,9 @@ use crate::store_file::{StoreEnd, StoreFile};
 use cb_commit::Store;
 use cb_console::{Config, print_refusal, run_settings};
 use cb_jobs::{Ending, Gate, Turn, Watch, print_run};
-use cb_page::{ClientNo, Limits};
+use cb_page::{ClientNo, Incarnation, Limits};
 use cb_run::{of_shelf, run_on_watched};
-use cb_shelf::Shelf;
+use cb_shelf::{Life, Shelf};
 use cb_station::{Office, Station};
 use sqlite::{Alter, Connection};
 use std::alloc::Global;
@@ -169,18 +169,26 @@ where
         (IsCounted S.Store (all_jobs config.now) shelf.new.conn) status
         (O.contents out.old) (O.contents out.new) (E.contents err.old) (E.contents err.new)) }
 {
+    let life = match file.begin_life(shelf) {
+        Ok(life) => life,
+        Err(fault) => return print_run(Err(of_shelf(fault)), out, err),
+    };
     match file.read(alloc, shelf) {
-        Ok(store) => run_from(threads, alloc, config, store, shelf, gate, watch, out, err),
+        Ok(store) => run_from(
+            threads, alloc, config, store, life, shelf, gate, watch, out, err,
+        ),
         Err(fault) => print_run(Err(of_shelf(fault)), out, err),
     }
 }
 
-/// Runs workers from a store on, which lies in the shelf.
+/// Runs workers from a store on, which lies in the shelf, in a life that has begun over it: so who
+/// joins has an incarnation above its floor.
 fn run_from<R, S, G, W, O, E>(
     threads: &R,
     alloc: Global,
     config: &Config,
     store: Store,
+    life: Life,
     shelf: &mut Shelf<S>,
     gate: &G,
     watch: &mut W,
@@ -201,7 +209,7 @@ where
         (O.contents out.old) (O.contents out.new) (E.contents err.old) (E.contents err.new)) }
 {
     let (limits, jobs) = (&config.limits, config.jobs);
-    match office_over(alloc, limits, store, jobs, watch) {
+    match office_over(alloc, limits, store, life.floor(), jobs, watch) {
         Ok(office) => run_on_watched(
             threads, alloc, limits, &office, shelf, jobs, gate, watch, out, err,
         ),
@@ -209,11 +217,13 @@ where
     }
 }
 
-/// An office over a store, that each client's work will use; `watch` is told of the run.
+/// An office over a store, in a life from this floor on, that each client's work will use; `watch`
+/// is told of the run.
 fn office_over<W: Watch>(
     alloc: Global,
     limits: &Limits,
     store: Store,
+    floor: Incarnation,
     jobs: u32,
     watch: &mut W,
 ) -> Result<Office, Ending>
@@ -223,7 +233,7 @@ fn office_over<W: Watch>(
 {
     let all = u64::from(limits.clients()).saturating_mul(u64::from(jobs));
     watch.begins(all, store.number());
-    match Station::new(alloc, limits, store) {
+    match Station::resume(alloc, limits, store, floor) {
         Ok(station) => Ok(Office::new(station, usize::from(limits.clients()))),
         Err(_) => Err(Ending::Memory),
     }

@@ -44,7 +44,7 @@ returns-in_ok-get_str-in-Some-serve-default-2 c =
     let rows : Some (rows_of (found_of c.in-Some-serve-default.matches.now)) ≡ option_map (λ (p : Text × List Row). p.1) (subcommand_rows_of c.args.matches.now) = search rules in
     let config : Some c.in_ok-get_str-in-Some-serve-default.field-0.now ≡ first_value (found_of c.in-Some-serve-default.matches.now) (codes "CONFIG") = search rules in
     let store : Some c.in_ok-get_str-in-Some-serve-default-2.field-0.now ≡ first_value (found_of c.in-Some-serve-default.matches.now) (codes "STORE") = search rules in
-    (codes "serve", rows_of (found_of c.in-Some-serve-default.matches.now), read_of c.args.matches.now _ _ name rows, (refl, text_of c.in-Some-serve-default.matches.now (codes "CONFIG") _ config, text_of c.in-Some-serve-default.matches.now (codes "STORE") _ store))
+    (codes "serve", rows_of (found_of c.in-Some-serve-default.matches.now), read_of c.args.matches.now _ _ name rows, (refl, text_of c.in-Some-serve-default.matches.now (codes "CONFIG") _ config, text_of c.in-Some-serve-default.matches.now (codes "STORE") _ store, flag_of c.in-Some-serve-default.matches.now (codes "announce") _ c.get_flag-in-Some-serve-default.ensures.none c.get_flag-in-Some-serve-default.ensures.value c.get_flag-in-Some-serve-default.ensures.other))
 
 pub returns-in_ok-get_str-in-Some-sides-default : goal.returns-in_ok-get_str-in-Some-sides-default
 returns-in_ok-get_str-in-Some-sides-default c =

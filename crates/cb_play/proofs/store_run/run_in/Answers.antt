@@ -2,8 +2,11 @@
 use Rattle.cb_play.proofs.Told.{told_read, told_refusal}
 use Rattle.cb_play.proofs.store_run.run_in.Goals as goal
 
-pub returns-in-Ok-clause-prints : goal.returns-in-Ok-clause-prints
-returns-in-Ok-clause-prints g c = told_read _ _ c.run_from.result _ _ _ _ c.in-Ok.ensures.read c.run_from.ensures
+pub returns-in-Ok-read-clause-prints : goal.returns-in-Ok-read-clause-prints
+returns-in-Ok-read-clause-prints g c = told_read _ _ c.run_from.result _ _ _ _ c.in-Ok-read.ensures.read c.run_from.ensures
 
 pub returns-in-Err-clause-prints : goal.returns-in-Err-clause-prints
 returns-in-Err-clause-prints g c = told_refusal _ _ c.in-Err.fault c.of_shelf.result c.print_run.result _ _ _ _ c.in-Err.ensures.refused c.of_shelf.ensures c.print_run.ensures
+
+pub returns-in-Err-read-clause-prints : goal.returns-in-Err-read-clause-prints
+returns-in-Err-read-clause-prints g c = told_refusal _ _ c.in-Err-read.fault c.of_shelf-in-Err-read.result c.print_run-in-Err-read.result _ _ _ _ c.in-Err-read.ensures.refused c.of_shelf-in-Err-read.ensures c.print_run-in-Err-read.ensures
