@@ -2,7 +2,6 @@
 
 mod batches;
 mod disks;
-mod lives;
 mod reopened;
 mod served;
 mod stops;

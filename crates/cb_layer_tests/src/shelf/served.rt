@@ -34,6 +34,9 @@ static COMMIT: [u8; 58] = [
 /// Client 1 begins.
 static OTHER_HELLO: [u8; 16] = [2, 1, 0, 1, 0, 0, 0, 0, 0, 0, 0, 1, 0, 0, 0, 0];
 
+/// Client 0 begins as an incarnation for which no life is given room: 2^61 + 2^60.
+static LATE_HELLO: [u8; 16] = [2, 1, 0, 0, 48, 0, 0, 0, 0, 0, 0, 0, 0, 0, 0, 0];
+
 /// What is said to each of these.
 static WELCOME: [u8; 16] = [2, 65, 0, 0, 0, 0, 0, 0, 0, 0, 0, 1, 0, 0, 0, 0];
 
@@ -206,6 +209,15 @@ fn unread_frames(rt: HostRuntime) -> Result<(), Fail> {
     let pieces = [WELCOME.as_slice(), GRANTED.as_slice()];
     let ending = ("passed over 2\n", Some(0), ZEROS);
     assert!(rt; answers(rt.alloc(), &input, &pieces, ending)?);
+    Ok(())
+}
+
+/// A Hello for which no life has room is let go, and its client's incarnation goes on.
+#[test]
+fn hello_without_room(rt: HostRuntime) -> Result<(), Fail> {
+    let input = [HELLO.as_slice(), LATE_HELLO.as_slice(), ASK_READ.as_slice()];
+    let pieces = [WELCOME.as_slice(), GRANTED.as_slice()];
+    assert!(rt; answers(rt.alloc(), &input, &pieces, ("", Some(0), ZEROS))?);
     Ok(())
 }
 
