@@ -102,12 +102,14 @@ static const char TABLES[] =
     "CREATE TABLE part(no INTEGER NOT NULL, place INTEGER NOT NULL, body BLOB NOT NULL,"
     " PRIMARY KEY(no, place)) STRICT;";
 
-/* A life begins at the bound of the one before, and is written before anybody is answered. */
-static const char LIFE[] =
-    "BEGIN IMMEDIATE;"
+static const char LIVES[] =
     "CREATE TABLE IF NOT EXISTS life(id INTEGER PRIMARY KEY, floor INTEGER NOT NULL,"
-    " below INTEGER NOT NULL) STRICT;"
-    "INSERT OR IGNORE INTO life VALUES (1, 0, 1);"
+    " below INTEGER NOT NULL) STRICT;";
+
+/* A life begins at the bound of the one before, and is written before anybody is answered. Of tables
+ * that a server served which kept no lives the first one begins above what clocks gave. */
+static const char LIFE[] =
+    "INSERT OR IGNORE INTO life VALUES (1, 0, 1 << 61);"
     "UPDATE life SET floor = below, below = below + (1 << 20);"
     "COMMIT";
 
@@ -150,6 +152,8 @@ static size_t part_size(const rughvadi_limits *limits, size_t from) {
 static void make_tables(struct store *store, const rughvadi_limits *limits) {
   run(store, "BEGIN IMMEDIATE");
   run(store, TABLES);
+  run(store, LIVES);
+  run(store, "INSERT INTO life VALUES (1, 0, 1)");
   sqlite3_stmt *page = prepared(store, "INSERT INTO page2 VALUES (?1, 0)");
   sqlite3_stmt *part = prepared(store, "INSERT INTO part VALUES (?1, ?2, zeroblob(?3))");
   for (uint32_t no = 0; no < limits->pages; no++) {
@@ -209,6 +213,8 @@ static void store_open(struct store *store, const char *path, const rughvadi_lim
       || one_number(store, "SELECT pages FROM mark2") != (sqlite3_int64)limits->pages) {
     die("%s is a store of other limits", path);
   }
+  run(store, "BEGIN IMMEDIATE");
+  run(store, LIVES);
   run(store, LIFE);
   store->floor = one_number(store, "SELECT floor FROM life WHERE id = 1");
   store->below = one_number(store, "SELECT below FROM life WHERE id = 1");

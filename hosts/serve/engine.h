@@ -18,6 +18,9 @@ struct life {
 #define LIFE_ROOM (UINT64_C(1) << 20)
 /* No life begins above this: incarnations are below 2^62. */
 #define MOST_FLOOR ((UINT64_C(1) << 62) - 1 - LIFE_ROOM)
+/* The first life of tables begins here that a server served which kept no lives: of its clients'
+ * incarnations nothing is known but that clocks gave them. */
+#define UNKEPT_FLOOR (UINT64_C(1) << 61)
 
 /* What is written in one transaction. Without pages, and with the number that is there, it raises
  * the bound or only shows that the life goes on. */

@@ -99,10 +99,8 @@ static enum outcome put_life(struct postgres *store, enum fault *fault) {
   }
   const rughvadi_limits *limits = &store->settings->limits;
   if (PQntuples(row) != 1 || number_in(row, 3) != limits->page_size
-      || number_in(row, 4) != limits->pages) {
+      || number_in(row, 4) != limits->pages || number_in(row, 0) > MOST_FLOOR) {
     *fault = FAULT_SHAPE;
-  } else if (number_in(row, 0) > MOST_FLOOR) {
-    *fault = FAULT_EXHAUSTED;
   } else {
     store->life = (struct life){number_in(row, 0), number_in(row, 1)};
     store->last = number_in(row, 2);

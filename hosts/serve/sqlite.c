@@ -80,7 +80,7 @@ static enum fault sqlite_open(const struct settings *settings, struct engine **e
 
 /* ---- a life ---- */
 
-/* The bound that stands in the tables; the row is made where it isn't there. */
+/* The bound that stands in the tables. */
 static enum fault read_below(struct sqlite *store, uint64_t *below) {
   sqlite3_stmt *row;
   enum fault fault = sqlite_prepare(store, "SELECT below FROM life WHERE id = 1", &row);
@@ -88,13 +88,13 @@ static enum fault read_below(struct sqlite *store, uint64_t *below) {
     return fault;
   }
   int code = sqlite3_step(row);
-  sqlite3_int64 found = code == SQLITE_ROW ? sqlite3_column_int64(row, 0) : 1;
+  sqlite3_int64 found = code == SQLITE_ROW ? sqlite3_column_int64(row, 0) : 0;
   sqlite3_finalize(row);
   if (code != SQLITE_ROW && code != SQLITE_DONE) {
     return sqlite_fault(store, code);
   }
   *below = (uint64_t)found;
-  return found >= 1 ? NO_FAULT : FAULT_SHAPE;
+  return found >= 1 && *below <= MOST_FLOOR ? NO_FAULT : FAULT_SHAPE;
 }
 
 /* Begins a life at the bound of the one before. */
@@ -102,9 +102,6 @@ static enum fault put_life(struct sqlite *store) {
   sqlite3_stmt *row;
   uint64_t floor = 0;
   enum fault fault = read_below(store, &floor);
-  if (fault == NO_FAULT && floor > MOST_FLOOR) {
-    fault = FAULT_EXHAUSTED;
-  }
   if (fault == NO_FAULT) {
     fault = sqlite_prepare(
         store, "INSERT OR REPLACE INTO life (id, floor, below) VALUES (1, ?1, ?2)", &row);

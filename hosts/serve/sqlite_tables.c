@@ -126,8 +126,19 @@ static enum fault copy_old(struct sqlite *store) {
   return (code & 0xff) == SQLITE_CONSTRAINT ? FAULT_SHAPE : sqlite_fault(store, code);
 }
 
+/* Makes the table of lives, with a row of this bound. */
+static enum fault put_unserved(struct sqlite *store, uint64_t below) {
+  char *text = sqlite3_mprintf("%s; INSERT OR REPLACE INTO life (id, floor, below)"
+                               " VALUES (1, 0, %llu)", LIFE, (unsigned long long)below);
+  enum fault fault = text == NULL ? FAULT_MEMORY : sqlite_run(store, text);
+  sqlite3_free(text);
+  return fault;
+}
+
+/* The first life begins at 1, unless somebody may have served the tables that these are copied
+ * from. */
 static enum fault make(struct sqlite *store, bool copies) {
-  enum fault fault = NO_FAULT;
+  enum fault fault = put_unserved(store, copies ? UNKEPT_FLOOR : 1);
   for (size_t at = 0; at < sizeof NEW_TABLES / sizeof *NEW_TABLES && fault == NO_FAULT; at++) {
     fault = sqlite_run(store, NEW_TABLES[at]);
   }
@@ -146,9 +157,11 @@ enum fault tables_lay_out(struct sqlite *store) {
     fault = FAULT_SHAPE;
   }
   if (fault == NO_FAULT && !new_there) {
-    fault = make(store, old_rows);
+    return make(store, old_rows);
   }
-  return fault == NO_FAULT ? sqlite_run(store, LIFE) : fault;
+  bool keeps_lives = false;
+  fault = fault == NO_FAULT ? is_there(store, "SELECT below FROM life", &keeps_lives) : fault;
+  return fault == NO_FAULT && !keeps_lives ? put_unserved(store, UNKEPT_FLOOR) : fault;
 }
 
 /* ---- reading ---- */

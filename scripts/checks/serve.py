@@ -471,7 +471,7 @@ def main(words: list[str]) -> int:
         serve_input.tried(tries, room / "input_play", "serve", (it.play, "serve"))
         serve_input.tried(tries, room / "input_sqlite", "over SQLite", (it.serve,))
         serve_engines.tried(tries, room / "engines", it.play, it.checked_serve)
-        serve_lives.tried(tries, room / "lives", it.checked_serve)
+        serve_lives.tried(tries, room / "lives", it.checked_serve, (it.play, "serve"))
         bad_input.tried(tries, it)
         serve_gateway.tried(tries, it)
         serve_gateway.tried(tries, it, serve_operators.SCENES, "serve_operators")

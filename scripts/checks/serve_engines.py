@@ -219,8 +219,6 @@ def serve_one(scene: Scene, server, given: bytes) -> tuple[int, bytes, bytes]:
 def served(room: Path, servers: list, stream: Stream) -> Result:
     """What comes of a stream whose inputs these servers take, in turn, over one store."""
     scene, result = Scene(room, (), stream.size, stream.more), Result()
-    if servers[0].name == PLAY and len(servers) > 1:
-        serve_one(scene, servers[1], b"")  # it begins the first life, which the other one doesn't
     for place, give in enumerate(stream.inputs):
         result.ended.append(serve_one(scene, servers[place % len(servers)], give(scene)))
         scene.incarnation += LIFE

@@ -68,11 +68,11 @@ def cut(out: bytes) -> tuple[list[tuple[int, int, bytes]], bytes]:
 
 class Scene:
     """A server's files, in a folder of their own. Clients greet each server over them by a later
-    incarnation."""
+    incarnation, above the floor of its life."""
 
     def __init__(self, room: Path, server: tuple, size: int = 64, more: str = "") -> None:
         self.room = Path(tempfile.mkdtemp(dir=room))
-        self.server, self.size, self.incarnation = server, size, 1
+        self.server, self.size, self.incarnation = server, size, 2
         self.config, self.store = self.room / "config", self.room / "store.db"
         self.config.write_text(CONFIG.format(CLIENTS, PAGES, size, more))
 

@@ -1,4 +1,5 @@
-"""Lives of a store at `rughvadi-serve`, for `scripts/check serve`: over a file, and PostgreSQL.
+"""Lives of a store, for `scripts/check serve`: at `cb_play serve`, and at `rughvadi-serve` over a
+file and over PostgreSQL.
 
 A life begins above each incarnation of those before, and is on disk before anybody is answered. Who
 serves in a former life answers nothing any more.
@@ -27,14 +28,15 @@ CLOCK = 1 << 50  # as microseconds since 1970 are
 class Store:
     """A file, or a store of a cluster; and the words that serve it."""
 
-    def __init__(self, room: Path, serve: Path, cluster: postgres.Cluster | None) -> None:
-        self.scene, self.serve, self.cluster = Scene(room, ()), serve, cluster
+    def __init__(self, room: Path, serve: tuple, play: tuple,
+                 cluster: postgres.Cluster | None) -> None:
+        self.scene, self.serve, self.play, self.cluster = Scene(room, ()), serve, play, cluster
 
     def words(self) -> list[str]:
         database = str(self.scene.store)
         if self.cluster:
             database = f"{self.cluster.address} application_name={self.scene.room.name}"
-        return [str(self.serve), "--announce", str(self.scene.config), database]
+        return [str(it) for it in (*self.serve, "--announce", self.scene.config, database)]
 
     def row(self, *columns: str) -> list[int]:
         """What the store says of its life."""
@@ -197,21 +199,72 @@ def below_what_waits(it: Store) -> str:
     return "" if heard == wanted and (status, said) == (0, []) else f"{heard}, {status}, {said}"
 
 
-SCENES = [announced, rising, strangers_of_lives, fenced, below_what_waits]
+def in_turn(it: Store) -> str:
+    """Both servers in turn over one file: each life begins above those of the other."""
+    floors, kinds = [], [it.serve, it.play]
+    for life in range(6):
+        it.serve = kinds[life % 2]
+        with it.served() as server:
+            floors.append(server.floor)
+            server.say(frame(HELLO, 0, server.floor + (life << 21)))
+            if server.hear()[0] != WELCOME:
+                return f"life {life} welcomes nobody: {floors}"
+            floors.append(server.floor + (life << 21))
+            server.kill()
+    rise = all(first < second for first, second in zip(floors[1::2], floors[2::2]))
+    return "" if rise else f"{floors}"
 
 
-def tried(tries, room: Path, serve: Path) -> None:
+def older_tables(it: Store) -> str:
+    """Tables of a server that kept no lives: the first one begins above what clocks gave."""
+    with it.served() as server:
+        server.kill()
+    with contextlib.closing(sqlite3.connect(it.scene.store)) as tables:
+        tables.execute("DROP TABLE life")
+    floors = []
+    for _ in range(2):
+        with it.served() as server:
+            floors.append(server.floor)
+            server.kill()
+    return "" if floors == [1 << 61, (1 << 61) + (1 << 20)] else f"{floors}"
+
+
+def wrong_rows(it: Store) -> str:
+    """A row that tells no life, or none that is left, is refused as of another shape."""
+    with it.served() as server:
+        server.kill()
+    for change in ("DELETE FROM life", "INSERT INTO life VALUES (1, 0, 0)",
+                   f"UPDATE life SET below = {(1 << 62) - (1 << 20)}"):
+        with contextlib.closing(sqlite3.connect(it.scene.store)) as tables:
+            tables.execute(change)
+            tables.commit()
+        with it.served() as server:
+            ended = server.ended()
+        if server.version != 0 or ended != (3, ["store: Shape"]):
+            return f"{change}: {ended}"
+    return ""
+
+
+OF_ALL = [announced, rising, strangers_of_lives, below_what_waits]
+OF_FILES = [older_tables, wrong_rows]
+
+
+def tried(tries, room: Path, serve: Path, play: tuple) -> None:
     """Plays each scene over stores of its own."""
     room.mkdir(mode=0o755)
     with contextlib.ExitStack() as stack:
-        engines: dict[str, postgres.Cluster | None] = {"SQLite": None}
+        engines: dict[str, tuple] = {
+            "cb_play": (play, None, [*OF_ALL, *OF_FILES]),
+            "SQLite": ((serve,), None, [*OF_ALL, *OF_FILES, fenced, in_turn]),
+        }
         if postgres.is_there():
-            engines["PostgreSQL"] = postgres.Cluster(room / "cluster").start()
-            stack.callback(engines["PostgreSQL"].stop)
-        for name, cluster in engines.items():
-            for scene in SCENES:
+            cluster = postgres.Cluster(room / "cluster").start()
+            engines["PostgreSQL"] = ((serve,), cluster, [*OF_ALL, fenced])
+            stack.callback(cluster.stop)
+        for name, (words, cluster, scenes) in engines.items():
+            for scene in scenes:
                 try:
-                    why = scene(Store(room, serve, cluster))
+                    why = scene(Store(room, words, play, cluster))
                 except (OSError, sqlite3.Error, subprocess.SubprocessError, ValueError) as fault:
                     why = repr(fault)
                 tries.told(f"lives, {name}: {scene.__name__.replace('_', ' ')}", not why, why)
