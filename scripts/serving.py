@@ -56,7 +56,7 @@ class Gateway:
     words: tuple[str, ...] = ()
     limits: tuple[int, ...] = (32, 64, 4096, 32, 1)
     env: dict[str, str] = field(default_factory=dict)
-    command: tuple[object, ...] = ()  # what starts a server, if not `cb_play serve`
+    command: tuple[object, ...] = ()  # what starts a server, if not `cb_play serve --announce`
     database_word: str = ""  # what stands in the file of stores, if not a path
     files: Optional[tuple[int, int]] = None  # how many it may have open: softly, and at most
     has_port: bool = False  # it listens at a port of this machine, too
@@ -97,7 +97,7 @@ class Gateway:
         words = [self.program, "--unix", self.socket, "--tokens", self.tokens]
         words += ["--tcp", self.port] if self.port else []
         words += ["--stores", self.room / "stores", *self.words, "--"]
-        words += self.command or (self.play, "serve")
+        words += self.command or (self.play, "serve", "--announce")
         with (self.room / "log").open("ab") as log:
             env = {**os.environ, **self.env}
             both = {"stdout": subprocess.PIPE, "stderr": log, "preexec_fn": self.limit}

@@ -235,6 +235,10 @@ void store_heard(struct store *store);
  * connections are closed at once, whatever still waits for them. */
 void store_lose(struct store *store);
 
+/* Its server announced its life: who came before with an incarnation of a former one is ended, and
+ * may come again. */
+void store_renew(struct store *store);
+
 /* Nothing of the server is left: what it was to be told is let go. */
 void store_clear(struct store *store);
 

@@ -57,7 +57,7 @@ static void close_once(void *handle) {
 /* It takes and says nothing any more. Before another one is started its clients go: who holds pages
  * of this one is to know that it is gone. */
 static void go_down(struct server *server) {
-  server->is_up = server->is_serving = false;
+  server->is_up = server->is_serving = server->has_spoken = false;
   store_lose(server->store);
   close_once(&server->input);
   close_once(&server->output);
@@ -206,7 +206,7 @@ static bool is_announcement(const struct header *header) {
          && header->body == 0 && header->incarnation < LAST_INCARNATION;
 }
 
-/* From now on it serves the store. */
+/* From now on it serves the store, in a life from this floor on. */
 static void serve(struct server *server, uint64_t floor) {
   server->is_serving = true;
   server->floor = floor;
@@ -222,8 +222,9 @@ static bool hand_on_all(struct server *server) {
   while (from->size - at >= HEADER) {
     struct header header = header_at(from->at + at);
     size_t size = HEADER + (size_t)header.body;
-    if (!server->is_serving && is_announcement(&header)) {
+    if (!server->has_spoken && is_announcement(&header)) {
       serve(server, header.incarnation);
+      store_renew(server->store);
     } else if (!server->is_serving || !is_of_server(&header, &server->store->place->limits)) {
       return false;
     } else if (from->size - at < size) {
@@ -231,6 +232,7 @@ static bool hand_on_all(struct server *server) {
     } else {
       store_hear(server->store, from->at + at, &header);
     }
+    server->has_spoken = true;
     at += size;
   }
   bytes_cut(&server->from, at);

@@ -21,8 +21,9 @@ void store_moved(struct store *store) {
   }
 }
 
-/* A frame goes to the server, or to the commits that go there together. One that announces its life
- * takes commits while others are on their way to disk, and gathers them itself. */
+/* A frame goes to the server, or to the commits that go there together. A server that is waited for
+ * until it announces its life takes commits while others are on their way to disk, and gathers them
+ * itself. */
 static bool tell(struct store *store, const uint8_t *frame, size_t size) {
   bool gathers = header_at(frame).kind == KIND_COMMIT && !store->gateway->is_announced;
   bool put = gathers ? gather_put(&store->commits, frame, size)
@@ -165,6 +166,15 @@ void store_lose(struct store *store) {
       connection_finish(store->clients[client]);
     } else {
       connection_end(store->clients[client]);
+    }
+  }
+}
+
+void store_renew(struct store *store) {
+  for (size_t client = 0; client < MOST_CLIENTS; client++) {
+    struct connection *connection = store->clients[client];
+    if (connection != NULL && connection->incarnation <= store->server.floor) {
+      connection_cut(connection, "its server began a later life");
     }
   }
 }

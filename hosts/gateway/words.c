@@ -16,7 +16,8 @@ static const char USAGE[] =
     "gateway --make-tokens COUNT --tokens FILE\n"
     "\n"
     "Clients connect to it by the tokens of FILE, and it hands their frames to the server of the\n"
-    "store that each names: SERVE CONFIG DATABASE, `cb_play serve CONFIG DATABASE` if not said.\n"
+    "store that each names: SERVE CONFIG DATABASE, where SERVE is `cb_play serve --announce` if not\n"
+    "said.\n"
     "\n"
     "  --unix PATH               listen on a Unix socket, which its owner alone may use\n"
     "  --tcp PORT                listen on a TCP port, of 127.0.0.1 if no address is said\n"
@@ -26,7 +27,7 @@ static const char USAGE[] =
     "  --patience SECONDS        for a frame, from its first byte (10)\n"
     "  --silence SECONDS         for a client's answer to the server; 0 for ever (30)\n"
     "  --server-silence SECONDS  for a server's answer to a greeting; 0 for ever (60)\n"
-    "  --announced               the servers say when they serve, and in which life\n"
+    "  --announced               nobody is served before a server has announced its life\n"
     "  --metrics PATH|PORT       answer what is counted, by HTTP, at a Unix socket or of "
     "127.0.0.1\n"
     "  --buffer BYTES            that may wait for one client (4194304)\n";
@@ -106,7 +107,7 @@ static int take_options(struct words *words, int count, char **text) {
 
 /* The words behind the options: the one store, and what starts a server. */
 static bool take_rest(struct words *words, char **rest) {
-  static char *usual[] = {"cb_play", "serve", NULL};
+  static char *usual[] = {"cb_play", "serve", "--announce", NULL};
   int count = 0;
   while (rest[count] != NULL && strcmp(rest[count], "--") != 0) {
     count++;

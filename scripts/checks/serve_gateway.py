@@ -268,12 +268,24 @@ def announced_lives(scene: Scene) -> bool:
 
 def unannounced_servers(scene: Scene) -> bool:
     """A server that says other things first isn't served, nor one that announces a life that has
-    no incarnation; and who isn't to announce and does ends."""
+    no incarnation."""
     first = scene.gateway("--announced")
     second = scene.gateway("--announced", command=scene.stand_in("--floor", (1 << 62) - 1))
-    third = scene.gateway(command=scene.stand_in("--floor", 5))
-    ends = all(wait_for(lambda: "says no frames" in each.log(), 60) for each in (second, third))
+    ends = wait_for(lambda: "says no frames" in second.log(), 60)
     return ends and [answer_to(each, 1)[0] for each in (first, second)] == [5, 5]
+
+
+def announced_later(scene: Scene) -> bool:
+    """Where nobody waits for it a server may announce its life all the same: who came before with
+    an incarnation of a former one is disconnected, and the next one's is above the floor."""
+    floor, wait = 1 << 61, scene.room / "later"
+    gateway = scene.gateway(command=scene.stand_in("--floor", floor, "--wait", wait))
+    with Peer(gateway) as peer:
+        early = peer.greeted(token_of(gateway, 1))
+        wait.touch()
+        gone = peer.is_closed(60)
+    what, number = answer_to(gateway, 1)
+    return early[1] == 0 and gone and (what, floor < number < floor + 10) == (0, True)
 
 
 def stops_while_it_waits(scene: Scene) -> bool:
@@ -428,7 +440,7 @@ def open_files(scene: Scene) -> bool:
 SCENES = [
     strangers_at_the_port, strangers_at_the_socket, greetings_that_are_there, slow_greeting,
     told_of_strangers, bytes_are_no_answer, answers_count, aborts_are_owed, slow_frame,
-    announced_lives, unannounced_servers, stops_while_it_waits, silent_servers,
+    announced_lives, unannounced_servers, announced_later, stops_while_it_waits, silent_servers,
     databases_elsewhere, owned_files, held_outputs, bounded_commits, open_files,
 ]
 
