@@ -157,6 +157,14 @@ static enum fault take_piece(struct stream *stream, const uint8_t *bytes, size_t
   return NO_FAULT;
 }
 
+/* Takes bytes from the front. The room stays, since as much is read again. */
+static void cut_front(struct bytes *in, size_t count) {
+  in->size -= count;
+  if (in->size > 0 && count > 0) {
+    memmove(in->at, in->at + count, in->size);
+  }
+}
+
 enum fault stream_take(struct stream *stream) {
   size_t at = 0, used = 1;
   enum fault fault = NO_FAULT;
@@ -165,7 +173,7 @@ enum fault stream_take(struct stream *stream) {
     at += used;
   }
   if (fault == NO_FAULT) {
-    bytes_cut(&stream->in, at);
+    cut_front(&stream->in, at);
   }
   return fault;
 }

@@ -17,9 +17,11 @@ import subprocess
 from pathlib import Path
 from typing import Iterator
 
+import building
 import postgres
-from checks.bad_input import ASK_READ, GRANTED, HEADER, HELLO, WELCOME, frame
+from checks.bad_input import ASK_READ, COMMIT, GRANTED, HEADER, HELLO, WELCOME, frame
 from checks.serve_input import CLIENTS, DONE, PAGES, Scene
+from serving import wait_for
 
 KILLS = 30
 CLOCK = 1 << 50  # as microseconds since 1970 are
@@ -60,9 +62,9 @@ class Store:
 class Server:
     """A server with pipes, which has announced its life."""
 
-    def __init__(self, words: list[str]) -> None:
+    def __init__(self, words: list[str], **how: object) -> None:
         pipes = {"stdin": subprocess.PIPE, "stdout": subprocess.PIPE, "stderr": subprocess.PIPE}
-        self.process = subprocess.Popen(words, **pipes)
+        self.process = subprocess.Popen(words, **pipes, **how)
         self.version, self.kind, self.client, self.floor, self.size = self.header()
 
     def exactly(self, count: int, seconds: float = 60.0) -> bytes:
@@ -215,6 +217,44 @@ def in_turn(it: Store) -> str:
     return "" if rise else f"{floors}"
 
 
+def read_beside_a_sync(room: Path, serve: Path) -> str:
+    """While the sync of a commit is held, others' reads are answered, and the commit isn't."""
+    store, fifo = Store(room, (serve,), (), None), room / "fifo"
+    env = {**os.environ, "LD_PRELOAD": str(building.library_in_c("held_sync", room, "-ldl")),
+           "HELD_SYNC": str(fifo), "ASAN_OPTIONS": "verify_asan_link_order=0"}
+    server = Server(store.words(), env=env)
+    try:
+        reads = [frame(ASK_READ, it, server.floor, struct.pack(">QI", 1, it)) for it in range(2)]
+        hellos = [frame(HELLO, it, server.floor) for it in range(2)]
+        server.say(*hellos, reads[0])
+        heard = [server.hear()[0] for _ in range(3)]
+        os.mkfifo(fifo)
+        server.say(frame(COMMIT, 0, server.floor, struct.pack(">QH", 1, 0)))
+        held = opened_once_read(fifo)
+        server.say(reads[1])
+        heard.append(server.hear()[0])
+        fifo.unlink()
+        os.close(held)
+        heard.append(server.hear()[0])
+    finally:
+        server.end()
+    return "" if heard == [WELCOME, WELCOME, GRANTED, GRANTED, DONE] else f"{heard}"
+
+
+def opened_once_read(fifo: Path) -> int:
+    """A FIFO, opened for writing once somebody waits at it."""
+    files: list[int] = []
+
+    def is_open() -> bool:
+        with contextlib.suppress(OSError):
+            files.append(os.open(fifo, os.O_WRONLY | os.O_NONBLOCK))
+        return bool(files)
+
+    if not wait_for(is_open, 60):
+        raise ValueError("nobody waits for a sync")
+    return files[0]
+
+
 def older_tables(it: Store) -> str:
     """Tables of a server that kept no lives: the first one begins above what clocks gave."""
     with it.served() as server:
@@ -268,3 +308,9 @@ def tried(tries, room: Path, serve: Path, play: tuple) -> None:
                 except (OSError, sqlite3.Error, subprocess.SubprocessError, ValueError) as fault:
                     why = repr(fault)
                 tries.told(f"lives, {name}: {scene.__name__.replace('_', ' ')}", not why, why)
+    (room / "beside").mkdir()
+    try:
+        why = read_beside_a_sync(room / "beside", serve)
+    except (OSError, ValueError) as fault:
+        why = repr(fault)
+    tries.told("SQLite: a read beside a sync", not why, why)
