@@ -76,12 +76,16 @@ static enum outcome write_once(struct postgres *store, const struct writing *wri
   }
   values[9] = store->settings->needs_standby ? "t" : "f";
   PGresult *result;
-  enum outcome outcome = session_write(store, values, lengths, &result);
-  bool is_misshapen = false;
+  bool is_misshapen = false, is_alone = false;
+  enum outcome outcome = session_write(store, values, lengths, &result, &is_alone);
   bool is_there = outcome == ASKED && is_written(result, writing, &is_misshapen);
   PQclear(result);
   *fault = is_misshapen ? FAULT_SHAPE : NO_FAULT;
-  return is_misshapen                                          ? REFUSED
+  if (is_alone) {
+    tell("store %s: no synchronous standby is named any more", store->store);
+    *fault = FAULT_UNSAFE;
+  }
+  return *fault != NO_FAULT                                     ? REFUSED
          : outcome == ASKED && (!is_there || store->was_warned) ? LOCKED
                                                                 : outcome;
 }
@@ -109,23 +113,6 @@ static enum fault look(struct postgres *store, struct writing *writing) {
   return FAULT_STORE;
 }
 
-/* Whether a standby is named still: what was committed meanwhile waited for none if not. */
-static enum outcome check_standby(struct postgres *store, enum fault *fault) {
-  PGresult *row;
-  if (!store->settings->needs_standby) {
-    return ASKED;
-  }
-  enum outcome outcome = session_ask(
-      store, "SELECT current_setting('synchronous_standby_names') <> ''", 0, NULL, &row);
-  if (outcome == ASKED && *PQgetvalue(row, 0, 0) != 't') {
-    tell("store %s: no synchronous standby is named any more", store->store);
-    *fault = FAULT_UNSAFE;
-    outcome = REFUSED;
-  }
-  PQclear(row);
-  return outcome;
-}
-
 static enum fault postgres_write(struct engine *engine, const struct batch *batch) {
   struct postgres *store = store_of(engine);
   struct writing writing = {.batch = batch};
@@ -134,10 +121,6 @@ static enum fault postgres_write(struct engine *engine, const struct batch *batc
   enum fault fault = begin_writing(store, &writing, true);
   while (fault == NO_FAULT && outcome != ASKED) {
     outcome = write_once(store, &writing, &fault);
-    if (outcome != REFUSED && outcome != LOST) {
-      enum outcome standby = check_standby(store, &fault);
-      outcome = standby == ASKED ? outcome : standby;
-    }
     if (outcome == REFUSED) {
       return fault != NO_FAULT ? fault : FAULT_STORE;
     }

@@ -58,16 +58,17 @@ enum fault session_know(struct postgres *store);
  * there is none the session is NULL, and that is no fault. */
 enum fault session_find(struct postgres *store);
 
-/* Prepares the statement of a batch; false where the session is of no use. */
+/* Prepares the statements of a batch; false where the session is of no use. */
 bool session_prepare(struct postgres *store);
 
 /* Runs a statement, with texts in and out. The result is to be cleared; NULL but where ASKED. */
 enum outcome session_ask(struct postgres *store, const char *text, int count,
                          const char *const *values, PGresult **result);
 
-/* Runs the prepared statement of a batch. */
+/* Runs the prepared statement of a batch, and asks behind its commit whether a standby is named
+ * still, where one is required: what was committed meanwhile waited for none if it is alone. */
 enum outcome session_write(struct postgres *store, const char *const *values, const int *lengths,
-                           PGresult **result);
+                           PGresult **result, bool *is_alone);
 
 /* Ends the session. */
 void session_end(struct postgres *store);

@@ -165,9 +165,11 @@ static bool runs(PGconn *session, PGresult *result) {
 }
 
 bool session_prepare(struct postgres *store) {
-  return store->session != NULL
-         && runs(store->session,
-                 PQprepare(store->session, "write", rows_write, WRITE_VALUES, NULL));
+  static const char standby[] = "SELECT current_setting('synchronous_standby_names') <> ''";
+  PGconn *session = store->session;
+  return session != NULL
+         && runs(session, PQprepare(session, "write", rows_write, WRITE_VALUES, NULL))
+         && runs(session, PQprepare(session, "standby", standby, 0, NULL));
 }
 
 /* Makes a session ready. */
@@ -259,23 +261,49 @@ static bool has_moved(struct postgres *store) {
   return found;
 }
 
-/* Waits for the result of what was sent. A server that stands still is left once another can be
- * written to. */
-static PGresult *await_result(struct postgres *store) {
+/* Waits until the next result of what was sent is there; false where the session is of no use. A
+ * server that stands still is left once another can be written to. */
+static bool await_result(struct postgres *store) {
   struct pollfd watched = {.fd = PQsocket(store->session), .events = POLLIN};
   while (PQisBusy(store->session)) {
     int ready = poll(&watched, 1, SILENCE);
     if ((ready == 0 && has_moved(store)) || (ready > 0 && !PQconsumeInput(store->session))) {
-      return NULL;
+      return false;
     }
   }
-  /* The last result counts: what the commit itself says comes behind the statement's. */
-  PGresult *result = NULL, *next;
-  while ((next = PQgetResult(store->session)) != NULL) {
+  return PQstatus(store->session) == CONNECTION_OK;
+}
+
+/* The last result of the statement that was sent: what the commit itself says comes behind the
+ * statement's. NULL where it isn't whole. */
+static PGresult *result_of(struct postgres *store) {
+  PGresult *result = NULL, *next = NULL;
+  bool is_there;
+  while ((is_there = await_result(store)) && (next = PQgetResult(store->session)) != NULL) {
     PQclear(result);
     result = next;
   }
-  return PQstatus(store->session) == CONNECTION_OK ? result : (PQclear(result), NULL);
+  return is_there && PQstatus(store->session) == CONNECTION_OK ? result : (PQclear(result), NULL);
+}
+
+/* The same of the next statement of a flight, up to the end of its transaction. */
+static PGresult *result_in_flight(struct postgres *store) {
+  PGresult *result = NULL;
+  int ends = 0; /* of the statement's results, and of what its commit says */
+  while (ends <= 2 && await_result(store)) {
+    PGresult *next = PQgetResult(store->session);
+    if (next == NULL) {
+      ends++;
+    } else if (PQresultStatus(next) == PGRES_PIPELINE_SYNC) {
+      PQclear(next);
+      return result;
+    } else {
+      PQclear(result);
+      result = next;
+    }
+  }
+  PQclear(result);
+  return NULL;
 }
 
 /* What an error means. */
@@ -299,19 +327,16 @@ static enum outcome refused(struct postgres *store, const PGresult *result) {
   return REFUSED;
 }
 
-/* What a statement came to that was sent. */
-static enum outcome answered(struct postgres *store, bool is_sent, PGresult **result) {
-  PGresult *found = is_sent ? await_result(store) : NULL;
+/* What a statement came to. */
+static enum outcome outcome_of(struct postgres *store, PGresult *found, PGresult **result) {
   ExecStatusType status = PQresultStatus(found);
-  enum outcome outcome = LOST;
-  if (status == PGRES_TUPLES_OK || status == PGRES_COMMAND_OK) {
-    *result = found;
+  bool is_right = status == PGRES_TUPLES_OK || status == PGRES_COMMAND_OK;
+  *result = is_right ? found : NULL;
+  if (is_right) {
     return ASKED;
   }
-  if (found != NULL) {
-    outcome = refused(store, found);
-    PQclear(found);
-  }
+  enum outcome outcome = found != NULL ? refused(store, found) : LOST;
+  PQclear(found);
   if (outcome == LOST) {
     session_end(store);
   }
@@ -327,19 +352,58 @@ enum outcome session_ask(struct postgres *store, const char *text, int count,
   store->was_warned = false;
   bool is_sent =
       PQsendQueryParams(store->session, text, count, NULL, values, NULL, NULL, 0) == 1;
-  return answered(store, is_sent, result);
+  return outcome_of(store, is_sent ? result_of(store) : NULL, result);
+}
+
+/* Sends a batch, and behind it the question whether a standby is still named then: each is a
+ * transaction of its own, so the answer is of after the batch's commit. */
+static bool send_flight(struct postgres *store, const char *const *values, const int *lengths) {
+  static const int formats[WRITE_VALUES] = {0, 0, 0, 0, 0, 1, 1, 1, 1, 0};
+  PGconn *session = store->session;
+  return PQenterPipelineMode(session) == 1
+         && PQsendQueryPrepared(session, "write", WRITE_VALUES, values, lengths, formats, 0) == 1
+         && PQpipelineSync(session) == 1
+         && (!store->settings->needs_standby
+             || (PQsendQueryPrepared(session, "standby", 0, NULL, NULL, NULL, 0) == 1
+                 && PQpipelineSync(session) == 1));
+}
+
+/* What both came to, where the batch came to this; and whether no standby was named. */
+static enum outcome with_standby(struct postgres *store, enum outcome outcome, PGresult *found,
+                                 bool *is_alone) {
+  PGresult *row;
+  if (outcome != ASKED && outcome != LOCKED) {
+    PQclear(found);
+    return outcome;
+  }
+  enum outcome second = outcome_of(store, found, &row);
+  *is_alone = second == ASKED && *PQgetvalue(row, 0, 0) != 't';
+  PQclear(row);
+  return second == ASKED ? outcome : second;
 }
 
 enum outcome session_write(struct postgres *store, const char *const *values, const int *lengths,
-                           PGresult **result) {
-  static const int formats[WRITE_VALUES] = {0, 0, 0, 0, 0, 1, 1, 1, 1, 0};
+                           PGresult **result, bool *is_alone) {
+  bool asks = store->settings->needs_standby;
+  PGresult *written = NULL, *standby = NULL;
   *result = NULL;
+  *is_alone = false;
   if (store->session == NULL) {
     return LOST;
   }
   store->was_warned = false;
-  bool is_sent = PQsendQueryPrepared(store->session, "write", WRITE_VALUES, values, lengths,
-                                     formats, 0)
-                 == 1;
-  return answered(store, is_sent, result);
+  if (send_flight(store, values, lengths)) {
+    written = result_in_flight(store);
+    standby = asks && written != NULL ? result_in_flight(store) : NULL;
+  }
+  PQexitPipelineMode(store->session); /* it fails where the session is lost, too */
+  enum outcome outcome = outcome_of(store, written, result);
+  if (asks) {
+    outcome = with_standby(store, outcome, standby, is_alone);
+  }
+  if (outcome != ASKED) {
+    PQclear(*result);
+    *result = NULL;
+  }
+  return outcome;
 }
