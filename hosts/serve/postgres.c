@@ -41,21 +41,19 @@ static enum fault postgres_begin_life(struct engine *engine, rughvadi_handle *ro
 struct writing {
   const struct batch *batch;
   uint64_t before; /* the last commit that has to be there */
-  size_t rows;
 };
 
 static enum fault begin_writing(struct postgres *store, struct writing *writing, bool is_whole) {
   const struct batch *batch = writing->batch;
   const struct batch number_alone = {.number = batch->number, .below = batch->below};
   writing->before = is_whole ? store->last : batch->number;
-  writing->rows = is_whole ? batch->pages * rows_of_page(store) : 0;
   return rows_gather(store, is_whole ? batch : &number_alone) ? NO_FAULT : FAULT_MEMORY;
 }
 
 /* Whether the result says that it was written. */
-static bool is_written(const PGresult *result, const struct writing *writing, bool *is_misshapen) {
+static bool is_written(const PGresult *result, size_t rows, bool *is_misshapen) {
   bool has_mark = strtoull(PQgetvalue(result, 0, 0), NULL, 10) == 1;
-  *is_misshapen = has_mark && strtoull(PQgetvalue(result, 0, 1), NULL, 10) != writing->rows;
+  *is_misshapen = has_mark && strtoull(PQgetvalue(result, 0, 1), NULL, 10) != rows;
   return has_mark;
 }
 
@@ -78,7 +76,7 @@ static enum outcome write_once(struct postgres *store, const struct writing *wri
   PGresult *result;
   bool is_misshapen = false, is_alone = false;
   enum outcome outcome = session_write(store, values, lengths, &result, &is_alone);
-  bool is_there = outcome == ASKED && is_written(result, writing, &is_misshapen);
+  bool is_there = outcome == ASKED && is_written(result, store->rows, &is_misshapen);
   PQclear(result);
   *fault = is_misshapen ? FAULT_SHAPE : NO_FAULT;
   if (is_alone) {
@@ -132,6 +130,7 @@ static enum fault postgres_write(struct engine *engine, const struct batch *batc
     }
   }
   if (fault == NO_FAULT) {
+    rows_stored(store, batch);
     store->last = batch->number;
     store->life.below = batch->below;
   }
@@ -147,6 +146,7 @@ static void postgres_close(struct engine *engine) {
   bytes_free(&store->part);
   bytes_free(&store->version);
   bytes_free(&store->body);
+  free(store->stored);
   free(store);
 }
 

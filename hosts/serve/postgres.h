@@ -33,7 +33,10 @@ struct postgres {
   bool was_warned;            /* the database said a warning since the last statement began */
   struct life life;
   uint64_t last; /* the number of the last commit */
-  struct bytes no, part, version, body; /* the arrays of a batch */
+  struct bytes no, part, version, body; /* the arrays of a batch, */
+  size_t rows;                          /* and how many rows they have */
+  uint8_t *stored;    /* all pages as they are stored, where a page has several rows */
+  uint64_t version_0; /* of the page that is being read: its first row's */
 };
 
 /* What a statement came to. */
@@ -97,11 +100,12 @@ enum outcome rows_lay_out(struct postgres *store);
 /* Begins a life, and puts the rows into the empty handle. */
 enum outcome rows_begin(struct postgres *store, rughvadi_handle *rows, enum fault *fault);
 
-/* Gathers the arrays of a batch; false where memory was refused. */
+/* Gathers the arrays of a batch: of each page the first row, and those whose bytes change; false
+ * where memory was refused. */
 bool rows_gather(struct postgres *store, const struct batch *batch);
 
-/* How many rows a page has. */
-size_t rows_of_page(const struct postgres *store);
+/* The batch is stored. */
+void rows_stored(struct postgres *store, const struct batch *batch);
 
 extern const char rows_write[];
 enum { WRITE_VALUES = 10 };

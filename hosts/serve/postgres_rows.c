@@ -32,7 +32,8 @@ const char rows_write[] =
     "  AND EXISTS (SELECT FROM own) RETURNING 1)"
     "SELECT (SELECT count(*) FROM own), (SELECT count(*) FROM written)";
 
-size_t rows_of_page(const struct postgres *store) {
+/* How many rows a page has. */
+static size_t rows_of_page(const struct postgres *store) {
   return ((size_t)store->settings->limits.page_size - 1) / ROW_PART + 1;
 }
 
@@ -109,7 +110,30 @@ static enum outcome put_life(struct postgres *store, enum fault *fault) {
   return *fault == NO_FAULT ? ASKED : REFUSED;
 }
 
-/* Takes the row that is the part of a page; the page is put into the handle with its last one. */
+/* Where it is kept how a page is stored. */
+static uint8_t *stored_page(const struct postgres *store, size_t no) {
+  return store->stored + no * (size_t)store->settings->limits.page_size;
+}
+
+/* Room for all pages, where the rows of one have to be told apart. */
+static bool has_room(struct postgres *store) {
+  const rughvadi_limits *limits = &store->settings->limits;
+  if (store->stored == NULL && rows_of_page(store) > 1) {
+    store->stored = calloc((size_t)limits->pages, (size_t)limits->page_size);
+  }
+  return store->stored != NULL || rows_of_page(store) == 1;
+}
+
+/* Puts a page that was read into the handle. */
+static enum fault take_page(struct postgres *store, size_t no, rughvadi_handle *rows) {
+  if (store->stored != NULL) {
+    memcpy(stored_page(store, no), store->body.at, store->body.size);
+  }
+  return fault_of(
+      rughvadi_open_row(rows, store->version_0, store->body.at, store->body.size));
+}
+
+/* Takes the row that is the part of a page; the page is taken with its last one. */
 static enum fault take_row(struct postgres *store, const PGresult *row, size_t at,
                            rughvadi_handle *rows) {
   size_t parts = rows_of_page(store), part = at % parts;
@@ -117,14 +141,14 @@ static enum fault take_row(struct postgres *store, const PGresult *row, size_t a
   if (at / parts >= store->settings->limits.pages || size != row_size(store, part)) {
     return FAULT_SHAPE;
   }
-  store->body.size = part == 0 ? 0 : store->body.size;
+  if (part == 0) {
+    store->body.size = 0;
+    store->version_0 = number_at((const uint8_t *)PQgetvalue(row, 0, 0), 8);
+  }
   if (!bytes_put(&store->body, PQgetvalue(row, 0, 1), size)) {
     return FAULT_MEMORY;
   }
-  uint64_t version = number_at((const uint8_t *)PQgetvalue(row, 0, 0), 8);
-  return part + 1 < parts ? NO_FAULT
-                          : fault_of(rughvadi_open_row(rows, version, store->body.at,
-                                                       store->body.size));
+  return part + 1 < parts ? NO_FAULT : take_page(store, at / parts, rows);
 }
 
 /* Takes all rows, one after another as they come. */
@@ -147,7 +171,9 @@ static enum outcome take_rows(struct postgres *store, rughvadi_handle *rows, enu
 
 static enum outcome load(struct postgres *store, rughvadi_handle *rows, enum fault *fault) {
   const char *const values[] = {store->store};
-  *fault = fault_of(rughvadi_open_begin(&store->settings->limits, store->last, rows));
+  *fault = has_room(store)
+               ? fault_of(rughvadi_open_begin(&store->settings->limits, store->last, rows))
+               : FAULT_MEMORY;
   if (*fault != NO_FAULT) {
     return REFUSED;
   }
@@ -190,19 +216,35 @@ static bool put_long(struct bytes *bytes, uint64_t number) {
   return bytes_put(bytes, digits, sizeof digits);
 }
 
-/* The head of an array in PostgreSQL's binary form, with room for so many values of that size: how
- * many dimensions it has, that none is null, the type; and how many there are, from place 1 on. */
-static bool begin_array(struct bytes *bytes, uint32_t type, size_t count, size_t size) {
+enum { COUNT_AT = 12 }; /* where an array says how many values it has */
+
+/* The head of an array in PostgreSQL's binary form: how many dimensions it has, that none is null,
+ * the type; and how many there are, which is set later, from place 1 on. */
+static bool begin_array(struct bytes *bytes, uint32_t type, bool is_empty) {
   bytes->size = 0;
-  bool is_put = bytes_reserve(bytes, 20 + count * (4 + size)) && put_number(bytes, count > 0)
-                && put_number(bytes, 0) && put_number(bytes, type);
-  return is_put && (count == 0 || (put_number(bytes, (uint32_t)count) && put_number(bytes, 1)));
+  bool is_put = put_number(bytes, !is_empty) && put_number(bytes, 0) && put_number(bytes, type);
+  return is_put && (is_empty || (put_number(bytes, 0) && put_number(bytes, 1)));
+}
+
+static bool begin_arrays(struct postgres *store, bool are_empty) {
+  store->rows = 0;
+  return begin_array(&store->no, INT4, are_empty) && begin_array(&store->part, INT4, are_empty)
+         && begin_array(&store->version, INT8, are_empty)
+         && begin_array(&store->body, BYTEA, are_empty);
+}
+
+static void end_arrays(struct postgres *store) {
+  struct bytes *const arrays[] = {&store->no, &store->part, &store->version, &store->body};
+  for (size_t at = 0; at < 4 && store->rows > 0; at++) {
+    put_32(arrays[at]->at + COUNT_AT, (uint32_t)store->rows);
+  }
 }
 
 /* Puts a part of a page behind the others; each value has its size in front. */
 static bool put_row(struct postgres *store, const struct page *page, const uint8_t *body,
                     size_t part) {
   size_t size = row_size(store, part);
+  store->rows++;
   return put_number(&store->no, 4) && put_number(&store->no, page->no)
          && put_number(&store->part, 4) && put_number(&store->part, (uint32_t)part)
          && put_number(&store->version, 8) && put_long(&store->version, page->version)
@@ -210,16 +252,36 @@ static bool put_row(struct postgres *store, const struct page *page, const uint8
          && bytes_put(&store->body, body + part * ROW_PART, size);
 }
 
-bool rows_gather(struct postgres *store, const struct batch *batch) {
-  size_t parts = rows_of_page(store), count = batch->pages * parts;
-  size_t page_size = (size_t)store->settings->limits.page_size;
-  bool is_put = begin_array(&store->no, INT4, count, 4)
-                && begin_array(&store->part, INT4, count, 4)
-                && begin_array(&store->version, INT8, count, 8)
-                && begin_array(&store->body, BYTEA, count, ROW_PART);
-  for (size_t at = 0; at < count && is_put; at++) {
-    size_t place = at / parts;
-    is_put = put_row(store, &batch->page[place], batch->bodies.at + place * page_size, at % parts);
+/* Whether a part of a page is stored already. */
+static bool is_stored(const struct postgres *store, const struct page *page, const uint8_t *body,
+                      size_t part) {
+  size_t from = part * ROW_PART;
+  return memcmp(stored_page(store, page->no) + from, body + from, row_size(store, part)) == 0;
+}
+
+/* Puts the rows of a page: the first one, which has its version, and those whose bytes change. */
+static bool put_page(struct postgres *store, const struct page *page, const uint8_t *body) {
+  size_t parts = rows_of_page(store);
+  bool is_put = put_row(store, page, body, 0);
+  for (size_t part = 1; part < parts && is_put; part++) {
+    is_put = is_stored(store, page, body, part) || put_row(store, page, body, part);
   }
   return is_put;
+}
+
+bool rows_gather(struct postgres *store, const struct batch *batch) {
+  size_t page_size = (size_t)store->settings->limits.page_size;
+  bool is_put = begin_arrays(store, batch->pages == 0);
+  for (size_t at = 0; at < batch->pages && is_put; at++) {
+    is_put = put_page(store, &batch->page[at], batch->bodies.at + at * page_size);
+  }
+  end_arrays(store);
+  return is_put;
+}
+
+void rows_stored(struct postgres *store, const struct batch *batch) {
+  size_t page_size = (size_t)store->settings->limits.page_size;
+  for (size_t at = 0; at < batch->pages && store->stored != NULL; at++) {
+    memcpy(stored_page(store, batch->page[at].no), batch->bodies.at + at * page_size, page_size);
+  }
 }
