@@ -26,6 +26,7 @@ static enum fault begin(struct service *service) {
   if (fault != NO_FAULT) {
     return fault;
   }
+  pace_begin(&stream->pace);
   stream->limits = settings->limits;
   batch->below = stream->life.below;
   batch->page = calloc((size_t)settings->limits.pages, sizeof *batch->page);

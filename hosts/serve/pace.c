@@ -2,7 +2,12 @@
 
 #include "fault.h"
 
-static const uint64_t WAIT_MOST = 10000000;
+/* Nanoseconds. A sync that takes less than that is fast. */
+static const uint64_t SECOND = 1000000000, WAIT_MOST = 10000000, FAST = 300000;
+
+/* For so many batches it is tried whether waits pay. What is better stays for as many, then for twice
+ * as many, and so on. */
+enum { TRIAL = 16, COURSE_MOST = 512 };
 
 /* After waits in vain, one after another, nobody is waited for: for 0, 2, 6 and 14 batches. */
 enum { SKIPS_MOST = 15, MOST_CLIENTS = 32 };
@@ -36,18 +41,64 @@ void pace_sent(struct pace *pace) {
   pace->sent = clock_now();
 }
 
-void pace_done(struct pace *pace, uint64_t synced) {
-  pace->synced = synced;
-  pace->done = clock_now();
-  pace->took = pace->done - pace->sent;
-  pace->skips -= pace->skips > 0;
+static uint64_t lesser(uint64_t one, uint64_t other) { return one < other ? one : other; }
+
+void pace_begin(struct pace *pace) {
+  pace->is_patient = true;
+  pace->left = pace->course = TRIAL;
 }
 
-static uint64_t lesser(uint64_t one, uint64_t other) { return one < other ? one : other; }
+/* After a trial the better way goes on. Waits are kept where both are alike. */
+static void end_trial(struct pace *pace) {
+  const uint64_t *rates = pace->rates;
+  bool is_patient = rates[true] + rates[true] / 16 >= rates[false];
+  bool is_new = is_patient == pace->is_patient;
+  unsigned longer = 2 * pace->course;
+  pace->course = is_new ? TRIAL : longer < COURSE_MOST ? longer : COURSE_MOST;
+  pace->is_patient = is_patient;
+  pace->left = pace->course;
+}
+
+/* It was so for long enough: the other way is tried, or the trial ends. */
+static void change(struct pace *pace) {
+  uint64_t *rate = &pace->rates[pace->is_patient];
+  uint64_t now = pace->commits * SECOND / (pace->time + 1);
+  *rate = *rate == 0 ? now : (*rate + now) / 2;
+  pace->commits = pace->time = 0;
+  pace->is_trial = !pace->is_trial;
+  if (pace->is_trial) {
+    pace->is_patient = !pace->is_patient;
+    pace->left = TRIAL;
+  } else {
+    end_trial(pace);
+  }
+}
+
+void pace_done(struct pace *pace, uint64_t synced) {
+  uint64_t former = pace->done;
+  pace->synced = synced;
+  pace->done = clock_now();
+  pace->skips -= pace->skips > 0;
+  if (synced >= FAST) {
+    return;
+  }
+  /* A time in which nobody commits says nothing. */
+  pace->time += lesser(pace->done - former, 4 * (pace->done - pace->sent));
+  pace->commits += (unsigned)__builtin_popcount(pace->newest);
+  if (--pace->left == 0) {
+    change(pace);
+  }
+}
+
+/* For so long others are waited for at most. */
+static uint64_t longest_wait(const struct pace *pace) {
+  uint64_t synced = pace->synced;
+  return synced >= FAST ? lesser(synced / 2, WAIT_MOST) : pace->is_patient ? synced : 0;
+}
 
 uint64_t pace_patience(struct pace *pace) {
   uint32_t missing = (pace->newest | pace->former) & ~pace->waiting;
-  uint64_t most = lesser(pace->synced / 2, WAIT_MOST);
+  uint64_t most = longest_wait(pace);
   uint64_t waited = clock_now() - pace->done;
   if (pace->waiting == 0 || missing == 0 || pace->skips > 0 || waited >= most) {
     return 0;
@@ -56,6 +107,5 @@ uint64_t pace_patience(struct pace *pace) {
     pace->is_waiting = true;
     pace->before = pace->waiting;
   }
-  uint64_t each = (pace->took + waited) / (unsigned)__builtin_popcount(pace->waiting);
-  return lesser(each, most - waited);
+  return most - waited;
 }

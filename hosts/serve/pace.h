@@ -1,10 +1,12 @@
-/* When the next batch goes to disk. A batch takes one sync, whatever is in it, so it pays to wait
- * for clients that will commit again in a moment; but nothing is written meanwhile.
+/* When the next batch goes to disk. A batch takes one sync, whatever is in it, so it may pay to wait
+ * for clients that will commit again in a moment; but nothing is written meanwhile. Where syncs are
+ * fast it may be better that some clients' commits go while others make theirs.
  *
- * All who were in the last two batches are waited for: for half as long as the last batch waited
- * for its sync at most, and ten milliseconds; for the next commit no longer than each of those that
- * wait costs (the time of the last batch and of the wait, shared by them); and not for a while
- * where nobody came. So on a disk that syncs fast the next batch goes at once. */
+ * All who were in the last two batches are waited for: for half as long as the last batch waited for
+ * its sync at most, and ten milliseconds; and not for a while where nobody came. Where the sync took
+ * less than 0.3 milliseconds, it is tried whether that pays: now and then a few batches go without
+ * waits, or with waits as long as a sync, and what gives more commits in a time stays; the longer,
+ * the oftener it was the better. */
 #ifndef SERVE_PACE_H
 #define SERVE_PACE_H
 
@@ -17,9 +19,17 @@ struct pace {
   uint32_t before;         /* whose waited as the wait for others began */
   bool is_waiting;
   unsigned skips, pause; /* for so many batches nobody is waited for, and were after a vain wait */
-  uint64_t sent, done;   /* nanoseconds: when the last batch went, and when it was on disk, */
-  uint64_t took, synced; /* and how long it took, and waited for its sync */
+  uint64_t sent, done; /* nanoseconds: when the last batch went, and when it was on disk, */
+  uint64_t synced;     /* and how long it waited for its sync */
+  bool is_patient;        /* others are waited for, where syncs are fast */
+  bool is_trial;          /* that, or the opposite, is tried */
+  unsigned left, course;  /* for so many batches yet; and after a trial it stays for so many */
+  uint64_t commits, time; /* what went since, and how long it took */
+  uint64_t rates[2];      /* commits a second: without waits, and with them */
 };
+
+/* Begins with waits. */
+void pace_begin(struct pace *pace);
 
 /* A client's commit waits for the next batch. */
 void pace_commit(struct pace *pace, uint32_t client);

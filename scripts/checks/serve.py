@@ -21,8 +21,9 @@
 - Commits of too many pages, too few open files, and the mode and owner of files.
 - What operators see and do: what is counted (with Debian's `promtool`, where it is there), lines of
   the log, tokens that are read again, what the service manager is told, and its unit.
-- How many commits go together, by the gateway's own code over a clock that is no machine's, also
-  without that clock; and how much room its buffers keep.
+- How many commits go together, by the gateway's own code and by that of `rughvadi-serve`, over a
+  clock that is no machine's, the gateway's also without that clock; and how much room its buffers
+  keep.
 - A client of a wrapper that holds a page as the server becomes another: it is gone.
 - The host in C, `hosts/served.c`: copies of its store by sqlite3 while it serves, a kill, and
   frames that are none.
@@ -435,6 +436,26 @@ GATHERED = {
 }
 
 
+# The same of `rughvadi-serve`, whose clients are behind a gateway that hands a frame on in 3.3 us: the
+# third number is of each commit, and the last the mean of a drawn delay. Where a sync takes 3 ms it
+# waits for all, and where it takes 0.1 ms for nobody, if that is better.
+PACED = {
+    (2, 100, 5, 3.3, 5): 12400, (4, 100, 5, 3.3, 5): 22200, (16, 100, 5, 3.3, 5): 54000,
+    (32, 100, 5, 3.3, 5): 82000, (16, 500, 5, 3.3, 5): 21600, (32, 500, 5, 3.3, 5): 34300,
+    (2, 3000, 5, 3.3, 5): 615, (16, 3000, 5, 3.3, 5): 4700, (32, 3000, 5, 3.3, 5): 8900,
+    (32, 100, 5, 3.3, 300): 54000, (16, 3000, 5, 3.3, 300): 3640, (32, 3000, 5, 3.3, 300): 6770,
+}
+
+
+def run_pace(tries: Tries, it: Built) -> None:
+    """How `rughvadi-serve` gathers commits, by its own code over a clock that is no machine's."""
+    model = building.in_c("pace_model", it.room, f"-I{building.TOP}/hosts/serve", "-lm")
+    for words, least in PACED.items():
+        done = subprocess.run([model, *map(str, words)], capture_output=True, text=True, check=True)
+        name = f"commits of {words[0]}, by other engines, syncs of {words[1]} us"
+        tries.told(name, int(done.stdout.split()[0]) >= least, done.stdout.strip())
+
+
 def run_gather(tries: Tries, it: Built) -> None:
     """How the gateway gathers commits, by its own code over a clock that is no machine's."""
     flags = ["-D_GNU_SOURCE", f"-I{building.TOP}/hosts/gateway", "-lm"]
@@ -466,6 +487,7 @@ def main(words: list[str]) -> int:
         room.chmod(0o755)  # clusters run as another user
         it = build(room, built)
         run_gather(tries, it)
+        run_pace(tries, it)
         run_turns(tries, it)
         run_fights(tries, it)
         serve_input.tried(tries, room / "input_play", "serve", (it.play, "serve"))
