@@ -3,12 +3,13 @@
 and leave the same store, which each of those with a file goes on with.
 
 A stream is read at once, so what is said to it has one order. PostgreSQL is left out where it isn't
-there.
+there. The gate's stored runs of `serve` are served by both engines as well, and say what is stored.
 """
 from __future__ import annotations
 
 import contextlib
 import random
+import shutil
 import sqlite3
 import struct
 import subprocess
@@ -16,6 +17,7 @@ from dataclasses import dataclass, field
 from pathlib import Path
 from typing import Callable, Iterator
 
+import building
 import postgres
 from checks.bad_input import ASK_READ, ASK_WRITE, COMMIT, HEADER, HELLO, frame
 from checks.serve_input import AGAIN, CLIENTS, LIFE, PAGES, Scene
@@ -254,6 +256,43 @@ def compared(tries, room: Path, first: InFile, ways: dict[str, list]) -> None:
         tries.told(f"{count} streams: {name}", not found, "\n".join(found[:5]))
 
 
+# ---- stored runs ----
+
+
+def stored_runs() -> Iterator[tuple[list[str], bytes]]:
+    """The words behind `serve` of each run over a store that the gate has stored, and what it says,
+    with its status. What is said of wrong words is clap's own."""
+    crate = building.TOP / "crates/cb_play"
+    stored, at = (crate / "stdout").read_bytes(), 0
+    for line in (crate / "data/examples.txt").read_text().splitlines():
+        words = line.split()
+        if words[:1] != ["serve"] or len(words) != 3:
+            continue
+        begin = stored.index(f"\n{line}\n".encode(), at) + len(line) + 2
+        at = stored.index(b"\n", stored.index(b"status ", begin))
+        yield words[1:], stored[begin : at + 1]
+
+
+def stored_run_differs(room: Path, serve: Path, cluster: postgres.Cluster | None) -> str:
+    """Serves the stored runs in turn, which share one input; the first that says something else.
+    What is no database has no place in a cluster."""
+    crate = building.TOP / "crates/cb_play"
+    shutil.copytree(crate / "data", room)
+    with (crate / "stdin").open("rb") as given:
+        for words, wanted in stored_runs():
+            config, database = words
+            if cluster and database == "text.db":
+                continue
+            if cluster and database.endswith(".db"):
+                database = f"{cluster.address} application_name={database}"
+            done = subprocess.run([str(serve), config, database], cwd=room, stdin=given,
+                                  capture_output=True, check=False, timeout=120)
+            said = done.stdout + done.stderr + f"status {done.returncode}\n".encode()
+            if said != wanted:
+                return f"{words}: {said!r} in place of {wanted!r}"
+    return ""
+
+
 def tried(tries, room: Path, play: Path, serve: Path) -> None:
     """Compares the servers."""
     room.mkdir(mode=0o755)
@@ -267,7 +306,11 @@ def tried(tries, room: Path, play: Path, serve: Path) -> None:
             cluster = postgres.Cluster(room / "cluster").start()
             stack.callback(cluster.stop)
             ways["PostgreSQL"] = [InCluster(cluster, serve)]
+            why = stored_run_differs(room / "stored_in_cluster", serve, cluster)
+            tries.told("the stored runs: PostgreSQL", not why, why)
         compared(tries, room, play_server, ways)
+    why = stored_run_differs(room / "stored", serve, None)
+    tries.told("the stored runs: SQLite", not why, why)
     one, other = Scene(room, (play, "serve")), Scene(room, (serve,))
     for scene in (one, other):
         scene.serve(scene.given(1))
