@@ -165,10 +165,14 @@ static bool has_keys(const struct config *config) {
   return true;
 }
 
-/* A number, or a share of the slots that is at least 1. */
-static uint64_t or_share(const struct config *config, size_t key, uint64_t part) {
-  uint64_t share = config->numbers[SLOTS] / part;
-  return config->is_there[key] ? config->numbers[key] : share > 0 ? share : 1;
+/* A number, or its share of the slots, which is at least 1. */
+static uint64_t or_share(const struct config *config, size_t key) {
+  static const uint64_t parts[KEYS] = {[KIN] = 4, [KOUT] = 2};
+  if (config->is_there[key]) {
+    return config->numbers[key];
+  }
+  uint64_t share = config->numbers[SLOTS] / parts[key];
+  return share > 0 ? share : 1;
 }
 
 /* Whether the numbers are in range; else that is said. */
@@ -215,8 +219,8 @@ int config_read(struct settings *settings) {
                                        numbers[PAGES],
                                        numbers[PAGE_SIZE],
                                        numbers[SLOTS],
-                                       or_share(&config, KIN, 4),
-                                       or_share(&config, KOUT, 2),
+                                       or_share(&config, KIN),
+                                       or_share(&config, KOUT),
                                        numbers[KEEP_WRITE]};
   return has_keys(&config) && in_range(&config, &settings->limits) ? 0 : WRONG;
 }

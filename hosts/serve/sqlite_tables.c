@@ -63,8 +63,11 @@ static enum fault ask_number(struct sqlite *store, const char *text, sqlite3_int
   return fault;
 }
 
-/* Whether the older generation has a row; its tables are both there, or neither. */
-static enum fault has_old(struct sqlite *store, bool *has_rows, bool *are_there) {
+/* What there is of a generation of tables. */
+enum generation { NO_TABLES, NO_ROWS, ROWS };
+
+/* Of the older one; its tables are both there, or neither. */
+static enum fault look_for_old(struct sqlite *store, enum generation *old) {
   static const char *const texts[] = {"SELECT no, version, body FROM page",
                                       "SELECT id, commits, page_size FROM mark"};
   size_t found;
@@ -77,8 +80,7 @@ static enum fault has_old(struct sqlite *store, bool *has_rows, bool *are_there)
     fault = ask_number(store, "SELECT (SELECT count(*) FROM page) + (SELECT count(*) FROM mark)",
                        &rows);
   }
-  *are_there = found == 2;
-  *has_rows = rows > 0;
+  *old = found < 2 ? NO_TABLES : rows > 0 ? ROWS : NO_ROWS;
   return fault;
 }
 
@@ -149,15 +151,16 @@ static enum fault make(struct sqlite *store, bool copies) {
 }
 
 enum fault tables_lay_out(struct sqlite *store) {
-  bool old_rows = false, old_there = false, new_there = false;
-  enum fault fault = has_old(store, &old_rows, &old_there);
+  enum generation old = NO_TABLES;
+  bool new_there = false;
+  enum fault fault = look_for_old(store, &old);
   fault = fault == NO_FAULT ? has_new(store, &new_there) : fault;
-  bool is_mixed = new_there ? old_rows : old_there && !old_rows;
+  bool is_mixed = new_there ? old == ROWS : old == NO_ROWS;
   if (fault == NO_FAULT && is_mixed) {
     fault = FAULT_SHAPE;
   }
   if (fault == NO_FAULT && !new_there) {
-    return make(store, old_rows);
+    return make(store, old == ROWS);
   }
   bool keeps_lives = false;
   fault = fault == NO_FAULT ? is_there(store, "SELECT below FROM life", &keeps_lives) : fault;

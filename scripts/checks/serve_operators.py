@@ -196,16 +196,20 @@ def unit_file(scene: Scene) -> bool:
 
 
 def warnings(scene: Scene) -> bool:
-    """The gateway's sources have no warning of the compiler's analyzer; nor of cppcheck and of
-    clang-tidy's bugprone checks, where these are there."""
-    folder = building.TOP / "hosts/gateway"
-    sources = sorted(map(str, folder.glob("*.c")))
-    flags = ["-std=c11", "-D_GNU_SOURCE"]
+    """The sources of the gateway and of the server over other engines have no warning of the
+    compiler's analyzer; nor of cppcheck and of clang-tidy's bugprone checks, where these are
+    there."""
+    hosts = building.TOP / "hosts"
+    folders = [hosts / "gateway", hosts / "serve"]
+    sources = sorted(str(it) for folder in folders for it in folder.glob("*.c"))
+    libpq = subprocess.run(["pkg-config", "--cflags", "libpq"], capture_output=True, text=True,
+                           check=True).stdout.split()
+    flags = ["-std=c11", "-D_GNU_SOURCE", f"-I{hosts}/c", f"-I{hosts}/gateway", *libpq]
     gcc = ["gcc", *flags, "-O2", "-Wall", "-Wextra", "-Wconversion", "-Werror", "-fanalyzer", "-c"]
     commands = [[*gcc, source, "-o", "/dev/null"] for source in sources]
     checks = "--enable=warning,performance,portability"
     commands.append(["cppcheck", checks, "--inline-suppr", "-q", "--error-exitcode=1",
-                     "-D_GNU_SOURCE", str(folder)])
+                     "-D_GNU_SOURCE", *map(str, folders)])
     commands.append(["clang-tidy", "--quiet", "--checks=-*,bugprone-*", "--warnings-as-errors=*",
                      *sources, "--", *flags])
     found = []
