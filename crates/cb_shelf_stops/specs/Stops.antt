@@ -47,7 +47,8 @@ pub record Course : Type 0 where
   pub life : LifeState
   pub floors : List ℕ
 
--- nothing is committed, and the tables are the store that the first open left, and tell of this life
+-- nothing is committed, and the tables are the store that the first open left, and tell of this
+-- life
 abbrev pub begun : StoreState → LifeState → Course
 begun opening life = record {
   former = [];
@@ -100,9 +101,9 @@ IsDoneOf commits most frame = (commit : Commit) × Contains commits commit
 
 -- The first open of a file, the opening store, which it leaves there, and the life that the tables
 -- tell of then. It found no table, and made them with zeros; or those of an older generation alone,
--- and copied the store in them; or a shelf's tables with that store. Or these had no table of lives,
--- and the first life that is kept began over them. A store that was copied or found is of the
--- limits, with full pages.
+-- and copied the store in them; or a shelf's tables with that store. Or these had no table of
+-- lives, and the first life that is kept began over them. A store that was copied or found is of
+-- the limits, with full pages.
 pub data FirstOpen {S : Type 0} (g : Ghosts S) (limits : Bounds) (opening : StoreState)
     (life : LifeState) (before first : Database) : Type 0 where
   made : before.schema ≡ no_schema → LaysOut g limits before first → opening ≡ zeros limits
