@@ -114,14 +114,15 @@ class Server:
 def announced(it: Store) -> str:
     """The announcement is a header of kind 0 with the floor; the first frames come behind it."""
     with it.served() as server:
-        floor, below = it.row("floor", "below")
-        head = (server.version, server.kind, server.client, server.floor, server.size)
+        floor, below = server.floor, server.floor + (1 << 20)
+        head = (server.version, server.kind, server.client, server.size)
         server.say(frame(HELLO, 0, floor), frame(HELLO, 1, below - 1))
         heard = [server.hear(), server.hear()]
-        kept = it.row("below")
+        server.kill()
+    kept = it.row("floor", "below")
     wanted = [(WELCOME, 0, floor), (WELCOME, 1, below - 1)]
-    right = head == (2, 0, 0, floor, 0) and kept == [below] and heard == wanted
-    return "" if right else f"{head}, {heard}"
+    right = head == (2, 0, 0, 0) and kept == [floor, below] and heard == wanted
+    return "" if right else f"{head}, {kept}, {heard}"
 
 
 def rising(it: Store) -> str:
@@ -138,10 +139,10 @@ def rising(it: Store) -> str:
                 kind, _, welcome = server.hear()
                 if (kind, welcome) != (WELCOME, incarnation):
                     return f"kill {kill}: {kind} of {welcome} in place of {incarnation}"
-                if it.row("below")[0] <= incarnation:
-                    return f"kill {kill}: the bound isn't above {incarnation}"
                 greatest = incarnation
             server.kill()
+        if it.row("below")[0] <= greatest:
+            return f"kill {kill}: the bound isn't above {greatest}"
     return ""
 
 
