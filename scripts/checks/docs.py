@@ -4,10 +4,11 @@
 
 - The examples that crates show in the doc comment of src/lib.rt, between lines of three backticks:
   each line is one of the test that compiles and runs it, in the same order.
-- README's example in Rattle, by that of `cb_office` in the same way.
-- Each program of docs/EMBEDDING.md is the file that is named above it, byte for byte.
-- README's map: the floors of crates.txt, each with its crates, in the same order; each file that it
-  names of a crate is one of its sources; and each crate stands only on crates above it.
+- Each program that a page shows under a remark with a file's name is that file, byte for byte; under
+  a remark that begins with `part of`, it is a part of the file. EMBEDDING, README and TUTORIAL show
+  some.
+- The map, docs/MAP.md: the floors of crates.txt, each with its crates, in the same order; each file
+  that it names of a crate is one of its sources; and each crate stands only on crates above it.
 - scripts/contracts runs, and prints a part of each crate of crates.txt, but of cb_tests.
 - The pictures of docs/charts are what the stored run of `cb_play` prints, byte for byte.
 - Links: each link of README and of docs leads to a file of the repository.
@@ -29,6 +30,8 @@ EXAMPLES = {
     "cb_office": "cb_tests/src/example.rt",
     "cb_schedule": "cb_layer_tests/src/example.rt",
 }
+# The pages that show programs of the repository.
+PROGRAMS = ["README.md", "docs/EMBEDDING.md", "docs/TUTORIAL.md"]
 
 
 def shown(page: str, fence: str) -> list[str]:
@@ -61,14 +64,18 @@ def untested(crate: str, lines: list[str]) -> list[str]:
     return [f"not in its test: {line}" for line in lines if line not in tested]
 
 
-def other_programs() -> list[str]:
-    """The programs of docs/EMBEDDING.md that aren't the file named above them."""
-    shows = re.compile(r"^<!-- (\S+) -->\n```\w*\n(.*?)^```$", re.MULTILINE | re.DOTALL)
-    programs = shows.findall((TOP / "docs/EMBEDDING.md").read_text())
-    wrong = [name for name, text in programs if (TOP / name).read_text() != text]
-    return [f"EMBEDDING.md: {it} is another" for it in wrong] or [
-        "EMBEDDING.md: no program is shown" for _ in range(not programs)
-    ]
+def other_programs(page: pathlib.Path) -> list[str]:
+    """The programs of a page that aren't the file named above them, or a part of it."""
+    shows = re.compile(r"^<!-- (part of )?(\S+) -->\n```\w*\n(.*?)^```$", re.MULTILINE | re.DOTALL)
+    programs = shows.findall(page.read_text())
+    if not programs:
+        return [f"{page.name}: no program is shown"]
+    wrong = []
+    for part, name, text in programs:
+        file = (TOP / name).read_text()
+        if text not in file if part else text != file:
+            wrong.append(f"{page.name}: {name} is another")
+    return wrong
 
 
 def floors() -> list[tuple[str, dict[str, list[str]]]]:
@@ -83,8 +90,8 @@ def floors() -> list[tuple[str, dict[str, list[str]]]]:
 
 
 def mapped() -> list[tuple[str, dict[str, str]]]:
-    """Each floor of README's map, with its crates and what is said of each."""
-    text = (TOP / "README.md").read_text().partition("\n## Map\n")[2].partition("\n## ")[0]
+    """Each floor of the map, with its crates and what is said of each."""
+    text = (TOP / "docs/MAP.md").read_text().partition("\n## ")[0]
     found = []
     for line in text.splitlines():
         if row := re.match(r"\| (?:(\w+) )?\| `(\w+)` \| (.*)", line):
@@ -95,12 +102,12 @@ def mapped() -> list[tuple[str, dict[str, str]]]:
 
 
 def lost_sources() -> list[str]:
-    """Files that README's map names of a crate which hasn't got them."""
+    """Files that the map names of a crate which hasn't got them."""
     wrong = []
     for crate, said in [it for _, crates in mapped() for it in crates.items()]:
         sources = {path.name for path in (TOP / "crates" / crate / "src").rglob("*.rt")}
         named = re.findall(r"`(?:\w+/)*(\w+\.rt)`", said)
-        wrong += [f"README.md: no {it} in {crate}" for it in named if it not in sources]
+        wrong += [f"MAP.md: no {it} in {crate}" for it in named if it not in sources]
     return wrong
 
 
@@ -171,13 +178,13 @@ def main(_words: list[str]) -> int:
     for crate in EXAMPLES:
         lines = shown(first_page(crate), "```")
         wrong += [f"{crate}: {what}" for what in untested(crate, lines)]
-    readme = shown((TOP / "README.md").read_text(), "```rust")
-    wrong += [f"README.md: {what}" for what in untested("cb_office", readme)]
-    wrong += other_programs() + misplaced() + lost_links() + lost_sources() + other_pictures()
+    for name in PROGRAMS:
+        wrong += other_programs(TOP / name)
+    wrong += misplaced() + lost_links() + lost_sources() + other_pictures()
     wrong += bad_edits() + unprinted()
     drawn = [(floor, list(crates)) for floor, crates in mapped()]
     if drawn != [(floor, list(crates)) for floor, crates in floors()]:
-        wrong.append("README's map isn't that of crates.txt")
+        wrong.append("the map isn't that of crates.txt")
     for what in wrong:
         print(what)
     print(f"{len(EXAMPLES)} examples, the map, the links and the edits: {len(wrong)} wrong")
