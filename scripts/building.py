@@ -233,13 +233,16 @@ def below_library(room: Path) -> Path:
 
 
 def library(room: Path) -> Path:
-    """The archive of `rughvadi`, in its folder. `rt lib` doesn't take over what `rt ci` proved, so
-    the crate is built over what that leaves, which proves it."""
+    """The archive of `rughvadi`, in its folder: the one that ARCHIVE names. Else it is built. `rt
+    lib` doesn't take over what `rt ci` proved, so the crate is built over what that leaves, which
+    proves it."""
     name, kit = "rughvadi", toolchain()
     crate = TOP / "crates" / name
     archive = crate / f"out/lib{name}.a"
-    below = below_library(room / "below")
     archive.parent.mkdir(exist_ok=True)
+    if given := named("ARCHIVE"):
+        return Path(shutil.copy(given, archive))
+    below = below_library(room / "below")
     words = [kit / "bin/rattle", "build", "--crate-name", name, "src/lib.rt"]
     words += ["--crate-type", "staticlib", "--links", f"{name}="]
     words += over(libraries_of(name), below, kit)

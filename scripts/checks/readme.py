@@ -12,8 +12,9 @@ the clone, which has what was committed here. A PAGE is a name, as README.md or 
 
 With --built the programs of FOLDER/crates/*/out are copied into the clone, and a command `rt`
 stands first in the path, by which `rt run` of a crate that has one proves nothing: it takes what is
-there. The library is built over the crates that `rt ci` built in FOLDER. All else is done by `rt`
-itself.
+there. The library is the archive that stands in FOLDER, else it is built over the crates that `rt
+ci` built there. FOLDER may also have just the program cb_play and librughvadi.a. All else is done by
+`rt` itself.
 
 It needs `rt`; the long ones also what scripts/install needs, cargo, pkg-config and sqlite3. The
 short commands take some five processor minutes, since two of them compile the whole program. A line
@@ -79,11 +80,14 @@ def is_printed(wanted: list[str], printed: list[str]) -> bool:
 
 def take_built(folder: Path, top: Path, room: Path) -> dict[str, str]:
     """Takes what another clone has built; the environment in which `rt` does so, too."""
-    for crate in sorted((folder / "crates").iterdir()):
-        built, out = crate / f"out/{crate.name}", top / "crates" / crate.name / "out"
-        if built.is_file() and out.parent.is_dir():
-            out.mkdir(exist_ok=True)
-            shutil.copy2(built, out)
+    crates = sorted(it for it in (top / "crates").iterdir() if it.is_dir())
+    for crate in crates:
+        for built in (folder / "crates" / crate.name / "out" / crate.name, folder / crate.name):
+            if built.is_file():
+                (crate / "out").mkdir(exist_ok=True)
+                shutil.copy2(built, crate / "out")
+    archives = [folder / "crates/rughvadi/out/librughvadi.a", folder / "librughvadi.a"]
+    there = {"ARCHIVE": str(it) for it in archives if it.is_file()}
     real = [shutil.which(building.RT[0]) or building.RT[0], *building.RT[1:]]
     command = room / "taken/rt"
     command.parent.mkdir()
@@ -91,7 +95,7 @@ def take_built(folder: Path, top: Path, room: Path) -> dict[str, str]:
     command.chmod(0o755)
     path = f"{command.parent}:{os.environ['PATH']}"
     others = {key: it for key, it in os.environ.items() if key != "RT"}
-    return {**others, "PATH": path, "BELOW": str(folder)}
+    return {**others, "PATH": path, "BELOW": str(folder), **there}
 
 
 def run_page(page: Path, commands: list[Shown], top: Path, env: dict[str, str]) -> int:
