@@ -57,9 +57,18 @@ static DONE: [u8; 32] = [
 
 static OTHER_WELCOME: [u8; 16] = [2, 65, 0, 1, 0, 0, 0, 0, 0, 0, 0, 1, 0, 0, 0, 0];
 
-/// What the read is answered with once the commit is in the store: version 1, sevens.
+/// In the life after that client 0 begins as that life's floor, 2^20 + 1, and reads page 0.
+static LATER_HELLO: [u8; 16] = [2, 1, 0, 0, 0, 0, 0, 0, 0, 16, 0, 1, 0, 0, 0, 0];
+
+static LATER_READ: [u8; 28] = [
+    2, 2, 0, 0, 0, 0, 0, 0, 0, 16, 0, 1, 0, 0, 0, 12, 0, 0, 0, 0, 0, 0, 0, 1, 0, 0, 0, 0,
+];
+
+/// What is said to these: once the commit is in the store, version 1 of the page, sevens.
+static LATER_WELCOME: [u8; 16] = [2, 65, 0, 0, 0, 0, 0, 0, 0, 16, 0, 1, 0, 0, 0, 0];
+
 static SEVENS_GRANTED: [u8; 56] = [
-    2, 66, 0, 0, 0, 0, 0, 0, 0, 0, 0, 1, 0, 0, 0, 40, 0, 0, 0, 0, 0, 0, 0, 0, 0, 0, 0, 1, 0, 0, 0,
+    2, 66, 0, 0, 0, 0, 0, 0, 0, 16, 0, 1, 0, 0, 0, 40, 0, 0, 0, 0, 0, 0, 0, 0, 0, 0, 0, 1, 0, 0, 0,
     0, 0, 0, 0, 1, 0, 0, 0, 16, 7, 7, 7, 7, 7, 7, 7, 7, 7, 7, 7, 7, 7, 7, 7, 7,
 ];
 
@@ -287,17 +296,18 @@ fn output_refused(rt: HostRuntime) -> Result<(), Fail> {
 }
 
 /// Whether a service that goes on where one ended holds what the former committed, and ignores an
-/// incarnation that the former knew.
+/// incarnation that the former knew. One of its own life is granted what was committed.
 fn goes_on(alloc: Global) -> Result<bool, AllocError> {
     let commits = joined(alloc, &[&HELLO, &ASK_READ, &ASK_WRITE, &COMMIT])?;
-    let reads = joined(alloc, &[&HELLO, &ASK_READ])?;
+    let reads = joined(alloc, &[&HELLO, &ASK_READ, &LATER_HELLO, &LATER_READ])?;
+    let wanted = joined(alloc, &[&LATER_WELCOME, &SEVENS_GRANTED])?;
     let ending = ("", Some(0), SEVENS);
     let (mut former, mut output) = (Vec::new(alloc), Vec::new(alloc));
     let (mut first, mut second) = (commits.as_slice(), reads.as_slice());
     let conn = Connection::open_in_memory(alloc)?;
     let (began, conn) = serves(alloc, conn, &mut first, &mut former, ending);
     let (went_on, _conn) = serves(alloc, conn, &mut second, &mut output, ending);
-    Ok(began && went_on && output.is_empty())
+    Ok(began && went_on && output.as_slice() == wanted.as_slice())
 }
 
 /// At the end of the input all is written, and the next service begins with it.
