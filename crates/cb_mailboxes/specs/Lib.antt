@@ -1,2 +1,3 @@
 pub mod Mailboxes
 pub mod Dispatching
+pub mod Mail

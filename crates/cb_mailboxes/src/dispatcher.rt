@@ -1,12 +1,13 @@
 //! The type, its opening, what it takes, and what it shows.
 ghost use Rattle.std.specs.Prelude.{◌≡◌, ◌≢◌, ◌↔◌, ◌<◌, ◌≤◌, ℕ, [], slice_get, IfErr, IfOk};
-ghost use Rattle.std.specs.Prelude.{IsTrue, OnErr, OnOk, true, false, not, ◌==◌};
+ghost use Rattle.std.specs.Prelude.{IfSome, IsTrue, OnErr, OnOk, true, false, not, ◌==◌};
 ghost use Rattle.std.specs.List.{AllByRecursion, filter};
 ghost use Rattle.cb_commit.specs.Stores.{IsOf};
 ghost use Rattle.cb_mailboxes.specs.Dispatching.{Everybody, IsUnchanged, Others, Posts, emptied};
 ghost use Rattle.cb_mailboxes.specs.Dispatching.{forgot, mailbox_of, server_of, untold_in};
 ghost use Rattle.cb_mailboxes.specs.Dispatching.{with_untold, without_oldest};
 ghost use Rattle.cb_frame_types.specs.Grammar.{Fits};
+ghost use Rattle.cb_mailboxes.specs.Mail.{HasMail, IsMailFor};
 ghost use Rattle.cb_mailboxes.specs.Mailboxes.{AsBefore, IsNobody, current_in};
 ghost use Rattle.cb_outbox.specs.Messages.{messages_of};
 ghost use Rattle.cb_page.specs.Clients.{has, with, without};
@@ -45,12 +46,14 @@ impl Drop for Dispatcher {
 impl Model for Dispatcher {
     ghost use Rattle.std.specs.Prelude.{◌≡◌, length};
     ghost use Rattle.cb_mailboxes.specs.Dispatching.{DispatcherState};
+    ghost use Rattle.cb_mailboxes.specs.Mail.{HasMail};
 
     ghost Value = { DispatcherState };
 
     ghost view = { λ d. record { server = d.server; mailboxes = d.mailboxes } };
 
-    ghost invariant = { λ d. length d.mailboxes.boxes ≡ d.server.limits.clients };
+    ghost invariant = { λ d. (length d.mailboxes.boxes ≡ d.server.limits.clients)
+        × HasMail (record { server = d.server; mailboxes = d.mailboxes }) };
 }
 
 impl Dispatcher {
@@ -65,6 +68,8 @@ impl Dispatcher {
         ensures untold { IfOk result (λ d. IsNobody (untold_in d)) }
         ensures arose { IfOk result (λ d. IsServer d.server) }
     {
+        // No page is newer than the last commit: `number` says so.
+        let _known = store.number();
         let mailboxes = Mailboxes::new(alloc, limits.clients())?;
         let server = Server::new(alloc, limits, store)?;
         // A new server has arisen.
@@ -88,6 +93,8 @@ impl Dispatcher {
         ensures untold { IfOk result (λ d. IsNobody (untold_in d)) }
         ensures arose { IfOk result (λ d. IsServer d.server) }
     {
+        // No page is newer than the last commit: `number` says so.
+        let _known = store.number();
         let clients = limits.clients();
         let mailboxes = Mailboxes::new(alloc, clients)?;
         let server = Server::resume(alloc, limits, store, floor)?;
@@ -96,9 +103,11 @@ impl Dispatcher {
         Ok(Dispatcher { server, mailboxes })
     }
 
-    /// The server.
+    /// The server. Since it began it said each frame in a mailbox, to that mailbox's client. A copy
+    /// of a row that stands is as the store has the page, save where its client wrote it since.
     pub fn server(&self) -> &Server
-        ensures { result.now ≡ self.now.server }
+        ensures value { result.now ≡ self.now.server }
+        ensures mail { HasMail self.now }
     {
         &self.server
     }
@@ -270,6 +279,8 @@ impl Dispatcher {
         requires { client < self.old.server.limits.clients }
         ensures oldest { IfOk result (λ frame.
             frame ≡ slice_get (mailbox_of self.old client) 0) }
+        ensures sent { IfOk result (λ frame.
+            IfSome frame (IsMailFor (server_of self.old) client)) }
         ensures rest { OnOk result ((other : ℕ) → mailbox_of self.new other
             ≡ without_oldest (mailbox_of self.old) client other) }
         ensures server { self.new.server ≡ self.old.server }

@@ -4,6 +4,7 @@ use Rattle.cb_mailboxes.proofs.Dispatching.{by_server, greets, on_err, unchanged
 use Rattle.cb_mailboxes.specs.Dispatching.{DispatcherState, Everybody, IsUnchanged, Posts, emptied, mailbox_of}
 use Rattle.cb_protocol.specs.AnyMessages.{MessageComes}
 use Rattle.cb_protocol.specs.Messages.{Hello}
+use Rattle.cb_mailboxes.proofs.Keeping.{kept_greeted, kept_ready, kept_refused}
 use Rattle.cb_mailboxes.proofs.dispatcher.Dispatcher.greet.Goals as goal
 
 pub returns-in_err-make_ready-clause-unchanged : goal.returns-in_err-make_ready-clause-unchanged
@@ -23,9 +24,22 @@ pub returns-clause-ok : goal.returns-clause-ok
 returns-clause-ok c =
     let d : DispatcherState = record { server = c.self.inside.server; mailboxes = c.self.inside.mailboxes } in
     let ready = by_server c.self.inside.server c.state.result.now c.self.inside.mailboxes c.make_ready.new.self c.state.ensures.value c.make_ready.ensures.as_before in
-    let sizes : length c.make_ready.new.self.boxes ≡ c.self.inside.server.limits.clients = c.make_ready.ensures.as_before.clients ∙ c.self.invariant in
+    let sizes : length c.make_ready.new.self.boxes ≡ c.self.inside.server.limits.clients = c.make_ready.ensures.as_before.clients ∙ c.self.invariant.0 in
     let there : c.args.client < c.self.inside.server.limits.clients = subst (λ (v : DispatcherState). c.args.client < v.server.limits.clients) (sym c.self.view_is) c.requires in
     let lt : c.args.client < length c.make_ready.new.self.boxes = subst (λ (n : ℕ). c.args.client < n) (sym sizes) there in
     subst (λ (v : DispatcherState). Posts v (MessageComes c.args.client c.args.incarnation Hello) (emptied (mailbox_of v) c.args.client) Everybody (record { server = c.hello.new.server; mailboxes = c.put.new.self })) c.self.view_is
     (greets d (MessageComes c.args.client c.args.incarnation Hello) c.make_ready.new.self c.hello.new.server c.in_ok-said.said.items ready c.in_ok-make_ready.ensures.ready c.in_ok-said.ensures.ok c.args.client c.clear.new.self c.put.new.self
     lt c.clear.ensures c.put.ensures.boxes c.put.ensures.late c.put.ensures.untold)
+
+pub invariant_of-self : goal.invariant_of-self
+invariant_of-self c = kept_ready c.self.inside.server c.state.result.now c.self.inside.mailboxes c.make_ready.new.self c.state.ensures.value c.make_ready.ensures.as_before c.self.invariant
+
+pub invariant_of-self-in_err-said : goal.invariant_of-self-in_err-said
+invariant_of-self-in_err-said c = kept_refused c.self.inside.server c.state.result.now c.self.inside.mailboxes c.make_ready.new.self c.hello.new.server c.state.ensures.value c.make_ready.ensures.as_before c.in_err-said.ensures.unchanged c.self.invariant
+
+pub invariant_of-self-2 : goal.invariant_of-self-2
+invariant_of-self-2 c =
+    let sizes : length c.make_ready.new.self.boxes ≡ c.self.inside.server.limits.clients = c.make_ready.ensures.as_before.clients ∙ c.self.invariant.0 in
+    let there : c.args.client < c.self.inside.server.limits.clients = subst (λ (v : DispatcherState). c.args.client < v.server.limits.clients) (sym c.self.view_is) c.requires in
+    let lt : c.args.client < length c.make_ready.new.self.boxes = subst (λ (n : ℕ). c.args.client < n) (sym sizes) there in
+    kept_greeted c.self.inside.server c.state.result.now c.self.inside.mailboxes c.make_ready.new.self c.hello.new.server (MessageComes c.args.client c.args.incarnation Hello) c.in_ok-said.said.items c.state.ensures.value c.make_ready.ensures.as_before c.in_ok-make_ready.ensures.ready c.in_ok-said.ensures.ok there c.self.invariant c.args.client c.clear.new.self c.put.new.self lt c.clear.ensures c.put.ensures.boxes c.put.ensures.late c.put.ensures.untold
