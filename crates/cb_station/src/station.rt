@@ -177,6 +177,13 @@ impl Station {
         self.history.remembered()
     }
 
+    /// The limits of its store and its clients.
+    pub fn limits(&self) -> &Limits
+        ensures { result.now ≡ self.now.dispatcher.server.limits }
+    {
+        self.dispatcher.server().limits()
+    }
+
     /// Whether both hands are of two clients and each is what is stored of it. Then both show the
     /// same version of each page that both hold, and neither may write such a page.
     pub fn meet(&self, one: &Hand, other: &Hand) -> Result<(), OfficeFault>
