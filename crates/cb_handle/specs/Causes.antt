@@ -111,10 +111,13 @@ shown_in (Some bytes) room = refused_if (not (room == length bytes)) refusal.Roo
 abbrev pub server_cause : Bounds → Option Refusal
 server_cause limits = in_limits limits
 
--- a store whose last commit has this number
-abbrev pub opening_cause : Bounds → (number : ℕ) → Option Refusal
-opening_cause limits number =
-    option_or (in_limits limits) (refused_if (nat_lt max_number number) refusal.Range)
+-- a store whose last commit has this number, in a life of this floor: there are such numbers
+abbrev pub no_opening : (number floor : ℕ) → Option Refusal
+no_opening number floor =
+    refused_if (nat_lt max_number number || nat_lt max_number floor) refusal.Range
+
+abbrev pub opening_cause : Bounds → (number floor : ℕ) → Option Refusal
+opening_cause limits number floor = option_or (in_limits limits) (no_opening number floor)
 
 -- a client of that number, in that incarnation
 abbrev pub unknown_client : Bounds → (number incarnation : ℕ) → Option Refusal

@@ -9,7 +9,8 @@ use Rattle.cb_handle.specs.Clients.{IsOutcome, IsStatus, MayWrite}
 use Rattle.cb_handle.specs.Fetching.{Fetches}
 use Rattle.cb_handle.specs.Opened.{no_rows, store_of, with_row}
 use Rattle.cb_handle.specs.Servers as server
-use Rattle.cb_handle.specs.Servers.{HasNext, IsNew, IsUnchanged, page_of_batch, server_of}
+use Rattle.cb_handle.specs.Servers.{BeginsOver, HasNext, IsNew, IsUnchanged, page_of_batch}
+use Rattle.cb_handle.specs.Servers.{server_of}
 use Rattle.cb_handle.specs.declared.object.Object.{Object}
 use Rattle.cb_handle.specs.declared.object.Object.TheVariants as object
 use Rattle.cb_outbox.specs.Messages.{messages_of}
@@ -35,20 +36,23 @@ Clients number incarnation limits (object.Client new) =
     (new.client ≡ new_state number incarnation limits) × (new.said ≡ [])
 Clients number incarnation limits _ = ⊥
 
--- a store of these limits whose last commit has this number, without rows yet
-abbrev pub Opens : Bounds → (number : ℕ) → Object → Type 0
-Opens limits number (object.Opening new) = new ≡ no_rows limits number
-Opens limits number _ = ⊥
+-- a store of these limits whose last commit has this number, without rows yet, whose server begins
+-- in the life of this floor; where that is 0, in none
+abbrev pub Opens : Bounds → (number floor : ℕ) → Object → Type 0
+Opens limits number floor (object.Opening new) = new ≡ no_rows limits number floor
+Opens limits number floor _ = ⊥
 
 -- the row of the next page was put behind the others
 abbrev pub AddsRow : Object → (version : ℕ) → (bytes : List ℕ) → Object → Type 0
 AddsRow (object.Opening old) version bytes (object.Opening new) = new ≡ with_row old version bytes
 AddsRow _ _ _ _ = ⊥
 
--- a new server over the store of the rows, which said nothing
+-- the server that begins over the store of the rows, in the life that was asked for, if one was; it
+-- said nothing
 abbrev pub Serves : Object → Object → Type 0
 Serves (object.Opening old) (object.Server new) =
-    IsNew old.limits (store_of old) new.server × (new.said ≡ []) × (new.batch ≡ None)
+    BeginsOver old.limits (store_of old) old.floor new.server
+    × (new.said ≡ []) × (new.batch ≡ None)
 Serves _ _ = ⊥
 
 -- ---- calls of either

@@ -1,14 +1,23 @@
 -- What is said of a server here: its words from the crates that have them, in one place.
 use Rattle.std.specs.Prelude.{◌≡◌, ◌+◌, ℕ, List, length, Option, Some, None, slice_get, true}
 use Rattle.cb_commit.specs.Batches.{BatchState}
+use Rattle.cb_commit.specs.Stores.{StoreState}
 use Rattle.cb_commit.specs.declared.batch.BatchPage.{BatchPage}
+use Rattle.cb_page.specs.Bounds.{Bounds}
 use Rattle.cb_server_state.specs.Commits.{batch_of}
 use Rattle.cb_protocol.specs.AnyMessages.{MessageComes}
 use Rattle.cb_protocol.specs.Flush.{can_flush, next_batch}
 use Rattle.cb_protocol.specs.Messages.{Hello, Message}
-pub use Rattle.cb_server.specs.ServerValue.{IsNew, IsUnchanged, ServerValue, forgot, server_of}
+pub use Rattle.cb_server.specs.ServerValue.{IsNew, IsResumed, IsUnchanged, ServerValue, forgot}
+pub use Rattle.cb_server.specs.ServerValue.{server_of}
 pub use Rattle.cb_server_state.specs.States.{or_zero}
 pub use Rattle.cb_server.specs.Taking.{Does, TakesBytes}
+
+-- the server that begins over a store: without a floor a new one, which knows no client; else that
+-- of the life of this floor, which knows each client by it
+abbrev pub BeginsOver : Bounds → StoreState → (floor : Option ℕ) → ServerValue → Type 0
+BeginsOver limits store None server = IsNew limits store server
+BeginsOver limits store (Some floor) server = IsResumed limits store floor server
 
 -- the next incarnation of a client, which it may greet with
 abbrev pub next_incarnation : ServerValue → (client : ℕ) → ℕ

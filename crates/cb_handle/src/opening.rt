@@ -1,14 +1,14 @@
 //! The rows of a store that a server is to open over.
 ghost use Rattle.std.specs.Prelude.{◌≡◌, ◌↔◌, IfErr, IfOk, IsOk, OnErr, length, nat_lt};
 ghost use Rattle.cb_commit.specs.Stores.{IsOf};
-ghost use Rattle.cb_handle.specs.Causes.{Decides, memory, never, no_row, refused_if};
-ghost use Rattle.cb_handle.specs.Opened.{no_rows, store_of, with_row};
+ghost use Rattle.cb_handle.specs.Causes.{Decides, memory, never, no_opening, no_row, refused_if};
+ghost use Rattle.cb_handle.specs.Opened.{no_rows, store_of, told_floor, with_row};
 ghost use Rattle.cb_handle.specs.declared.refusal.Refusal.TheVariants as refusal;
 ghost use Rattle.cb_page.specs.Numbers.{max_number};
 
 use crate::refusal::Refusal;
 use cb_commit::{Store, StoredPage};
-use cb_page::{Limits, MAX_NUMBER, Page, Version};
+use cb_page::{Incarnation, Limits, MAX_NUMBER, Page, Version};
 use std::alloc::Global;
 use std::marker::Model;
 
@@ -16,6 +16,8 @@ use std::marker::Model;
 pub struct Opening {
     limits: Limits,
     number: u64,
+    /// Of the life that the server is to begin; without one it is new.
+    floor: Option<Incarnation>,
     rows: Vec<StoredPage>,
 }
 
@@ -25,6 +27,7 @@ impl Drop for Opening {
         let Opening {
             limits: _,
             number: _,
+            floor: _,
             rows: _,
         } = self;
     }
@@ -38,21 +41,38 @@ impl Model for Opening {
     ghost view = { λ opening. record {
       limits = opening.limits;
       number = opening.number;
+      floor = opening.floor;
       rows = opening.rows.items;
     } };
 
     ghost invariant = { λ opening. IsOpening (record {
       limits = opening.limits;
       number = opening.number;
+      floor = opening.floor;
       rows = opening.rows.items;
     }) };
 }
 
+/// The floor that a host tells by a number: 0 is none. `Range` where no incarnation has it.
+fn told(floor: u64) -> Result<Option<Incarnation>, Refusal>
+    ensures floor { IfOk result (λ told. told ≡ told_floor floor) }
+    ensures why { Decides (refused_if (nat_lt max_number floor) refusal.Range) never result }
+{
+    if floor == 0 {
+        return Ok(None);
+    }
+    match Incarnation::checked(floor) {
+        Some(incarnation) => Ok(Some(incarnation)),
+        None => Err(Refusal::Range),
+    }
+}
+
 impl Opening {
-    /// No rows yet. `Range` where no commit has this number, which is 0 before the first.
-    pub fn new(alloc: Global, limits: &Limits, number: u64) -> Result<Opening, Refusal>
-        ensures rows { IfOk result (λ opening. opening ≡ no_rows limits.now number) }
-        ensures why { Decides (refused_if (nat_lt max_number number) refusal.Range) never result }
+    /// No rows yet, for a server in the life of this floor; where that is 0, in none. `Range` where
+    /// no commit has this number, which is 0 before the first, or no incarnation is the floor.
+    pub fn new(alloc: Global, limits: &Limits, number: u64, floor: u64) -> Result<Opening, Refusal>
+        ensures rows { IfOk result (λ opening. opening ≡ no_rows limits.now number floor) }
+        ensures why { Decides (no_opening number floor) never result }
     {
         if number > MAX_NUMBER {
             return Err(Refusal::Range);
@@ -60,6 +80,7 @@ impl Opening {
         Ok(Opening {
             limits: *limits,
             number,
+            floor: told(floor)?,
             rows: Vec::new(alloc),
         })
     }
@@ -90,11 +111,12 @@ impl Opening {
         }
     }
 
-    /// The limits, and the store of the rows, which are moved. The rows come back where there isn't
-    /// one of each page.
-    pub fn into_store(self) -> Result<(Limits, Store), Opening>
+    /// The limits, the store of the rows, which are moved, and the floor. The rows come back where
+    /// there isn't one of each page.
+    pub fn into_store(self) -> Result<(Limits, Store, Option<Incarnation>), Opening>
         ensures limits { IfOk result (λ opened. opened.0 ≡ self.limits) }
         ensures store { IfOk result (λ opened. opened.1 ≡ store_of self) }
+        ensures floor { IfOk result (λ opened. opened.2 ≡ self.floor) }
         ensures of { IfOk result (λ opened. IsOf opened.0 opened.1) }
         ensures back { IfErr result (λ opening. opening ≡ self) }
         ensures whole { IsOk result ↔ (length self.rows ≡ self.limits.pages) }
@@ -105,8 +127,9 @@ impl Opening {
         let Opening {
             limits,
             number,
+            floor,
             rows,
         } = self;
-        Ok((limits, Store::from_rows(&limits, rows, number)))
+        Ok((limits, Store::from_rows(&limits, rows, number), floor))
     }
 }

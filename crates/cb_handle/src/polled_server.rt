@@ -7,9 +7,9 @@ ghost use Rattle.cb_handle.specs.Causes.{Decides, after_fetch, all_on_disk, memo
 ghost use Rattle.cb_handle.specs.Causes.{no_page, not_on_disk, not_to_flush, said_cause, said_may};
 ghost use Rattle.cb_handle.specs.Causes.{in_bytes, server_take_may};
 ghost use Rattle.cb_handle.specs.Fetching.{Fetches};
-ghost use Rattle.cb_handle.specs.Servers.{Does, HasNext, IsNew, IsUnchanged, Leaves, TakesBytes};
-ghost use Rattle.cb_handle.specs.Servers.{forgot, next_incarnation, or_zero, page_of_batch};
-ghost use Rattle.cb_handle.specs.Servers.{server_of};
+ghost use Rattle.cb_handle.specs.Servers.{BeginsOver, Does, HasNext, IsNew, IsUnchanged, Leaves};
+ghost use Rattle.cb_handle.specs.Servers.{TakesBytes, forgot, next_incarnation, or_zero};
+ghost use Rattle.cb_handle.specs.Servers.{page_of_batch, server_of};
 ghost use Rattle.cb_handle.specs.declared.refusal.Refusal.TheVariants as refusal;
 ghost use Rattle.cb_page.specs.Numbers.{IsNumber, max_number};
 ghost use Rattle.cb_protocol.specs.AnyMessages.{ReachesDisk, SendsAgain};
@@ -21,7 +21,7 @@ use cb_commit::{Batch, Store};
 use cb_frame::{Body, BytesFault, Frame, ShortBody};
 use cb_page::{ClientNo, CommitNo, Incarnation, Limits};
 use cb_server::Server;
-use std::alloc::Global;
+use std::alloc::{AllocError, Global};
 
 /// A server, what it said and nobody fetched yet, and the batch that is being written.
 #[derive(Drop)]
@@ -31,17 +31,38 @@ pub struct PolledServer {
     pub batch: Option<Batch>,
 }
 
+/// The server over this store in the life of that floor; without one, a new server.
+fn begun(
+    alloc: Global,
+    limits: &Limits,
+    store: Store,
+    floor: Option<Incarnation>,
+) -> Result<Server, AllocError>
+    requires { IsOf limits.now store }
+    ensures { IfOk result (BeginsOver limits.now store floor) }
+{
+    match floor {
+        Some(floor) => Server::resume(alloc, limits, store, floor),
+        None => Server::new(alloc, limits, store),
+    }
+}
+
 impl PolledServer {
-    /// A server over this store.
-    pub fn over(alloc: Global, limits: &Limits, store: Store) -> Result<PolledServer, Refusal>
+    /// A server over this store, in the life of that floor; without one, a new server.
+    pub fn over(
+        alloc: Global,
+        limits: &Limits,
+        store: Store,
+        floor: Option<Incarnation>,
+    ) -> Result<PolledServer, Refusal>
         requires { IsOf limits.now store }
-        ensures new { IfOk result (λ polled. IsNew limits.now store polled.server) }
+        ensures begun { IfOk result (λ polled. BeginsOver limits.now store floor polled.server) }
         ensures said { IfOk result (λ polled. polled.said ≡ []) }
         ensures batch { IfOk result (λ polled. polled.batch ≡ None) }
         ensures why { Decides None memory result }
     {
         Ok(PolledServer {
-            server: Server::new(alloc, limits, store)?,
+            server: begun(alloc, limits, store, floor)?,
             said: Said::nothing(alloc),
             batch: None,
         })
@@ -55,7 +76,7 @@ impl PolledServer {
         ensures why { Decides None memory result }
     {
         let store = Store::zeros(alloc, limits)?;
-        PolledServer::over(alloc, limits, store)
+        PolledServer::over(alloc, limits, store, None)
     }
 
     /// Takes the frame that the bytes begin with; how many bytes it has.

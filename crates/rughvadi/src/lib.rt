@@ -31,7 +31,9 @@ pub use crossing::handles_cross;
 pub use frames::{rughvadi_again, rughvadi_free, rughvadi_next, rughvadi_take};
 pub use held::Handle;
 pub use limits::StoreLimits;
-pub use opening::{rughvadi_open_begin, rughvadi_open_row, rughvadi_open_serve};
+pub use opening::{
+    rughvadi_open_begin, rughvadi_open_life, rughvadi_open_row, rughvadi_open_serve,
+};
 pub use server::{
     rughvadi_server_batch, rughvadi_server_can_flush, rughvadi_server_flushed,
     rughvadi_server_forget, rughvadi_server_incarnation, rughvadi_server_leave,

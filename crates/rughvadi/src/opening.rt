@@ -11,15 +11,21 @@ use crate::limits::{StoreLimits, boxed, limits_of};
 use cb_handle::{Object, Refusal};
 use std::alloc::Global;
 
-fn opening(alloc: Global, limits: &StoreLimits, number: u64) -> Result<Box<Object>, Refusal>
-    ensures made { IfOk result (λ made. Opens (bounds_of limits.now) number made.value) }
-    ensures why { Decides (opening_cause (bounds_of limits.now) number) memory result }
+fn opening(
+    alloc: Global,
+    limits: &StoreLimits,
+    number: u64,
+    floor: u64,
+) -> Result<Box<Object>, Refusal>
+    ensures made { IfOk result (λ made. Opens (bounds_of limits.now) number floor made.value) }
+    ensures why { Decides (opening_cause (bounds_of limits.now) number floor) memory result }
 {
     let limits = limits_of(limits)?;
-    boxed(alloc, Object::opening(alloc, &limits, number)?)
+    boxed(alloc, Object::opening(alloc, &limits, number, floor)?)
 }
 
-/// A store whose last commit has this number, without rows yet, in an empty handle.
+/// A store whose last commit has this number, without rows yet, in an empty handle. Its server is to
+/// be a new one, that knows no client.
 #[unsafe(no_mangle)]
 pub extern "C" fn rughvadi_open_begin(
     alloc: Global,
@@ -27,19 +33,49 @@ pub extern "C" fn rughvadi_open_begin(
     number: u64,
     h: &mut Handle,
 ) -> u32
-    ensures made { result ≡ 0 → Opens (bounds_of limits.now) number h.new.held.value }
+    ensures made { result ≡ 0 → Opens (bounds_of limits.now) number 0 h.new.held.value }
     ensures live { result ≡ 0 → h.new.live ≡ true }
     ensures was_empty { result ≡ 0 → h.old.live ≡ false }
     ensures unchanged { result ≢ 0 → h.new.live ≡ h.old.live }
     ensures same { h.old.live ≡ true → h.new.held.value ≡ h.old.held.value }
     ensures why { h.old.live ≡ false →
-        IsAnswer (opening_cause (bounds_of limits.now) number) memory result }
+        IsAnswer (opening_cause (bounds_of limits.now) number 0) memory result }
     ensures full { h.old.live ≡ true → result ≡ 774 }
 {
     if h.live {
         return Refusal::Held.number();
     }
-    match opening(alloc, limits, number) {
+    match opening(alloc, limits, number, 0) {
+        Ok(b) => {
+            *h = Handle::of(b);
+            0
+        }
+        Err(refusal) => refusal.number(),
+    }
+}
+
+/// The same for a server in the life of this floor; where that is 0, in none.
+#[unsafe(no_mangle)]
+pub extern "C" fn rughvadi_open_life(
+    alloc: Global,
+    limits: &StoreLimits,
+    number: u64,
+    floor: u64,
+    h: &mut Handle,
+) -> u32
+    ensures made { result ≡ 0 → Opens (bounds_of limits.now) number floor h.new.held.value }
+    ensures live { result ≡ 0 → h.new.live ≡ true }
+    ensures was_empty { result ≡ 0 → h.old.live ≡ false }
+    ensures unchanged { result ≢ 0 → h.new.live ≡ h.old.live }
+    ensures same { h.old.live ≡ true → h.new.held.value ≡ h.old.held.value }
+    ensures why { h.old.live ≡ false →
+        IsAnswer (opening_cause (bounds_of limits.now) number floor) memory result }
+    ensures full { h.old.live ≡ true → result ≡ 774 }
+{
+    if h.live {
+        return Refusal::Held.number();
+    }
+    match opening(alloc, limits, number, floor) {
         Ok(b) => {
             *h = Handle::of(b);
             0
@@ -73,7 +109,8 @@ pub extern "C" fn rughvadi_open_row(
     answer(done)
 }
 
-/// The server over the rows. Where memory is refused the rows are gone, and the handle is empty.
+/// The server over the rows, in the life that was asked for, if one was. Where memory is refused the
+/// rows are gone, and the handle is empty.
 #[unsafe(no_mangle)]
 pub extern "C" fn rughvadi_open_serve(alloc: Global, h: &mut Handle) -> u32
     ensures done { result ≡ 0 → Serves h.old.held.value h.new.held.value }

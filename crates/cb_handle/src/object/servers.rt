@@ -1,9 +1,8 @@
 //! The calls of a server, and of the rows that it opens over.
-ghost use Rattle.std.specs.Prelude.{◌≡◌, ◌⊎◌, Err, IfOk, None, OnErr, length, nat_lt};
-ghost use Rattle.cb_page.specs.Numbers.{max_number};
+ghost use Rattle.std.specs.Prelude.{◌≡◌, ◌⊎◌, Err, IfOk, None, OnErr, length};
 ghost use Rattle.cb_handle.specs.Causes.{Decides, batch_cause, flushed_cause, forget_cause};
-ghost use Rattle.cb_handle.specs.Causes.{incarnation_cause, leave_cause, memory, never, page_cause};
-ghost use Rattle.cb_handle.specs.Causes.{refused_if, row_cause, serve_cause};
+ghost use Rattle.cb_handle.specs.Causes.{incarnation_cause, leave_cause, memory, never, no_opening};
+ghost use Rattle.cb_handle.specs.Causes.{page_cause, row_cause, serve_cause};
 ghost use Rattle.cb_handle.specs.Objects.{AddsRow, CanFlush, Flushes, Forgets, IsLeft};
 ghost use Rattle.cb_handle.specs.Objects.{IsNextIncarnation, Leaves, MakesBatch, Opens, Servers};
 ghost use Rattle.cb_handle.specs.Objects.{Serves, ShowsPage};
@@ -27,12 +26,18 @@ impl Object {
         Ok(Object::Server(PolledServer::zeros(alloc, limits)?))
     }
 
-    /// No rows yet, of a store whose last commit has this number.
-    pub fn opening(alloc: Global, limits: &Limits, number: u64) -> Result<Object, Refusal>
-        ensures rows { IfOk result (Opens limits.now number) }
-        ensures why { Decides (refused_if (nat_lt max_number number) refusal.Range) never result }
+    /// No rows yet, of a store whose last commit has this number, for a server in the life of this
+    /// floor; where that is 0, in none.
+    pub fn opening(
+        alloc: Global,
+        limits: &Limits,
+        number: u64,
+        floor: u64,
+    ) -> Result<Object, Refusal>
+        ensures rows { IfOk result (Opens limits.now number floor) }
+        ensures why { Decides (no_opening number floor) never result }
     {
-        Ok(Object::Opening(Opening::new(alloc, limits, number)?))
+        Ok(Object::Opening(Opening::new(alloc, limits, number, floor)?))
     }
 
     /// The row of the next page.
@@ -62,14 +67,14 @@ impl Object {
                 return Err(Refusal::OtherKind);
             }
         };
-        let (limits, store) = match opening.into_store() {
+        let (limits, store, floor) = match opening.into_store() {
             Ok(opened) => opened,
             Err(opening) => {
                 *self = Object::Opening(opening);
                 return Err(Refusal::Room);
             }
         };
-        let Ok(polled) = PolledServer::over(alloc, &limits, store) else {
+        let Ok(polled) = PolledServer::over(alloc, &limits, store, floor) else {
             return Err(Refusal::Memory);
         };
         *self = Object::Server(polled);
