@@ -2,6 +2,7 @@
 
 mod batches;
 mod disks;
+mod lives;
 mod reopened;
 mod served;
 mod stops;

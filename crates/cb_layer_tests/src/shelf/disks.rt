@@ -2,8 +2,8 @@
 
 use crate::shelf::batches::{Writing, writes};
 use cb_commit::Store;
-use cb_page::{Limits, PageNo};
-use cb_shelf::{Shelf, ShelfFault};
+use cb_page::{Incarnation, Limits, PageNo};
+use cb_shelf::{Life, Shelf, ShelfFault};
 use sqlite::{Alter, Connection, FileStore, Files, Options};
 use sqlite_disk::{Crash, Fuse, Memory};
 use std::alloc::Global;
@@ -24,6 +24,8 @@ pub(crate) enum Deed {
     Load,
     /// A commit is written.
     Write(Writing),
+    /// A life of a server begins, and gets room for a Hello of this incarnation.
+    Live(u64),
 }
 
 /// How far a session came.
@@ -41,16 +43,23 @@ pub(crate) enum Outcome {
     Holds(Option<Held>),
     /// Whether what was to be written was.
     Written(bool),
+    /// No life began.
+    Unbegun(ShelfFault),
+    /// A life began with this floor; whether it got its room.
+    Lived(u64, bool),
 }
 
 /// A store of two pages: its number, and the version of each page and the byte that fills it.
 pub(crate) type Held = (u64, [(u64, u8); 2]);
 
-/// New files, of which that of the database stops after so many calls.
-pub(crate) fn files_that_stop(alloc: Global, calls: u64) -> Files<Fuse<Memory>> {
+/// After how many calls the disk of the log stops, and that of the database's file.
+pub(crate) type Calls = (u64, u64);
+
+/// New files, of which each stops after so many calls.
+pub(crate) fn files_that_stop(alloc: Global, calls: Calls) -> Files<Fuse<Memory>> {
     Files {
-        log: Fuse::new(Memory::new(alloc), u64::MAX),
-        db: Fuse::new(Memory::new(alloc), calls),
+        log: Fuse::new(Memory::new(alloc), calls.0),
+        db: Fuse::new(Memory::new(alloc), calls.1),
     }
 }
 
@@ -120,6 +129,34 @@ fn done<S: Alter>(alloc: Global, limits: &Limits, shelf: &mut Shelf<S>, deed: De
             Err(fault) => Outcome::Unread(fault),
         },
         Deed::Write(writing) => Outcome::Written(writes(alloc, limits, shelf, writing)),
+        Deed::Live(incarnation) => lived(shelf, incarnation),
+    }
+}
+
+/// A life begins, and gets room for a Hello.
+fn lived<S: Alter>(shelf: &mut Shelf<S>, incarnation: u64) -> Outcome {
+    match shelf.begin_life() {
+        Ok(mut life) => {
+            let floor = life.floor().get();
+            Outcome::Lived(floor, gets_room(shelf, &mut life, incarnation))
+        }
+        Err(fault) => Outcome::Unbegun(fault),
+    }
+}
+
+/// From here on no incarnation is given room.
+const END: u64 = 3 << 60;
+
+/// Whether the life has no room for it yet, and gets it.
+fn gets_room<S: Alter>(shelf: &mut Shelf<S>, life: &mut Life, incarnation: u64) -> bool {
+    if incarnation >= END {
+        return false;
+    }
+    match Incarnation::checked(incarnation) {
+        Some(incarnation) if !life.has_room_for(incarnation) => {
+            shelf.raise(life, incarnation).is_ok()
+        }
+        _ => false,
     }
 }
 

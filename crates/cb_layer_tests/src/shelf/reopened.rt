@@ -9,8 +9,8 @@ use std::alloc::Global;
 use std::test::Fail;
 
 /// What comes of the sessions, one after another over the same files, with a crash after each.
-fn outcomes(alloc: Global, sessions: [Session<'_>; 3]) -> [Outcome; 3] {
-    let files = files_that_stop(alloc, u64::MAX);
+pub(crate) fn outcomes(alloc: Global, sessions: [Session<'_>; 3]) -> [Outcome; 3] {
+    let files = files_that_stop(alloc, (u64::MAX, u64::MAX));
     let (first, files) = run_session(alloc, files, sessions[0]);
     let (second, files) = run_session(alloc, files, sessions[1]);
     let (third, _) = run_session(alloc, files, sessions[2]);

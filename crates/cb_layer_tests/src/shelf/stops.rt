@@ -61,7 +61,7 @@ fn count_stops(alloc: Global, limits: &Limits, text: &str, stores: [Held; 2]) ->
     let deed = Deed::Write(Writing::Once);
     let mut stops = Stops::default();
     for calls in 0..1_000 {
-        let files = files_that_stop(alloc, calls);
+        let files = files_that_stop(alloc, (u64::MAX, calls));
         let (reached, files) = run_session(alloc, files, Session { limits, text, deed });
         let (left, _) = run_session(alloc, files, reading(limits));
         if !may_be_left(reached, left, before, after) {
