@@ -7,6 +7,7 @@
 -- Remembering: as many entries of the history are forgotten as commits.
 -- Stations: what holds of every station holds after each call.
 -- Calls: what holds of every station holds after each call, by what the call did.
+-- Bringing: what a collected copy brings.
 -- Admitting: what a commit is answered, by why it is refused or that it is allowed.
 -- Telling: a station stays one whoever is told, and whatever threads tell each other.
 -- Committed: what a commit that was taken, and noted, leaves.
@@ -17,6 +18,7 @@ pub mod PagesRead
 pub mod Receiving
 pub mod Remembering
 pub mod Stations
+pub mod Bringing
 pub mod Calls
 pub mod Admitting
 pub mod Telling

@@ -6,3 +6,4 @@ pub mod Admission
 pub mod Telling
 pub mod FaultTexts
 pub mod Offices
+pub mod Copies

@@ -1,6 +1,7 @@
 //! The lock.
 ghost use Rattle.std.specs.Prelude.{◌≡◌};
 ghost use Rattle.std.specs.Sync.Mutex.{mutex_guard_value};
+ghost use Rattle.cb_mailboxes.specs.Mail.{HasMail};
 ghost use Rattle.cb_mailboxes.specs.Mailboxes.{IsNobody};
 ghost use Rattle.cb_station.specs.Stations.{IsStation};
 ghost use Rattle.cb_station.specs.Telling.{EndsTry, Halts, IsTold, Tells, after_work, closed};
@@ -55,9 +56,11 @@ impl Office {
 
     /// Takes the lock, and lends the station until the guard is let go. Whatever threads did
     /// before, the station is one: its history is legal and is what its server did, what it has
-    /// stored of each hand the server has, and where it is halted it is closed.
+    /// stored of each hand the server has, and where it is halted it is closed. Each frame in a
+    /// mailbox was said by the server to that mailbox's client.
     pub fn lock<R: Wait>(&self, rt: &R) -> MutexGuard<'_, Station>
         ensures sound { IsStation (mutex_guard_value result) }
+        ensures mail { HasMail (mutex_guard_value result).dispatcher }
         ensures told { IsTold (mutex_guard_value result) }
     {
         self.sound(self.station.lock(rt))
@@ -71,6 +74,7 @@ impl Office {
         station: MutexGuard<'a, Station>,
     ) -> MutexGuard<'a, Station>
         ensures sound { IsStation (mutex_guard_value result) }
+        ensures mail { HasMail (mutex_guard_value result).dispatcher }
         ensures told { IsTold (mutex_guard_value result) }
     {
         self.sound(self.changed.wait(rt, station))
@@ -85,6 +89,7 @@ impl Office {
         client: ClientNo,
     ) -> MutexGuard<'a, Station>
         ensures sound { IsStation (mutex_guard_value result) }
+        ensures mail { HasMail (mutex_guard_value result).dispatcher }
         ensures told { IsTold (mutex_guard_value result) }
     {
         self.sound(self.condition_of(client).wait(rt, station))
@@ -99,6 +104,7 @@ impl Office {
         limit: Duration,
     ) -> MutexGuard<'a, Station>
         ensures sound { IsStation (mutex_guard_value result) }
+        ensures mail { HasMail (mutex_guard_value result).dispatcher }
         ensures told { IsTold (mutex_guard_value result) }
     {
         let waited = self.condition_of(client).wait_timeout(rt, station, limit);
@@ -115,6 +121,7 @@ impl Office {
         limit: Duration,
     ) -> MutexGuard<'a, Station>
         ensures sound { IsStation (mutex_guard_value result) }
+        ensures mail { HasMail (mutex_guard_value result).dispatcher }
         ensures told { IsTold (mutex_guard_value result) }
     {
         let waited = self
@@ -221,6 +228,7 @@ impl Office {
     /// The station under the lock, with what always holds of it. Who was forgotten is told.
     fn sound<'a>(&self, station: MutexGuard<'a, Station>) -> MutexGuard<'a, Station>
         ensures sound { IsStation (mutex_guard_value result) }
+        ensures mail { HasMail (mutex_guard_value result).dispatcher }
         ensures told { IsTold (mutex_guard_value result) }
     {
         let mut station = station;

@@ -8,6 +8,7 @@ ghost use Rattle.cb_commit.specs.History.{CatchesUp};
 ghost use Rattle.cb_commit.specs.Stores.{IsOf};
 ghost use Rattle.cb_server_state.specs.Commits.{batch_of};
 ghost use Rattle.cb_hands.specs.Joined.{IsHeld};
+ghost use Rattle.cb_mailboxes.specs.Mail.{HasMail};
 ghost use Rattle.cb_station.specs.Moves.{IsOwn};
 ghost use Rattle.cb_station.specs.Stations.{IsStation, forgot, mailbox_of, remembered, server_of};
 ghost use Rattle.cb_station.specs.declared.office_fault.OfficeFault.TheVariants as office;
@@ -169,11 +170,16 @@ impl Station {
 
     /// The commits that weren't forgotten, the first one first: all, where none was. With what is
     /// stored of the hands, all that there were are as the server has it; a halted station is
-    /// closed.
+    /// closed. Each frame in a mailbox was said by the server since it began, to that mailbox's
+    /// client; a copy of a row that stands is as the store has the page, save where its client
+    /// wrote it since.
     pub fn history(&self) -> &[Entry]
         ensures value { result.now ≡ remembered self.now }
         ensures sound { IsStation self.now }
+        ensures mail { HasMail self.now.dispatcher }
     {
+        // What lies in a mailbox was said by the server: `server` says so.
+        let _known = self.dispatcher.server();
         self.history.remembered()
     }
 

@@ -1,8 +1,10 @@
 //! A client collects what was sent to it.
 ghost use Rattle.std.specs.Prelude.{◌≡◌, ◌↔◌, ◌<◌, ◌⊎◌, ◌&&◌, ℕ, Err, None, Some};
-ghost use Rattle.std.specs.Prelude.{length, IfErr, IfOk, OnErr, OnOk, slice_get};
+ghost use Rattle.std.specs.Prelude.{length, IfErr, IfOk, IfSome, OnErr, OnOk, slice_get};
 ghost use Rattle.cb_mailboxes.specs.Dispatching.{without_oldest};
+ghost use Rattle.cb_mailboxes.specs.Mail.{IsMailFor};
 ghost use Rattle.cb_hands.specs.Joined.{Follow, IsHeld};
+ghost use Rattle.cb_station.specs.Copies.{BringsCopy};
 ghost use Rattle.cb_station.specs.Moves.{collected, is_lasting, received, received_of};
 ghost use Rattle.cb_station.specs.Moves.{told};
 ghost use Rattle.cb_station.specs.Stations.{IsUnchanged, mailbox_of, server_of};
@@ -23,7 +25,8 @@ use cb_server_state::ServerState;
 impl Station {
     /// The oldest frame to the client; `None` exactly where its mailbox is empty. A grant that
     /// comes makes the hand hold the page while its row stands, a permission to write marks it
-    /// while the transaction has it.
+    /// while the transaction has it. A copy that the hand comes to hold has the store's bytes and
+    /// version, save where the client itself wrote the page since.
     ///
     /// `Foreign` exactly where the hand isn't the one stored; `Memory` only where a growth was
     /// refused.
@@ -35,6 +38,10 @@ impl Station {
         ensures err { OnErr result (IsUnchanged self.old self.new × (hand.new ≡ hand.old)) }
         ensures oldest { IfOk result (λ frame.
             frame ≡ slice_get (mailbox_of self.old hand.old.client) 0) }
+        ensures sent { IfOk result (λ frame.
+            IfSome frame (IsMailFor (server_of self.old) hand.old.client)) }
+        ensures brings { IfOk result (λ frame.
+            IfSome frame (BringsCopy (server_of self.old) hand.old hand.new)) }
         ensures rest { OnOk result ((client : ℕ) → mailbox_of self.new client
             ≡ without_oldest (mailbox_of self.old) hand.old.client client) }
         ensures server { self.new.dispatcher.server ≡ self.old.dispatcher.server }

@@ -1,5 +1,5 @@
 -- Goals of `Station::collect`.
-use Rattle.std.proofs.Common.{rules, ◌≡◌, ℕ, Some, refl, sym, ap, ◌∙◌, subst}
+use Rattle.std.proofs.Common.{rules, ◌≡◌, ℕ, Option, Some, refl, sym, ap, ◌∙◌, subst}
 use Rattle.cb_station.proofs.Calls.{collected_stored, hand_station, received_by, store_pages}
 use Rattle.cb_station.proofs.Stations.{unchanged_station}
 use Rattle.cb_station.proofs.Following.{follow_same}
@@ -11,6 +11,11 @@ use Rattle.cb_hands.specs.Joined.{IsHeld}
 use Rattle.cb_server.specs.ServerValue.{ServerValue, commits_of}
 use Rattle.cb_station.specs.Moves.{collected}
 use Rattle.cb_station.proofs.Remembering.{still_forgotten}
+use Rattle.std.specs.Prelude.{IfSome}
+use Rattle.cb_frame_types.specs.declared.frame.Frame.{Frame}
+use Rattle.cb_mailboxes.specs.Mail.{IsMailFor}
+use Rattle.cb_station.proofs.Bringing.{brings}
+use Rattle.cb_station.specs.Copies.{BringsCopy}
 use Rattle.cb_station.proofs.station.Station.collect.Goals as goal
 
 pub invariant_of-self : goal.invariant_of-self
@@ -30,14 +35,14 @@ invariant_of-self-in_default c =
 pub take_in-requires-clause-pages : goal.take_in-requires-clause-pages
 take_in-requires-clause-pages c =
     let held : IsHeld c.self.inside.hands c.args.hand.now = search rules in
-    let state : c.state-state.result.now ≡ c.self.inside.dispatcher.server.state = c.state-state.ensures.value ∙ ap (λ (x : ServerValue). x.state) (c.server.ensures ∙ c.collect.ensures.server) in
+    let state : c.state-state.result.now ≡ c.self.inside.dispatcher.server.state = c.state-state.ensures.value ∙ ap (λ (x : ServerValue). x.state) (c.server.ensures.value ∙ c.collect.ensures.server) in
     store_pages (record { dispatcher = c.self.inside.dispatcher; hands = c.self.inside.hands; history = c.self.inside.history.items; flags = c.self.inside.flags }) c.args.hand.now c.state-state.result.now c.self.invariant.0 held state
 
 pub invariant_of-self-2 : goal.invariant_of-self-2
 invariant_of-self-2 c =
     let held : IsHeld c.self.inside.hands c.args.hand.now = search rules in
     let stored = c.self.invariant.0.hand c.args.hand.now.client c.args.hand.now held in
-    let state : c.state-state.result.now ≡ c.self.inside.dispatcher.server.state = c.state-state.ensures.value ∙ ap (λ (x : ServerValue). x.state) (c.server.ensures ∙ c.collect.ensures.server) in
+    let state : c.state-state.result.now ≡ c.self.inside.dispatcher.server.state = c.state-state.ensures.value ∙ ap (λ (x : ServerValue). x.state) (c.server.ensures.value ∙ c.collect.ensures.server) in
     let other : c.take_in.new.hand ≡ collected (server_of (record { dispatcher = c.self.inside.dispatcher; hands = c.self.inside.hands; history = c.self.inside.history.items; flags = c.self.inside.flags })) c.args.hand.now (Some c.in-Some.frame) =
     c.take_in.ensures.hand ∙ received_by c.self.inside.dispatcher.server c.state-state.result.now c.args.hand.now c.in-Some.frame.body state in (
       hand_station (record { dispatcher = c.self.inside.dispatcher; hands = c.self.inside.hands; history = c.self.inside.history.items; flags = c.self.inside.flags }) (record { dispatcher = c.collect.new.self; hands = c.take_in.new.hands; history = c.self.inside.history.items; flags = c.self.inside.flags }) c.args.hand.now c.take_in.new.hand c.self.invariant.0 c.collect.ensures.server refl refl held c.take_in.ensures.stored
@@ -50,3 +55,18 @@ pub returns-clause-rest : goal.returns-clause-rest
 returns-clause-rest c =
     subst (λ (v : StationState). (client : ℕ) → dispatching.mailbox_of c.collect.new.self client ≡ without_oldest (mailbox_of v) c.args.hand.now.client client) c.self.view_is
     (subst (λ (k : ℕ). (client : ℕ) → dispatching.mailbox_of c.collect.new.self client ≡ without_oldest (dispatching.mailbox_of c.self.inside.dispatcher) k client) c.client.ensures c.in_ok-frame.ensures.rest)
+
+pub returns-clause-sent : goal.returns-clause-sent
+returns-clause-sent c =
+    let sent : IsMailFor (dispatching.server_of c.self.inside.dispatcher) c.args.hand.now.client c.in-Some.frame = subst (λ (k : ℕ). IsMailFor (dispatching.server_of c.self.inside.dispatcher) k c.in-Some.frame) c.client.ensures
+    (subst (λ (o : Option Frame). IfSome o (IsMailFor (dispatching.server_of c.self.inside.dispatcher) c.client.result)) c.in-Some.is c.in_ok-frame.ensures.sent) in
+    subst (λ (v : StationState). IsMailFor (server_of v) c.args.hand.now.client c.in-Some.frame) c.self.view_is sent
+
+pub returns-clause-brings : goal.returns-clause-brings
+returns-clause-brings c =
+    let sent : IsMailFor (dispatching.server_of c.self.inside.dispatcher) c.args.hand.now.client c.in-Some.frame = subst (λ (k : ℕ). IsMailFor (dispatching.server_of c.self.inside.dispatcher) k c.in-Some.frame) c.client.ensures
+    (subst (λ (o : Option Frame). IfSome o (IsMailFor (dispatching.server_of c.self.inside.dispatcher) c.client.result)) c.in-Some.is c.in_ok-frame.ensures.sent) in
+    let state : c.state-state.result.now ≡ c.self.inside.dispatcher.server.state = c.state-state.ensures.value ∙ ap (λ (x : ServerValue). x.state) (c.server.ensures.value ∙ c.collect.ensures.server) in
+    subst (λ (v : StationState). BringsCopy (server_of v) c.args.hand.now c.take_in.new.hand c.in-Some.frame) c.self.view_is
+    (brings (dispatching.server_of c.self.inside.dispatcher) c.args.hand.now c.take_in.new.hand c.in-Some.frame sent
+    (c.take_in.ensures.hand ∙ received_by c.self.inside.dispatcher.server c.state-state.result.now c.args.hand.now c.in-Some.frame.body state))

@@ -24,7 +24,7 @@ invariant_of-self-2 c = (
 )
 
 pub flushed-requires : goal.flushed-requires
-flushed-requires c = sym (c.can_flush.ensures ∙ ap (λ (x : ServerValue). can_flush (server_in x) c.args.number) c.server.ensures) ∙ c.if-not-can_flush.false
+flushed-requires c = sym (c.can_flush.ensures ∙ ap (λ (x : ServerValue). can_flush (server_in x) c.args.number) c.server.ensures.value) ∙ c.if-not-can_flush.false
 
 pub returns-clause-posts : goal.returns-clause-posts
 returns-clause-posts c = λ e. subst (λ (v : StationState). Posts v.dispatcher (ReachesDisk c.args.number) (mailbox_of v) Everybody c.flushed.new.self) c.self.view_is c.in_ok-flushed.ensures.ok

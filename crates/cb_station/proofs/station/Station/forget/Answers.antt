@@ -16,7 +16,7 @@ pub forget-requires-2 : goal.forget-requires-2
 forget-requires-2 c =
     let station : StationState = record { dispatcher = c.self.inside.dispatcher; hands = c.self.inside.hands; history = c.self.inside.history.items; flags = c.self.inside.flags } in
     let new : CommitsState = commits.forgot (commits_of c.self.inside.dispatcher.server) c.args.number in
-    let same : c.state.result.now.commits ≡ new = ap (λ (s : ServerState). s.commits) c.state.ensures.value ∙ ap (λ (x : ServerValue). commits_of x) c.server.ensures ∙ ap (λ (d : DispatcherState). commits_of d.server) c.forget.ensures in
+    let same : c.state.result.now.commits ≡ new = ap (λ (s : ServerState). s.commits) c.state.ensures.value ∙ ap (λ (x : ServerValue). commits_of x) c.server.ensures.value ∙ ap (λ (d : DispatcherState). commits_of d.server) c.forget.ensures in
     let are : AreCommits new = subst AreCommits same c.committed.ensures.sound in
     let kept = ap length (c.committed.ensures.value ∙ ap commits.remembered same) in
     let entries = as_many station c.self.invariant.0 in
@@ -27,7 +27,7 @@ pub invariant_of-self : goal.invariant_of-self
 invariant_of-self c =
     let station : StationState = record { dispatcher = c.self.inside.dispatcher; hands = c.self.inside.hands; history = c.self.inside.history.items; flags = c.self.inside.flags } in
     let new : CommitsState = commits.forgot (commits_of c.self.inside.dispatcher.server) c.args.number in
-    let same : c.state.result.now.commits ≡ new = ap (λ (s : ServerState). s.commits) c.state.ensures.value ∙ ap (λ (x : ServerValue). commits_of x) c.server.ensures ∙ ap (λ (d : DispatcherState). commits_of d.server) c.forget.ensures in
+    let same : c.state.result.now.commits ≡ new = ap (λ (s : ServerState). s.commits) c.state.ensures.value ∙ ap (λ (x : ServerValue). commits_of x) c.server.ensures.value ∙ ap (λ (d : DispatcherState). commits_of d.server) c.forget.ensures in
     let are : AreCommits new = subst AreCommits same c.committed.ensures.sound in
     let kept = ap length (c.committed.ensures.value ∙ ap commits.remembered same) in
     let all = behind c.self.inside.history new (as_many station c.self.invariant.0) are (omega (arith, c.self.invariant.1)) in

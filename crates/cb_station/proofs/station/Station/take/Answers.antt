@@ -34,7 +34,7 @@ invariant_of-self-2 c =
     let posts = c.in-Ok.ensures.ok in
     let does = posts.does in (
       takes_station (record { dispatcher = c.self.inside.dispatcher; hands = c.self.inside.hands; history = c.self.inside.history.items; flags = c.self.inside.flags }) (record { dispatcher = c.take.new.self; hands = c.end_if_over.new.hands; history = c.self.inside.history.items; flags = c.self.inside.flags }) c.self.invariant.0 c.in-Ok.ensures.arose c.args.frame.now (messages_of posts.said) c.args.hand.now c.end_if_over.new.hand does own.held own.client plain there
-          (c.end_if_over.ensures.hand ∙ ended_by c.take.new.self.server c.state.result.now c.give_back.new.hand (c.state.ensures.value ∙ ap (λ (x : ServerValue). x.state) c.server.ensures)
+          (c.end_if_over.ensures.hand ∙ ended_by c.take.new.self.server c.state.result.now c.give_back.new.hand (c.state.ensures.value ∙ ap (λ (x : ServerValue). x.state) c.server.ensures.value)
           ∙ ap (λ (h : HandState). ended_if_over (server_of (record { dispatcher = c.take.new.self; hands = c.end_if_over.new.hands; history = c.self.inside.history.items; flags = c.self.inside.flags })) h) c.give_back.ensures.hand) follow refl refl,
       c.self.invariant.1 ∙ sym posts.does.forgotten,
     )
