@@ -1,5 +1,5 @@
 -- What a collected copy brings.
-use Rattle.std.proofs.Common.{◌≡◌, true≢false, ◌<◌, ◌&&◌, ℕ, Bool, true, false, nat_lt, if◌then◌else◌, length, refl, sym, ◌∙◌, ap, arith, Option, Some, None}
+use Rattle.std.proofs.Common.{◌≡◌, true≢false, ◌<◌, ◌&&◌, ℕ, Bool, true, false, nat_lt, if◌then◌else◌, length, refl, sym, ◌∙◌, ap, subst, arith, List, Option, Some, None, IsSome, inl, inr, ◌⊎◌}
 use Rattle.std.proofs.lemmas.Bool.Decides.{nat_tests}
 use Rattle.std.proofs.lemmas.List.{get_or-set_same}
 use Rattle.cb_frame_types.specs.declared.frame.Body.{Body}
@@ -7,8 +7,9 @@ use Rattle.cb_frame_types.specs.declared.frame.Body.TheVariants as body
 use Rattle.cb_frame_types.specs.declared.frame.Frame.{Frame}
 use Rattle.cb_frame_types.specs.declared.frame.ShortBody.TheVariants as short
 use Rattle.cb_hands.specs.Hands.{HandState, held_at, with_copy}
+use Rattle.cb_hands.specs.Joined.{IsHeld}
 use Rattle.cb_hands.specs.declared.grant.Held.{Held}
-use Rattle.cb_laws.specs.RowVersions.{HasRow}
+use Rattle.cb_laws.specs.RowVersions.{HasRow, IsAsStored, WroteSince}
 use Rattle.cb_mailboxes.specs.Mail.{IsMailFor}
 use Rattle.cb_outbox.specs.Messages.{body_of}
 use Rattle.cb_protocol.specs.Basics.{Bytes, is_exactly, is_none}
@@ -17,6 +18,7 @@ use Rattle.cb_protocol.specs.Messages.{Granted}
 use Rattle.cb_protocol.specs.Server.{Server, has_row}
 use Rattle.cb_station.specs.Copies.{BringsCopy}
 use Rattle.cb_station.specs.Moves.{collected, received, received_of}
+use Rattle.cb_station.specs.Written.{HoldsWritten}
 
 some_is : (o : Option ℕ) (g : ℕ) → is_exactly o g ≡ true → o ≡ Some g
 some_is o g e = grind arith
@@ -58,12 +60,20 @@ granted_of server hand (body.Short (short.AbortNow t)) page grant version bytes 
 granted_of server hand (body.Short (short.Downgraded p g t)) page grant version bytes e = absurd (let z : protocol.Downgraded p g t ≡ Granted page grant version bytes = e in cc)
 granted_of server hand (body.Short (short.Downgrade p g t)) page grant version bytes e = absurd (let z : protocol.Downgrade p g t ≡ Granted page grant version bytes = e in cc)
 
+-- What its client wrote since, it would hold.
+as_stored : (server : Server) (hands : List (Option HandState)) (hand : HandState) (page grant version : ℕ) (bytes : Bytes) → HoldsWritten server hands → IsHeld hands hand → (server.session hand.client).current ≡ hand.incarnation
+    → held_at hand.held page ≡ None → HasRow server hand.client page grant → IsAsStored server page version bytes ⊎ WroteSince server hand.client page grant version → IsAsStored server page version bytes
+as_stored server hands hand page grant version bytes h held current none row (inl is) = is
+as_stored server hands hand page grant version bytes h held current none row (inr wrote) =
+    absurd (true≢false (sym (subst (λ (o : Option Held). IsSome o) none (h.held hand.client page grant (server.store.version page) hand held (sym current) row wrote.1))))
+
 -- a frame that was sent to the client, and collected into its hand
-pub brings : (server : Server) (old new : HandState) (frame : Frame) → IsMailFor server old.client frame → new ≡ collected server old (Some frame) → BringsCopy server old new frame
-brings server old new frame sent e page grant version bytes b none held f =
-    let g : held_at (received server old page grant).held page ≡ Some held = ap (λ (h : HandState). held_at h.held page) (sym (e ∙ granted_of server old frame.body page grant version bytes b)) ∙ f in
+pub brings : (server : Server) (hands : List (Option HandState)) (old new : HandState) (frame : Frame) → HoldsWritten server hands → IsHeld hands old → (server.session old.client).current ≡ old.incarnation
+    → IsMailFor server old.client frame → new ≡ collected server old (Some frame) → BringsCopy server old new frame
+brings server hands old new frame h holds current sent e page grant version bytes b none held f =
+    let g : held_at (received server old page grant).held page ≡ Some held = ap (λ (x : HandState). held_at x.held page) (sym (e ∙ granted_of server old frame.body page grant version bytes b)) ∙ f in
     let c = comes server old page grant held none g in record {
-      by_grant = ap (λ (h : Held). h.grant) c.1;
-      now = ap (λ (h : Held). h.version) c.1;
-      stored = (sent.copy page grant version bytes b c.0).stored;
+      by_grant = ap (λ (x : Held). x.grant) c.1;
+      now = ap (λ (x : Held). x.version) c.1;
+      stored = as_stored server hands old page grant version bytes h holds current none c.0 (sent.copy page grant version bytes b c.0).stored;
     }

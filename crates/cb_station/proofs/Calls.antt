@@ -100,7 +100,7 @@ set_stored P old new client entry set lt own rest d hand e = by (cases_eq d clie
     by (inr apart) = rest d hand apart (sym (get_or-set_other old client d entry None apart) ∙ sym (ap (λ (l : List (Option HandState)). stored_at l d) set) ∙ e)
 
 -- a frame that `take` takes is no Hello and no Commit
-not_hello : (x : Body) → is_plain x ≡ true → body_of x ≢ Hello
+pub not_hello : (x : Body) → is_plain x ≡ true → body_of x ≢ Hello
 not_hello (body.Short short.Hello) p e = true≢false (sym p)
 not_hello (body.Short (short.AskRead t p)) q e = let z : protocol.AskRead t p ≡ Hello = e in cc
 not_hello (body.Short (short.AskWrite t p g)) q e = let z : protocol.AskWrite t p g ≡ Hello = e in cc
@@ -117,7 +117,7 @@ not_hello (body.Short (short.Downgrade p g t)) q e = let z : protocol.Downgrade 
 not_hello (body.Commit t ws) p e = true≢false (sym p)
 not_hello (body.Granted p g v bs) q e = let z : protocol.Granted p g v bs ≡ Hello = e in cc
 
-not_that : (x : Body) → is_plain x ≡ true → (n : ℕ) (ws : List PageWrite) → body_of x ≢ Commit n ws
+pub not_that : (x : Body) → is_plain x ≡ true → (n : ℕ) (ws : List PageWrite) → body_of x ≢ Commit n ws
 not_that (body.Short short.Hello) p n ws e = true≢false (sym p)
 not_that (body.Short (short.AskRead t p)) q n ws e = let z : protocol.AskRead t p ≡ Commit n ws = e in cc
 not_that (body.Short (short.AskWrite t p g)) q n ws e = let z : protocol.AskWrite t p g ≡ Commit n ws = e in cc

@@ -20,9 +20,11 @@ use Rattle.cb_protocol.specs.Messages as protocol
 use Rattle.cb_server.specs.ServerValue.{IsServer}
 use Rattle.cb_server.specs.Taking.{Does, input_of}
 use Rattle.cb_station.proofs.Calls.{commits_by, writes_within}
+use Rattle.cb_station.proofs.Holding.{holds_committed}
 use Rattle.cb_station.specs.Commits.{AllowsCommit, is_live, txn_in, txn_of, writes_in, writes_of}
 use Rattle.cb_station.specs.Moves.{IsEntryOf, IsOwn, committed, is_commit}
 use Rattle.cb_station.specs.Stations.{IsStation, StationState, mailbox_of, server_of}
+use Rattle.cb_station.specs.Written.{HoldsWritten}
 
 -- a Commit says its transaction and its writes
 commit_says : (x : Body) → is_commit x ≡ true → body_of x ≡ protocol.Commit (txn_in x) (page_writes (writes_in x))
@@ -64,6 +66,19 @@ module _ (old : StationState) (frame : Frame) (hand : HandState) (reads : List B
       commits_by old new is arises frame (txn_of frame) (writes_of frame) (messages_of posts.said) hand other reads entry does own.held own.client own.incarnation
       (commit_numbered old.dispatcher.server.limits frame.body allowed.own.1 own.fits.body) (subst (λ (k : ℕ). is_live (server_of old) k (txn_of frame) ≡ true) own.client allowed.live) allowed.permitted.1
       (noted_hand other becomes ∙ ap (λ (n : ℕ). committed hand (writes_of frame) n) allowed.is_next) follow entered history flags
+    where
+      own : IsOwn old frame hand
+      own = allowed.own.0
+
+      does : Does old.dispatcher.server (MessageComes frame.client frame.incarnation (protocol.Commit (txn_of frame) (page_writes (writes_of frame)))) (messages_of posts.said) new.dispatcher.server
+      does = subst (λ (b : protocol.Body). Does old.dispatcher.server (MessageComes frame.client frame.incarnation b) (messages_of posts.said) new.dispatcher.server) (commit_says frame.body allowed.own.1) posts.does
+
+  -- what a client wrote it still holds
+  pub noted_holds : (new : StationState) (other : HandState) → IsStation old → Posts old.dispatcher (input_of frame) (mailbox_of old) Everybody new.dispatcher
+      → other ≡ without_permissions (all_restamped hand entry.writes.items number) → Follow old.hands new.hands hand other → HoldsWritten (server_of old) old.hands → HoldsWritten (server_of new) new.hands
+  noted_holds new other is posts becomes follow h =
+      holds_committed old.dispatcher.server new.dispatcher.server is.arisen old.dispatcher.server.limits.pages frame (txn_of frame) (writes_of frame) hand other number (messages_of posts.said) does old.hands new.hands is.clients
+      own.held (is.hand hand.client hand own.held) own.client allowed.permitted.1 (noted_hand other becomes) follow h
     where
       own : IsOwn old frame hand
       own = allowed.own.0

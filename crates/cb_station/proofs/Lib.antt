@@ -8,6 +8,10 @@
 -- Stations: what holds of every station holds after each call.
 -- Calls: what holds of every station holds after each call, by what the call did.
 -- Bringing: what a collected copy brings.
+-- Writing: what holds of pages that clients wrote goes along the server's steps.
+-- Returning: what is given back has no row any more.
+-- Written: what a client wrote it still holds, by what is stored.
+-- Holding: what a client wrote it still holds, after each call.
 -- Admitting: what a commit is answered, by why it is refused or that it is allowed.
 -- Telling: a station stays one whoever is told, and whatever threads tell each other.
 -- Committed: what a commit that was taken, and noted, leaves.
@@ -19,6 +23,10 @@ pub mod Receiving
 pub mod Remembering
 pub mod Stations
 pub mod Bringing
+pub mod Writing
+pub mod Returning
+pub mod Written
+pub mod Holding
 pub mod Calls
 pub mod Admitting
 pub mod Telling

@@ -7,3 +7,4 @@ pub mod Telling
 pub mod FaultTexts
 pub mod Offices
 pub mod Copies
+pub mod Written

@@ -76,7 +76,8 @@ impl Drop for Station {
 impl Model for Station {
     ghost use Rattle.std.specs.Prelude.{◌≡◌};
     ghost use Rattle.cb_station.specs.Stations.{IsStation, StationState};
-    ghost use Rattle.cb_server.specs.ServerValue.{commits_of};
+    ghost use Rattle.cb_server.specs.ServerValue.{commits_of, server_of};
+    ghost use Rattle.cb_station.specs.Written.{HoldsWritten};
 
     ghost Value = { StationState };
 
@@ -93,7 +94,8 @@ impl Model for Station {
       history = station.history.items;
       flags = station.flags;
     })
-        × (station.history.forgotten ≡ (commits_of station.dispatcher.server).forgotten) };
+        × (station.history.forgotten ≡ (commits_of station.dispatcher.server).forgotten)
+        × HoldsWritten (server_of station.dispatcher.server) station.hands };
 }
 
 impl Station {

@@ -26,7 +26,7 @@ impl Station {
     /// The oldest frame to the client; `None` exactly where its mailbox is empty. A grant that
     /// comes makes the hand hold the page while its row stands, a permission to write marks it
     /// while the transaction has it. A copy that the hand comes to hold has the store's bytes and
-    /// version, save where the client itself wrote the page since.
+    /// version.
     ///
     /// `Foreign` exactly where the hand isn't the one stored; `Memory` only where a growth was
     /// refused.

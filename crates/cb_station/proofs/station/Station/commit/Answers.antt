@@ -9,12 +9,13 @@ use Rattle.cb_protocol.specs.CommitLaws.{IsApplied}
 use Rattle.cb_server.specs.Taking.{input_of}
 use Rattle.cb_station.proofs.Admitting.{answered_refusal}
 use Rattle.cb_station.proofs.Calls.{err_fact, ok_fact}
-use Rattle.cb_station.proofs.Committed.{entry_within, noted_commit, noted_hand}
+use Rattle.cb_station.proofs.Committed.{entry_within, noted_commit, noted_hand, noted_holds}
 use Rattle.cb_station.proofs.Remembering.{still_forgotten}
 use Rattle.cb_station.proofs.Stations.{unchanged_station}
 use Rattle.cb_station.proofs.Telling.{noted_flags, with_flags}
 use Rattle.cb_station.specs.Commits.{AllowsCommit, txn_of, writes_of}
 use Rattle.cb_station.specs.Stations.{StationState, mailbox_of, server_of}
+use Rattle.cb_station.proofs.Holding.{holds_unchanged}
 use Rattle.cb_station.proofs.station.Station.commit.Goals as goal
 
 pub returns-in_err-number-clause-foreign : goal.returns-in_err-number-clause-foreign
@@ -54,6 +55,7 @@ invariant_of-self-then-is_err c =
     let failed : is_err c.take.result ≡ true = sym c.is_err.ensures.value ∙ c.if-is_err.true in (
       unchanged_station (record { dispatcher = c.self.inside.dispatcher; hands = c.self.inside.hands; history = c.self.inside.history.items; flags = c.self.inside.flags }) (record { dispatcher = c.take.new.self; hands = c.self.inside.hands; history = c.entry_of.new.history.items; flags = c.self.inside.flags }) c.self.invariant.0 (record { dispatcher = err_fact c.take.result _ failed c.take.ensures.unchanged; hands = refl; history = c.entry_of.ensures.same; flags = refl }),
       c.entry_of.ensures.forgotten ∙ still_forgotten _ _ _ c.self.invariant.1 (err_fact c.take.result _ failed c.take.ensures.unchanged),
+      holds_unchanged c.self.inside.dispatcher c.take.new.self c.self.inside.hands c.self.inside.hands (err_fact c.take.result _ failed c.take.ensures.unchanged) refl c.self.invariant.2,
     )
 
 pub invariant_of-self-2 : goal.invariant_of-self-2
@@ -66,6 +68,8 @@ invariant_of-self-2 c =
     (c.note.ensures.history ∙ ap (λ (h : List Entry). h ++ c.in_ok-entry.entry ∷ []) c.entry_of.ensures.same) c.note.ensures.hand c.note.ensures.stored refl in (
       with_flags c.take.new.self c.note.new.hands c.note.new.history.items c.self.inside.flags noted.0 _ (noted_flags c.self.inside.flags c.self.invariant.0.flags),
       c.note.ensures.forgotten ∙ c.entry_of.ensures.forgotten ∙ c.self.invariant.1 ∙ sym posts.does.forgotten,
+      noted_holds (record { dispatcher = c.self.inside.dispatcher; hands = c.self.inside.hands; history = c.self.inside.history.items; flags = c.self.inside.flags }) c.args.frame.now c.args.hand.now c.args.reads.now c.in_ok-number.number allowed c.in_ok-entry.entry c.in_ok-entry.ensures.entry
+          (record { dispatcher = c.take.new.self; hands = c.note.new.hands; history = c.note.new.history.items; flags = c.self.inside.flags }) c.note.new.hand c.self.invariant.0 posts c.note.ensures.hand c.note.ensures.stored c.self.invariant.2,
     )
 
 pub returns-clause-entry : goal.returns-clause-entry

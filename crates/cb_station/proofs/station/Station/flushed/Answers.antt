@@ -9,18 +9,21 @@ use Rattle.cb_protocol.specs.AnyMessages.{ReachesDisk}
 use Rattle.cb_protocol.specs.Flush.{can_flush}
 use Rattle.cb_server.specs.ServerValue.{ServerValue, server_of as server_in}
 use Rattle.cb_station.proofs.Remembering.{still_forgotten}
+use Rattle.cb_station.proofs.Holding.{holds_flushed, holds_unchanged}
 use Rattle.cb_station.proofs.station.Station.flushed.Goals as goal
 
 pub invariant_of-self : goal.invariant_of-self
 invariant_of-self c = (
   unchanged_station (record { dispatcher = c.self.inside.dispatcher; hands = c.self.inside.hands; history = c.self.inside.history.items; flags = c.self.inside.flags }) (record { dispatcher = c.flushed.new.self; hands = c.self.inside.hands; history = c.self.inside.history.items; flags = c.self.inside.flags }) c.self.invariant.0 (record { dispatcher = c.in_err-flushed.ensures.unchanged; hands = refl; history = refl; flags = refl }),
   still_forgotten _ _ _ c.self.invariant.1 (c.in_err-flushed.ensures.unchanged),
+  holds_unchanged c.self.inside.dispatcher c.flushed.new.self c.self.inside.hands c.self.inside.hands (c.in_err-flushed.ensures.unchanged) refl c.self.invariant.2,
 )
 
 pub invariant_of-self-2 : goal.invariant_of-self-2
 invariant_of-self-2 c = (
   flushed_station (record { dispatcher = c.self.inside.dispatcher; hands = c.self.inside.hands; history = c.self.inside.history.items; flags = c.self.inside.flags }) (record { dispatcher = c.flushed.new.self; hands = c.self.inside.hands; history = c.self.inside.history.items; flags = c.self.inside.flags }) c.self.invariant.0 c.in_ok-flushed.ensures.arose c.args.number (messages_of c.in_ok-flushed.ensures.ok.said) c.in_ok-flushed.ensures.ok.does refl refl refl,
   c.self.invariant.1 ∙ sym c.in_ok-flushed.ensures.ok.does.forgotten,
+  holds_flushed c.self.inside.dispatcher.server c.flushed.new.self.server c.self.inside.hands c.args.number (messages_of c.in_ok-flushed.ensures.ok.said) c.self.invariant.0.arisen c.in_ok-flushed.ensures.ok.does c.self.invariant.2,
 )
 
 pub flushed-requires : goal.flushed-requires

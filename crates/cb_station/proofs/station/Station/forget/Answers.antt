@@ -32,7 +32,7 @@ invariant_of-self c =
     let kept = ap length (c.committed.ensures.value ∙ ap commits.remembered same) in
     let all = behind c.self.inside.history new (as_many station c.self.invariant.0) are (omega (arith, c.self.invariant.1)) in
     let count : c.self.inside.history.forgotten + (length c.remembered.result.now - length c.committed.result.now) ≡ new.forgotten = omega (arith, all, kept, ap length c.remembered.ensures.value) in
-    rw (c.forget.ensures, c.forget-2.ensures.items) (forgets_station station c.args.number c.self.invariant.0, c.forget-2.ensures.forgotten ∙ count)
+    rw (c.forget.ensures, c.forget-2.ensures.items) (forgets_station station c.args.number c.self.invariant.0, c.forget-2.ensures.forgotten ∙ count, c.self.invariant.2)
 
 pub returns : goal.returns
 returns c = rw (c.forget.ensures, c.forget-2.ensures.items, ← c.self.view_is) refl

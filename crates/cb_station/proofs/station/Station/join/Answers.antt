@@ -11,6 +11,7 @@ use Rattle.cb_outbox.specs.Messages.{messages_of}
 use Rattle.cb_protocol.specs.AnyMessages.{MessageComes}
 use Rattle.cb_protocol.specs.Messages.{Hello}
 use Rattle.cb_station.proofs.Remembering.{still_forgotten}
+use Rattle.cb_station.proofs.Holding.{holds_entered, holds_unchanged}
 use Rattle.cb_station.proofs.station.Station.join.Goals as goal
 
 pub invariant_of-self : goal.invariant_of-self
@@ -24,6 +25,8 @@ invariant_of-self-then-is_err c =
       unchanged_station (record { dispatcher = c.self.inside.dispatcher; hands = c.self.inside.hands; history = c.self.inside.history.items; flags = c.self.inside.flags }) (record { dispatcher = c.greet.new.self; hands = c.leave.new.self; history = c.self.inside.history.items; flags = c.self.inside.flags }) c.self.invariant.0
           (record { dispatcher = err_fact c.greet.result _ failed c.greet.ensures.unchanged; hands = left_again c.self.inside.hands c.join.new.self c.leave.new.self c.args.client c.in_ok-hand.hand name none c.in_ok-hand.ensures.stored c.leave.ensures; history = refl; flags = refl }),
       still_forgotten _ _ _ c.self.invariant.1 (err_fact c.greet.result _ failed c.greet.ensures.unchanged),
+      holds_unchanged c.self.inside.dispatcher c.greet.new.self c.self.inside.hands c.leave.new.self (err_fact c.greet.result _ failed c.greet.ensures.unchanged)
+          (left_again c.self.inside.hands c.join.new.self c.leave.new.self c.args.client c.in_ok-hand.hand name none c.in_ok-hand.ensures.stored c.leave.ensures) c.self.invariant.2,
     )
 
 pub returns-then-is_err-clause-err : goal.returns-then-is_err-clause-err
@@ -52,6 +55,8 @@ invariant_of-self-else-is_err c =
           posts.does (omega (arith, next)) (c.in_ok-hand.ensures.hand ∙ ap (λ (n : ℕ). empty_hand c.args.client c.in_ok-incarnation.incarnation n) pages)
           c.in_ok-hand.ensures.stored lt refl refl,
       c.self.invariant.1 ∙ sym posts.does.forgotten,
+      holds_entered c.self.inside.dispatcher.server c.greet.new.self.server c.self.invariant.0.arisen c.args.client c.in_ok-incarnation.incarnation (messages_of posts.said) posts.does c.self.inside.hands c.join.new.self c.self.invariant.0.clients lt c.self.invariant.2 c.in_ok-hand.hand
+          (omega (arith, next)) (c.in_ok-hand.ensures.hand ∙ ap (λ (n : ℕ). empty_hand c.args.client c.in_ok-incarnation.incarnation n) pages) c.in_ok-hand.ensures.stored,
     )
 
 pub returns-clause-posts : goal.returns-clause-posts

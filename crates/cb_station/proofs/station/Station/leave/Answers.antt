@@ -12,6 +12,7 @@ use Rattle.cb_outbox.specs.Messages.{messages_of}
 use Rattle.cb_protocol.specs.AnyMessages.{MessageComes}
 use Rattle.cb_protocol.specs.Messages.{Hello}
 use Rattle.cb_station.proofs.Remembering.{still_forgotten}
+use Rattle.cb_station.proofs.Holding.{holds_left, holds_unchanged}
 use Rattle.cb_station.proofs.station.Station.leave.Goals as goal
 
 pub invariant_of-self : goal.invariant_of-self
@@ -20,6 +21,7 @@ invariant_of-self c =
       unchanged_station (record { dispatcher = c.self.inside.dispatcher; hands = c.self.inside.hands; history = c.self.inside.history.items; flags = c.self.inside.flags }) (record { dispatcher = c.dismiss.new.self; hands = c.self.inside.hands; history = c.self.inside.history.items; flags = c.self.inside.flags }) c.self.invariant.0
           (record { dispatcher = err_fact c.dismiss.result _ failed c.dismiss.ensures.unchanged; hands = refl; history = refl; flags = refl }),
       still_forgotten _ _ _ c.self.invariant.1 (err_fact c.dismiss.result _ failed c.dismiss.ensures.unchanged),
+      holds_unchanged c.self.inside.dispatcher c.dismiss.new.self c.self.inside.hands c.self.inside.hands (err_fact c.dismiss.result _ failed c.dismiss.ensures.unchanged) refl c.self.invariant.2,
     )
 
 pub invariant_of-self-2 : goal.invariant_of-self-2
@@ -31,6 +33,7 @@ invariant_of-self-2 c =
     let lt : c.client-client.result < length c.self.inside.hands = subst (λ (k : ℕ). k < length c.self.inside.hands) (sym c.client-client.ensures) (has_place c.self.inside.hands c.args.hand.client c.args.hand held) in (
       leaves_station (record { dispatcher = c.self.inside.dispatcher; hands = c.self.inside.hands; history = c.self.inside.history.items; flags = c.self.inside.flags }) (record { dispatcher = c.dismiss.new.self; hands = c.leave.new.self; history = c.self.inside.history.items; flags = c.self.inside.flags }) c.self.invariant.0 (ok_fact c.dismiss.result _ done c.dismiss.ensures.arose) c.client-client.result c.in-Some.incarnation (messages_of posts.said) posts.does (c.leave.ensures ∙ ap (λ (k : ℕ). slice_set c.self.inside.hands k none) (sym c.client-client.ensures)) lt refl refl,
       c.self.invariant.1 ∙ sym posts.does.forgotten,
+      holds_left c.self.inside.dispatcher.server c.dismiss.new.self.server c.self.invariant.0.arisen c.client-client.result c.in-Some.incarnation (messages_of posts.said) posts.does c.self.inside.hands c.leave.new.self c.self.invariant.0.clients lt c.self.invariant.2 (c.leave.ensures ∙ ap (λ (k : ℕ). slice_set c.self.inside.hands k none) (sym c.client-client.ensures)),
     )
 
 pub returns-clause-posts : goal.returns-clause-posts

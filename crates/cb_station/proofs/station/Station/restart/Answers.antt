@@ -13,6 +13,7 @@ use Rattle.cb_protocol.specs.AnyMessages.{MessageComes}
 use Rattle.cb_protocol.specs.Messages.{Hello}
 use Rattle.cb_server.specs.Taking.{Does}
 use Rattle.cb_station.proofs.Remembering.{still_forgotten}
+use Rattle.cb_station.proofs.Holding.{holds_entered, holds_unchanged}
 use Rattle.cb_station.proofs.station.Station.restart.Goals as goal
 
 pub invariant_of-self : goal.invariant_of-self
@@ -21,6 +22,7 @@ invariant_of-self c =
       unchanged_station (record { dispatcher = c.self.inside.dispatcher; hands = c.self.inside.hands; history = c.self.inside.history.items; flags = c.self.inside.flags }) (record { dispatcher = c.greet.new.self; hands = c.self.inside.hands; history = c.self.inside.history.items; flags = c.self.inside.flags }) c.self.invariant.0
           (record { dispatcher = err_fact c.greet.result _ failed c.greet.ensures.unchanged; hands = refl; history = refl; flags = refl }),
       still_forgotten _ _ _ c.self.invariant.1 (err_fact c.greet.result _ failed c.greet.ensures.unchanged),
+      holds_unchanged c.self.inside.dispatcher c.greet.new.self c.self.inside.hands c.self.inside.hands (err_fact c.greet.result _ failed c.greet.ensures.unchanged) refl c.self.invariant.2,
     )
 
 pub invariant_of-self-2 : goal.invariant_of-self-2
@@ -36,6 +38,10 @@ invariant_of-self-2 c =
           (subst (λ (n : ℕ). n < c.args.incarnation) (sym current) greater) (c.renew.ensures.hand ∙ ap (λ (n : ℕ). empty_hand c.args.hand.client c.args.incarnation n) stored.size)
           c.renew.ensures.stored.hands (has_place c.self.inside.hands c.args.hand.client c.args.hand held) refl refl,
       c.self.invariant.1 ∙ sym posts.does.forgotten,
+      holds_entered c.self.inside.dispatcher.server c.greet.new.self.server c.self.invariant.0.arisen c.args.hand.client c.args.incarnation (messages_of posts.said)
+          (subst (λ (k : ℕ). Does c.self.inside.dispatcher.server (MessageComes k c.args.incarnation Hello) (messages_of posts.said) c.greet.new.self.server) c.client.ensures posts.does)
+          c.self.inside.hands c.renew.new.self c.self.invariant.0.clients (has_place c.self.inside.hands c.args.hand.client c.args.hand held) c.self.invariant.2 c.renew.new.hand
+          (subst (λ (n : ℕ). n < c.args.incarnation) (sym current) greater) (c.renew.ensures.hand ∙ ap (λ (n : ℕ). empty_hand c.args.hand.client c.args.incarnation n) stored.size) c.renew.ensures.stored.hands,
     )
 
 pub returns-clause-hand : goal.returns-clause-hand
