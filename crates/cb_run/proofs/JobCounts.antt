@@ -14,11 +14,13 @@ use Rattle.cb_protocol.specs.ClientCalls.{Call, CallBegin, CallWrite, Reply, acc
 use Rattle.cb_protocol.specs.Serial.{Operation}
 use Rattle.cb_worker.proofs.Chain.{calls_keep_written, other_writes_keep, want_keeps_bytes, write_replaces_bytes}
 use Rattle.cb_worker.proofs.Standing.{is_then}
-use Rattle.cb_worker.specs.Committing.{HasCommitted, IsCommitting}
+use Rattle.cb_worker.specs.Committing.{IsCommitting}
+use Rattle.cb_worker.specs.Handing.{HasCommitted}
 use Rattle.cb_worker.specs.Keeping.{HasWritten}
 use Rattle.cb_worker.specs.ReadToCommit.{KeepsWritten}
 use Rattle.cb_worker.specs.Waiting.{Wants}
-use Rattle.cb_worker.specs.Workers.{IsStill, WorkerState, last_txn, seen_by, with_client}
+use Rattle.cb_worker.specs.Workers.{WorkerState, last_txn, seen_by, with_client}
+use Rattle.cb_worker.specs.Moving.{IsStill}
 use Rattle.cb_worker.specs.declared.answers.Finished.TheVariants as finished
 use Rattle.cb_worker.specs.declared.answers.Wanted.TheVariants as wanted
 use Rattle.cb_worker.specs.declared.worker_fault.WorkerFault.{WorkerFault}

@@ -10,11 +10,12 @@ use Rattle.cb_outbox.specs.Messages.{page_writes}
 use Rattle.cb_protocol.specs.Client as protocol
 use Rattle.cb_protocol.specs.Messages.{write_of_page}
 use Rattle.cb_station.specs.Commits.{writes_of}
-use Rattle.cb_worker.specs.Committing.{HandedCommitIn}
+use Rattle.cb_worker.specs.Handing.{HandedCommitIn}
 use Rattle.cb_worker.specs.Keeping.{HasWritten, Uses}
 use Rattle.cb_worker.specs.ReadToCommit.{KeepsWritten}
 use Rattle.cb_worker.specs.Waiting.{Wants}
-use Rattle.cb_worker.specs.Workers.{Ended, Hit, IsStill, WorkerState, after_hit, last_txn, seen_by}
+use Rattle.cb_worker.specs.Workers.{Ended, Hit, WorkerState, after_hit, last_txn, seen_by}
+use Rattle.cb_worker.specs.Moving.{IsStill}
 use Rattle.cb_worker.specs.Workers.{with_client}
 use Rattle.cb_worker.specs.declared.answers.Wanted.TheVariants as wanted
 

@@ -1,5 +1,5 @@
 //! A worker's ticket between two tries.
-ghost use Rattle.cb_worker.specs.Workers.{IsStill};
+ghost use Rattle.cb_worker.specs.Moving.{IsStill};
 
 use cb_admission::{Ticket, TryEnd};
 use cb_station::Office;

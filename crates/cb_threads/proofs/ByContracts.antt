@@ -24,12 +24,13 @@ use Rattle.cb_threads.specs.ByContracts.{ForgetsAreSteps, HitsAreSteps, JoinsAre
 use Rattle.cb_threads.specs.ByContracts.{LeavesAreSteps, NewStationsHaveOpened, RefusalsAreSteps}
 use Rattle.cb_threads.specs.ByContracts.{RestartsAreSteps, ResumedStationsHaveOpened}
 use Rattle.cb_threads.specs.ByContracts.{TellsAreSteps, TurnsAreSteps, WritesAreSteps, with_worker}
-use Rattle.cb_threads.specs.Programs.{Program, limits_in, new_worker}
+use Rattle.cb_threads.specs.Programs.{Program, limits_in}
 use Rattle.cb_threads.specs.Programs.HasBegun.{anew, in_life}
 use Rattle.cb_threads.specs.Steps.{Becomes, CallsClient, OthersStay, operation_of, performs}
 use Rattle.cb_worker.proofs.Keeping.{read_free}
 use Rattle.cb_worker.proofs.Reading.{reads as read_is, three}
-use Rattle.cb_worker.specs.Workers.{Hit, WorkerState, after_hit, shows_copy, with_client}
+use Rattle.cb_worker.specs.Moving.{new_worker}
+use Rattle.cb_worker.specs.Workers.{WorkerState, after_hit, may_hit, shows_copy, with_client}
 
 pub new_stations_have_opened : NewStationsHaveOpened
 new_stations_have_opened limits store station sound new mailbox hands = record {
@@ -55,7 +56,7 @@ others_stay : (old : Program) (after : StationState) (c : ℕ) (worker : Option 
     → OthersStay old c (with_worker old after c worker)
 others_stay old after c worker other n = at_others old.worker c other worker n
 
-becomes : (old : Program) (after : StationState) (c : ℕ) (k next : WorkerState)
+pub becomes : (old : Program) (after : StationState) (c : ℕ) (k next : WorkerState)
     → old.worker c ≡ Some k → Becomes old c k next (with_worker old after c (Some next))
 becomes old after c k next was = record {
   was = was;
@@ -154,11 +155,10 @@ writes_are_steps old c page bytes k next was writes rest =
     refl
 
 -- a read that can be answered here
-module _ (k : WorkerState) (page : ℕ) (bytes : Bytes) (is : IsClient k.client)
-    (hit : Hit k page bytes) where
+module _ (k : WorkerState) (page : ℕ) (is : IsClient k.client) (may : may_hit k page ≡ true) where
   parts : (shows_copy k page ≡ true) × (is_some (content_at k.client.copies page) ≡ true)
       × (is_none (call_fault (limits_at k.client) (client_of k.client []) (CallRead page)) ≡ true)
-  parts = three _ _ _ hit.may
+  parts = three _ _ _ may
 
   none_of : (f : Option table.ClientFault) → is_none f ≡ true → f ≡ None
   none_of None z = refl
@@ -182,27 +182,34 @@ module _ (k : WorkerState) (page : ℕ) (bytes : Bytes) (is : IsClient k.client)
       (sees page (bytes_at k.client page)) (page_read k.client page)
   reads_so = reads k.client page finds within parts.1
 
-  here : bytes ≡ bytes_at k.client page
-  here = sym (ap (λ (o : Option Bytes). unwrap_or o []) (lent k page bytes [] hit))
-
   after_reading : after_hit k page ≡ with_client k (page_read k.client page)
-  after_reading = sym (read_is k page hit.may)
+  after_reading = sym (read_is k page may)
 
   after_client : (after_hit k page).client ≡ page_read k.client page
   after_client = ap (λ (x : WorkerState). x.client) after_reading
 
-pub hits_are_steps : HitsAreSteps
-hits_are_steps old c page bytes k was is hit =
+-- it is a step, by which the bytes in the pool are seen
+pub read_at_hand : (old : Program) (c : ℕ) (k : WorkerState) (page : ℕ) (bytes : Bytes)
+    → old.worker c ≡ Some k → IsClient k.client → may_hit k page ≡ true
+    → bytes ≡ bytes_at k.client page
+    → CallsClient old c (CallRead page)
+    (record (with_worker old old.station c (Some (after_hit k page))) {
+      performed = operation_of k.client (Saw page bytes) old.performed;
+    })
+read_at_hand old c k page bytes was is may here =
     quiet old c k (after_hit k page) was
-    (after_reading k page bytes is hit
-    ∙ ap (with_client k) (sym (after_client k page bytes is hit)))
+    (after_reading k page is may ∙ ap (with_client k) (sym (after_client k page is may)))
     (CallRead page) (table.AnsweredBytes (bytes_at k.client page))
     (sees page (bytes_at k.client page)) (operation_of k.client (Saw page bytes) old.performed)
     (subst (λ (x : ClientState). Calls k.client (CallRead page)
     (table.AnsweredBytes (bytes_at k.client page)) [] (sees page (bytes_at k.client page)) x)
-    (sym (after_client k page bytes is hit)) (reads_so k page bytes is hit))
-    (ap (λ (b : Bytes). operation_of k.client (Saw page b) old.performed)
-    (here k page bytes is hit))
+    (sym (after_client k page is may)) (reads_so k page is may))
+    (ap (λ (b : Bytes). operation_of k.client (Saw page b) old.performed) here)
+
+pub hits_are_steps : HitsAreSteps
+hits_are_steps old c page bytes k was is hit =
+    read_at_hand old c k page bytes was is hit.may
+    (sym (ap (λ (o : Option Bytes). unwrap_or o []) (lent k page bytes [] hit)))
 
 pub flushes_are_steps : FlushesAreSteps
 flushes_are_steps old number after can posts hands = record {

@@ -1,36 +1,28 @@
 -- A worker's commit: the client finishes, or says its commit again, and the server takes it.
-use Rattle.std.proofs.Common.{◌≡◌, ◌≢◌, ◌<◌, ◌++◌, ◌==◌, ◌&&◌, ℕ, Bool, true, false, not, nat_le}
-use Rattle.std.proofs.Common.{nat_lt, if◌then◌else◌, List, [], ◌∷◌, Option, Some, None, Result, Ok}
+use Rattle.std.proofs.Common.{◌≡◌, ◌≢◌, ◌++◌, ℕ, Bool, true, false, not}
+use Rattle.std.proofs.Common.{if◌then◌else◌, List, [], ◌∷◌, Option, Some, None, Result, Ok}
 use Rattle.std.proofs.Common.{Err, refl, sym, ◌∙◌, ap, subst, arith, inl, inr, ◌⊎◌}
 use Rattle.std.specs.Prelude.{⊤}
-use Rattle.std.proofs.lemmas.Bool.{cases_eq, cases_lt}
-use Rattle.std.proofs.lemmas.Bool.Decides.{nat_tests}
-use Rattle.cb_client.specs.ByTable.{limits_at}
+use Rattle.std.proofs.lemmas.Bool.{cases_eq}
 use Rattle.cb_client.specs.CallAnswers.{SaysCommit}
 use Rattle.cb_client_core.specs.ClientState.{ClientState, IsClient, client_of}
 use Rattle.cb_frame_types.specs.declared.frame.Frame.{Frame}
-use Rattle.cb_hands.specs.Hands.{HandState}
-use Rattle.cb_outbox.specs.Messages.{body_of, message_of}
+use Rattle.cb_outbox.specs.Messages.{message_of}
 use Rattle.cb_page.specs.Bounds.{Bounds}
 use Rattle.cb_protocol.proofs.Cases.{call_accepted, fault_of_again, said_append}
 use Rattle.cb_protocol.proofs.ClientSpeaks.{calls_speak}
 use Rattle.cb_protocol.proofs.LifeImage.{in_left, in_right}
 use Rattle.cb_protocol.specs.Answers.{AnsweredOk}
-use Rattle.cb_protocol.specs.Basics.{IsIn, Limits, max_number, update}
+use Rattle.cb_protocol.specs.Basics.{IsIn, Limits, update}
 use Rattle.cb_protocol.specs.Cache.{Committing, Idle, Open, TransactionState, is_committing}
 use Rattle.cb_protocol.specs.Client.{Aborted, Ask, Client, ClientStep, Dropped, LastOutcome, NoAsk}
 use Rattle.cb_protocol.specs.Client.{ReadAsk, Say, StatusCommitting, StatusNotWelcome, WriteAsk}
 use Rattle.cb_protocol.specs.Client.{bodies_said, client_after, client_status, welcomed_status}
 use Rattle.cb_protocol.specs.ClientCalls.{CallAgain, CallFinish, client_call, say_ask}
 use Rattle.cb_protocol.specs.ClientCalls.{say_ask_write, say_commit, say_drop, written_pages}
-use Rattle.cb_protocol.specs.Messages.{Body, Commit, Message, PageWrite, to_server}
-use Rattle.cb_protocol.specs.Server.{Server, server_after}
-use Rattle.cb_protocol.specs.ServerMessages.{begin_transaction, commit_allowed, is_exhausted}
-use Rattle.cb_protocol.specs.ServerMessages.{may_proceed}
+use Rattle.cb_protocol.specs.Messages.{Body, Commit, Message, to_server}
 use Rattle.cb_protocol.specs.StoreLimits.{limits_of}
 use Rattle.cb_protocol.specs.World.{messages_said}
-use Rattle.cb_server.specs.Taking.{lacks_number_for}
-use Rattle.cb_station.specs.Stations.{StationState, server_of}
 use Rattle.cb_station.specs.declared.office_fault.OfficeFault.{OfficeFault}
 use Rattle.cb_threads.proofs.Calling.{at_itself, at_others, by_call, to_the_server}
 use Rattle.cb_threads.proofs.Events.{Origin, called_world, calls_reach}
@@ -43,10 +35,10 @@ use Rattle.cb_threads.specs.Steps.{Becomes, IsSilent}
 use Rattle.cb_threads.specs.Steps as steps
 use Rattle.cb_threads.specs.Worlds.{IsWorldClient}
 use Rattle.cb_worker.proofs.Keeping.{as_it_was, fixed_alone}
-use Rattle.cb_worker.proofs.Staying.{commits_still}
+use Rattle.cb_worker.proofs.Staying.{IsSameOne, commits_same}
 use Rattle.cb_worker.specs.Calls.{Committed}
 use Rattle.cb_worker.specs.Committing.{CommitsAt, FinishesOrAgain, IsCommitting}
-use Rattle.cb_worker.specs.Workers.{IsStill, WorkerState, seen_by}
+use Rattle.cb_worker.specs.Workers.{WorkerState, seen_by}
 use Rattle.cb_worker.specs.declared.worker_fault.WorkerFault.{WorkerFault}
 use Rattle.cb_worker.specs.declared.worker_fault.WorkerFault.TheVariants as worker
 
@@ -139,48 +131,6 @@ module _ (L : Limits) (k : Client) (welcomed : k.cache.welcomed ≡ true)
       (sym (said_append (say_ask k k.ask) (say_commit L k)))
       (in_right _ (bodies_said (say_ask k k.ask)) (bodies_said (say_commit L k)) (inl refl)))))
 
--- a commit number was left
-module _ (before after : StationState) (frame : Frame) (reads : List Bool) (hand next : HandState)
-    (number : ℕ) (done : Committed before frame reads hand (Ok number) after next) where
-  not_fault : (f : OfficeFault) → Ok number ≡ Err f → ⊥
-  not_fault f e = cc
-
-  left : (server_of before).store.last_commit < max_number
-  left = elim (cases_lt (server_of before).store.last_commit max_number) [
-    | inl lt ↦ lt
-    | inr le ↦ absurd (not_fault _ (done.foreign.1
-        (λ own. not_fault _ (done.not_held.1 (
-          own,
-          λ permitted. not_fault _ (done.not_live.1
-              (own, permitted, λ live. not_fault _ (done.exhausted.1 (own, permitted, live, le)))),
-        )))))
-  ]
-
-  same_last : (s : Server) (c t : ℕ) → (server_after s (begin_transaction s c t)).store.last_commit
-      ≡ s.store.last_commit
-  same_last s c t = by (nat_lt (s.session c).txn t) refl
-    where
-      by : (b : Bool) → nat_lt (s.session c).txn t ≡ b
-          → (server_after s (begin_transaction s c t)).store.last_commit ≡ s.store.last_commit
-      by true e = rw e refl
-      by false e = rw e refl
-
-  not_all : (a b : Bool) → b ≡ false → (a && b) ≡ false
-  not_all true b e = e
-  not_all false b e = refl
-
-  pub not_exhausted : (t : ℕ) (ws : List PageWrite) → body_of frame.body ≡ Commit t ws
-      → lacks_number_for before.dispatcher.server frame ≡ false
-  not_exhausted t ws e = subst (λ (b : Body). is_exhausted (server_of before) frame.client
-      frame.incarnation b ≡ false) (sym e)
-      (let s : Server = server_of before in
-      let begun : Server = server_after s (begin_transaction s frame.client t) in
-      let more : nat_le max_number begun.store.last_commit ≡ false =
-      (let l = same_last s frame.client t in let m = left in grind (arith, nat_tests, l, m)) in
-      not_all (frame.incarnation == (s.session frame.client).current) _
-      (not_all (may_proceed begun frame.client t && commit_allowed begun frame.client ws) _
-      more))
-
 -- what becomes of the client, and the commit is on its way
 module _ (limits : Bounds) (origin : Origin (limits_of limits)) (old : Program) (c : ℕ)
     (kept : Kept limits origin old) (k : WorkerState) (is : IsWorldClient old kept.world c k)
@@ -258,24 +208,11 @@ module _ (limits : Bounds) (origin : Origin (limits_of limits)) (old : Program) 
       kept.limits_are is calls) refl
   finishes (inr x) = again x.0 x.1 x.2
 
--- the frame is a commit
-says_it : (v : ClientState) (frame : Frame) → SaysCommit v frame → (t : ℕ) × (ws : List PageWrite)
-    × (body_of frame.body ≡ Commit t ws)
-says_it v frame says = (
-  (client_of v []).cache.number,
-  written_pages (client_of v [])
-      (limits_at v).pages,
-  ap (λ (m : Message). m.body) (first (says [])),
-)
-  where
-    first : {x y : Message} → x ∷ [] ≡ y ∷ [] → y ≡ x
-    first e = cc
-
 module _ (limits : Bounds) (origin : Origin (limits_of limits)) (old : Program) (c : ℕ)
     (new : Program)
     (kept : Kept limits origin old) (k next : WorkerState) (is : IsWorldClient old kept.world c k)
     (becomes : Becomes old c k next new)
-    (sound : IsSound new) (still : IsStill k next) (silent : IsSilent old new) (frame : Frame) where
+    (sound : IsSound new) (still : IsSameOne k next) (silent : IsSilent old new) (frame : Frame) where
   -- the client has finished, its commit is kept, and nothing was handed in yet
   abbrev halfway : WorkerState
   halfway = record k { client = next.client; said = frame ∷ k.said }
@@ -305,7 +242,7 @@ module _ (limits : Bounds) (origin : Origin (limits_of limits)) (old : Program) 
           (sym (at_others old.worker c d (Some
           (record k { client = next.client; said = frame ∷ k.said })) n) ∙ e)
 
-  half_still : IsStill k halfway
+  half_still : IsSameOne k halfway
   half_still = record {
     no = still.no;
     incarnation = still.incarnation;
@@ -335,7 +272,7 @@ module _ (limits : Bounds) (origin : Origin (limits_of limits)) (old : Program) 
       (λ g i. elim i [ inl e ↦ inl (inl (ap message_of e)) | inr j ↦ inr j ])
       (λ g e. is.collected g e))
 
-  then_still : IsStill halfway next
+  then_still : IsSameOne halfway next
   then_still = record {
     no = refl;
     incarnation = refl;
@@ -361,19 +298,16 @@ module _ (limits : Bounds) (origin : Origin (limits_of limits)) (old : Program) 
 
   -- and then it was handed in
   handed_in : (reads : List Bool) (number : ℕ) → FinishesOrAgain k.client frame next.client
-      → SaysCommit next.client frame → Committed old.station frame reads k.hand (Ok number)
-      new.station next.hand
+      → Committed old.station frame reads k.hand (Ok number) new.station next.hand
       → next ≡ record k { client = next.client; hand = next.hand } → Kept limits origin new
-  handed_in reads number f says done rest =
+  handed_in reads number f done rest =
       let half : Kept limits origin between = half_kept f in
       let half_is : IsWorldClient between half.world c halfway =
       half.stands.worker c halfway half_becomes.becomes in
-      let it = says_it next.client frame says in
       arrives_kept limits origin between new c halfway next half then_becomes then_still sound
       silent
       (server_arrives limits origin between c new half halfway next half_is frame done.posts
-      (not_exhausted old.station new.station frame reads k.hand next.hand number done it.0 it.1
-      it.2) done.stored refl
+      done.taken done.stored refl
       (λ g i. inr (subst (λ (x : WorkerState). IsIn g x.said) rest i))
       (ap (λ (x : WorkerState). x.collected) rest) (half_is.said frame (inl refl)))
 
@@ -392,12 +326,12 @@ module _ (limits : Bounds) (origin : Origin (limits_of limits)) (old : Program) 
 commit_by : (limits : Bounds) (origin : Origin (limits_of limits)) (old : Program) (c : ℕ)
     (new : Program)
     (kept : Kept limits origin old) (k next : WorkerState) → IsWorldClient old kept.world c k
-    → Becomes old c k next new → IsSound new → IsStill k next → IsSilent old new
+    → Becomes old c k next new → IsSound new → IsSameOne k next → IsSilent old new
     → (result : Result ℕ WorkerFault) → CommitsAt k old.station result next new.station
     → Kept limits origin new
 commit_by limits origin old c new kept k next is becomes sound still silent (Ok number) h =
     handed_in limits origin old c new kept k next is becomes sound still silent h.frame h.reads
-    number h.finishes h.says h.committed h.rest
+    number h.finishes h.committed h.rest
 commit_by limits origin old c new kept k next is becomes sound still silent
     (Err (worker.Office fault)) h =
     refused limits origin old c new kept k next is becomes sound still silent h.frame h.reads fault
@@ -420,5 +354,5 @@ pub committed_kept : (limits : Bounds) (origin : Origin (limits_of limits)) (old
 committed_kept limits origin old c new kept t sound silent =
     commit_by limits origin old c new kept t.worker t.next
     (kept.stands.worker c t.worker t.becomes.was) t.becomes sound
-    (commits_still t.worker t.next old.station new.station t.result t.commits) silent t.result
+    (commits_same t.worker t.next old.station new.station t.result t.commits) silent t.result
     t.commits

@@ -30,8 +30,9 @@ use Rattle.cb_threads.proofs.Events.{Origin, Reached, called_world, calls_reach,
 use Rattle.cb_threads.proofs.Events.{restarts_reach}
 use Rattle.cb_threads.proofs.Moving.{ServerMoved, moved_by_message}
 use Rattle.cb_threads.proofs.Standing.{Grows}
-use Rattle.cb_threads.specs.Programs.{Program, limits_in, new_worker}
+use Rattle.cb_threads.specs.Programs.{Program, limits_in}
 use Rattle.cb_threads.specs.Worlds.{IsWorldClient}
+use Rattle.cb_worker.specs.Moving.{new_worker}
 
 -- The client is new, in that incarnation; nothing else changed, but the server where it says so.
 pub record Renewed (L : Limits) (o : Origin L) (w : World) (c i : ℕ) (server : Server) : Type

@@ -18,10 +18,11 @@ use Rattle.cb_threads.proofs.Events.{Origin}
 use Rattle.cb_threads.proofs.Calling.{in_messages}
 use Rattle.cb_threads.proofs.Standing.{Kept, no_worker, stands_but, the_worker}
 use Rattle.cb_threads.proofs.Turning.{posted_from}
-use Rattle.cb_threads.specs.Programs.{IsSound, Program, limits_in, new_worker}
+use Rattle.cb_threads.specs.Programs.{IsSound, Program, limits_in}
 use Rattle.cb_threads.specs.Steps.{IsSilent}
 use Rattle.cb_threads.specs.Steps as steps
 use Rattle.cb_threads.specs.Worlds.{IsSentTo, IsWorldClient}
+use Rattle.cb_worker.specs.Moving.{new_worker}
 use Rattle.cb_worker.specs.Workers.{WorkerState}
 use Rattle.cb_threads.proofs.Greeting.{Greeted, Renewed, difference, emptied_from, fresh, greeted}
 use Rattle.cb_threads.proofs.Greeting.{keeps, other_set, renews}

@@ -12,6 +12,7 @@
 -- Telling: commits reach the disk or are forgotten, and threads tell each other.
 -- Worlds: whatever threads do, there is a world that it is.
 -- ByContracts: which calls are steps, by what their contracts say.
+-- Moves: so is each move by which a worker comes.
 pub mod Events
 pub mod Standing
 pub mod Calling
@@ -27,3 +28,4 @@ pub mod Leaving
 pub mod Telling
 pub mod Worlds
 pub mod ByContracts
+pub mod Moves

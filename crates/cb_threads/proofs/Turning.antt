@@ -41,10 +41,10 @@ use Rattle.cb_threads.specs.Programs.{IsSound, Program, limits_in}
 use Rattle.cb_threads.specs.Steps.{Becomes, IsSilent}
 use Rattle.cb_threads.specs.Steps as steps
 use Rattle.cb_threads.specs.Worlds.{IsSaidBy, IsSentTo, IsWorldClient}
-use Rattle.cb_worker.proofs.Staying.{stays, turned}
+use Rattle.cb_worker.proofs.Staying.{IsSameOne, stays_so, turned_same}
 use Rattle.cb_worker.specs.Calls.{Collected, Took}
 use Rattle.cb_worker.specs.Turns.{AfterCollecting, TakesCollected, TurnsBy, without_first}
-use Rattle.cb_worker.specs.Workers.{IsOf, IsStill, WorkerState}
+use Rattle.cb_worker.specs.Workers.{IsOf, WorkerState}
 use Rattle.cb_worker.specs.declared.worker_fault.WorkerFault.{WorkerFault}
 use Rattle.cb_worker.specs.declared.worker_fault.WorkerFault.TheVariants as worker
 
@@ -124,7 +124,7 @@ pub record Arrives (limits : Bounds) (origin : Origin (limits_of limits)) (old n
 pub arrives_kept : (limits : Bounds) (origin : Origin (limits_of limits)) (old new : Program)
     (c : ℕ)
     (k next : WorkerState) (kept : Kept limits origin old) → Becomes old c k next new
-    → IsStill k next → IsSound new → IsSilent old new
+    → IsSameOne k next → IsSound new → IsSilent old new
     → Arrives limits origin old new kept.world c next → Kept limits origin new
 arrives_kept limits origin old new c k next kept becomes still sound silent a = record {
   limits_are = a.limits_stay ∙ kept.limits_are;
@@ -153,7 +153,7 @@ arrives_kept limits origin old new c k next kept becomes still sound silent a = 
     own : IsWorldClient new a.world c next
     own = record {
       of = subst (λ (i : ℕ). IsOf next c i) (sym (a.incarnation c))
-          (stays k next c (kept.world.incarnation c) was.of still);
+          (stays_so k next c (kept.world.incarnation c) was.of still);
       limits = still.limits ∙ was.limits ∙ sym a.limits_stay;
       held = a.held;
       operations = a.operations;
@@ -335,11 +335,11 @@ module _ (limits : Bounds) (origin : Origin (limits_of limits)) (old : Program) 
             (ap (λ (x : WorkerState). x.collected) left) (is.said frame there)
 
     -- the client takes a frame that it collected
-    stays_so : (mid : WorkerState) (frame : Frame) → mid.client ≡ k.client → mid.said ≡ k.said
+    left_so : (mid : WorkerState) (frame : Frame) → mid.client ≡ k.client → mid.said ≡ k.said
         → mid.collected ≡ Some frame → ServerStays old.station new.station c mid.hand
         → IsSentTo kept.world c frame → next ≡ mid
         → Arrives limits origin old new kept.world c next
-    stays_so mid frame same said collected stays way e =
+    left_so mid frame same said collected stays way e =
         nothing_arrives limits origin old c new kept k next is
         (subst (λ (x : WorkerState). ServerStays old.station new.station c x.hand) (sym e) stays)
         (ap (λ (x : WorkerState). x.client) e ∙ same)
@@ -365,9 +365,9 @@ module _ (limits : Bounds) (origin : Origin (limits_of limits)) (old : Program) 
         (λ f e. absurd (let z : None ≡ Some f =
         sym (ap (λ (x : WorkerState). x.collected) t.1.rest) ∙ e in cc))
     takes_collected mid frame (Err (worker.Client fault)) same said collected stays way t =
-        stays_so mid frame same said collected stays way t.2
+        left_so mid frame same said collected stays way t.2
     takes_collected mid frame (Err (worker.Office fault)) same said collected stays way t =
-        stays_so mid frame same said collected stays way t.2
+        left_so mid frame same said collected stays way t.2
     takes_collected mid frame (Err worker.Halted) same said collected stays way t = absurd t
 
     -- the station's server stays where a frame was collected
@@ -425,7 +425,7 @@ pub turned_kept : (limits : Bounds) (origin : Origin (limits_of limits)) (old : 
     → Kept limits origin new
 turned_kept limits origin old c new kept t sound silent =
     arrives_kept limits origin old new c t.worker t.next kept t.becomes
-    (turned t.worker t.next old.station new.station t.result t.turns) sound silent
+    (turned_same t.worker t.next old.station new.station t.result t.turns) sound silent
     (turn_arrives limits origin old c new kept t.worker t.next
     (kept.stands.worker c t.worker t.becomes.was) t.result t.worker.said t.worker.collected refl
     refl t.turns)

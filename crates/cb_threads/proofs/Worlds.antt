@@ -37,7 +37,8 @@ use Rattle.cb_threads.proofs.Telling.{flushed_kept, forgotten_kept, refused_kept
 use Rattle.cb_threads.proofs.Turning.{turned_kept}
 use Rattle.cb_threads.specs.Laws.{HitsAgree, HitsAreTheStores, IsInTheMail, Lends, MailIsTheStores}
 use Rattle.cb_threads.specs.Laws.{Permits, RunsAreSerial, RunsAreWorlds, RunsGoAlong}
-use Rattle.cb_threads.specs.Laws.{RunsKeepThePromise, WritersAreAlone, committed_history}
+use Rattle.cb_threads.specs.Laws.{RunsKeepThePromise, WorkersHaveTheLimits, WritersAreAlone}
+use Rattle.cb_threads.specs.Laws.{committed_history}
 use Rattle.cb_threads.specs.Programs.{HasOpened, IsSound, Program}
 use Rattle.cb_threads.specs.Steps as steps
 use Rattle.cb_threads.specs.Steps.{Moment, Runs, Step, program_after}
@@ -259,6 +260,11 @@ runs_are_worlds limits store program moments opens sound runs =
     let after : Promised limits store (program_after program moments)
     = promised limits store program moments opens sound runs in
     (after.kept.world, is_reached limits store (program_after program moments) after)
+
+pub workers_have_the_limits : WorkersHaveTheLimits
+workers_have_the_limits limits store program moments opens sound runs c k e =
+    let it = runs_are_worlds limits store program moments opens sound runs in
+    (it.1.1.worker c k e).limits
 
 pub runs_keep_the_promise : RunsKeepThePromise
 runs_keep_the_promise limits store program moments opens sound runs =

@@ -1,6 +1,6 @@
 -- Which public calls are steps, by what their contracts say. Each has the clauses of one call as
 -- premises, and says which step it is, of whatever program it was called in.
-use Rattle.std.specs.Prelude.{◌≡◌, ◌≤◌, ℕ, true, [], Bool, Option, Some, None, Result, Ok}
+use Rattle.std.specs.Prelude.{◌≡◌, ◌≤◌, ◌∷◌, ℕ, true, [], Bool, Option, Some, None, Result, Ok}
 use Rattle.std.specs.Prelude.{replicate}
 use Rattle.cb_client.specs.CallAnswers.{Begins, Writes}
 use Rattle.cb_client_core.specs.ClientState.{IsClient}
@@ -18,11 +18,13 @@ use Rattle.cb_server.specs.ServerValue.{IsNew, IsResumed}
 use Rattle.cb_station.specs.Stations.{IsUnchanged, StationState, forgot, mailbox_of, server_of}
 use Rattle.cb_station.specs.Telling as telling
 use Rattle.cb_station.specs.Telling.{untold_in, with_untold}
-use Rattle.cb_threads.specs.Programs.{HasOpened, Program, limits_in, new_worker}
+use Rattle.cb_threads.specs.Moves.{AreSteps, DoesAll}
+use Rattle.cb_threads.specs.Programs.{HasOpened, Program, limits_in}
 use Rattle.cb_threads.specs.Steps.{CallClient, Commit, Does, Flush, Forget, Join, Leave, Refuse}
 use Rattle.cb_threads.specs.Steps.{Restart, Tell, Turn, operation_of}
 use Rattle.cb_worker.specs.Committing.{CommitsAt}
-use Rattle.cb_worker.specs.Entering.{Joined, Left, Restarted}
+use Rattle.cb_worker.specs.Entering.{Joined, Left, LeavesSome, Restarted}
+use Rattle.cb_worker.specs.Moving.{HasJoined, HasRestarted, IsStill, new_worker}
 use Rattle.cb_worker.specs.Turns.{Turns}
 use Rattle.cb_worker.specs.Workers.{Hit, WorkerState, after_hit, with_client}
 use Rattle.cb_worker.specs.declared.worker_fault.WorkerFault.{WorkerFault}
@@ -139,3 +141,38 @@ TellsAreSteps = (old : Program) (after : StationState)
 abbrev pub RefusalsAreSteps : Type 0
 RefusalsAreSteps = (old : Program) (after : StationState) → IsUnchanged old.station after
     → Does old Refuse (record old { station = after })
+
+-- Every call that leaves a worker the same one: `serve`, `serve_and_wait`, `enter`, `enter_again`,
+-- `fetch`, `want`, `finish` and `drop_txn`, also one that is refused. Each move by which its worker
+-- came is a step of each program whose station the move names.
+abbrev pub CallsGoBySteps : Type 0
+CallsGoBySteps = (client : ℕ) (worker next : WorkerState) → (still : IsStill worker next)
+    → AreSteps client worker still.moves
+
+-- `Worker::join`, also where it gives up behind the station's own join: the client joins at the
+-- station that is named, and who is to be told is. From there on the worker comes by moves.
+abbrev pub WorkersJoinBySteps : Type 0
+WorkersJoinBySteps = (old : Program) (client : ℕ) (limits : Bounds) (worker : WorkerState)
+    → (joined : HasJoined limits client worker) → old.station ≡ joined.joins.0
+    → old.worker client ≡ None
+    → DoesAll old (Join client ∷ Tell ∷ [])
+    (with_worker old joined.joins.1 client (Some (new_worker joined.hand limits)))
+    × AreSteps client (new_worker joined.hand limits) joined.still.moves
+
+-- `Worker::restart`, also where it gives up then, of a worker that has the station's limits.
+abbrev pub WorkersRestartBySteps : Type 0
+WorkersRestartBySteps = (old : Program) (client incarnation : ℕ) (worker next : WorkerState)
+    → (restarted : HasRestarted worker incarnation next) → old.station ≡ restarted.restarts.0
+    → old.worker client ≡ Some worker → worker.client.copies.limits ≡ limits_in old
+    → DoesAll old (Restart client incarnation ∷ Tell ∷ [])
+    (with_worker old restarted.restarts.1 client
+    (Some (new_worker restarted.hand worker.client.copies.limits)))
+    × AreSteps client (new_worker restarted.hand worker.client.copies.limits)
+    restarted.still.moves
+
+-- `Worker::leave` and `take_leave`
+abbrev pub WorkersLeaveBySteps : Type 0
+WorkersLeaveBySteps = (old : Program) (client : ℕ) (worker : WorkerState)
+    → (left : LeavesSome worker.hand (Ok tt)) → old.station ≡ left.0
+    → old.worker client ≡ Some worker
+    → DoesAll old (Leave client ∷ Tell ∷ []) (with_worker old left.1 client None)

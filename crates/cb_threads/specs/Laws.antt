@@ -16,7 +16,7 @@ use Rattle.cb_protocol.specs.World.{ReachedWorld, World, new_world}
 use Rattle.cb_server.specs.ServerValue.{ServerValue}
 use Rattle.cb_server_state.specs.States.{opening_of}
 use Rattle.cb_station.specs.Stations.{mailbox_of, server_of}
-use Rattle.cb_threads.specs.Programs.{HasBegun, HasOpened, IsSound, Program}
+use Rattle.cb_threads.specs.Programs.{HasBegun, HasOpened, IsSound, Program, limits_in}
 use Rattle.cb_threads.specs.Programs.HasBegun.{anew, in_life}
 use Rattle.cb_threads.specs.Steps.{Moment, Runs, program_after}
 use Rattle.cb_threads.specs.Worlds.{GoesAlong, IsReachedWorldOf, IsWorldOf}
@@ -52,6 +52,11 @@ RunsGoAlong = (limits : Bounds) (store : StoreState) (program : Program) (moment
 abbrev pub RunsAreWorlds : Type 0
 RunsAreWorlds = AfterEveryRun (λ limits store program.
     (world : World) × IsReachedWorldOf limits store world program)
+
+-- Each worker has the station's limits, since only a client that came with them joined.
+abbrev pub WorkersHaveTheLimits : Type 0
+WorkersHaveTheLimits = AfterEveryRun (λ limits store program. (client : ℕ) (worker : WorkerState)
+    → program.worker client ≡ Some worker → worker.client.copies.limits ≡ limits_in program)
 
 -- And the whole promise holds of that world.
 abbrev pub RunsKeepThePromise : Type 0

@@ -1,9 +1,8 @@
 -- A running program: a station, with the workers that share it.
 use Rattle.std.specs.Prelude.{◌≡◌, ◌≤◌, ℕ, List, [], Option, Some, None, replicate}
-use Rattle.cb_client_core.specs.ClientState.{IsClient, new_state}
+use Rattle.cb_client_core.specs.ClientState.{IsClient}
 use Rattle.cb_commit.specs.Stores as stores
 use Rattle.cb_commit.specs.Stores.{StoreState}
-use Rattle.cb_hands.specs.Hands.{HandState}
 use Rattle.cb_page.specs.Bounds.{Bounds}
 use Rattle.cb_protocol.specs.Basics.{max_number}
 use Rattle.cb_protocol.specs.Serial.{PerformedOperation}
@@ -43,12 +42,3 @@ pub record IsSound (program : Program) : Type 0 where
   pub station : IsStation program.station
   pub client : (client : ℕ) (worker : WorkerState) → program.worker client ≡ Some worker
       → IsClient worker.client
-
--- the worker of a hand that the station has just given out: its client was not called yet
-abbrev pub new_worker : HandState → Bounds → WorkerState
-new_worker hand limits = record {
-  client = new_state hand.client hand.incarnation limits;
-  hand = hand;
-  collected = None;
-  said = [];
-}

@@ -3,18 +3,22 @@
 //! The crate has no code. `specs/Programs` says what a running program is, `specs/Steps` what its
 //! threads do to it, each step by the record that a call's contract has, and `specs/Worlds` which
 //! world of the protocol it is. The laws are in `specs/Laws`. Which calls are steps by what their
-//! contracts say is in `specs/ByContracts`.
+//! contracts say is in `specs/ByContracts`; of the moves of a worker's call `specs/Moves` says which
+//! steps they are.
 #![tactic(auto)]
 
-ghost use Rattle.cb_threads.specs.ByContracts.{BeginsAreSteps, CommitsAreSteps, FlushesAreSteps};
-ghost use Rattle.cb_threads.specs.ByContracts.{ForgetsAreSteps, HitsAreSteps, JoinsAreSteps};
-ghost use Rattle.cb_threads.specs.ByContracts.{LeavesAreSteps, NewStationsHaveOpened};
-ghost use Rattle.cb_threads.specs.ByContracts.{RefusalsAreSteps, RestartsAreSteps};
-ghost use Rattle.cb_threads.specs.ByContracts.{ResumedStationsHaveOpened, TellsAreSteps};
-ghost use Rattle.cb_threads.specs.ByContracts.{TurnsAreSteps, WritesAreSteps};
+ghost use Rattle.cb_threads.specs.ByContracts.{BeginsAreSteps, CallsGoBySteps, CommitsAreSteps};
+ghost use Rattle.cb_threads.specs.ByContracts.{FlushesAreSteps, ForgetsAreSteps, HitsAreSteps};
+ghost use Rattle.cb_threads.specs.ByContracts.{JoinsAreSteps, LeavesAreSteps};
+ghost use Rattle.cb_threads.specs.ByContracts.{NewStationsHaveOpened, RefusalsAreSteps};
+ghost use Rattle.cb_threads.specs.ByContracts.{RestartsAreSteps, ResumedStationsHaveOpened};
+ghost use Rattle.cb_threads.specs.ByContracts.{TellsAreSteps, TurnsAreSteps, WorkersJoinBySteps};
+ghost use Rattle.cb_threads.specs.ByContracts.{WorkersLeaveBySteps, WorkersRestartBySteps};
+ghost use Rattle.cb_threads.specs.ByContracts.{WritesAreSteps};
 ghost use Rattle.cb_threads.specs.Laws.{HitsAgree, HitsAreTheStores, MailIsTheStores};
 ghost use Rattle.cb_threads.specs.Laws.{RunsAreSerial, RunsAreWorlds, RunsGoAlong};
-ghost use Rattle.cb_threads.specs.Laws.{RunsKeepThePromise, WritersAreAlone};
+ghost use Rattle.cb_threads.specs.Laws.{RunsKeepThePromise, WorkersHaveTheLimits};
+ghost use Rattle.cb_threads.specs.Laws.{WritersAreAlone};
 
 /// Whatever steps threads make of one station and its workers, each under the station's lock or on
 /// a worker of its own, a run of the protocol's world goes along with them. At each moment its
@@ -53,4 +57,17 @@ pub fn calls_are_steps()
     ensures forgets { ForgetsAreSteps }
     ensures tells { TellsAreSteps }
     ensures refusals { RefusalsAreSteps }
+{}
+
+/// What the contracts of a worker's calls that take the lock say makes each of them a list of steps,
+/// also where it is refused. `join`, `restart` and `leave` are one step of the station, after which
+/// who is to be told is told. The worker of a new hand comes from there by moves, and so does that of
+/// each other call. Each move is a step of whatever program has the station that the move names. In a
+/// run each worker has the station's limits.
+pub fn workers_go_by_steps()
+    ensures joins { WorkersJoinBySteps }
+    ensures restarts { WorkersRestartBySteps }
+    ensures leaves { WorkersLeaveBySteps }
+    ensures calls { CallsGoBySteps }
+    ensures limits { WorkersHaveTheLimits }
 {}

@@ -17,7 +17,8 @@ use Rattle.cb_worker.proofs.Standing.{accepted}
 use Rattle.cb_worker.specs.Dropping.{Drops, IsDropped, SaysDrop, drop_of}
 use Rattle.cb_worker.specs.Refusals.{RefusesDrop, StopsAt}
 use Rattle.cb_worker.specs.Serving.{HandsInAndTells, HandsOne}
-use Rattle.cb_worker.specs.Workers.{Ended, HasTransaction, IsStill, WorkerState}
+use Rattle.cb_worker.specs.Workers.{Ended, HasTransaction, WorkerState}
+use Rattle.cb_worker.specs.Moving.{IsStill}
 use Rattle.cb_worker.specs.declared.worker_fault.WorkerFault.{WorkerFault}
 
 -- what it says begins with the Drop

@@ -7,6 +7,7 @@
 -- Chain: from the read of a page to its commit.
 -- Kept: the frames that are kept to be handed in.
 -- Saying: how a transaction's commit is said, and said again.
+-- Numbering: a commit that was taken had a number left.
 -- Owning: what a station answers to a commit whose frame is handed over.
 -- Turning: what a turn leaves.
 -- Standing: what the client's words of its transaction mean.
@@ -17,7 +18,7 @@
 -- Serving: turns, one after another.
 -- Dropping: how a transaction is dropped, and that it is said.
 -- Telling: all who are to be told are told.
--- Entering: why a client doesn't join.
+-- Entering: why a client doesn't join, and of what hand a worker is.
 pub mod Reading
 pub mod Keeping
 pub mod Going
@@ -26,6 +27,7 @@ pub mod Written
 pub mod Chain
 pub mod Kept
 pub mod Saying
+pub mod Numbering
 pub mod Owning
 pub mod Turning
 pub mod Standing

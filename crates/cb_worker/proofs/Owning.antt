@@ -14,6 +14,7 @@ use Rattle.cb_station.specs.Moves.{IsEntryOf, committed}
 use Rattle.cb_station.specs.Stations.{IsUnchanged, StationState, mailbox_of, server_of}
 use Rattle.cb_station.specs.declared.office_fault.OfficeFault.{OfficeFault}
 use Rattle.cb_station.specs.declared.office_fault.OfficeFault.TheVariants as office
+use Rattle.cb_worker.proofs.Numbering.{number_left}
 use Rattle.cb_worker.specs.Calls.{Committed}
 
 -- the clauses of what is answered but for the frame that comes back
@@ -43,6 +44,7 @@ commits_owned before frame reads hand (Ok number) after next foreign not_held no
   entry = entry;
   posts = posts;
   applied = applied;
+  taken = number_left before frame reads hand number foreign not_held not_live exhausted;
   moved = moved;
   stored = stored;
   flags = flags;
@@ -58,6 +60,7 @@ commits_owned before frame reads hand (Err refused) after next foreign not_held 
   entry = entry;
   posts = posts;
   applied = applied;
+  taken = tt;
   moved = moved;
   stored = stored;
   flags = flags;

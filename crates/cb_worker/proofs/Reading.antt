@@ -18,8 +18,8 @@ use Rattle.cb_protocol.specs.Client.{bodies_said}
 use Rattle.cb_protocol.specs.Cache.{is_idle}
 use Rattle.cb_protocol.specs.ClientCalls.{CallPeek, CallRead, Cause, Reply, call_fault, cause_of, causes, client_call, first_refusal, peek_word, read_page}
 use Rattle.cb_protocol.specs.Serial.{Operation}
-use Rattle.cb_worker.specs.Waiting.{HasRead, ReadsAtHand}
-use Rattle.cb_worker.specs.Workers.{HasTransaction, Hit, Hits, WorkerState, after_hit, is_same, may_hit, shows_copy, with_client}
+use Rattle.cb_worker.specs.Waiting.{HasRead}
+use Rattle.cb_worker.specs.Workers.{HasTransaction, Hit, Hits, ReadsAtHand, WorkerState, after_hit, is_same, may_hit, shows_copy, with_client}
 
 -- a read of the page is not refused
 abbrev pub may_read : ClientState → (page : ℕ) → Bool

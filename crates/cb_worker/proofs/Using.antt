@@ -29,7 +29,8 @@ use Rattle.cb_station.specs.declared.office_fault.OfficeFault.{OfficeFault}
 use Rattle.cb_worker.proofs.Keeping.{as_it_was, asks_keeps, finish_keeps, fixed_alone, asks_none, locks_keep, over_keeps, read_free, steps_keep, take_keeps, want_fixes, want_on}
 use Rattle.cb_worker.proofs.Reading.{three}
 use Rattle.cb_worker.specs.Asking.{AsksToWrite}
-use Rattle.cb_worker.specs.Committing.{FinishesOrAgain, WasOver}
+use Rattle.cb_worker.specs.Committing.{FinishesOrAgain}
+use Rattle.cb_worker.specs.Handing.{WasOver}
 use Rattle.cb_worker.proofs.Going.{goes_same, take_goes}
 use Rattle.cb_worker.specs.Keeping.{AsksNoPage, KeepsFixed, KeepsUsed, KeepsWanted, OpenOrAborted, Uses}
 use Rattle.cb_worker.specs.Steps.{Begun}

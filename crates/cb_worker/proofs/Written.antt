@@ -25,11 +25,13 @@ use Rattle.cb_station.specs.Stations.{StationState}
 use Rattle.cb_worker.proofs.Keeping.{fixed_alone}
 use Rattle.cb_worker.proofs.Standing.{is_then}
 use Rattle.cb_worker.proofs.Using.{finishes_used, within}
-use Rattle.cb_worker.specs.Committing.{FinishesOrAgain, HandedCommitIn, HandsCommitIn, HasCommitted, IsCommitting}
+use Rattle.cb_worker.specs.Committing.{FinishesOrAgain, HandsCommitIn, IsCommitting}
+use Rattle.cb_worker.specs.Handing.{HandedCommitIn, HasCommitted}
 use Rattle.cb_worker.specs.Keeping.{AreWritten, HasWritten, KeepsFixed, Uses}
 use Rattle.cb_worker.specs.Steps.{Begun}
 use Rattle.cb_worker.specs.Waiting.{ending_of}
-use Rattle.cb_worker.specs.Workers.{Ends, HasTransaction, IsStill, WorkerState, seen_by}
+use Rattle.cb_worker.specs.Workers.{Ends, HasTransaction, WorkerState, seen_by}
+use Rattle.cb_worker.specs.Moving.{IsStill}
 use Rattle.cb_worker.specs.declared.answers.Finished.{Finished}
 use Rattle.cb_worker.specs.declared.answers.Finished.TheVariants as finished
 use Rattle.cb_worker.specs.declared.awaited.Awaited.TheVariants as awaited

@@ -82,6 +82,7 @@ pub record Committed (before : StationState) (frame : Frame) (reads : List Bool)
       after.dispatcher)
   pub applied : OnOk result (IsApplied (server_of before) (server_of after) hand.client
       hand.incarnation (txn_of frame) (page_writes (writes_of frame)))
+  pub taken : OnOk result (lacks_number_for before.dispatcher.server frame ≡ false)
   pub moved : IfOk result (λ number. next ≡ committed hand (writes_of frame) number)
   pub stored : OnOk result (Follow before.hands after.hands hand next)
   pub flags : OnOk result (after.flags ≡ record before.flags { news = true })

@@ -1,5 +1,5 @@
 -- How a worker's transaction commits.
-use Rattle.std.specs.Prelude.{◌≡◌, ◌⊎◌, ℕ, Bool, List, [], Result, Ok, Err, ⊤}
+use Rattle.std.specs.Prelude.{◌≡◌, ◌⊎◌, ℕ, Bool, List, [], Result, Ok, Err}
 use Rattle.cb_client.specs.ByTable.{RefusesOrLacks}
 use Rattle.cb_client.specs.CallAnswers.{Finishes, SaysCommit}
 use Rattle.cb_client.specs.declared.client_fault.ClientFault.{ClientFault}
@@ -7,19 +7,16 @@ use Rattle.cb_client.specs.declared.client_fault.ClientFault.TheVariants as clie
 use Rattle.cb_client_core.specs.ClientState.{ClientState, client_of}
 use Rattle.cb_frame_types.specs.declared.frame.Frame.{Frame}
 use Rattle.cb_station.specs.Commits.{writes_of}
-use Rattle.cb_station.specs.Stations.{IsStation, StationState}
+use Rattle.cb_station.specs.Stations.{StationState}
 use Rattle.cb_station.specs.declared.office_fault.OfficeFault.{OfficeFault}
 use Rattle.cb_outbox.specs.Messages.{page_writes}
 use Rattle.cb_page.specs.Flags.{has}
-use Rattle.cb_protocol.specs.Cache.{Open}
-use Rattle.cb_protocol.specs.Client.{Aborted, StatusCommitting, client_status}
+use Rattle.cb_protocol.specs.Client.{StatusCommitting, client_status}
 use Rattle.cb_protocol.specs.ClientCalls.{CallFinish}
 use Rattle.cb_protocol.specs.Serial.{Operation}
 use Rattle.cb_worker.specs.Calls.{Committed}
 use Rattle.cb_worker.specs.Keeping.{AreWritten}
-use Rattle.cb_worker.specs.Workers.{IsIdle, IsStill, WorkerState, seen_by}
-use Rattle.cb_worker.specs.declared.answers.Finished.{Finished}
-use Rattle.cb_worker.specs.declared.answers.Finished.TheVariants as finished
+use Rattle.cb_worker.specs.Workers.{WorkerState, seen_by}
 use Rattle.cb_worker.specs.declared.worker_fault.WorkerFault.{WorkerFault}
 use Rattle.cb_worker.specs.declared.worker_fault.WorkerFault.TheVariants as worker
 
@@ -63,29 +60,6 @@ pub record HandsCommitIn (old : WorkerState) (before : StationState) (result : R
   pub locked : AreLocked new.client reads
   pub committed : Committed before frame reads old.hand result after new.hand
   pub rest : new ≡ record old { client = new.client; hand = new.hand }
-
--- Once it had served, its commit was handed in, at a station of which all holds that always does. It
--- says exactly what the transaction had written, by the grants by which it had read.
-pub record HandedCommitIn (old : WorkerState) : Type 0 where
-  pub served : WorkerState
-  pub still : IsStill old served
-  pub before : StationState
-  pub sound : IsStation before
-  pub number : ℕ
-  pub new : WorkerState
-  pub after : StationState
-  pub commits : HandsCommitIn served before (Ok number) new after
-  pub written : AreWritten (seen_by old) (page_writes (writes_of commits.frame))
-
--- It is over, and nothing was handed in: one that was open was aborted.
-pub record WasOver (old new : WorkerState) : Type 0 where
-  pub over : IsIdle new
-  pub aborted : (seen_by old).cache.status ≡ Open → (seen_by new).last_outcome ≡ Aborted
-
--- one that is answered as committed was handed in so, or was committing before
-abbrev pub HasCommitted : WorkerState → Finished → Type 0
-HasCommitted old (finished.Committed number) = IsCommitting old.client ⊎ HandedCommitIn old
-HasCommitted old finished.Aborted = ⊤
 
 -- the commit's number; or the client refuses, and nothing changes; or the station does, and the
 -- client is committing

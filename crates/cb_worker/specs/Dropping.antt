@@ -8,8 +8,9 @@ use Rattle.cb_protocol.specs.Client as protocol
 use Rattle.cb_protocol.specs.ClientCalls.{CallDrop}
 use Rattle.cb_protocol.specs.Messages.{Drop, Message}
 use Rattle.cb_station.specs.Stations.{IsStation, StationState}
+use Rattle.cb_worker.specs.Moving.{IsStill}
 use Rattle.cb_worker.specs.Serving.{HandsInAndTells}
-use Rattle.cb_worker.specs.Workers.{Ended, Ends, IsStill, WorkerState, last_txn}
+use Rattle.cb_worker.specs.Workers.{Ended, Ends, WorkerState, last_txn}
 
 -- the Drop of the client's last transaction
 abbrev pub drop_of : ClientState → Message

@@ -6,6 +6,7 @@ use Rattle.std.specs.Option.{is_some}
 use Rattle.cb_hands.specs.Hands.{HandState, empty_hand}
 use Rattle.cb_hands.specs.Joined.{Follow, IsHeld, stored_at}
 use Rattle.cb_mailboxes.specs.Dispatching.{Everybody, Others, Posts, emptied}
+use Rattle.cb_page.specs.Bounds.{Bounds}
 use Rattle.cb_page.specs.Numbers.{max_number}
 use Rattle.cb_protocol.specs.AnyMessages.{MessageComes}
 use Rattle.cb_protocol.specs.Messages.{Hello}
@@ -75,6 +76,10 @@ pub record Left (before : StationState) (hand : HandState)
   pub history : after.history ≡ before.history
   pub flags : after.flags ≡ before.flags
 
+-- the station has these limits
+abbrev pub HasLimits : StationState → Bounds → Type 0
+HasLimits station limits = station.dispatcher.server.limits ≡ limits
+
 -- each of these, and then all who were to be told were
 abbrev pub JoinsAndTells : StationState → (client : ℕ) → Result HandState OfficeFault
     → StationState → Type 0
@@ -91,10 +96,18 @@ abbrev pub LeavesAndTells : StationState → HandState → Result ⊤ (OfficeFau
 LeavesAndTells before hand result after = (left : StationState)
     × Left before hand result left × Tells left after
 
--- it joined so at a station of which all holds that always does
-abbrev pub JoinsSome : (client : ℕ) → Result HandState OfficeFault → Type 0
-JoinsSome client result = (before : StationState) × (after : StationState) × IsStation before
-    × JoinsAndTells before client result after
+-- a client that comes with limits of its own joins where these are the station's; else it is refused
+-- as Foreign, and nothing changes
+abbrev pub JoinsWith : StationState → (limits : Bounds) → (client : ℕ)
+    → Result HandState OfficeFault → StationState → Type 0
+JoinsWith before limits client result after =
+    (HasLimits before limits × JoinsAndTells before client result after)
+    ⊎ ((HasLimits before limits → ⊥) × (result ≡ Err office.Foreign) × (after ≡ before))
+
+-- it came so to a station of which all holds that always does
+abbrev pub JoinsSome : (limits : Bounds) → (client : ℕ) → Result HandState OfficeFault → Type 0
+JoinsSome limits client result = (before : StationState) × (after : StationState)
+    × IsStation before × JoinsWith before limits client result after
 
 -- it began that incarnation so, at such a station
 abbrev pub RestartsSome : HandState → (incarnation : ℕ)

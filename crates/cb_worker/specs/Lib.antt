@@ -3,6 +3,8 @@ pub mod Workers
 pub mod Calls
 pub mod Turns
 pub mod Committing
+pub mod Moving
+pub mod Handing
 pub mod Waiting
 pub mod Lending
 pub mod Refusals

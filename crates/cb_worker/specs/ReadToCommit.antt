@@ -7,10 +7,11 @@ use Rattle.cb_protocol.specs.Basics.{Bytes}
 use Rattle.cb_protocol.specs.Cache.{Idle}
 use Rattle.cb_protocol.specs.Messages.{write_of_page}
 use Rattle.cb_station.specs.Commits.{writes_of}
-use Rattle.cb_worker.specs.Committing.{HandedCommitIn}
+use Rattle.cb_worker.specs.Handing.{HandedCommitIn}
 use Rattle.cb_worker.specs.Keeping.{HasWritten, Uses}
+use Rattle.cb_worker.specs.Moving.{IsStill}
 use Rattle.cb_worker.specs.Waiting.{Wants}
-use Rattle.cb_worker.specs.Workers.{IsStill, WorkerState, seen_by}
+use Rattle.cb_worker.specs.Workers.{WorkerState, seen_by}
 use Rattle.cb_worker.specs.declared.answers.Wanted.TheVariants as wanted
 
 -- A page that was read has the same bytes, by the same grant, once it may be written.

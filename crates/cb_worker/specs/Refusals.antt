@@ -5,7 +5,6 @@ use Rattle.std.specs.Option.{is_some}
 use Rattle.cb_client.specs.ByTable.{IsRefusal, IsRefused}
 use Rattle.cb_client.specs.declared.client_fault.ClientFault.TheVariants as client
 use Rattle.cb_cache.specs.CacheState.{content_at}
-use Rattle.cb_hands.specs.Hands.{HandState}
 use Rattle.cb_page.specs.Bounds.{Bounds}
 use Rattle.cb_page.specs.Flags.{has}
 use Rattle.cb_station.specs.Stations.{IsStation, StationState}
@@ -14,10 +13,11 @@ use Rattle.cb_protocol.specs.ClientCalls.{Call, CallDrop, CallRead, CallWant}
 use Rattle.cb_worker.specs.Committing.{CommitsAt}
 use Rattle.cb_worker.specs.Dropping.{SaysDrop}
 use Rattle.cb_worker.specs.Entering.{JoinsSome, LeavesSome, RestartsSome, TriesToLeave}
+use Rattle.cb_worker.specs.Moving.{HasJoined, IsStill}
 use Rattle.cb_worker.specs.Serving.{HandsOne, Turning, TurnsThen}
 use Rattle.cb_worker.specs.Turns.{Turns}
 use Rattle.cb_worker.specs.Waiting.{LacksTransaction}
-use Rattle.cb_worker.specs.Workers.{HasTransaction, IsStill, WorkerState, shows_copy}
+use Rattle.cb_worker.specs.Workers.{HasTransaction, WorkerState, shows_copy}
 use Rattle.cb_worker.specs.declared.worker_fault.WorkerFault.{WorkerFault}
 use Rattle.cb_worker.specs.declared.worker_fault.WorkerFault.TheVariants as worker
 
@@ -131,23 +131,21 @@ abbrev pub RefusesRestart : (old new : WorkerState) → (incarnation : ℕ) → 
 RefusesRestart old new incarnation fault =
     (RefusesStart old incarnation fault × (new ≡ old)) ⊎ StopsServing new fault
 
--- why a client doesn't enter: these limits haven't got it; or the station refused it
+-- why a client doesn't enter: these limits haven't got it; or the station refused it, or has others
 abbrev pub RefusesEntry : Bounds → (number : ℕ) → WorkerFault → Type 0
 RefusesEntry limits number (worker.Office fault) =
-    ((fault ≡ office.Foreign) × (limits.clients ≤ number)) ⊎ JoinsSome number (Err fault)
+    ((fault ≡ office.Foreign) × (limits.clients ≤ number)) ⊎ JoinsSome limits number (Err fault)
 RefusesEntry limits number _ = ⊥
 
--- A client that had joined left again, where that wasn't refused: there was no memory for it; or
--- serving was refused before its Welcome came.
-pub record GivesUpJoining (number : ℕ) (fault : WorkerFault) : Type 0 where
-  pub joined : HandState
-  pub joins : JoinsSome number (Ok joined)
-  pub hand : HandState
-  pub same : (hand.client ≡ joined.client) × (hand.incarnation ≡ joined.incarnation)
-  pub leaves : TriesToLeave hand
-  pub why : (fault ≡ worker.Client client.Memory)
-      ⊎ ((worker : WorkerState) × (worker.hand ≡ hand) × StopsServing worker fault)
+-- A client that had joined left again, where that wasn't refused, with the hand of what its worker
+-- became: there was no memory for it; or serving was refused before its Welcome came.
+pub record GivesUpJoining (limits : Bounds) (number : ℕ) (fault : WorkerFault) : Type 0 where
+  pub last : WorkerState
+  pub joined : HasJoined limits number last
+  pub leaves : TriesToLeave last.hand
+  pub why : (fault ≡ worker.Client client.Memory) ⊎ StopsServing last fault
 
 -- why a client doesn't join
 abbrev pub RefusesJoin : Bounds → (number : ℕ) → WorkerFault → Type 0
-RefusesJoin limits number fault = RefusesEntry limits number fault ⊎ GivesUpJoining number fault
+RefusesJoin limits number fault =
+    RefusesEntry limits number fault ⊎ GivesUpJoining limits number fault

@@ -2,10 +2,10 @@
 use Rattle.std.specs.Prelude.{◌≡◌, ◌⊎◌, true, ⊤}
 use Rattle.cb_protocol.specs.Client as protocol
 use Rattle.cb_protocol.specs.ClientCalls.{CallWant}
+use Rattle.cb_worker.specs.Handing.{HandedCommitIn, WasOver}
+use Rattle.cb_worker.specs.Keeping.{KeepsWanted}
 use Rattle.cb_worker.specs.Refusals.{RefusesAsk, RefusesCall, RefusesCommit, StopsServing}
 use Rattle.cb_worker.specs.Waiting.{HasRead, IsFinished, MayWrite}
-use Rattle.cb_worker.specs.Committing.{HandedCommitIn, WasOver}
-use Rattle.cb_worker.specs.Keeping.{KeepsWanted}
 use Rattle.cb_worker.specs.Workers.{Ended, WorkerState, seen_by}
 use Rattle.cb_worker.specs.declared.answers.Finished.TheVariants as finished
 use Rattle.cb_worker.specs.declared.awaited.Awaited.{Awaited}

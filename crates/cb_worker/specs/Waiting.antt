@@ -5,9 +5,10 @@ use Rattle.cb_client_core.specs.ClientState.{client_of}
 use Rattle.cb_protocol.specs.Cache.{is_open}
 use Rattle.cb_protocol.specs.Client as protocol
 use Rattle.cb_protocol.specs.Serial.{Operation}
-use Rattle.cb_worker.specs.Workers.{Ended, Ends, HasTransaction, Hit, IsIdle, IsStill}
 use Rattle.cb_worker.specs.Keeping.{KeepsWanted, Uses}
-use Rattle.cb_worker.specs.Workers.{WorkerState, after_hit, may_hit, seen_by}
+use Rattle.cb_worker.specs.Moving.{IsStill}
+use Rattle.cb_worker.specs.Workers.{Ended, Ends, HasTransaction, Hit, IsIdle, WorkerState}
+use Rattle.cb_worker.specs.Workers.{after_hit, may_hit, seen_by}
 use Rattle.cb_worker.specs.declared.answers.Fetched.{Fetched}
 use Rattle.cb_worker.specs.declared.answers.Fetched.TheVariants as fetched
 use Rattle.cb_worker.specs.declared.answers.Finished.{Finished}
@@ -33,10 +34,6 @@ LacksTransaction lacking _ = ⊥
 abbrev pub HasRead : WorkerState → (page : ℕ) → Type 0
 HasRead worker page = (before : WorkerState) × (may_hit before page ≡ true)
     × (worker ≡ after_hit before page)
-
--- the page was read at once, without the office
-abbrev pub ReadsAtHand : (old : WorkerState) → (page : ℕ) → (new : WorkerState) → Type 0
-ReadsAtHand old page new = (may_hit old page ≡ true) × (new ≡ after_hit old page)
 
 -- there was a transaction, and the page was read as `hit` reads it, with these bytes, which it uses
 -- from then on; or the transaction was aborted; it is still the same worker, and no transaction

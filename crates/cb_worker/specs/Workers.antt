@@ -12,7 +12,6 @@ use Rattle.cb_protocol.specs.Cache.{Idle}
 use Rattle.cb_protocol.specs.Client.{Client, LastOutcome}
 use Rattle.cb_protocol.specs.ClientCalls.{CallRead}
 use Rattle.cb_protocol.specs.Serial.{Operation}
-use Rattle.cb_worker.specs.Keeping.{KeepsFixed}
 
 -- a client with its hand; the frame that was collected and not yet taken, and what the client said
 -- and nobody handed in yet, the oldest frame first
@@ -38,18 +37,6 @@ last_txn client = unwrap_or client.txn 0
 abbrev pub seen_by : WorkerState → Client
 seen_by worker = client_of worker.client []
 
--- It is still the same one: of the same incarnation of the same client, with the same limits, and
--- so is its hand; no transaction began; and while none is over, each page that it wants to write or
--- wrote keeps its bytes.
-pub record IsStill (old new : WorkerState) : Type 0 where
-  pub no : new.client.no ≡ old.client.no
-  pub incarnation : new.client.incarnation ≡ old.client.incarnation
-  pub limits : new.client.copies.limits ≡ old.client.copies.limits
-  pub txn : last_txn new.client ≡ last_txn old.client
-  pub hand : new.hand.client ≡ old.hand.client
-  pub hand_incarnation : new.hand.incarnation ≡ old.hand.incarnation
-  pub keeps : KeepsFixed (seen_by old) (seen_by new)
-
 -- only the client changes
 abbrev pub with_client : WorkerState → ClientState → WorkerState
 with_client worker client = record worker { client = client }
@@ -72,6 +59,10 @@ may_hit worker page = shows_copy worker page && reads_here worker.client page
 abbrev pub after_hit : WorkerState → (page : ℕ) → WorkerState
 after_hit worker page =
     if may_hit worker page then with_client worker (page_read worker.client page) else worker
+
+-- the page was read at once, without the office
+abbrev pub ReadsAtHand : (old : WorkerState) → (page : ℕ) → (new : WorkerState) → Type 0
+ReadsAtHand old page new = (may_hit old page ≡ true) × (new ≡ after_hit old page)
 
 -- The page is read as the protocol's table says, with these bytes. The hand holds a grant of it,
 -- which is the client's, at the client's version.

@@ -4,6 +4,7 @@ ghost use Rattle.std.specs.Borrow.{sem};
 ghost use Rattle.std.specs.Option.{option_copied};
 ghost use Rattle.cb_client.specs.ByTable.{Calls, as_before};
 ghost use Rattle.cb_client.specs.CallAnswers.{Begins, Writes};
+ghost use Rattle.cb_client_core.specs.ClientState.{IsClient};
 ghost use Rattle.cb_protocol.specs.ClientCalls.{CallPeek, peek_word};
 ghost use Rattle.cb_worker.specs.Lending.{worker_ends};
 ghost use Rattle.cb_worker.specs.Workers.{Hits, after_hit, may_hit, shows_copy, with_client};
@@ -48,10 +49,14 @@ impl<Q: Chooser> Model for Worker<Q> {
 }
 
 impl<Q: Chooser> Worker<Q> {
-    /// Which client it is.
+    /// Which client it is. The client arose by the protocol's calls and messages, whatever was called
+    /// before: so all that the protocol says of such clients holds of it.
     pub fn client(&self) -> ClientNo
-        ensures { result ≡ self.now.hand.client }
+        ensures value { result ≡ self.now.hand.client }
+        ensures arose { IsClient self.now.client }
     {
+        // What holds of every client, its limits say.
+        let _known = self.client.limits();
         self.hand.client()
     }
 

@@ -1,9 +1,9 @@
 //! Tries are let in, and a worker waits a moment.
 ghost use Rattle.std.specs.Prelude.{IfErr, OnOk};
 ghost use Rattle.cb_station.specs.Telling.{IsTold};
+ghost use Rattle.cb_worker.specs.Moving.{IsStill};
 ghost use Rattle.cb_worker.specs.Refusals.{StopsServing};
 ghost use Rattle.cb_worker.specs.Waiting.{IsServed};
-ghost use Rattle.cb_worker.specs.Workers.{IsStill};
 
 use crate::worker::Worker;
 use crate::worker_fault::WorkerFault;

@@ -2,10 +2,11 @@
 ghost use Rattle.std.specs.Prelude.{◌≡◌, ◌≤◌, ◌<◌, ◌⊎◌, [], true, Err, IfErr, IfOk, None, Ok, OnOk};
 ghost use Rattle.cb_client_core.specs.ClientState.{new_state};
 ghost use Rattle.cb_worker.specs.Entering.{LeavesSome};
+ghost use Rattle.cb_worker.specs.Moving.{HasJoined, HasRestarted, IsStill};
 ghost use Rattle.cb_worker.specs.Refusals.{RefusesJoin, RefusesLeave, RefusesRestart, RefusesStart};
 ghost use Rattle.cb_worker.specs.Refusals.{StopsServing};
 ghost use Rattle.cb_worker.specs.Waiting.{IsServed};
-ghost use Rattle.cb_worker.specs.Workers.{IsOf, IsStill, last_txn};
+ghost use Rattle.cb_worker.specs.Workers.{IsOf, last_txn};
 
 use crate::awaited::Awaited;
 use crate::said::Said;
@@ -46,7 +47,8 @@ impl Left {
 
 impl<Q: Chooser> Worker<Q> {
     /// The client joins the office, over an empty chooser, and is welcomed. Its incarnation is the
-    /// one that the station gave its hand. A client that these limits haven't got is `Foreign`.
+    /// one that the station gave its hand. A client that these limits haven't got is `Foreign`, and
+    /// so is one that comes with other limits than the station's.
     ///
     /// Where there is no memory for the client, or its Welcome doesn't come, it leaves again.
     pub fn join<R: Wait>(
@@ -64,6 +66,7 @@ impl<Q: Chooser> Worker<Q> {
         ensures same_limits { IfOk result (λ worker. worker.client.copies.limits ≡ limits.now) }
         ensures unbegun { IfOk result (λ worker. last_txn worker.client ≡ 0) }
         ensures served { IfOk result IsServed }
+        ensures joins { IfOk result (HasJoined limits.now client) }
         ensures foreign { limits.now.clients ≤ client
             → result ≡ Err (WorkerFault.Office OfficeFault.Foreign) }
         ensures why { IfErr result (RefusesJoin limits.now client) }
@@ -71,7 +74,7 @@ impl<Q: Chooser> Worker<Q> {
         if !limits.has_client(client.get()) {
             return Err(WorkerFault::Office(OfficeFault::Foreign));
         }
-        let hand = joining::join(rt, alloc, office, client)?;
+        let hand = joining::join(rt, alloc, office, limits, client)?;
         let made = Client::new(alloc, client, hand.incarnation(), limits, chooser);
         let Ok(client) = made else {
             joining::unjoin(rt, alloc, office, hand);
@@ -88,8 +91,8 @@ impl<Q: Chooser> Worker<Q> {
 
     /// The client begins another incarnation, and is welcomed.
     ///
-    /// The worker comes back with each fault: as it was, or at the start of that incarnation, where
-    /// the Welcome didn't come.
+    /// The worker comes back with each fault: as it was; or in that incarnation, where the Welcome
+    /// didn't come.
     pub fn restart<R: Wait>(
         self,
         rt: &R,
@@ -103,9 +106,10 @@ impl<Q: Chooser> Worker<Q> {
             worker.client.copies.limits ≡ self.client.copies.limits) }
         ensures unbegun { IfOk result (λ worker. last_txn worker.client ≡ 0) }
         ensures served { IfOk result IsServed }
+        ensures restarts { IfOk result (HasRestarted self incarnation) }
         ensures later { OnOk result (self.hand.incarnation < incarnation) }
         ensures refused { IfErr result (λ refused.
-            (refused.1 ≡ self) ⊎ IsOf refused.1 self.hand.client incarnation) }
+            (refused.1 ≡ self) ⊎ HasRestarted self incarnation refused.1) }
         ensures why { IfErr result (λ refused.
             RefusesRestart self refused.1 incarnation refused.0) }
     {

@@ -1,24 +1,42 @@
 //! A client joins the office, begins another incarnation, and leaves, each under the lock. Who is to
 //! be told of it is told there.
-ghost use Rattle.cb_worker.specs.Entering.{JoinsAndTells, JoinsSome, LeavesAndTells, LeavesSome};
-ghost use Rattle.cb_worker.specs.Entering.{RestartsAndTells, RestartsSome, TriesToLeave};
+ghost use Rattle.cb_worker.specs.Entering.{JoinsAndTells, JoinsSome, JoinsWith, LeavesAndTells};
+ghost use Rattle.cb_worker.specs.Entering.{LeavesSome, RestartsAndTells, RestartsSome};
+ghost use Rattle.cb_worker.specs.Entering.{TriesToLeave};
 
 use cb_hands::Hand;
-use cb_page::{ClientNo, Incarnation};
+use cb_page::{ClientNo, Incarnation, Limits};
 use cb_station::{Office, OfficeFault, Station};
 use std::alloc::Global;
 use std::sync::Wait;
 
-/// The client joins the office; its hand comes back.
+/// The client joins the office, whose limits these are to be; its hand comes back.
 pub(super) fn join<R: Wait>(
     rt: &R,
     alloc: Global,
     office: &Office,
+    limits: &Limits,
     client: ClientNo,
 ) -> Result<Hand, OfficeFault>
-    ensures { JoinsSome client result }
+    ensures { JoinsSome limits.now client result }
 {
-    join_at(alloc, office, &mut office.lock(rt), client)
+    join_with(alloc, office, &mut office.lock(rt), limits, client)
+}
+
+/// It joins where these are the station's limits, and is `Foreign` where they aren't.
+fn join_with(
+    alloc: Global,
+    office: &Office,
+    station: &mut Station,
+    limits: &Limits,
+    client: ClientNo,
+) -> Result<Hand, OfficeFault>
+    ensures { JoinsWith station.old limits.now client result station.new }
+{
+    if station.limits() != limits {
+        return Err(OfficeFault::Foreign);
+    }
+    join_at(alloc, office, station, client)
 }
 
 fn join_at(

@@ -10,18 +10,18 @@ ghost use Rattle.cb_worker.specs.Asking.{AsksFor, AsksToWrite};
 ghost use Rattle.cb_worker.specs.Lending.{worker_ends};
 ghost use Rattle.cb_station.specs.Stations.{IsStation};
 ghost use Rattle.cb_station.specs.Telling.{IsTold};
-ghost use Rattle.cb_worker.specs.Committing.{HasCommitted};
 ghost use Rattle.cb_worker.specs.Dropping.{Drops, IsDropped, SaysDrop};
+ghost use Rattle.cb_worker.specs.Handing.{HasCommitted};
 ghost use Rattle.cb_worker.specs.Keeping.{KeepsUsed, OpenOrAborted};
+ghost use Rattle.cb_worker.specs.Moving.{IsStill};
 ghost use Rattle.cb_worker.specs.Refusals.{RefusesAsk, RefusesCall, RefusesDrop, RefusesFetch};
 ghost use Rattle.cb_worker.specs.Refusals.{RefusesCommit, RefusesFinish, RefusesToDrop};
 ghost use Rattle.cb_worker.specs.Refusals.{RefusesWant, StopsAt, StopsFetch, StopsServing};
 ghost use Rattle.cb_worker.specs.Serving.{HandsAllIn, HandsInAndTells, HandsOne, Serves};
 ghost use Rattle.cb_worker.specs.Serving.{ServesAndTells, ServesSome};
 ghost use Rattle.cb_worker.specs.Steps.{Begun, Comes, RefusesToBegin, StopsOr};
-ghost use Rattle.cb_worker.specs.Waiting.{Fetches, Finishes, HasRead};
-ghost use Rattle.cb_worker.specs.Waiting.{IsServed, ReadsAtHand, Wants};
-ghost use Rattle.cb_worker.specs.Workers.{Ended, Ends, HasTransaction, IsStill, WorkerState};
+ghost use Rattle.cb_worker.specs.Waiting.{Fetches, Finishes, HasRead, IsServed, Wants};
+ghost use Rattle.cb_worker.specs.Workers.{Ended, Ends, HasTransaction, ReadsAtHand, WorkerState};
 ghost use Rattle.cb_worker.specs.Workers.{after_hit, may_hit, seen_by};
 
 use crate::answers::{Fetched, Finished, Wanted};
@@ -140,7 +140,8 @@ impl<Q: Chooser> Worker<Q> {
         page: PageNo,
     ) -> Result<Fetched<'_>, WorkerFault>
         ensures* ends { sem 𝓛 (worker_ends Q.row Q.Chooser self.entry
-            (λ worker. IfOk result (Fetches self.old worker page))) }
+            (λ worker. IsStill self.old worker × IfOk result (Fetches self.old worker page)
+            × IfErr result (RefusesFetch self.old worker page))) }
         ensures at_hand { IfErr result (λ fault. may_hit self.old page ≡ false) }
         ensures refused { IfErr result (StopsFetch self.old page) }
     {

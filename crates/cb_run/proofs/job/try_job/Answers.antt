@@ -3,7 +3,7 @@ use Rattle.std.proofs.Common.{◌≡◌, ◌∙◌, false, true, rules}
 use Rattle.cb_protocol.specs.Client as protocol
 use Rattle.cb_run.proofs.JobCounts.{begins_later, both_last, commits_job}
 use Rattle.cb_run.specs.Jobs.{CountsBoth, HasEnded}
-use Rattle.cb_worker.specs.Committing.{HasCommitted}
+use Rattle.cb_worker.specs.Handing.{HasCommitted}
 use Rattle.cb_worker.specs.Workers.{Ends, last_txn}
 use Rattle.cb_worker.specs.declared.answers.Finished.TheVariants as finished
 use Rattle.cb_run.proofs.job.try_job.Goals as goal

@@ -7,7 +7,8 @@ use Rattle.cb_client_core.specs.ClientState.{IsClient}
 use Rattle.cb_worker.proofs.Using.{uses_read}
 use Rattle.cb_worker.specs.Keeping.{Uses}
 use Rattle.cb_worker.specs.Waiting.{HasRead}
-use Rattle.cb_worker.specs.Workers.{IsStill, WorkerState, seen_by}
+use Rattle.cb_worker.specs.Workers.{WorkerState, seen_by}
+use Rattle.cb_worker.specs.Moving.{IsStill}
 use Rattle.cb_worker.proofs.worker.Worker.fetch.Goals as goal
 
 pub returns : goal.returns
@@ -20,7 +21,7 @@ returns g c =
     let all = fetches c.fetch_copy.new.self c.args.page c.in-Some.bytes.now has (ap option_copied (sym c.in-Some.is) ∙ there) in
     let uses = subst (λ (w : WorkerState). (grant : ℕ) × Uses (seen_by w) c.args.page grant c.in-Some.bytes.now) (sym c.self.view_is)
     (uses_read all.0 c.fetch_copy.new.self c.args.page c.in-Some.bytes.now all.1 all.2 (sym (ap option_copied (sym c.in-Some.is) ∙ there)) (subst (λ (w : WorkerState). IsClient w.client) c.self.view_is c.limits-known.ensures.arose)) in
-    ((refl, λ x. tt, (c.in_ok-fetch_copy.ensures.had, all.0, all.1, c.self.view_is ∙ all.2, still, uses)), record { ends = tt; at_hand = tt; refused = tt })
+    ((refl, λ x. tt, (still, (c.in_ok-fetch_copy.ensures.had, all.0, all.1, c.self.view_is ∙ all.2, still, uses), tt)), record { ends = tt; at_hand = tt; refused = tt })
 
 pub unreachable-requires : goal.unreachable-requires
 unreachable-requires g c =

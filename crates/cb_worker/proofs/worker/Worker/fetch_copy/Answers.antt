@@ -24,3 +24,6 @@ pub returns-in-Ended-clause-still : goal.returns-in-Ended-clause-still
 returns-in-Ended-clause-still g c =
     let waited = after c.touch.new.self c.begin_fetch-first.new.self c.wait_on.new.self c.begin_fetch-first.ensures.still c.wait_on.ensures.still in
     after c.args.self.now c.touch.new.self c.wait_on.new.self (touched_still c.args.self.now c.touch.new.self c.args.page c.touch.ensures.after) waited
+
+pub returns-then-touch-clause-still : goal.returns-then-touch-clause-still
+returns-then-touch-clause-still g c = touched_still c.args.self.now c.touch.new.self c.args.page c.touch.ensures.after

@@ -2,7 +2,7 @@
 use Rattle.std.proofs.Common.{◌≡◌, length}
 use Rattle.cb_worker.proofs.Serving.{Turned}
 use Rattle.cb_worker.specs.Serving.{HandsOne}
-use Rattle.cb_worker.specs.Workers.{IsStill}
+use Rattle.cb_worker.specs.Moving.{IsStill}
 use Rattle.cb_worker.proofs.worker.Worker.hand_kept_in.Given as goal
 
 -- the client is as it was, and it stays the same worker; frames were handed in

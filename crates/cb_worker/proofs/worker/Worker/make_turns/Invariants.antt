@@ -3,7 +3,8 @@ use Rattle.std.proofs.Common.{◌≡◌, ◌⊎◌, false}
 use Rattle.cb_worker.proofs.Serving.{Turned}
 use Rattle.cb_worker.specs.Turns.{Turns}
 use Rattle.cb_worker.specs.Keeping.{KeepsUsed, OpenOrAborted}
-use Rattle.cb_worker.specs.Workers.{IsStill, seen_by}
+use Rattle.cb_worker.specs.Workers.{seen_by}
+use Rattle.cb_worker.specs.Moving.{IsStill}
 use Rattle.cb_worker.proofs.worker.Worker.make_turns.Given as goal
 
 -- it stays the same worker, and uses what it used; the station is as halted as it was; turns were made, and none where it is halted

@@ -2,7 +2,8 @@
 use Rattle.std.specs.Prelude.{IfErr, IfOk, IfSome, OnOk}
 use Rattle.cb_worker.specs.Steps.{Begun, Comes, RefusesToBegin, StopsOr}
 use Rattle.cb_worker.specs.Waiting.{IsServed}
-use Rattle.cb_worker.specs.Workers.{IsStill, WorkerState}
+use Rattle.cb_worker.specs.Workers.{WorkerState}
+use Rattle.cb_worker.specs.Moving.{IsStill}
 use Rattle.cb_worker.proofs.worker.Worker.wait_on.Given as goal
 
 -- it stays the same worker, no transaction begins, and of it as it is the last step told; what was begun goes on

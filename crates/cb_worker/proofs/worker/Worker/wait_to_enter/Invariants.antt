@@ -2,7 +2,7 @@
 use Rattle.std.specs.Prelude.{IfErr, OnOk}
 use Rattle.cb_worker.specs.Refusals.{StopsServing}
 use Rattle.cb_worker.specs.Waiting.{IsServed}
-use Rattle.cb_worker.specs.Workers.{IsStill}
+use Rattle.cb_worker.specs.Moving.{IsStill}
 use Rattle.cb_worker.proofs.worker.Worker.wait_to_enter.Given as goal
 
 -- it stays the same worker, no transaction begins, and of it as it is the last step told
