@@ -1,1 +1,5 @@
 pub mod NextLife
+pub mod Processes
+pub mod ProcessSteps
+pub mod ProcessWorlds
+pub mod ProcessLaws

@@ -1,10 +1,14 @@
-//! What the service of one life of a server leaves to the next one, as a law by name.
+//! Laws of a service: what one life of a server leaves to the next one, and which world of the
+//! protocol a service and its clients are.
 //!
-//! The crate has no code. Its law puts together what `cb_serve` says of rounds and what
-//! `cb_shelf_rows` says of a file's rows.
+//! The crate has no code. Its laws put together what `cb_serve` says of rounds, what
+//! `cb_shelf_rows` says of a file's rows, and what `cb_client` says of clients.
 #![tactic(auto)]
 
 ghost use Rattle.cb_serve_lives.specs.NextLife.{NextLifeIsNew};
+ghost use Rattle.cb_serve_lives.specs.ProcessLaws.{CopiesAgree, ProcessesAreSerial};
+ghost use Rattle.cb_serve_lives.specs.ProcessLaws.{ProcessesGoAlong, ProcessesKeepThePromise};
+ghost use Rattle.cb_serve_lives.specs.ProcessLaws.{WritersAreAlone};
 
 use sqlite::Alter;
 
@@ -12,4 +16,27 @@ use sqlite::Alter;
 /// server knows then is below the floor of each life that may follow over the tables.
 pub fn next_life_is_new<S: Alter>()
     ensures law { NextLifeIsNew S.Store }
+{}
+
+/// Whatever a service and its clients do, and whatever comes through between them: a run of the
+/// protocol's world goes along. Each step is a round of the service (`IsRoundOfLife`), a call of a
+/// `Client`, a frame that a client takes, or a process that begins an incarnation of a client. At
+/// each moment the world has this server, these clients and every frame that was said, and its
+/// transcript has what was read and written. So the whole promise holds of it. What committed
+/// transactions read and wrote is serial in commit order, and leaves the store. Two processes that
+/// have bytes of one page have the same; and while a transaction may write a page, no other process
+/// has bytes of it.
+///
+/// Any frame that was said may come, once, often or never, in any order, and whatever is no frame.
+/// Four premises are no clause of any call. No frame comes that no client said, but of incarnations
+/// below the floor. The server has a number left for each frame that a round takes: `serve` takes
+/// none without, and `IsRound` doesn't say so. A process has an incarnation above the floor and
+/// above those of its client before, and the one before it does nothing more. Its client has the
+/// service's limits.
+pub fn processes_are_worlds<S: Alter>()
+    ensures along { ProcessesGoAlong S.Store }
+    ensures promise { ProcessesKeepThePromise S.Store }
+    ensures serial { ProcessesAreSerial S.Store }
+    ensures agree { CopiesAgree S.Store }
+    ensures alone { WritersAreAlone S.Store }
 {}

@@ -123,7 +123,7 @@ counted L o w sound r c =
     (a.1.restarts c, a.1.begins c)
 
 -- an operation in the transcript is one of the run
-performs_so : (hs : List TranscriptEntry) (c : ℕ) (k : ClientState) (call : Call)
+pub performs_so : (hs : List TranscriptEntry) (c : ℕ) (k : ClientState) (call : Call)
     (word : AnswerWord) (ops : List PerformedOperation) → k.no ≡ c → incarnation_at hs c
     ≡ k.incarnation → transaction_at hs c ≡ last_txn k
     → call_operation hs c call word ops ≡ performs k call word ops
