@@ -35,11 +35,11 @@ put_kept older limits life now before after k p = record {
 
 module _ {S : Type 0} (g : Ghosts S) (older : Bool) (limits : Bounds) where
   -- a disk that is clean at the end was clean before
-  clean_at : (old mid : Held S) (life now : LifeState) → MakesRoom g life now old mid → HasCleanDisk (state g mid) → HasCleanDisk (state g old)
+  pub clean_at : (old mid : Held S) (life now : LifeState) → MakesRoom g life now old mid → HasCleanDisk (state g mid) → HasCleanDisk (state g old)
   clean_at old mid life now (had l t) clean = subst (λ (h : Held S). HasCleanDisk (state g h)) t clean
   clean_at old mid life now (made i b e m s crash) clean = omega (arith, crash.clean)
 
-  clean_before : (rounds : List Round) (old new : Standing S) (life last : LifeState) → AreRounds g limits rounds old new life last → HasCleanDisk (state g new.tables) → HasCleanDisk (state g old.tables)
+  pub clean_before : (rounds : List Round) (old new : Standing S) (life last : LifeState) → AreRounds g limits rounds old new life last → HasCleanDisk (state g new.tables) → HasCleanDisk (state g old.tables)
   clean_before [] old new life last are clean = subst (λ (s : Standing S). HasCleanDisk (state g s.tables)) are.0 clean
   clean_before (round ∷ rounds) old new life last are clean =
       let later = clean_before rounds are.1 new are.2 last are.4 clean in

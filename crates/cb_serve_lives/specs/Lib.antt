@@ -3,3 +3,4 @@ pub mod Processes
 pub mod ProcessSteps
 pub mod ProcessWorlds
 pub mod ProcessLaws
+pub mod ServedFile

@@ -1,5 +1,5 @@
-//! Laws of a service: what one life of a server leaves to the next one, and which world of the
-//! protocol a service and its clients are.
+//! Laws of a service: what one life of a server leaves to the next one, wherever it stops; and
+//! which world of the protocol a service and its clients are.
 //!
 //! The crate has no code. Its laws put together what `cb_serve` says of rounds, what
 //! `cb_shelf_rows` says of a file's rows, and what `cb_client` says of clients.
@@ -9,6 +9,7 @@ ghost use Rattle.cb_serve_lives.specs.NextLife.{NextLifeIsNew};
 ghost use Rattle.cb_serve_lives.specs.ProcessLaws.{CopiesAgree, ProcessesAreSerial};
 ghost use Rattle.cb_serve_lives.specs.ProcessLaws.{ProcessesGoAlong, ProcessesKeepThePromise};
 ghost use Rattle.cb_serve_lives.specs.ProcessLaws.{WritersAreAlone};
+ghost use Rattle.cb_serve_lives.specs.ServedFile.{DonesStand, RoundsAreSteps, ServicesRestart};
 
 use sqlite::Alter;
 
@@ -39,4 +40,26 @@ pub fn processes_are_worlds<S: Alter>()
     ensures serial { ProcessesAreSerial S.Store }
     ensures agree { CopiesAgree S.Store }
     ensures alone { WritersAreAlone S.Store }
+{}
+
+/// Of a file, from its first open on: whatever services ran over it one after another, each begun
+/// by `begin_life` over tables that the one before left, and wherever each stopped. A round is
+/// steps: its pieces are taken in memory, the tables get room, what is to be said goes out, a batch
+/// is written, and it is reported. What a service told is its server as it was when bytes last went
+/// out.
+///
+/// Where a service begins, that is a restart of the server that may happen in whatever world over
+/// all lives the service before belonged to, with what that one told. So its floor is a new one, it
+/// begins as `server_of_life` over `store_on_disk`, and the number on disk is one between the last
+/// that was reported and the last that was made. What the tables answer at any moment is the first
+/// store with the commits that stand written over it; and each Done that went out, of whichever
+/// service, is of one of these. Rounds as `serve` does them are such steps, on a clean disk.
+///
+/// A stop keeps what was committed, by the definition of a step; nobody else writes the file. What
+/// the first open found, and its premises, are as of `loads_follow_commits` of `cb_shelf_stops`.
+/// Each service has limits of its own, of which the tables fix the pages and their size.
+pub fn services_are_lives<S: Alter>()
+    ensures restart { ServicesRestart S.Store }
+    ensures stand { DonesStand S.Store }
+    ensures rounds { RoundsAreSteps S.Store }
 {}

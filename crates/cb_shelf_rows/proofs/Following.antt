@@ -74,7 +74,7 @@ over_full limits [] pages fits full = full
 over_full limits (next ∷ batch) pages fits full = over_full limits batch _ fits.1 (All-set (λ (page : StoredPage). length page.bytes ≡ limits.page_size) pages next.page _ fits.0.bytes full)
 
 -- a batch that fits leaves them full
-batch_full : (limits : Bounds) (store : StoreState) (batch : BatchState) → IsOf limits store → Fits limits batch → HasFullPages store → HasFullPages (after_batch store batch)
+pub batch_full : (limits : Bounds) (store : StoreState) (batch : BatchState) → IsOf limits store → Fits limits batch → HasFullPages store → HasFullPages (after_batch store batch)
 batch_full limits store batch of fits full =
     subst (λ size. AreFull size (overwritten store.pages batch.pages)) (sym of.page_size)
     (over_full limits batch.pages store.pages (recursion_from_All _ _ fits) (subst (λ size. AreFull size store.pages) of.page_size full))

@@ -1,0 +1,11 @@
+-- Goals of `services_are_lives`.
+use Rattle.cb_serve_lives.proofs.RoundSteps.{are_steps}
+use Rattle.cb_serve_lives.proofs.Services.{dones_stand, services_restart}
+use Rattle.cb_serve_lives.proofs.services_are_lives.Goals as goal
+
+pub returns : goal.returns
+returns g c = record {
+  restart = services_restart g.S.Store;
+  stand = dones_stand g.S.Store;
+  rounds = are_steps g.S.Store;
+}
