@@ -236,8 +236,11 @@ static void store_close(struct store *store) {
   sqlite3_close(store->database);
 }
 
-/* Raises the bound above an incarnation, before it is heard of. */
+/* The bound is above an incarnation before the server hears of it. */
 static void raise_above(struct store *store, uint64_t incarnation) {
+  if (incarnation < (uint64_t)store->below) {
+    return;
+  }
   store->below = (sqlite3_int64)incarnation + LIFE_ROOM;
   sqlite3_bind_int64(store->raise, 1, store->below);
   sqlite3_bind_int64(store->raise, 2, store->floor);
@@ -286,11 +289,11 @@ static void check(uint32_t fault) {
   }
 }
 
-/* The server over the rows of its store. */
+/* The server of this life over the rows of its store. */
 static void open_server(struct host *host) {
   struct store *store = &host->store;
-  check(rughvadi_open_begin(&host->limits, (uint64_t)one_number(store, "SELECT commits FROM mark2"),
-                            &host->server));
+  check(rughvadi_open_life(&host->limits, (uint64_t)one_number(store, "SELECT commits FROM mark2"),
+                           (uint64_t)store->floor, &host->server));
   sqlite3_stmt *rows = prepared(store,
                                 "SELECT version, place, body FROM page2 JOIN part USING (no)"
                                 " ORDER BY no, place");
@@ -384,13 +387,12 @@ static bool asks_incarnation(const uint8_t *bytes, size_t left) {
 /* Answers which incarnation a client may have next: one that it never had, in no life. */
 static bool tell_incarnation(struct host *host, struct connection *connection,
                              const uint8_t *asked) {
-  uint64_t next = 0, floor = (uint64_t)host->store.floor;
+  uint64_t next = 0;
   uint32_t client = (uint32_t)asked[2] << 8 | asked[3];
   if (rughvadi_server_incarnation(&host->server, client, &next) != RUGHVADI_DONE
       || !speaks_for(host, connection, client)) {
     return false;
   }
-  next = next > floor ? next : floor;
   make_room(&connection->out, HEADER);
   uint8_t *header = connection->out.at + connection->out.size;
   memcpy(header, asked, HEADER);
@@ -401,12 +403,12 @@ static bool tell_incarnation(struct host *host, struct connection *connection,
   return true;
 }
 
-/* Whether the server is to hear of a frame's incarnation. One of a former life it isn't. */
-static bool is_of_life(struct host *host, const rughvadi_frame_head *head) {
-  if (head->incarnation < (uint64_t)host->store.floor || head->incarnation >= MOST_INCARNATION) {
+/* Whether the server is to hear of a frame; of a Hello only once the bound is above it. */
+static bool has_room(struct host *host, const rughvadi_frame_head *head) {
+  if (head->incarnation >= MOST_INCARNATION) {
     return false;
   }
-  if (head->kind == RUGHVADI_KIND_HELLO && head->incarnation >= (uint64_t)host->store.below) {
+  if (head->kind == RUGHVADI_KIND_HELLO) {
     raise_above(&host->store, head->incarnation);
   }
   return true;
@@ -428,7 +430,7 @@ static ssize_t take_one(struct host *host, struct connection *connection, const 
   if (fault != RUGHVADI_DONE || !speaks_for(host, connection, head.client)) {
     return -1;
   }
-  if (is_of_life(host, &head)
+  if (has_room(host, &head)
       && rughvadi_take(&host->server, bytes, left, &used) != RUGHVADI_DONE) {
     return -1;
   }
@@ -487,7 +489,10 @@ static int64_t now(void) {
 /* Its client is left: else the others wait for what it holds. */
 static void lose(struct host *host, struct connection *connection) {
   if (connection->client != NOBODY) {
+    uint64_t next = 0;
     host->of[connection->client] = NULL;
+    check(rughvadi_server_incarnation(&host->server, (uint32_t)connection->client, &next));
+    raise_above(&host->store, next);
     check(rughvadi_server_leave(&host->server, (uint32_t)connection->client));
     fetch(host);
   }

@@ -6,13 +6,13 @@
  * (rughvadi_next), and writes the server's pages to disk (rughvadi_server_batch and what follows).
  *
  * A handle. `rughvadi_handle h = RUGHVADI_EMPTY;` is empty. rughvadi_server_new,
- * rughvadi_open_begin and rughvadi_client_new put an object into an empty handle, rughvadi_free
- * takes it out again. A handle is never copied, and its fields are the library's: the host neither
- * reads nor writes them. One call at a time is made on a handle. It may go to another thread, with
- * what it holds, where the host orders the calls: by a lock, a thread's start or join, or a
- * sequentially consistent atomic. A call that takes a const handle changes nothing that a call can
- * show. It counts as a call all the same, and the handle itself is never const: the object is taken
- * out of it and put back.
+ * rughvadi_open_begin, rughvadi_open_life and rughvadi_client_new put an object into an empty
+ * handle, rughvadi_free takes it out again. A handle is never copied, and its fields are the
+ * library's: the host neither reads nor writes them. One call at a time is made on a handle. It may
+ * go to another thread, with what it holds, where the host orders the calls: by a lock, a thread's
+ * start or join, or a sequentially consistent atomic. A call that takes a const handle changes
+ * nothing that a call can show. It counts as a call all the same, and the handle itself is never
+ * const: the object is taken out of it and put back.
  *
  * What is said. A call may say frames: the server's answers, a client's asks. They are kept in the
  * handle until rughvadi_next has fetched each, the oldest first. Until then every call that may say
@@ -220,14 +220,24 @@ uint32_t rughvadi_server_new(const rughvadi_limits *limits, rughvadi_handle *h);
 uint32_t rughvadi_open_begin(const rughvadi_limits *limits, uint64_t last_commit,
                              rughvadi_handle *h);
 
+/* In its place, where the host keeps lives: the server begins one, whose floor this is. Of each
+ * client it knows the floor as its incarnation, and it takes no frame of an incarnation below,
+ * whenever that comes. The host has a bound on disk, below which each incarnation is that a former
+ * server heard of: the floor is that bound, and the next bound is on disk, too, before the server
+ * takes anything. A floor of 0 is none: that is rughvadi_open_begin.
+ * HELD, LIMIT_... RANGE: no commit has this number, or no incarnation is the floor (2^62 - 1 at
+ * most). MEMORY. */
+uint32_t rughvadi_open_life(const rughvadi_limits *limits, uint64_t last_commit, uint64_t floor,
+                            rughvadi_handle *h);
+
 /* Second, once for each page, by rising number: the version that rughvadi_server_page told when the
  * page was written (0 where it never was), and its bytes (zeros then). They are copied.
  * OTHER_KIND. ROOM: the bytes aren't as long as a page, or each page has its row already. RANGE:
  * the version is above the last commit. MEMORY. */
 uint32_t rughvadi_open_row(rughvadi_handle *h, uint64_t version, const uint8_t *bytes, size_t len);
 
-/* Third: the handle holds the server then. All that it has counts as on disk, and it knows no
- * client.
+/* Third: the handle holds the server then. All that it has counts as on disk. It knows no client,
+ * or in a life the floor of each.
  * OTHER_KIND. ROOM: not each page has its row. MEMORY: alone of all calls, the rows are gone then,
  * and the handle is empty: begin again. */
 uint32_t rughvadi_open_serve(rughvadi_handle *h);
@@ -265,8 +275,8 @@ uint32_t rughvadi_server_forget(rughvadi_handle *h, uint64_t number);
 uint32_t rughvadi_server_leave(rughvadi_handle *h, uint32_t client);
 
 /* The incarnation that the client may greet with next: one more than the last that the server heard
- * of since it was made. A server that was made anew has heard of none: then the host has to keep
- * the number, or take the clock.
+ * of since it was made, and than the floor of its life. One without a life that was made anew has
+ * heard of none: then the host has to keep the number.
  * OTHER_KIND. RANGE: as above. */
 uint32_t rughvadi_server_incarnation(const rughvadi_handle *h, uint32_t client,
                                      uint64_t *incarnation);

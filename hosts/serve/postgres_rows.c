@@ -171,9 +171,9 @@ static enum outcome take_rows(struct postgres *store, rughvadi_handle *rows, enu
 
 static enum outcome load(struct postgres *store, rughvadi_handle *rows, enum fault *fault) {
   const char *const values[] = {store->store};
-  *fault = has_room(store)
-               ? fault_of(rughvadi_open_begin(&store->settings->limits, store->last, rows))
-               : FAULT_MEMORY;
+  *fault = has_room(store) ? fault_of(rughvadi_open_life(&store->settings->limits, store->last,
+                                                         store->life.floor, rows))
+                           : FAULT_MEMORY;
   if (*fault != NO_FAULT) {
     return REFUSED;
   }

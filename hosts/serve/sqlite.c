@@ -148,8 +148,8 @@ static enum fault sqlite_begin_life(struct engine *engine, rughvadi_handle *rows
     return fault;
   }
   fault = tables_lay_out(store);
-  fault = fault == NO_FAULT ? tables_load(store, rows) : fault;
   fault = fault == NO_FAULT ? put_life(store) : fault;
+  fault = fault == NO_FAULT ? tables_load(store, rows) : fault;
   fault = fault == NO_FAULT ? sqlite_run(store, "COMMIT") : fault;
   if (fault != NO_FAULT) {
     sqlite3_exec(store->database, "ROLLBACK", NULL, NULL, NULL);

@@ -264,7 +264,8 @@ static enum fault load_page(struct sqlite *store, const struct reading *reading,
 /* Reads all pages; no row is left behind them. */
 static enum fault load_pages(struct sqlite *store, const struct reading *reading,
                              rughvadi_handle *rows) {
-  enum fault fault = fault_of(rughvadi_open_begin(&store->limits, store->last, rows));
+  enum fault fault = fault_of(
+      rughvadi_open_life(&store->limits, store->last, store->life.floor, rows));
   for (uint64_t no = 0; no < store->limits.pages && fault == NO_FAULT; no++) {
     fault = load_page(store, reading, no, rows);
   }

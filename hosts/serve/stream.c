@@ -14,7 +14,7 @@ enum piece {
   FRAME,       /* a frame that is taken */
   AGAIN,       /* the header by which is said again what may be lost */
   UNREAD,      /* as many bytes as their header says, but no frame */
-  LET_GO,      /* a frame of no incarnation of this life */
+  LET_GO,      /* a frame at the bound or above it that makes no room for itself */
   UNBOUNDED,   /* a Hello for which the bound has to be raised first */
   NO_HEADER    /* a header that no frame has */
 };
@@ -25,14 +25,14 @@ static bool is_of_header(uint32_t fault) {
          || fault == RUGHVADI_FRAME_LENGTH;
 }
 
-/* What a whole piece is, whose incarnation the server isn't to hear of as it stands. */
+/* What a whole piece is, of whose incarnation the server isn't to hear as the bound stands. */
 static enum piece outside(const struct stream *stream, const uint8_t *bytes, size_t size) {
   rughvadi_frame_head head;
   if (rughvadi_frame_read(&stream->limits, bytes, size, &head) != RUGHVADI_DONE) {
     return UNREAD;
   }
-  bool is_within = head.incarnation >= stream->life.floor && head.incarnation < MOST_INCARNATION;
-  return is_within && head.kind == RUGHVADI_KIND_HELLO ? UNBOUNDED : LET_GO;
+  bool leaves_some = head.incarnation < MOST_INCARNATION;
+  return leaves_some && head.kind == RUGHVADI_KIND_HELLO ? UNBOUNDED : LET_GO;
 }
 
 /* What the bytes begin with, and how many bytes it has. */
@@ -54,10 +54,8 @@ static enum piece front_of(const struct stream *stream, const uint8_t *bytes, si
   if (left < *size) {
     return PART;
   }
-  uint64_t incarnation = number_at(bytes + INCARNATION_AT, 8);
-  return incarnation >= stream->life.floor && incarnation < stream->life.below
-             ? FRAME
-             : outside(stream, bytes, *size);
+  return number_at(bytes + INCARNATION_AT, 8) < stream->life.below ? FRAME
+                                                                   : outside(stream, bytes, *size);
 }
 
 /* Fetches all that the server said, behind what waits to be put out. */

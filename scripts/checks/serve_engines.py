@@ -79,6 +79,17 @@ def deadlock(it: Scene) -> bytes:
     return b"".join([*hellos, *reads, *wants, AGAIN])
 
 
+def about_the_floor(it: Scene) -> bytes:
+    """Frames of the floor itself need no Hello; those below it are let go, a Hello, too."""
+    floor, reads = it.incarnation - 1, struct.pack(">QH", 1, 0)
+    of = {0: floor, 1: floor - 1, 2: floor + 1}
+    asks = [frame(ASK_READ, client, number, struct.pack(">QI", 1, client))
+            for client, number in of.items()]
+    hellos = [frame(HELLO, client, number) for client, number in of.items()]
+    commits = [frame(COMMIT, client, number, reads) for client, number in of.items()]
+    return b"".join([*asks, hellos[1], *commits, *hellos, *asks, *commits])
+
+
 def no_pages(it: Scene) -> bytes:
     """Commits of reads alone."""
     return it.begins() + b"".join(
@@ -132,6 +143,7 @@ def streams() -> Iterator[Stream]:
     yield Stream("the older version", [in_version_1])
     yield Stream("a deadlock", [deadlock])
     yield Stream("commits of reads", [no_pages, no_pages])
+    yield Stream("frames about the floor", [about_the_floor, about_the_floor])
     yield Stream("a header of kind 0", [lambda it: AGAIN + it.begins() + 3 * AGAIN])
     for name, end in {
         "version 3": HEADER.pack(3, HELLO, 0, 1, 0), "kind 9": HEADER.pack(2, 9, 0, 1, 0),

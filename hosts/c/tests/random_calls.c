@@ -89,7 +89,7 @@ static uint32_t renew(rughvadi_handle *h) {
   }
   rughvadi_free(h);
   if (h == handles && draw() % 2) {
-    return rughvadi_open_begin(&limits, draw() % 5, h);
+    return rughvadi_open_life(&limits, draw() % 5, draw() % 8 ? draw() % 4 : UINT64_MAX, h);
   }
   return h == handles ? rughvadi_server_new(&limits, h)
                       : rughvadi_client_new(&limits, (uint32_t)(draw() % 5), draw() % 4, h);

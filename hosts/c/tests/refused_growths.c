@@ -140,7 +140,7 @@ static void open_server(void) {
   uint64_t before = sum;
   do {
     sum = before;
-    TRY(rughvadi_open_begin(&limits, 7, &server));
+    TRY(rughvadi_open_life(&limits, 7, 1, &server));
     for (int page = 0; page < 4; page++) {
       memset(bytes, page, 64);
       TRY(rughvadi_open_row(&server, (uint64_t)page, bytes, 64));

@@ -40,34 +40,54 @@ static bool open_rows(party *it, PyObject *rows) {
   return right && !PyErr_Occurred();
 }
 
-/* Makes the server over those rows, or over zeros where they are None. */
-static bool open_over(party *it, const rughvadi_limits *numbers, uint64_t last, PyObject *rows) {
-  core_state *state = core_state_of((PyObject *)it);
-  uint32_t fault = rows == Py_None ? rughvadi_server_new(numbers, &it->handle)
-                                   : rughvadi_open_begin(numbers, last, &it->handle);
-  if (fault == RUGHVADI_DONE && rows != Py_None) {
-    if (!open_rows(it, rows)) {
+/* Hands in rows of zeros. */
+static bool open_zeros(party *it, uint64_t pages) {
+  uint8_t *zeros = PyMem_Calloc(1, (size_t)it->page_size);
+  if (zeros == NULL) {
+    PyErr_NoMemory();
+    return false;
+  }
+  uint32_t fault = RUGHVADI_DONE;
+  for (uint64_t page = 0; page < pages && fault == RUGHVADI_DONE; page++) {
+    fault = rughvadi_open_row(&it->handle, 0, zeros, (size_t)it->page_size);
+  }
+  PyMem_Free(zeros);
+  if (fault != RUGHVADI_DONE) {
+    core_refuse(core_state_of((PyObject *)it), fault);
+  }
+  return fault == RUGHVADI_DONE;
+}
+
+/* Makes the server in the life of that floor over those rows, or over zeros where they are None. */
+static bool open_over(party *it, const rughvadi_limits *numbers, uint64_t last, PyObject *rows,
+                      uint64_t floor) {
+  uint32_t fault =
+      rughvadi_open_life(numbers, rows == Py_None ? 0 : last, floor, &it->handle);
+  if (fault == RUGHVADI_DONE) {
+    if (!(rows == Py_None ? open_zeros(it, numbers->pages) : open_rows(it, rows))) {
       return false;
     }
     fault = rughvadi_open_serve(&it->handle);
   }
   if (fault != RUGHVADI_DONE) {
-    core_refuse(state, fault);
+    core_refuse(core_state_of((PyObject *)it), fault);
   }
   return fault == RUGHVADI_DONE;
 }
 
 static PyObject *server_new(PyTypeObject *class, PyObject *args, PyObject *named) {
-  static char *names[] = {"limits", "last_commit", "rows", NULL};
-  PyObject *limits, *last_given = NULL, *rows = Py_None;
-  uint64_t last = 0;
+  static char *names[] = {"limits", "last_commit", "rows", "floor", NULL};
+  PyObject *limits, *last_given = NULL, *rows = Py_None, *floor_given = NULL;
+  uint64_t last = 0, floor = 0;
   rughvadi_limits numbers;
-  if (!PyArg_ParseTupleAndKeywords(args, named, "O|OO:Server", names, &limits, &last_given, &rows)
-      || (last_given != NULL && !core_number(last_given, 64, &last))) {
+  if (!PyArg_ParseTupleAndKeywords(args, named, "O|OO$O:Server", names, &limits, &last_given, &rows,
+                                   &floor_given)
+      || (last_given != NULL && !core_number(last_given, 64, &last))
+      || (floor_given != NULL && !core_number(floor_given, 64, &floor))) {
     return NULL;
   }
   party *it = core_new_party(class, limits, &numbers);
-  if (it != NULL && !open_over(it, &numbers, last, rows)) {
+  if (it != NULL && !open_over(it, &numbers, last, rows, floor)) {
     Py_CLEAR(it);
   }
   return (PyObject *)it;
@@ -183,10 +203,11 @@ static PyGetSetDef properties[] = {CORE_PARTY_PROPERTIES, {NULL, NULL, NULL, NUL
 
 static PyType_Slot slots[] = {
     {Py_tp_doc,
-     "Server(limits, last_commit=0, rows=None)\n--\n\n"
+     "Server(limits, last_commit=0, rows=None, *, floor=0)\n--\n\n"
      "A page server over a store of zeros; or over the rows of one that was written before: the\n"
      "number of its last commit, and the version and the bytes of each page. It writes nothing\n"
-     "itself: `batch` says what is to be written."},
+     "itself: `batch` says what is to be written. Where the host keeps lives, it begins the one\n"
+     "of that floor: it takes no frame of an incarnation below. 0 is none."},
     {Py_tp_new, server_new},
     {Py_tp_dealloc, core_dealloc},
     {Py_tp_traverse, core_traverse},

@@ -24,7 +24,7 @@ class Store:
         self.db.execute("CREATE TABLE IF NOT EXISTS mark(id INTEGER PRIMARY KEY, number)")
         self.db.execute("CREATE TABLE IF NOT EXISTS life(id INTEGER PRIMARY KEY, floor, below)")
         self.db.execute("INSERT OR IGNORE INTO life VALUES (1, 0, 1)")
-        # No incarnation of a former life is taken in this one.
+        # Each incarnation of the former lives is below the floor of this one.
         self.db.execute("UPDATE life SET floor = below, below = below + ?", (ROOM,))
         self.floor, self.below = self.db.execute("SELECT floor, below FROM life").fetchone()
 
@@ -32,13 +32,15 @@ class Store:
         mark = self.db.execute("SELECT number FROM mark").fetchone()
         rows = {page: row for page, *row in self.db.execute("SELECT * FROM pages")}
         zeros = [0, bytes(LIMITS.page_size)]
-        return Server(
-            LIMITS, mark[0] if mark else 0, [rows.get(p, zeros) for p in range(LIMITS.pages)]
-        )
+        rows = [rows.get(page, zeros) for page in range(LIMITS.pages)]
+        # It takes no frame of an incarnation below the floor.
+        return Server(LIMITS, mark[0] if mark else 0, rows, floor=self.floor)
 
     def raise_above(self, incarnation: int) -> None:
-        self.below = incarnation + ROOM
-        self.db.execute("UPDATE life SET below = ?", (self.below,))  # synced, as a batch is
+        """The bound is above an incarnation before the server hears of it."""
+        if incarnation >= self.below:
+            self.below = incarnation + ROOM
+            self.db.execute("UPDATE life SET below = ?", (self.below,))  # synced, as a batch is
 
     def write(self, batch) -> None:
         self.db.execute("BEGIN")
@@ -102,7 +104,7 @@ class Host:
                 return
             self.check_owner(connection, head.client)
             self.came[connection] = came[head.length :]
-            if self.is_of_life(head):
+            if self.has_room(head):
                 self.server.take(came[: head.length])
                 self.send_said()
 
@@ -112,17 +114,16 @@ class Host:
             raise ConnectionError
 
     def tell_incarnation(self, connection: socket.socket, client: int) -> None:
-        """Which one the client may have next: one that it never had, in no life."""
-        incarnation = max(self.server.next_incarnation(client), self.store.floor)
+        """Which one the client may have next: one that it had in no life."""
+        incarnation = self.server.next_incarnation(client)
         self.check_owner(connection, client)
         connection.sendall(HEADER.pack(2, 0, client, incarnation, 0))
 
-    def is_of_life(self, head) -> bool:
-        """Whether the server is to hear of a frame's incarnation; of a Hello's (kind 1) only once
-        the bound is above it."""
-        if not self.store.floor <= head.incarnation < MOST:
+    def has_room(self, head) -> bool:
+        """Whether the server is to hear of a frame: of a Hello (kind 1) once the bound is above."""
+        if head.incarnation >= MOST:  # it would leave none for later lives
             return False
-        if head.kind == 1 and head.incarnation >= self.store.below:
+        if head.kind == 1:
             self.store.raise_above(head.incarnation)
         return True
 
@@ -142,6 +143,7 @@ class Host:
         del self.came[connection]
         for client in [c for c, its in self.connections.items() if its is connection]:
             del self.connections[client]
+            self.store.raise_above(self.server.next_incarnation(client))
             self.server.leave(client)  # else the others wait for what it holds
             self.send_said()
 

@@ -6,7 +6,9 @@ import pickle
 import re
 import threading
 import unittest
+from collections import deque
 from pathlib import Path
+from typing import Optional
 
 from host import Host
 from rughvadi import (
@@ -14,6 +16,7 @@ from rughvadi import (
     Ended,
     Fault,
     FaultNumber,
+    Frame,
     FrameFault,
     FrameShort,
     LimitFault,
@@ -35,6 +38,29 @@ def counted(transaction) -> int:
     page[0] += 1
     transaction[2] = page
     return was
+
+
+def exchange(server: Server, client: Client, *late: Frame) -> None:
+    """Hands these frames, and all that either says, to the other."""
+    sent = deque(late)
+    while True:
+        for answer in [*server.frames()]:
+            client.take(answer.data)  # of one that is another's nothing comes
+            sent += client.frames()
+        sent += client.frames()
+        if not sent:
+            return
+        server.take(sent.popleft().data)
+
+
+def written(server: Server, client: Client, value: int) -> None:
+    """The client reads page 2 in a transaction, and fills it with bytes of this value."""
+    client.begin()
+    client.read(2)
+    exchange(server, client)
+    client.want(2)
+    exchange(server, client)
+    client.write(2, bytes([value]) * 64)
 
 
 class OneProcess(unittest.TestCase):
@@ -292,6 +318,60 @@ class Refusals(unittest.TestCase):
         self.assertRaises(Fault, Server, LIMITS, 0, [(0, bytes(64))])
         self.assertRaises(KeyError, Server, LIMITS, 0, ({}[it] for it in "a"))
         self.assertEqual(server.next_incarnation(0), 1)
+
+    def test_a_server_in_a_life_takes_nothing_below_its_floor(self) -> None:
+        server = Server(LIMITS, floor=5)
+        self.assertEqual([server.next_incarnation(it) for it in (0, 1)], [6, 6])
+        for incarnation, is_welcome in ((4, False), (6, True)):
+            client = Client(LIMITS, 0, incarnation)
+            client.hello()
+            exchange(server, client)
+            self.assertEqual(client.status is Status.IDLE, is_welcome)
+        rows = [(1, bytes(64))] * 4
+        self.assertEqual(Server(LIMITS, 1, rows, floor=8).next_incarnation(0), 9)
+        self.assertEqual(Server(LIMITS, 1, rows, floor=0).next_incarnation(0), 1)
+
+    def test_floors_that_no_incarnation_has_are_refused(self) -> None:
+        most = (1 << 62) - 1
+        self.assertEqual(Server(LIMITS, floor=most - 1).next_incarnation(0), most)
+        for floor in (most + 1, (1 << 64) - 1):
+            with self.assertRaises(Fault) as raised:
+                Server(LIMITS, floor=floor)
+            self.assertIs(raised.exception.number, FaultNumber.RANGE)
+        self.assertRaises(ValueError, Server, LIMITS, floor=-1)
+        self.assertRaises(TypeError, Server, LIMITS, 0, None, 5)
+
+    def late_commit(self, former: Server, server: Server) -> tuple[Optional[Ended], int]:
+        """How a transaction ended whose greeting and commit came to the next server. It had read a
+        page that another wrote there since."""
+        late, other = Client(LIMITS, 0, 2), Client(LIMITS, 1, 20)
+        late.hello()
+        (greeting,) = late.frames()
+        exchange(former, late, greeting)
+        late.begin()
+        late.read(2)
+        exchange(former, late)
+        late.finish()
+        (commit,) = late.frames()
+        other.hello()
+        exchange(server, other)
+        written(server, other, 5)
+        other.finish()
+        exchange(server, other)
+        self.assertEqual(other.status, Status.COMMITTING)
+        exchange(server, late, greeting, commit)
+        if batch := server.batch():
+            server.flushed(batch.number)
+        exchange(server, late)
+        return late.last
+
+    def test_a_late_commit_of_a_former_life_is_let_go(self) -> None:
+        with Server(LIMITS, floor=1) as former, Server(LIMITS, floor=3) as server:
+            self.assertEqual(self.late_commit(former, server), (None, 0))
+
+    def test_without_lives_it_commits_what_had_changed(self) -> None:
+        with Server(LIMITS) as former, Server(LIMITS) as server:
+            self.assertEqual(self.late_commit(former, server), (Ended.COMMITTED, 2))
 
     def test_a_handle_is_let_go_at_the_end_of_a_with(self) -> None:
         with Server(LIMITS) as server:

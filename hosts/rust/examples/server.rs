@@ -127,8 +127,6 @@ impl Served {
 const PANICKED: &str = "a thread panicked under the lock";
 
 struct Host {
-    /// No incarnation below it is of this life of the store.
-    floor: u64,
     store: Mutex<Store>,
     /// Nobody waits for the store's lock who has this one.
     served: Mutex<Served>,
@@ -159,7 +157,7 @@ impl Host {
     /// Tells a client the incarnation that it may greet with.
     fn tell_incarnation(&self, client: u32) -> Result<()> {
         let served = self.lock();
-        let incarnation = served.server.next_incarnation(client)?.max(self.floor);
+        let incarnation = served.server.next_incarnation(client)?;
         let mut header = vec![2, 0];
         header.extend_from_slice(&(client as u16).to_be_bytes());
         header.extend_from_slice(&incarnation.to_be_bytes());
@@ -168,9 +166,10 @@ impl Host {
         Ok(())
     }
 
-    /// Hands the server a frame, unless it is of another life. What greets is below the bound.
+    /// Hands the server a frame, unless its incarnation would leave none for later lives. What
+    /// greets is below the bound.
     fn take(&self, head: &FrameHead, frame: &[u8]) -> Result<()> {
-        if !(self.floor..MOST).contains(&head.incarnation) {
+        if head.incarnation >= MOST {
             return Ok(());
         }
         if head.kind == HELLO {
@@ -185,6 +184,8 @@ impl Host {
 
     /// The others would wait for what it holds.
     fn leave(&self, client: u32) -> Result<()> {
+        let next = self.lock().server.next_incarnation(client)?;
+        self.store.lock().expect(PANICKED).raise_above(next)?;
         let mut served = self.lock();
         served.clients[client as usize] = None;
         served.server.leave(client)?;
@@ -296,10 +297,10 @@ fn main() -> Result<()> {
     let mut store = Store::open(Path::new(&words[2]))?;
     let floor = store.below;
     store.raise_above(floor)?;
-    let server = Server::open(&LIMITS, store.number, store.rows.iter().cloned())?;
+    // It takes no frame of an incarnation below the floor.
+    let server = Server::open_life(&LIMITS, store.number, floor, store.rows.iter().cloned())?;
     let clients = (0..LIMITS.clients).map(|_| None).collect();
     let host = Arc::new(Host {
-        floor,
         store: Mutex::new(store),
         served: Mutex::new(Served { server, clients }),
         came: Condvar::new(),

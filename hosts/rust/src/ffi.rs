@@ -104,7 +104,12 @@ extern "C" {
     pub fn rughvadi_again(h: *mut Handle) -> u32;
     pub fn rughvadi_free(h: *mut Handle);
     pub fn rughvadi_server_new(limits: *const Limits, h: *mut Handle) -> u32;
-    pub fn rughvadi_open_begin(limits: *const Limits, last_commit: u64, h: *mut Handle) -> u32;
+    pub fn rughvadi_open_life(
+        limits: *const Limits,
+        last_commit: u64,
+        floor: u64,
+        h: *mut Handle,
+    ) -> u32;
     pub fn rughvadi_open_row(h: *mut Handle, version: u64, bytes: *const u8, len: usize) -> u32;
     pub fn rughvadi_open_serve(h: *mut Handle) -> u32;
     pub fn rughvadi_server_batch(h: *mut Handle, number: *mut u64, pages: *mut usize) -> u32;

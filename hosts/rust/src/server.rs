@@ -43,18 +43,31 @@ impl Server {
     }
 
     /// A server over a store that was written before: the number of its last commit, and of each
-    /// page, by rising number, its version and its bytes.
+    /// page, by rising number, its version and its bytes. It knows no client.
     pub fn open<B: AsRef<[u8]>>(
         limits: &Limits,
         last_commit: u64,
         rows: impl IntoIterator<Item = (u64, B)>,
     ) -> Result<Server> {
+        Server::open_life(limits, last_commit, 0, rows)
+    }
+
+    /// The same where the host keeps lives: the server begins the one whose floor this is. It takes
+    /// no frame of an incarnation below, whenever that comes. The host has a bound on disk, below
+    /// which each incarnation is that a former server heard of: the floor is that bound. 0 is none.
+    pub fn open_life<B: AsRef<[u8]>>(
+        limits: &Limits,
+        last_commit: u64,
+        floor: u64,
+        rows: impl IntoIterator<Item = (u64, B)>,
+    ) -> Result<Server> {
         let object = Object::empty();
         // SAFETY: the handle is empty, and the bytes of a row are as many as they are said to be.
         unsafe {
-            done(ffi::rughvadi_open_begin(
+            done(ffi::rughvadi_open_life(
                 &limits.as_c(),
                 last_commit,
+                floor,
                 object.at(),
             ))?;
             for (version, bytes) in rows {

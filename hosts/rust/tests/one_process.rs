@@ -182,6 +182,34 @@ fn a_server_opens_over_what_was_written() {
     assert_eq!(count(&mut link, 3), (1, 2));
 }
 
+/// Whether the server welcomes the client in this incarnation.
+fn welcomes(server: &mut Server, client: u32, incarnation: u64) -> bool {
+    let mut client = Client::new(&LIMITS, client, incarnation).unwrap();
+    client.hello().unwrap();
+    let hello = client.next_frame().unwrap().unwrap();
+    server.take(&hello).unwrap();
+    server.next_frame().unwrap().map_or(false, |(_, welcome)| {
+        client.take(&welcome).unwrap();
+        client.status() == Status::Idle
+    })
+}
+
+#[test]
+fn a_server_in_a_life_takes_nothing_below_its_floor() {
+    let rows = || (0..4).map(|_| (1, vec![0; 64]));
+    let mut server = Server::open_life(&LIMITS, 1, 5, rows()).unwrap();
+    assert_eq!(server.next_incarnation(1).unwrap(), 6);
+    assert!(!welcomes(&mut server, 0, 4));
+    assert!(welcomes(&mut server, 0, 6));
+    let server = Server::open_life(&LIMITS, 1, 0, rows()).unwrap();
+    assert_eq!(server.next_incarnation(1).unwrap(), 1);
+    assert!(Server::open_life(&LIMITS, 1, (1 << 62) - 1, rows()).is_ok());
+    assert!(matches!(
+        Server::open_life(&LIMITS, 1, 1 << 62, rows()).err(),
+        Some(Error::Range)
+    ));
+}
+
 #[test]
 fn faults_have_names_and_texts() {
     let mut limits = LIMITS;
