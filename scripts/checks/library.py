@@ -13,6 +13,9 @@ It installs the library in a folder of its own, by `scripts/library`, and runs, 
 - a server and two clients in one process, over frames of which a tenth is lost, repeated or late,
   for so many seeds (10 if not said; an odd one keeps write permissions): each transaction checks
   a sum over all pages
+- the same where the server ends at drawn moments and another begins, whose frames meet those of
+  former lives, and where clients go by clocks that are set back and forth; and that of such servers
+  without lives the sums tell a commit of pages that had changed since
 - the tests of the Rust crate and of the Python package; the package's wheel is installed in an
   environment of its own (scripts/checks/library_python.py)
 - the examples in C, Rust and Python, at the same time at one server over SQLite
@@ -116,6 +119,19 @@ def run_soaks(tries, it, seeds):
     tries.command("several addresses", it.room / "addresses")
     for seed in range(1, seeds + 1):
         tries.command(f"lossy frames, seed {seed}", it.room / "lossy", seed, 2000)
+        tries.command(f"and lives, seed {seed}", it.room / "lossy", seed, 2000, "lives")
+    run_without_lives(tries, it, seeds)
+
+
+def run_without_lives(tries, it, seeds):
+    """Of servers that know no client of a former one's, some seed is to show what is stale."""
+    said = []
+    for seed in range(1, seeds + 1):
+        words = [it.room / "lossy", str(seed), "2000", "new"]
+        done = subprocess.run(words, capture_output=True, text=True, check=False)
+        said.append("stale" if ": not so: " in done.stderr else done.stdout + done.stderr)
+    right, stale = "stale" in said, said.count("stale")
+    tries.told("without lives", right, f"{stale} of {seeds} seeds show it" if right else said[0])
 
 
 def run_wrappers(tries, it):

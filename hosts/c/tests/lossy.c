@@ -1,11 +1,21 @@
-/* lossy SEED COMMITS: a server and two clients over frames of which a tenth each is lost, repeated
- * or late, while clients go away and come back. Each transaction reads every page and moves an
- * amount from one to another: so all it reads adds up to the same sum, whoever wrote what when, if
- * what it reads is what the store had at one moment. A page that is read twice is the same twice.
- * Where the seed is odd, write permissions are kept. */
+/* lossy SEED COMMITS [lives | new]: a server and two clients over frames of which a tenth each is
+ * lost, repeated or late, while clients go away and come back. Each transaction reads every page
+ * and moves an amount from one to another: so all it reads adds up to the same sum, whoever wrote
+ * what when, if what it reads is what the store had at one moment. A page that is read twice is
+ * the same twice, and who was told of commit n had read what commit n - 1 left. Where the seed is
+ * odd, write permissions are kept.
+ *
+ * With a third word the server ends at drawn moments, too, and another is opened over the disk,
+ * while frames to the former one and by it are still on the net, some for long. Clients go on in
+ * their incarnation for a while; the next one is what the server tells, or that of a clock which
+ * is set back and forth, if that is greater. With `lives` each server begins a life; with `new` it
+ * knows no client, and takes what clients sent to a former one. */
 #include "parties.h"
 
 enum { CLIENTS = 2, PAGES = 8, SIZE = 64, SLOTS = 6, START = 1000, NET = 4096 };
+enum { ROOM = 4, HOUR = 60 };    /* of incarnations: above a bound, and by which a clock is set */
+enum { HELD_UP = 10000 };        /* so many steps at most a frame is held up */
+enum { COMMITS_MOST = 1 << 16 }; /* commits whose reads are looked at */
 
 static rughvadi_limits limits = {CLIENTS, PAGES, SIZE, SLOTS, 2, 8, 0};
 
@@ -13,11 +23,13 @@ typedef struct {
   int to; /* a client, or CLIENTS: the server */
   size_t len;
   uint8_t *bytes;
+  long due; /* no sooner than at this step it comes */
 } packet;
 
 static packet net[NET];
 static size_t on_net;
-static long lost, repeated, late, reads, aborts, restarts, commits;
+static long lost, repeated, late, reads, aborts, restarts, servers, steps;
+static long commits = 1; /* the number of the last one that is on disk */
 
 /* ---- pages: an amount, and bytes that follow from it, so that a torn page shows ---- */
 
@@ -39,6 +51,8 @@ static uint64_t amount_of(const uint8_t *bytes) {
 
 /* ---- the net ---- */
 
+static bool ends; /* the server does, and others follow */
+
 static void send_all(rughvadi_handle *from, bool is_server) {
   uint8_t room[16 + 10 + PAGES * (16 + SIZE)];
   size_t size;
@@ -49,13 +63,30 @@ static void send_all(rughvadi_handle *from, bool is_server) {
       continue;
     }
     packet *sent = &net[on_net++];
-    *sent = (packet){is_server ? (int)client : CLIENTS, size, malloc(size)};
+    long due = steps + (ends && draw() % 20 == 0 ? (long)(draw() % HELD_UP) : 0);
+    *sent = (packet){is_server ? (int)client : CLIENTS, size, malloc(size), due};
     HOLD(sent->bytes != NULL);
     memcpy(sent->bytes, room, size);
   }
 }
 
 static rughvadi_handle server, clients[CLIENTS];
+static bool keeps_lives;
+static bool is_former[CLIENTS]; /* the client's incarnation is of a former server */
+static uint64_t bound = 1;      /* on disk: what each incarnation is below */
+
+/* The bound is above an incarnation before the server hears of it. */
+static void raise_above(uint64_t incarnation) {
+  bound = incarnation >= bound ? incarnation + ROOM : bound;
+}
+
+static void raise_for(const packet *it) {
+  rughvadi_frame_head head;
+  WANT(rughvadi_frame_read(&limits, it->bytes, it->len, &head));
+  if (head.kind == RUGHVADI_KIND_HELLO) {
+    raise_above(head.incarnation);
+  }
+}
 
 static void deliver(void) {
   if (on_net == 0) {
@@ -65,11 +96,20 @@ static void deliver(void) {
   size_t at = 0;
   if (draw() % 10 == 0) {
     at = draw() % on_net;
-    late++;
   }
+  while (at < on_net && net[at].due > steps) {
+    at++;
+  }
+  if (at == on_net) {
+    return;
+  }
+  late += at > 0;
   packet it = net[at];
   rughvadi_handle *to = it.to == CLIENTS ? &server : &clients[it.to];
   size_t used = 0;
+  if (it.to == CLIENTS) {
+    raise_for(&it);
+  }
   uint32_t fault = rughvadi_take(to, it.bytes, it.len, &used);
   HOLD(fault == RUGHVADI_DONE && used == it.len);
   send_all(to, it.to == CLIENTS);
@@ -146,17 +186,41 @@ static void go_on(int no) {
     return;
   }
   if (txn->from != txn->to) {
-    uint64_t moved = txn->amount[txn->from] < txn->moved ? txn->amount[txn->from] : txn->moved;
-    put(no, txn->from, txn->amount[txn->from] - moved);
-    put(no, txn->to, txn->amount[txn->to] + moved);
+    txn->moved = txn->amount[txn->from] < txn->moved ? txn->amount[txn->from] : txn->moved;
+    put(no, txn->from, txn->amount[txn->from] - txn->moved);
+    put(no, txn->to, txn->amount[txn->to] + txn->moved);
   }
   WANT(rughvadi_client_finish(&clients[no]));
   send_all(&clients[no], false);
 }
 
+/* What the commits of these numbers read and left, of those that a client was told of. */
+static struct told {
+  bool is_there;
+  uint64_t read[PAGES], left[PAGES];
+} told[COMMITS_MOST] = {[1] = {true, {0}, {0}}};
+
+static void look_at_commit(const transaction *txn, uint64_t number) {
+  HOLD(number < COMMITS_MOST - 1 && !told[number].is_there);
+  struct told *it = &told[number];
+  memcpy(it->read, txn->amount, sizeof it->read);
+  memcpy(it->left, txn->amount, sizeof it->left);
+  if (txn->from != txn->to) {
+    it->left[txn->from] -= txn->moved;
+    it->left[txn->to] += txn->moved;
+  }
+  it->is_there = true;
+  HOLD(!it[-1].is_there || memcmp(it[-1].left, it->read, sizeof it->read) == 0);
+  HOLD(!it[1].is_there || memcmp(it->left, it[1].read, sizeof it->left) == 0);
+}
+
 static void begin(int no) {
   uint64_t number;
-  aborts += rughvadi_client_last(&clients[no], &number) == RUGHVADI_ENDED_ABORTED;
+  uint32_t how = rughvadi_client_last(&clients[no], &number);
+  aborts += how == RUGHVADI_ENDED_ABORTED;
+  if (how == RUGHVADI_ENDED_COMMITTED) {
+    look_at_commit(&current[no], number);
+  }
   WANT(rughvadi_client_begin(&clients[no], &number));
   current[no] = (transaction){.from = draw() % PAGES, .to = draw() % PAGES, .moved = draw() % 100};
 }
@@ -180,18 +244,22 @@ static void turn(int no) {
 
 /* A client goes away in the middle of anything, and comes back in its next incarnation. */
 static void restart(int no) {
-  uint64_t incarnation;
+  uint64_t incarnation, clock = 1 + (uint64_t)(steps / 1000) + draw() % 2 * HOUR;
   rughvadi_free(&clients[no]);
+  WANT(rughvadi_server_incarnation(&server, (uint32_t)no, &incarnation));
+  raise_above(incarnation);
   WANT(rughvadi_server_leave(&server, (uint32_t)no));
   send_all(&server, true);
   WANT(rughvadi_server_incarnation(&server, (uint32_t)no, &incarnation));
+  incarnation = ends && clock > incarnation ? clock : incarnation;
   WANT(rughvadi_client_new(&limits, (uint32_t)no, incarnation, &clients[no]));
+  is_former[no] = false;
   restarts++;
 }
 
 /* ---- the disk ---- */
 
-static uint64_t disk[PAGES];
+static uint64_t disk[PAGES], versions[PAGES];
 
 static void flush(void) {
   uint64_t number, version, sum = 0;
@@ -205,6 +273,7 @@ static void flush(void) {
     WANT(rughvadi_server_page(&server, at, bytes, SIZE, &page, &version));
     HOLD(page < PAGES && version <= number);
     disk[page] = amount_of(bytes);
+    versions[page] = version;
   }
   for (int at = 0; at < PAGES; at++) {
     sum += disk[at];
@@ -218,24 +287,53 @@ static void flush(void) {
   send_all(&server, true);
 }
 
-/* A server over a store that was written before, and clients. */
-static void open_all(void) {
+/* A server over what is on disk: in the next life, or a new one. */
+static void open_server(void) {
   uint8_t bytes[SIZE];
-  WANT(rughvadi_open_begin(&limits, 1, &server));
-  spell(bytes, START);
+  if (keeps_lives) {
+    WANT(rughvadi_open_life(&limits, (uint64_t)commits, bound, &server));
+    bound += ROOM;
+  } else {
+    WANT(rughvadi_open_begin(&limits, (uint64_t)commits, &server));
+  }
   for (int page = 0; page < PAGES; page++) {
-    WANT(rughvadi_open_row(&server, 1, bytes, SIZE));
-    disk[page] = START;
+    spell(bytes, disk[page]);
+    WANT(rughvadi_open_row(&server, versions[page], bytes, SIZE));
   }
   WANT(rughvadi_open_serve(&server));
+  servers++;
+}
+
+/* A server over a store that was written before, and clients. */
+static void open_all(void) {
+  for (int page = 0; page < PAGES; page++) {
+    disk[page] = told[1].left[page] = START;
+    versions[page] = 1;
+  }
+  open_server();
   for (int no = 0; no < CLIENTS; no++) {
-    WANT(rughvadi_client_new(&limits, (uint32_t)no, 1, &clients[no]));
+    uint64_t incarnation;
+    WANT(rughvadi_server_incarnation(&server, (uint32_t)no, &incarnation));
+    WANT(rughvadi_client_new(&limits, (uint32_t)no, incarnation, &clients[no]));
+  }
+}
+
+/* The server ends in the middle of anything: what isn't on disk is gone. */
+static void serve_anew(void) {
+  rughvadi_free(&server);
+  open_server();
+  for (int no = 0; no < CLIENTS; no++) {
+    is_former[no] = true;
   }
 }
 
 /* Something happens. */
 static void event(uint64_t what, int no) {
-  if (what < 30) {
+  if (ends && draw() % 3000 == 0) {
+    serve_anew();
+  } else if (is_former[no] && draw() % 400 == 0) {
+    restart(no);
+  } else if (what < 30) {
     turn(no);
   } else if (what < 90) {
     deliver();
@@ -267,15 +365,17 @@ int main(int argc, char **argv) {
   random_state += seed * 0x9E3779B97F4A7C15u;
   limits.keep_write = seed % 2;
   long wanted = argc > 2 ? atol(argv[2]) : 2000;
+  ends = argc > 3;
+  keeps_lives = ends && strcmp(argv[3], "lives") == 0;
   open_all();
-  for (long steps = 0; commits < wanted; steps++) {
+  for (; commits < wanted; steps++) {
     uint64_t what = draw() % 100;
     event(what, (int)(draw() % CLIENTS));
     HOLD(steps < 2000 * (wanted + 1000));
   }
-  printf("commits %ld, pages read %ld, aborted %ld, restarts %ld; frames lost %ld, repeated %ld, "
-         "late %ld: none broken\n",
-         commits, reads, aborts, restarts, lost, repeated, late);
+  printf("commits %ld, pages read %ld, aborted %ld, restarts %ld, servers %ld; frames lost %ld, "
+         "repeated %ld, late %ld: none broken\n",
+         commits, reads, aborts, restarts, servers, lost, repeated, late);
   free_all();
   return 0;
 }
