@@ -93,7 +93,15 @@ class Gateway:
         (self.room / "stores").write_text("".join(lines))
 
     def begins(self) -> bool:
-        """Whether it listens."""
+        """Begins it; whether it listens."""
+        self.spawn()
+        if self.process.stdout.readline() == b"ready\n":
+            return True
+        self.stop(signal.SIGKILL)
+        return False
+
+    def spawn(self) -> None:
+        """Begins it, and doesn't wait until it listens."""
         words = [self.program, "--unix", self.socket, "--tokens", self.tokens]
         words += ["--tcp", self.port] if self.port else []
         words += ["--stores", self.room / "stores", *self.words, "--"]
@@ -103,10 +111,6 @@ class Gateway:
             both = {"stdout": subprocess.PIPE, "stderr": log, "preexec_fn": self.limit}
             # What it makes isn't to rest on who starts it.
             self.process = subprocess.Popen(list(map(str, words)), env=env, umask=0, **both)
-        if self.process.stdout and self.process.stdout.readline() == b"ready\n":
-            return True
-        self.stop(signal.SIGKILL)
-        return False
 
     def limit(self) -> None:
         """Before the program: its limit of open files."""

@@ -33,7 +33,7 @@ RUNS = [
     ("faults", []), ("sides", LISTS), ("schedules", []), ("limits", []),
     ("refused", ["calls"]), ("refused", ["plays"]), ("refused", ["run"]), ("load", ["2"]),
     ("library", ["--built"]), ("serve", ["--built"]), ("storm", ["--built"]),
-    ("takeover", ["--built"]),
+    ("takeover", ["--built"]), ("lives", ["--built"]),
     ("files", []), ("refused", ["shelf"]), ("refused", ["station"]), ("killed", []),
     ("memory", []), ("memory", ["run", "10000", "100000"]), ("refused", ["growths"]),
     ("readme", []), ("wrong", ["--all"]),
@@ -64,7 +64,7 @@ def program_in(below: Path, named: str) -> Path:
 def environment(below: Path, words: list[str]) -> dict[str, str]:
     """What a run is done with."""
     found = {**os.environ, "BELOW": str(below)}
-    if words[0] in ("killed", "serve", "storm"):
+    if words[0] in ("killed", "serve", "storm", "lives"):
         found["PLAY"] = str(program_in(below, PLAY))
     named = PROGRAMS.get(" ".join(words[:2]), PROGRAMS.get(words[0]))
     return {**found, "PROGRAM": str(program_in(below, named))} if named else found
