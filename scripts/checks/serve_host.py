@@ -164,6 +164,11 @@ def lives(it: Host) -> str:
         found += [peer.welcomed(ahead), bound(it) > ahead]
     with Caller(it, 1) as peer:
         found += [peer.welcomed(ahead - 1, peer.incarnation) == peer.incarnation > ahead]
+    last = bound(it) - 1
+    with Caller(it, 1) as peer:
+        found += [peer.welcomed(last) == last]
+    # As it leaves, the server hears of its next incarnation.
+    found += [wait_for(lambda: bound(it) > last + 1)]
     ended(server, signal.SIGKILL)
     server = it.start()
     with Caller(it, 1) as peer:
@@ -171,7 +176,7 @@ def lives(it: Host) -> str:
         asked = peer.incarnation
         found += [peer.welcomed(ahead + 1, 3 << 60, asked) == asked > ahead, bound(it) > asked]
     status = ended(server, signal.SIGTERM)
-    right = found == [ahead, True, True, True, True]
+    right = found == [ahead, *6 * [True]]
     return "" if right and status == 0 else f"{found}, {status}: {it.log()}"
 
 
