@@ -3,6 +3,7 @@ import os
 import resource
 import signal
 import socket
+import struct
 import subprocess
 import time
 from dataclasses import dataclass, field
@@ -149,6 +150,20 @@ class Gateway:
         status = Path(f"/proc/{self.process.pid}/status").read_text()
         line = next(it for it in status.splitlines() if it.startswith("VmRSS"))
         return int(line.split()[1])
+
+
+def set_clock(room: Path) -> dict[str, str]:
+    """The environment of a program whose time of day is set by `put_clock` of the same folder."""
+    put_clock(room, 0)
+    return {"LD_PRELOAD": str(building.library_in_c("set_clock", room)),
+            "SET_CLOCK": str(room / "clock"), "ASAN_OPTIONS": "verify_asan_link_order=0"}
+
+
+def put_clock(room: Path, seconds: int) -> None:
+    """Sets that clock so many seconds ahead of the right one, or back, also while programs run."""
+    file = os.open(room / "clock", os.O_WRONLY | os.O_CREAT, 0o644)  # its length stays
+    os.pwrite(file, struct.pack("q", seconds), 0)
+    os.close(file)
 
 
 def free_port() -> int:

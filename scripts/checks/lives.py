@@ -26,7 +26,6 @@ import os
 import random
 import signal
 import sqlite3
-import struct
 import subprocess
 import sys
 import time
@@ -55,7 +54,6 @@ class Service:
     """A gateway whose clock can be set, its server, and clients that log what they do."""
 
     gateway: Gateway
-    clock: Path
     env: dict[str, str]
     workers: list[subprocess.Popen] = field(default_factory=list)
     hours: int = 0
@@ -63,7 +61,7 @@ class Service:
     def set_clock(self) -> None:
         """By an hour: back where it is right, else forth."""
         self.hours = -1 - self.hours
-        self.clock.write_bytes(struct.pack("q", self.hours * HOUR))
+        serving.put_clock(self.gateway.room, self.hours * HOUR)
 
     def log(self, client: int) -> Path:
         return self.gateway.room / f"log_{client}"
@@ -216,13 +214,11 @@ def main(words: list[str]) -> int:
             "the host in Python": ["socket", sys.executable,
                                    building.TOP / "hosts/python/examples/server.py"],
         })
-        own, clock = room / "kills", room / "clock"
+        own = room / "kills"
         own.mkdir()
-        clock.write_bytes(bytes(8))
-        set_clock = {"LD_PRELOAD": str(building.library_in_c("set_clock", room)),
-                     "SET_CLOCK": str(clock), "ASAN_OPTIONS": "verify_asan_link_order=0"}
-        it = Gateway(own, gateway, play, words=("--silence", "5"), limits=LIMITS, env=set_clock)
+        it = Gateway(own, gateway, play, words=("--silence", "5"), limits=LIMITS,
+                     env=serving.set_clock(own))
         it.make_files()
-        run_kills(tries, Service(it, clock, env), kills, seed)
+        run_kills(tries, Service(it, env), kills, seed)
     print(f"lives: {tries.passed} passed, {tries.failed} failed")
     return 1 if tries.failed else 0

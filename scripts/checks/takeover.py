@@ -14,8 +14,8 @@
 
 Server and gateway are built with ASan and UBSan. It needs the library (that of LIBRARY, else
 installed by scripts/library, with what stands in crates/rughvadi/out after --built), a C compiler,
-libuv, SQLite and libpq with their headers, PostgreSQL 15 and libfaketime. With 50 kills it takes
-some fifteen minutes. The status is 1 where something failed.
+libuv, SQLite and libpq with their headers, and PostgreSQL 15. With 50 kills it takes some fifteen
+minutes. The status is 1 where something failed.
 """
 from __future__ import annotations
 
@@ -44,7 +44,6 @@ CLIENTS, WATCHER, PAGES, SIZE = 6, 7, 6, 4096
 LIMITS = (8, PAGES, SIZE, 8, 1)
 # A server stands still for so long: more than another one waits for a sign of it.
 STILL = 6.0
-FAKETIME = "/usr/lib/x86_64-linux-gnu/faketime/libfaketime.so.1"
 
 
 @dataclass
@@ -130,11 +129,11 @@ def opened(room: Path, gateway: Path, serve: Path, env: dict[str, str]) -> Site:
     site.clusters[0].set("synchronous_standby_names", "*")
     words = ("--announced", "--silence", "5")
     command = (serve, "--announce", "--standby", "required")
+    ahead = serving.set_clock(room)
+    serving.put_clock(room, 300)
     for place in range(2):
         own = room / f"gateway_{place}"
         own.mkdir()
-        ahead = {"LD_PRELOAD": FAKETIME, "FAKETIME": "+300s", "DONT_FAKE_MONOTONIC": "1",
-                 "ASAN_OPTIONS": "verify_asan_link_order=0"}
         site.gateways.append(Gateway(own, gateway, serve, words=words, limits=LIMITS,
                                      command=command, database_word=f"'{site.conninfo()}'",
                                      env={} if place else ahead))
@@ -251,8 +250,8 @@ def main(words: list[str]) -> int:
     if len(counts) > 1 or not all(word.isdecimal() for word in counts):
         print("scripts/check takeover [--built] [KILLS]", file=sys.stderr)
         return 2
-    if not postgres.is_there() or not os.path.exists(FAKETIME):
-        print("takeover: it needs PostgreSQL 15 and libfaketime", file=sys.stderr)
+    if not postgres.is_there():
+        print("takeover: it needs PostgreSQL 15", file=sys.stderr)
         return 2
     tries = Tries()
     with building.a_room() as room:
