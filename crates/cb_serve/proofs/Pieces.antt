@@ -134,7 +134,7 @@ front_refused old l bytes frame used round.Exhausted same is refuses =
 front_refused old l bytes frame used round.Memory same is refuses = tt
 front_refused old l bytes frame used round.Shape same is refuses = absurd refuses
 front_refused old l bytes frame used round.Store same is refuses = absurd refuses
-front_refused old l bytes frame used round.Input same is refuses = absurd refuses
+front_refused old l bytes frame used (round.Input r) same is refuses = absurd refuses
 front_refused old l bytes frame used (round.Output e) same is refuses = absurd refuses
 
 -- How far a loop over the pieces of some bytes has come.

@@ -1,8 +1,8 @@
 -- Rounds, one after another.
-use Rattle.std.proofs.Common.{◌≡◌, ◌∙◌, ◌≢◌, inl, inr, ℕ, List, [], ◌∷◌, ◌++◌, Bool, true, false, Option, Some, None, IfSome, Result, Ok, Err, IfErr, OnOk, option_map, refl, sym, ap, subst, take, drop}
+use Rattle.std.proofs.Common.{◌≡◌, ◌∙◌, ◌≢◌, ◌+◌, ◌-◌, ◌^◌, inl, inr, ℕ, length, List, [], ◌∷◌, ◌++◌, Bool, true, false, Option, Some, None, IfSome, Result, Ok, Err, IfErr, OnOk, option_map, refl, sym, ap, subst, take, drop}
 use Rattle.std.proofs.KnownBytes.{Appends-nil, Appends-trans, Consumes-nil, Consumes-trans}
 use Rattle.std.proofs.lemmas.Grind.{flat_map-append}
-use Rattle.std.proofs.lemmas.List.{append-nil, take-append-drop}
+use Rattle.std.proofs.lemmas.List.{append-nil, length-append, take-append-drop}
 use Rattle.std.specs.Io.KnownBytes.{Appends, Consumes, IsAtEnd}
 use Rattle.std.specs.List.{AllByRecursion, flat_map}
 use Rattle.sqlite.specs.Held.{Held}
@@ -25,9 +25,9 @@ use Rattle.cb_serve.proofs.Writing.{survives_still}
 use Rattle.cb_serve.specs.Answering.{LacksNumber, Spells, after_inputs, inputs_in, said_to}
 use Rattle.cb_serve.specs.Living.{IsRoundOfLife, KeepsRoom, MakesRoom}
 use Rattle.cb_serve.specs.Living.MakesRoom.{had}
-use Rattle.cb_serve.specs.Parts.{Answered, FindsNoRoom, Commits, DoesRound, EndsRound, PutsAnswers, PutsDones, StopsAnswering, StopsCommit, StopsReading, StopsRound, StopsWithin, standing}
+use Rattle.cb_serve.specs.Parts.{Answered, FindsNoRoom, Commits, DoesRound, EndsRound, PutsAnswers, PutsDones, StopsAnswering, StopsBehind, StopsCommit, StopsReading, StopsRound, StopsWithin, standing}
 use Rattle.cb_serve.specs.Rounds.{Round, SaysDones, Standing, StaysUnwritten, Writes, WritesOrNot, counted_on, reached}
-use Rattle.cb_serve.specs.Serving.{AreRounds, Ends, IsStopped, Serves, StopsInLife, Tells, opened, put_in, read_in}
+use Rattle.cb_serve.specs.Serving.{AreRounds, Ends, HasCause, IsStopped, Serves, StopsInLife, Tells, opened, put_in, read_in}
 use Rattle.cb_serve.specs.Steps.{RefusesFront, StopsTaking, TakesAll}
 use Rattle.cb_serve.specs.Streams.{IsNoFrame, IsPart, IsPiece, IsRest, bytes_of, count_passed}
 use Rattle.cb_serve.specs.declared.fault.RoundFault.{RoundFault}
@@ -63,7 +63,7 @@ stops_taking f old bytes out t = record {
     told round.Memory known = refl
     told round.Shape wrong = absurd wrong
     told round.Store wrong = absurd wrong
-    told round.Input wrong = absurd wrong
+    told (round.Input r) wrong = absurd wrong
     told (round.Output e) wrong = absurd wrong
 
 -- all whole pieces were taken, and a front of what is said to them was put out
@@ -87,7 +87,7 @@ stops_at_answers f old new bytes said after taken n out out2 of_output empty t p
     told round.Shape wrong = absurd wrong
     told round.Store wrong = absurd wrong
     told round.Exhausted wrong = absurd wrong
-    told round.Input wrong = absurd wrong
+    told (round.Input r) wrong = absurd wrong
     told round.Memory wrong = absurd wrong
 
 -- what is left behind the pieces is none
@@ -100,6 +100,24 @@ known_on_disk : (server : Server) (batch : Option BatchState) (below : ℕ) → 
 known_on_disk server None below known = known
 known_on_disk server (Some batch) below known = knows_after server (ReachesDisk batch.number) below known (λ c i e. absurd cc)
 
+-- a read that was refused, or no memory for what it gave
+cause_of_reading : (f : RoundFault) (read : List ℕ) → StopsReading f read → HasCause f read
+cause_of_reading (round.Input r) read why = why
+cause_of_reading round.Memory read why = why
+cause_of_reading round.Shape read wrong = absurd wrong
+cause_of_reading round.Store read wrong = absurd wrong
+cause_of_reading round.Exhausted read wrong = absurd wrong
+cause_of_reading (round.Output r) read wrong = absurd wrong
+
+-- something was read before
+pub cause_behind : (f : RoundFault) (read : List ℕ) → StopsBehind f → read ≢ [] → HasCause f read
+cause_behind (round.Input r) read wrong some = absurd wrong
+cause_behind (round.Output r) read final some = (final, some)
+cause_behind round.Memory read why some = some
+cause_behind round.Shape read why some = some
+cause_behind round.Store read why some = some
+cause_behind round.Exhausted read why some = some
+
 module _ {S : Type 0} (g : Ghosts S) where
   -- whom the server knew as the tables had room is known still once all is on disk
   pub known_then : (mid new : ServerValue) (life new_life : LifeState) (first tables later : Held S) (out1 out2 : Option (List ℕ)) → KeepsRoom g (server_of mid) life new_life first tables → Commits g mid tables later new out1 out2
@@ -110,10 +128,10 @@ module _ {S : Type 0} (g : Ghosts S) where
   -- the parts of a round are a round
   pub does_round : (limits : Bounds) (old mid new : ServerValue) (desk read_desk after : Desk) (first tables later : Held S) (life new_life : LifeState) (read : List ℕ) (taken : Taken)
       (in1 in2 out1 out2 out3 : Option (List ℕ)) → KeepsRoom g (server_of mid) life new_life first tables → old.limits ≡ limits
-      → read_desk.pending.items ≡ desk.pending.items ++ read → read_desk.passed_over ≡ desk.passed_over → Consumes in1 in2 read
+      → read_desk.pending.items ≡ desk.pending.items ++ read → read_desk.passed_over ≡ desk.passed_over → Consumes in1 in2 read → read ≢ []
       → Answered old read_desk after taken mid out1 out2 → Commits g mid tables later new out2 out3
       → DoesRound g limits (standing g old desk first) (standing g new after later) life new_life in1 in2 out1 out3
-  does_round limits old mid new desk read_desk after first tables later life new_life read taken in1 in2 out1 out2 out3 keeps same reads counts consumes a c =
+  does_round limits old mid new desk read_desk after first tables later life new_life read taken in1 in2 out1 out2 out3 keeps same reads counts consumes some a c =
       let inputs = inputs_in a.pieces in
       let is : server_of mid ≡ after_inputs (server_of old) (inputs_in a.pieces) = a.takes.answers.becomes in
       let kept : mid.limits ≡ limits = a.takes.answers.limits ∙ same in
@@ -124,6 +142,7 @@ module _ {S : Type 0} (g : Ghosts S) where
           room = keeps.room;
           known = known_then mid new life new_life first tables later out2 out3 keeps c;
           is = record {
+            some = some;
             are = subst (λ (l : Bounds). AllByRecursion (IsPiece l) a.pieces) same a.takes.are;
             cut = sym reads ∙ sym (take-append-drop taken.used read_desk.pending.items) ∙ ap (λ (k : List ℕ). k ++ drop taken.used read_desk.pending.items) a.takes.cut
                 ∙ ap (λ (k : List ℕ). flat_map bytes_of a.pieces ++ k) (sym a.rest);
@@ -157,7 +176,7 @@ module _ {S : Type 0} (g : Ghosts S) where
       )
 
   -- nothing more was done
-  pub stopped_still : (limits : Bounds) (f : RoundFault) (old : Standing S) (read : List ℕ) → StopsReading f → IsPart limits old.waiting → IsStopped g limits f read [] old old.tables
+  pub stopped_still : (limits : Bounds) (f : RoundFault) (old : Standing S) (read : List ℕ) → StopsReading f read → IsPart limits old.waiting → IsStopped g limits f read [] old old.tables
   stopped_still limits f old read why begins = record {
     begins = begins;
     pieces = [];
@@ -175,8 +194,8 @@ module _ {S : Type 0} (g : Ghosts S) where
     told = told f why;
   }
     where
-      told : (k : RoundFault) → StopsReading k → Tells g limits k [] [] (old.waiting ++ read) [] [] None old.server old.tables old.tables
-      told round.Input known = (refl, refl, (refl, refl))
+      told : (k : RoundFault) → StopsReading k read → Tells g limits k [] [] (old.waiting ++ read) [] [] None old.server old.tables old.tables
+      told (round.Input r) known = (refl, refl, (refl, refl))
       told round.Memory known = inl (refl, (refl, refl))
       told round.Shape wrong = absurd wrong
       told round.Store wrong = absurd wrong
@@ -184,19 +203,20 @@ module _ {S : Type 0} (g : Ghosts S) where
       told (round.Output e) wrong = absurd wrong
 
   -- a read failed
-  pub stops_reading : (limits : Bounds) (f : RoundFault) (old : Standing S) (life : LifeState) (read : List ℕ) (in1 in2 out : Option (List ℕ)) → StopsReading f → Consumes in1 in2 read
+  pub stops_reading : (limits : Bounds) (f : RoundFault) (old : Standing S) (life : LifeState) (read : List ℕ) (in1 in2 out : Option (List ℕ)) → StopsReading f read → Consumes in1 in2 read
       → StopsRound g limits f old life old.tables in1 in2 out out
   stops_reading limits f old life read in1 in2 out why consumes =
-      record { read = read; reads = consumes; put = []; puts = Appends-nil out; stopped = λ begins. inl (old.tables, life, had refl refl, stopped_still limits f old read why begins) }
+      record { read = read; reads = consumes; put = []; puts = Appends-nil out; cause = cause_of_reading f read why; stopped = λ begins. inl (old.tables, life, had refl refl, stopped_still limits f old read why begins) }
 
   -- some answers were put out
   pub stops_answering : (limits : Bounds) (f : RoundFault) (old : ServerValue) (desk : Desk) (first tables : Held S) (life new_life : LifeState) (read bytes : List ℕ) (in1 in2 out1 out2 : Option (List ℕ)) → MakesRoom g life new_life first tables → old.limits ≡ limits
-      → bytes ≡ desk.pending.items ++ read → Consumes in1 in2 read → StopsAnswering f old bytes out1 out2 → StopsRound g limits f (standing g old desk first) life tables in1 in2 out1 out2
-  stops_answering limits f old desk first tables life new_life read bytes in1 in2 out1 out2 room same reads consumes a = record {
+      → bytes ≡ desk.pending.items ++ read → Consumes in1 in2 read → HasCause f read → StopsAnswering f old bytes out1 out2 → StopsRound g limits f (standing g old desk first) life tables in1 in2 out1 out2
+  stops_answering limits f old desk first tables life new_life read bytes in1 in2 out1 out2 room same reads consumes cause a = record {
     read = read;
     reads = consumes;
     put = a.put;
     puts = a.puts;
+    cause = cause;
     stopped = λ begins. inl (
       tables,
       new_life,
@@ -231,16 +251,17 @@ module _ {S : Type 0} (g : Ghosts S) where
       told (round.Output e) h = inl (h.0, h.1, (refl, refl))
       told round.Shape wrong = absurd wrong
       told round.Store wrong = absurd wrong
-      told round.Input wrong = absurd wrong
+      told (round.Input r) wrong = absurd wrong
 
   -- there was no room for whom the server knew
   pub stops_without_room : (limits : Bounds) (f : RoundFault) (old : ServerValue) (desk : Desk) (first tables : Held S) (life : LifeState) (read bytes : List ℕ) (in1 in2 out1 out2 : Option (List ℕ)) → old.limits ≡ limits
-      → bytes ≡ desk.pending.items ++ read → Consumes in1 in2 read → FindsNoRoom g f old bytes life first tables out1 out2 → StopsRound g limits f (standing g old desk first) life tables in1 in2 out1 out2
-  stops_without_room limits f old desk first tables life read bytes in1 in2 out1 out2 same reads consumes a = record {
+      → bytes ≡ desk.pending.items ++ read → Consumes in1 in2 read → HasCause f read → FindsNoRoom g f old bytes life first tables out1 out2 → StopsRound g limits f (standing g old desk first) life tables in1 in2 out1 out2
+  stops_without_room limits f old desk first tables life read bytes in1 in2 out1 out2 same reads consumes cause a = record {
     read = read;
     reads = consumes;
     put = [];
     puts = subst (λ (o : Option (List ℕ)). Appends out1 o []) (sym a.unsaid) (Appends-nil out1);
+    cause = cause;
     stopped = λ begins. inr (record {
       begins = begins;
       pieces = a.pieces;
@@ -255,18 +276,18 @@ module _ {S : Type 0} (g : Ghosts S) where
 
   -- whichever of both it was
   pub stops_within : (limits : Bounds) (f : RoundFault) (old : ServerValue) (desk : Desk) (first tables : Held S) (life : LifeState) (read bytes : List ℕ) (in1 in2 out1 out2 : Option (List ℕ)) → old.limits ≡ limits
-      → bytes ≡ desk.pending.items ++ read → Consumes in1 in2 read → StopsWithin g f old bytes life first tables out1 out2 → StopsRound g limits f (standing g old desk first) life tables in1 in2 out1 out2
-  stops_within limits f old desk first tables life read bytes in1 in2 out1 out2 same reads consumes (inl a) =
-      stops_answering limits f old desk first tables life a.0 read bytes in1 in2 out1 out2 a.1 same reads consumes a.2
-  stops_within limits f old desk first tables life read bytes in1 in2 out1 out2 same reads consumes (inr a) =
-      stops_without_room limits f old desk first tables life read bytes in1 in2 out1 out2 same reads consumes a
+      → bytes ≡ desk.pending.items ++ read → Consumes in1 in2 read → HasCause f read → StopsWithin g f old bytes life first tables out1 out2 → StopsRound g limits f (standing g old desk first) life tables in1 in2 out1 out2
+  stops_within limits f old desk first tables life read bytes in1 in2 out1 out2 same reads consumes cause (inl a) =
+      stops_answering limits f old desk first tables life a.0 read bytes in1 in2 out1 out2 a.1 same reads consumes cause a.2
+  stops_within limits f old desk first tables life read bytes in1 in2 out1 out2 same reads consumes cause (inr a) =
+      stops_without_room limits f old desk first tables life read bytes in1 in2 out1 out2 same reads consumes cause a
 
   -- the answers were put out, and some of the Dones, or none
   pub stops_committing : (limits : Bounds) (f : RoundFault) (old mid : ServerValue) (desk read_desk after : Desk) (first tables later : Held S) (life new_life : LifeState) (read : List ℕ) (taken : Taken)
-      (in1 in2 out1 out2 out3 : Option (List ℕ)) → MakesRoom g life new_life first tables → old.limits ≡ limits → read_desk.pending.items ≡ desk.pending.items ++ read → Consumes in1 in2 read
+      (in1 in2 out1 out2 out3 : Option (List ℕ)) → MakesRoom g life new_life first tables → old.limits ≡ limits → read_desk.pending.items ≡ desk.pending.items ++ read → Consumes in1 in2 read → HasCause f read
       → Answered old read_desk after taken mid out1 out2 → StopsCommit g f mid tables later out2 out3
       → StopsRound g limits f (standing g old desk first) life later in1 in2 out1 out3
-  stops_committing limits f old mid desk read_desk after first tables later life new_life read taken in1 in2 out1 out2 out3 room same reads consumes a c =
+  stops_committing limits f old mid desk read_desk after first tables later life new_life read taken in1 in2 out1 out2 out3 room same reads consumes cause a c =
       let is : server_of mid ≡ after_inputs (server_of old) (inputs_in a.pieces) = a.takes.answers.becomes in
       let kept : mid.limits ≡ limits = a.takes.answers.limits ∙ same in
       record {
@@ -274,6 +295,7 @@ module _ {S : Type 0} (g : Ghosts S) where
         reads = consumes;
         put = a.answers ++ c.put;
         puts = Appends-trans out1 out2 out3 a.answers c.put a.puts c.puts;
+        cause = cause;
         stopped = λ begins. inl (
           tables,
           new_life,
@@ -312,7 +334,7 @@ module _ {S : Type 0} (g : Ghosts S) where
       )
       told is kept round.Shape wrong = absurd wrong
       told is kept round.Exhausted wrong = absurd wrong
-      told is kept round.Input wrong = absurd wrong
+      told is kept (round.Input r) wrong = absurd wrong
 
   -- one round more
   rounds_more : (limits : Bounds) (rounds : List Round) (round : Round) (a b c : Standing S) (i j k : LifeState) → AreRounds g limits rounds a b i j → IsPart limits b.waiting → IsRoundOfLife g limits round b c j k
@@ -322,19 +344,21 @@ module _ {S : Type 0} (g : Ghosts S) where
   rounds_more limits (first ∷ rounds) round a b c i j k are part is = (are.0, are.1, are.2, are.3, rounds_more limits rounds round are.1 b c are.2 j k are.4 part is)
 
   -- How far a loop over rounds has come.
-  pub record Far (limits : Bounds) (start now : Standing S) (begun life : LifeState) (in0 in1 out0 out1 : Option (List ℕ)) : Type 0 where
+  pub record Far (limits : Bounds) (count : ℕ) (start now : Standing S) (begun life : LifeState) (in0 in1 out0 out1 : Option (List ℕ)) : Type 0 where
     pub rounds : List Round
+    pub counted : length rounds ≡ count
     pub are : AreRounds g limits rounds start now begun life
     pub reads : Consumes in0 in1 (read_in rounds)
     pub puts : Appends out0 out1 (put_in rounds)
 
-  pub far_nothing : (limits : Bounds) (start : Standing S) (life : LifeState) (in0 out0 : Option (List ℕ)) → Far limits start start life life in0 in0 out0 out0
-  far_nothing limits start life in0 out0 = record { rounds = []; are = (refl, refl); reads = Consumes-nil in0; puts = Appends-nil out0 }
+  pub far_nothing : (limits : Bounds) (start : Standing S) (life : LifeState) (in0 out0 : Option (List ℕ)) → Far limits 0 start start life life in0 in0 out0 out0
+  far_nothing limits start life in0 out0 = record { rounds = []; counted = refl; are = (refl, refl); reads = Consumes-nil in0; puts = Appends-nil out0 }
 
-  pub far_more : (limits : Bounds) (start now next : Standing S) (begun life new_life : LifeState) (in0 in1 in2 out0 out1 out2 : Option (List ℕ)) → IsPart limits now.waiting → Far limits start now begun life in0 in1 out0 out1
-      → DoesRound g limits now next life new_life in1 in2 out1 out2 → Far limits start next begun new_life in0 in2 out0 out2
-  far_more limits start now next begun life new_life in0 in1 in2 out0 out1 out2 part far d = record {
+  pub far_more : (limits : Bounds) (count : ℕ) (start now next : Standing S) (begun life new_life : LifeState) (in0 in1 in2 out0 out1 out2 : Option (List ℕ)) → IsPart limits now.waiting → Far limits count start now begun life in0 in1 out0 out1
+      → DoesRound g limits now next life new_life in1 in2 out1 out2 → Far limits (count + 1) start next begun new_life in0 in2 out0 out2
+  far_more limits count start now next begun life new_life in0 in1 in2 out0 out1 out2 part far d = record {
     rounds = far.rounds ++ d.round ∷ [];
+    counted = length-append far.rounds (d.round ∷ []) ∙ ap (λ (n : ℕ). n + 1) far.counted;
     are = rounds_more limits far.rounds d.round start now next begun life new_life far.are part d.is;
     reads = subst (λ (k : List ℕ). Consumes in0 in2 k) (sym (flat_map-append (λ (r : Round). r.read) far.rounds (d.round ∷ []) ∙ ap (λ (k : List ℕ). read_in far.rounds ++ k) (append-nil d.round.read)))
         (Consumes-trans in0 in1 in2 (read_in far.rounds) d.round.read far.reads d.reads);
@@ -344,10 +368,10 @@ module _ {S : Type 0} (g : Ghosts S) where
   }
 
   -- it ends there
-  pub serves_at : {E : Type 0} (limits : Bounds) (ending : Result E ServeFault) (start now : Standing S) (begun life : LifeState) (tables : Held S) (read put : List ℕ)
-      (in0 in1 in2 out0 out1 out2 : Option (List ℕ)) → Far limits start now begun life in0 in1 out0 out1 → Consumes in1 in2 read → Appends out1 out2 put
-      → Ends g limits ending read put in2 now life tables → Serves g limits ending start begun tables in0 in2 out0 out2
-  serves_at limits ending start now begun life tables read put in0 in1 in2 out0 out1 out2 far consumes appends ends = record {
+  pub serves_at : {E : Type 0} (limits : Bounds) (count : ℕ) (ending : Result E ServeFault) (start now : Standing S) (begun life : LifeState) (tables : Held S) (read put : List ℕ)
+      (in0 in1 in2 out0 out1 out2 : Option (List ℕ)) → Far limits count start now begun life in0 in1 out0 out1 → Consumes in1 in2 read → Appends out1 out2 put
+      → Ends g limits ending count read put in2 now life tables → Serves g limits ending start begun tables in0 in2 out0 out2
+  serves_at limits count ending start now begun life tables read put in0 in1 in2 out0 out1 out2 far consumes appends ends = record {
     rounds = far.rounds;
     last = now;
     last_life = life;
@@ -356,60 +380,60 @@ module _ {S : Type 0} (g : Ghosts S) where
     reads = Consumes-trans in0 in1 in2 (read_in far.rounds) read far.reads consumes;
     put = put;
     puts = Appends-trans out0 out1 out2 (put_in far.rounds) put far.puts appends;
-    ends = ends;
+    ends = subst (λ (n : ℕ). Ends g limits ending n read put in2 now life tables) (sym far.counted) ends;
   }
 
   -- a round stops
-  pub serves_stopped : {E : Type 0} (limits l : Bounds) (start now : Standing S) (begun life : LifeState) (f : RoundFault) (tables : Held S) (in0 in1 in2 out0 out1 out2 : Option (List ℕ)) → l ≡ limits
-      → IsPart limits now.waiting → Far limits start now begun life in0 in1 out0 out1 → StopsRound g l f now life tables in1 in2 out1 out2 → Serves g limits {E = E} (Err (fault.Round f)) start begun tables in0 in2 out0 out2
-  serves_stopped limits l start now begun life f tables in0 in1 in2 out0 out1 out2 same part far stops =
-      serves_at limits (Err (fault.Round f)) start now begun life tables stops.read stops.put in0 in1 in2 out0 out1 out2 far stops.reads stops.puts
-      (subst (λ (k : Bounds). IsPart k now.waiting → StopsInLife g k f stops.read stops.put now life tables) same stops.stopped part)
+  pub serves_stopped : {E : Type 0} (limits l : Bounds) (count : ℕ) (start now : Standing S) (begun life : LifeState) (f : RoundFault) (tables : Held S) (in0 in1 in2 out0 out1 out2 : Option (List ℕ)) → l ≡ limits
+      → IsPart limits now.waiting → Far limits count start now begun life in0 in1 out0 out1 → StopsRound g l f now life tables in1 in2 out1 out2 → Serves g limits {E = E} (Err (fault.Round f)) start begun tables in0 in2 out0 out2
+  serves_stopped limits l count start now begun life f tables in0 in1 in2 out0 out1 out2 same part far stops =
+      serves_at limits count (Err (fault.Round f)) start now begun life tables stops.read stops.put in0 in1 in2 out0 out1 out2 far stops.reads stops.puts
+      (stops.cause, subst (λ (k : Bounds). IsPart k now.waiting → StopsInLife g k f stops.read stops.put now life tables) same stops.stopped part)
 
-  -- there are no more rounds
-  pub serves_tired : {E : Type 0} (limits : Bounds) (start now : Standing S) (begun life : LifeState) (in0 in1 out0 out1 : Option (List ℕ))
-      → IsPart limits now.waiting → Far limits start now begun life in0 in1 out0 out1 → Serves g limits {E = E} (Err (fault.Round round.Input)) start begun now.tables in0 in1 out0 out1
-  serves_tired limits start now begun life in0 in1 out0 out1 part far =
-      serves_at limits (Err (fault.Round round.Input)) start now begun life now.tables [] [] in0 in1 in1 out0 out1 out1 far (Consumes-nil in1) (Appends-nil out1)
-      (inl (now.tables, life, had refl refl, stopped_still limits round.Input now [] tt part))
+  -- no more rounds can be counted
+  pub serves_endless : {E : Type 0} (limits : Bounds) (count : ℕ) (start now : Standing S) (begun life : LifeState) (in0 in1 out0 out1 : Option (List ℕ))
+      → count ≡ 2 ^ 64 - 1 → Far limits count start now begun life in0 in1 out0 out1 → Serves g limits {E = E} (Err fault.Endless) start begun now.tables in0 in1 out0 out1
+  serves_endless limits count start now begun life in0 in1 out0 out1 all far =
+      serves_at limits count (Err fault.Endless) start now begun life now.tables [] [] in0 in1 in1 out0 out1 out1 far (Consumes-nil in1) (Appends-nil out1)
+      (all, (refl, refl, refl))
 
   round_at : (limits l : Bounds) (now next : Standing S) (i j : LifeState) (in1 in2 out1 out2 : Option (List ℕ)) → l ≡ limits → DoesRound g l now next i j in1 in2 out1 out2 → DoesRound g limits now next i j in1 in2 out1 out2
   round_at limits l now next i j in1 in2 out1 out2 same d = subst (λ (k : Bounds). DoesRound g k now next i j in1 in2 out1 out2) same d
 
   -- a round was done, and the input goes on
-  pub goes_on : (limits l : Bounds) (start now next : Standing S) (begun life new_life : LifeState) (e : RoundEnd) (in0 in1 in2 out0 out1 out2 : Option (List ℕ)) → l ≡ limits → e ≡ end.GoesOn
-      → IsPart limits now.waiting → Far limits start now begun life in0 in1 out0 out1 → EndsRound g l e now next life new_life in1 in2 out1 out2 → IsPart limits next.waiting × Far limits start next begun new_life in0 in2 out0 out2
-  goes_on limits l start now next begun life new_life e in0 in1 in2 out0 out1 out2 same is part far ends =
+  pub goes_on : (limits l : Bounds) (count : ℕ) (start now next : Standing S) (begun life new_life : LifeState) (e : RoundEnd) (in0 in1 in2 out0 out1 out2 : Option (List ℕ)) → l ≡ limits → e ≡ end.GoesOn
+      → IsPart limits now.waiting → Far limits count start now begun life in0 in1 out0 out1 → EndsRound g l e now next life new_life in1 in2 out1 out2 → IsPart limits next.waiting × Far limits (count + 1) start next begun new_life in0 in2 out0 out2
+  goes_on limits l count start now next begun life new_life e in0 in1 in2 out0 out1 out2 same is part far ends =
       let d = subst (λ (k : RoundEnd). EndsRound g l k now next life new_life in1 in2 out1 out2) is ends in
-      (subst (λ (k : Bounds). IsPart k next.waiting) same d.1, far_more limits start now next begun life new_life in0 in1 in2 out0 out1 out2 part far (round_at limits l now next life new_life in1 in2 out1 out2 same d.0))
+      (subst (λ (k : Bounds). IsPart k next.waiting) same d.1, far_more limits count start now next begun life new_life in0 in1 in2 out0 out1 out2 part far (round_at limits l now next life new_life in1 in2 out1 out2 same d.0))
 
   -- a round was done, and the input goes on wrongly
-  pub serves_no_frame : {E : Type 0} (limits l : Bounds) (start now next : Standing S) (begun life new_life : LifeState) (e : RoundEnd) (in0 in1 in2 out0 out1 out2 : Option (List ℕ)) → l ≡ limits → e ≡ end.NoFrame
-      → IsPart limits now.waiting → Far limits start now begun life in0 in1 out0 out1 → EndsRound g l e now next life new_life in1 in2 out1 out2 → Serves g limits {E = E} (Err fault.NoFrame) start begun next.tables in0 in2 out0 out2
-  serves_no_frame limits l start now next begun life new_life e in0 in1 in2 out0 out1 out2 same is part far ends =
+  pub serves_no_frame : {E : Type 0} (limits l : Bounds) (count : ℕ) (start now next : Standing S) (begun life new_life : LifeState) (e : RoundEnd) (in0 in1 in2 out0 out1 out2 : Option (List ℕ)) → l ≡ limits → e ≡ end.NoFrame
+      → IsPart limits now.waiting → Far limits count start now begun life in0 in1 out0 out1 → EndsRound g l e now next life new_life in1 in2 out1 out2 → Serves g limits {E = E} (Err fault.NoFrame) start begun next.tables in0 in2 out0 out2
+  serves_no_frame limits l count start now next begun life new_life e in0 in1 in2 out0 out1 out2 same is part far ends =
       let d = subst (λ (k : RoundEnd). EndsRound g l k now next life new_life in1 in2 out1 out2) is ends in
-      serves_at limits (Err fault.NoFrame) start next begun new_life next.tables [] [] in0 in2 in2 out0 out2 out2
-      (far_more limits start now next begun life new_life in0 in1 in2 out0 out1 out2 part far (round_at limits l now next life new_life in1 in2 out1 out2 same d.0)) (Consumes-nil in2) (Appends-nil out2)
+      serves_at limits (count + 1) (Err fault.NoFrame) start next begun new_life next.tables [] [] in0 in2 in2 out0 out2 out2
+      (far_more limits count start now next begun life new_life in0 in1 in2 out0 out1 out2 part far (round_at limits l now next life new_life in1 in2 out1 out2 same d.0)) (Consumes-nil in2) (Appends-nil out2)
       (subst (λ (k : Bounds). IsNoFrame k next.waiting) same d.1, (refl, refl, refl))
 
   -- how it ends with the input
-  ends_with_input : {E : Type 0} (limits : Bounds) (r : Result E ServeFault) (now next : Standing S) (life : LifeState) (in2 : Option (List ℕ)) → next ≡ now → IsPart limits now.waiting → IsAtEnd in2
-      → OnOk r (next.waiting ≡ []) → IfErr r (λ f. (f ≡ fault.Cut) × (next.waiting ≢ [])) → Ends g limits r [] [] in2 now life next.tables
-  ends_with_input limits (Ok x) now next life in2 same part at_end ok err =
+  ends_with_input : {E : Type 0} (limits : Bounds) (count : ℕ) (r : Result E ServeFault) (now next : Standing S) (life : LifeState) (in2 : Option (List ℕ)) → next ≡ now → IsPart limits now.waiting → IsAtEnd in2
+      → OnOk r (next.waiting ≡ []) → IfErr r (λ f. (f ≡ fault.Cut) × (next.waiting ≢ [])) → Ends g limits r count [] [] in2 now life next.tables
+  ends_with_input limits count (Ok x) now next life in2 same part at_end ok err =
       (ap (λ (k : Standing S). k.waiting) (sym same) ∙ ok, at_end, (refl, refl, ap (λ (k : Standing S). k.tables) same))
-  ends_with_input {E} limits (Err f) now next life in2 same part at_end ok err =
-      subst (λ (k : ServeFault). Ends g limits {E = E} (Err k) [] [] in2 now life next.tables) (sym err.0)
+  ends_with_input {E} limits count (Err f) now next life in2 same part at_end ok err =
+      subst (λ (k : ServeFault). Ends g limits {E = E} (Err k) count [] [] in2 now life next.tables) (sym err.0)
       (part, (λ e. err.1 (ap (λ (k : Standing S). k.waiting) same ∙ e)), at_end, (refl, refl, ap (λ (k : Standing S). k.tables) same))
 
-  pub serves_ended : {E : Type 0} (limits l : Bounds) (r : Result E ServeFault) (start now next : Standing S) (begun life new_life : LifeState) (e : RoundEnd) (waiting : List ℕ) (in0 in1 in2 out0 out1 out2 : Option (List ℕ))
-      → l ≡ limits → e ≡ end.Ended → waiting ≡ next.waiting → IsPart limits now.waiting → Far limits start now begun life in0 in1 out0 out1
+  pub serves_ended : {E : Type 0} (limits l : Bounds) (count : ℕ) (r : Result E ServeFault) (start now next : Standing S) (begun life new_life : LifeState) (e : RoundEnd) (waiting : List ℕ) (in0 in1 in2 out0 out1 out2 : Option (List ℕ))
+      → l ≡ limits → e ≡ end.Ended → waiting ≡ next.waiting → IsPart limits now.waiting → Far limits count start now begun life in0 in1 out0 out1
       → EndsRound g l e now next life new_life in1 in2 out1 out2 → OnOk r (waiting ≡ []) → IfErr r (λ f. (f ≡ fault.Cut) × (waiting ≢ []))
       → Serves g limits r start begun next.tables in0 in2 out0 out2
-  serves_ended limits l r start now next begun life new_life e waiting in0 in1 in2 out0 out1 out2 same is names part far ends ok err =
+  serves_ended limits l count r start now next begun life new_life e waiting in0 in1 in2 out0 out1 out2 same is names part far ends ok err =
       let d = subst (λ (k : RoundEnd). EndsRound g l k now next life new_life in1 in2 out1 out2) is ends in
-      serves_at limits r start now begun life next.tables [] [] in0 in1 in2 out0 out1 out2 far d.1
+      serves_at limits count r start now begun life next.tables [] [] in0 in1 in2 out0 out1 out2 far d.1
       (subst (λ (o : Option (List ℕ)). Appends out1 o []) (sym d.3) (Appends-nil out1))
-      (ends_with_input limits r now next life in2 d.0 part d.2 (subst (λ (k : List ℕ). OnOk r (k ≡ [])) names ok)
+      (ends_with_input limits count r now next life in2 d.0 part d.2 (subst (λ (k : List ℕ). OnOk r (k ≡ [])) names ok)
       (subst (λ (k : List ℕ). IfErr r (λ f. (f ≡ fault.Cut) × (k ≢ []))) names err))
 
   -- the whole of it, over a store

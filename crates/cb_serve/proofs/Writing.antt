@@ -131,7 +131,7 @@ module _ {S : Type 0} (g : Ghosts S) where
   stays round.Memory a b same = same
   stays round.Shape a b wrong = absurd wrong
   stays round.Exhausted a b wrong = absurd wrong
-  stays round.Input a b wrong = absurd wrong
+  stays (round.Input r) a b wrong = absurd wrong
   stays (round.Output e) a b wrong = absurd wrong
 
   puts_none : (f : RoundFault) (l : Bounds) (batch : BatchState) (server : Server) (a b : Held S) → RefusesBatch g f a b → PutsDones g f l [] [] (Some batch) server a b
@@ -139,7 +139,7 @@ module _ {S : Type 0} (g : Ghosts S) where
   puts_none round.Memory l batch server a b same = refl
   puts_none round.Shape l batch server a b wrong = absurd wrong
   puts_none round.Exhausted l batch server a b wrong = absurd wrong
-  puts_none round.Input l batch server a b wrong = absurd wrong
+  puts_none (round.Input r) l batch server a b wrong = absurd wrong
   puts_none (round.Output e) l batch server a b wrong = absurd wrong
 
   -- a batch was refused, and nothing was put out
@@ -195,5 +195,5 @@ module _ {S : Type 0} (g : Ghosts S) where
       told round.Shape wrong = absurd wrong
       told round.Store wrong = absurd wrong
       told round.Exhausted wrong = absurd wrong
-      told round.Input wrong = absurd wrong
+      told (round.Input r) wrong = absurd wrong
       told round.Memory wrong = absurd wrong

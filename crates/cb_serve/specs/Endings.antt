@@ -2,11 +2,14 @@
 use Rattle.std.specs.Prelude.{◌≡◌, ◌==◌, ℕ, List, [], ◌∷◌, ◌++◌, codes, if◌then◌else◌}
 use Rattle.std.specs.Prelude.{Option, Result, Ok, Err}
 use Rattle.std.specs.Fmt.{decimal}
+use Rattle.std.specs.IoError.{error_kind}
 use Rattle.std.specs.Io.KnownBytes.{Appends}
 use Rattle.cb_server.specs.declared.server_fault.ServerFault.{ServerFault}
 use Rattle.cb_server.specs.declared.server_fault.ServerFault.TheVariants as server
 use Rattle.cb_sql.specs.declared.fault.ShelfFault.{ShelfFault}
 use Rattle.cb_sql.specs.declared.fault.ShelfFault.TheVariants as shelf
+use Rattle.cb_serve.specs.Calls.{lacks_memory}
+use Rattle.cb_serve.specs.declared.calls.Refusal.{Refusal}
 use Rattle.cb_serve.specs.declared.fault.RoundFault.{RoundFault}
 use Rattle.cb_serve.specs.declared.fault.RoundFault.TheVariants as round
 use Rattle.cb_serve.specs.declared.fault.ServeFault.{ServeFault}
@@ -22,17 +25,25 @@ becomes_of_shelf shelf.Shape = round.Shape
 becomes_of_shelf shelf.Store = round.Store
 becomes_of_shelf shelf.Memory = round.Memory
 
+-- the line and the status of an input that couldn't be read, or for want of memory
+abbrev pub input_line : Refusal → List ℕ
+input_line refusal = if lacks_memory (error_kind refusal.error) then codes "memory" else codes "input: cannot read"
+
+abbrev pub input_status : Refusal → ℕ
+input_status refusal = if lacks_memory (error_kind refusal.error) then 4 else 3
+
 -- the line and the status of a round that wasn't finished
 abbrev pub round_line : RoundFault → List ℕ
 round_line round.Shape = codes "store: Shape"
 round_line round.Store = codes "store: Store"
 round_line round.Exhausted = codes "store: Exhausted"
-round_line round.Input = codes "input: cannot read"
-round_line (round.Output error) = codes "cannot write"
+round_line (round.Input refusal) = input_line refusal
+round_line (round.Output refusal) = codes "cannot write"
 round_line round.Memory = codes "memory"
 
 abbrev pub round_status : RoundFault → ℕ
-round_status (round.Output error) = 5
+round_status (round.Input refusal) = input_status refusal
+round_status (round.Output refusal) = 5
 round_status round.Memory = 4
 round_status _ = 3
 
@@ -40,11 +51,13 @@ round_status _ = 3
 abbrev pub line_of : ServeFault → List ℕ
 line_of fault.NoFrame = codes "input: no frame"
 line_of fault.Cut = codes "input: frame cut"
+line_of fault.Endless = codes "input: cannot read"
 line_of (fault.Round f) = round_line f
 
 abbrev pub status_of : ServeFault → ℕ
 status_of fault.NoFrame = 3
 status_of fault.Cut = 3
+status_of fault.Endless = 3
 status_of (fault.Round f) = round_status f
 
 -- how many frames were passed over, if any were

@@ -1,5 +1,6 @@
 pub mod Announcing
 pub mod Answering
+pub mod Calls
 pub mod Endings
 pub mod Fronts
 pub mod Living

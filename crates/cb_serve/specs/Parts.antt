@@ -1,5 +1,5 @@
 -- The parts of a round.
-use Rattle.std.specs.Prelude.{◌≡◌, ◌⊎◌, ℕ, List, [], ◌++◌, take, drop, Option, None}
+use Rattle.std.specs.Prelude.{◌≡◌, ◌≢◌, ◌⊎◌, ℕ, List, [], ◌++◌, take, drop, Option, None}
 use Rattle.std.specs.Prelude.{Some, IfSome, option_map, true, false}
 use Rattle.std.specs.Io.KnownBytes.{Appends, Consumes, IsAtEnd}
 use Rattle.std.specs.List.{AllByRecursion, flat_map}
@@ -17,10 +17,11 @@ use Rattle.cb_sql.specs.Inside.{IsSame}
 use Rattle.cb_sql.specs.Writing.{Fits}
 use Rattle.cb_serve.specs.Answering.{LacksNumber, Spells, TakesPieces, after_inputs, inputs_in}
 use Rattle.cb_serve.specs.Answering.{said_to}
+use Rattle.cb_serve.specs.Calls.{IsFinal}
 use Rattle.cb_serve.specs.Living.{IsRoundOfLife, MakesRoom, MayMakeRoom, RefusesRoom}
 use Rattle.cb_serve.specs.Rounds.{LeavesBatch, Round, SaysDones, Standing, Writes}
 use Rattle.cb_serve.specs.Rounds.{StaysUnwritten, WritesOrNot, counted_on, reached}
-use Rattle.cb_serve.specs.Serving.{StopsInLife}
+use Rattle.cb_serve.specs.Serving.{HasCause, StopsInLife}
 use Rattle.cb_serve.specs.Streams.{IsNoFrame, IsPart, IsPiece, Piece, bytes_of, count_passed}
 use Rattle.cb_serve.specs.declared.fault.RoundFault.{RoundFault}
 use Rattle.cb_serve.specs.declared.fault.RoundFault.TheVariants as round
@@ -41,11 +42,18 @@ pub record Answered (old : ServerValue) (desk after : Desk) (taken : Taken) (new
   pub passed : after.passed_over ≡ counted_on desk.passed_over (count_passed pieces)
   pub puts : Appends old_out new_out answers
 
--- why nothing more was read
-abbrev pub StopsReading : RoundFault → Type 0
-StopsReading round.Input = Unit {0}
-StopsReading round.Memory = Unit {0}
-StopsReading _ = ⊥
+-- why nothing was taken of what was read: the read was refused, and gave nothing; or there was no
+-- memory for what it gave
+abbrev pub StopsReading : RoundFault → (read : List ℕ) → Type 0
+StopsReading (round.Input refusal) read = IsFinal refusal × (read ≡ [])
+StopsReading round.Memory read = read ≢ []
+StopsReading _ read = ⊥
+
+-- why a round stops that has read something: it reads no more, and a write isn't made again
+abbrev pub StopsBehind : RoundFault → Type 0
+StopsBehind (round.Input refusal) = ⊥
+StopsBehind (round.Output refusal) = IsFinal refusal
+StopsBehind _ = Unit {0}
 
 -- What was put out of the answers to pieces, by why no more was: none, where no number is left for
 -- what comes next, or memory was refused; or a front of them, where the output was.
@@ -174,5 +182,6 @@ module _ {S : Type 0} (g : Ghosts S) where
     pub reads : Consumes old_in new_in read
     pub put : List ℕ
     pub puts : Appends old_out new_out put
+    pub cause : HasCause fault read
     pub stopped : IsPart limits old.waiting
         → StopsInLife g limits fault read put old life tables

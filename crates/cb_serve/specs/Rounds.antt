@@ -1,5 +1,5 @@
 -- One round of a service: what it reads, says, writes to the tables and says then.
-use Rattle.std.specs.Prelude.{◌≡◌, ℕ, ◌+◌, ◌-◌, ◌^◌, min, List, [], ◌∷◌, ◌++◌}
+use Rattle.std.specs.Prelude.{◌≡◌, ◌≢◌, ℕ, ◌+◌, ◌-◌, ◌^◌, min, List, [], ◌∷◌, ◌++◌}
 use Rattle.std.specs.Prelude.{Option, Some, None, IfSome, option_map}
 use Rattle.std.specs.List.{AllByRecursion, flat_map}
 use Rattle.sqlite.specs.Held.{Held, state}
@@ -72,10 +72,11 @@ module _ {S : Type 0} (g : Ghosts S) (limits : Bounds) where
   LeavesBatch batch old new = Survives (state g old) (state g new) (λ trees.
       IfSome batch (λ b. Wrote g b old trees))
 
-  -- A round: the bytes are cut into pieces and a rest that is no whole one; the protocol's server is
+  -- A round: something is read; the bytes are cut into pieces and a rest that is no whole one; the protocol's server is
   -- called with the pieces; all that is committed is written; and the commits are on disk when the
   -- Dones are said.
   pub record IsRound (round : Round) (old new : Standing S) : Type 0 where
+    pub some : round.read ≢ []
     pub are : AllByRecursion (IsPiece limits) round.pieces
     pub cut : old.waiting ++ round.read ≡ flat_map bytes_of round.pieces ++ new.waiting
     pub rest : IsRest limits new.waiting

@@ -1,5 +1,5 @@
 -- A service from its beginning to its end: rounds, and how it ends.
-use Rattle.std.specs.Prelude.{◌≡◌, ◌≢◌, ◌⊎◌, ℕ, List, [], ◌∷◌, ◌++◌, take, Option}
+use Rattle.std.specs.Prelude.{◌≡◌, ◌≢◌, ◌⊎◌, ◌-◌, ◌^◌, ℕ, length, List, [], ◌∷◌, ◌++◌, take, Option}
 use Rattle.std.specs.Prelude.{Some, None, IfSome, Result, Ok, Err, IsTrue}
 use Rattle.std.specs.List.{AllByRecursion, flat_map}
 use Rattle.std.specs.Io.KnownBytes.{Appends, Consumes, IsAtEnd}
@@ -18,6 +18,7 @@ use Rattle.cb_shelf.specs.LifeRows.{LifeState}
 use Rattle.cb_shelf.specs.Newer.{HoldsNewer}
 use Rattle.cb_sql.specs.Writing.{Fits}
 use Rattle.cb_serve.specs.Answering.{LacksNumber, Spells, after_inputs, inputs_in, said_to}
+use Rattle.cb_serve.specs.Calls.{IsFinal}
 use Rattle.cb_serve.specs.Living.{IsRoundOfLife, MakesRoom, MayMakeRoom, RefusesRoom}
 use Rattle.cb_serve.specs.Rounds.{LeavesBatch, Round, SaysDones, Standing, StaysUnwritten}
 use Rattle.cb_serve.specs.Rounds.{Writes, WritesOrNot}
@@ -42,6 +43,13 @@ opened limits store floor = server_of_life (limits_of limits) (opening_of store)
 abbrev pub HoldsStore : {S : Type 0} → Ghosts S → StoreState → Held S → Type 0
 HoldsStore g store tables = HasCleanDisk (state g tables) → IsTrue (state g tables).is_open
     → HoldsNewer (state g tables).now store
+
+-- The cause of a round that wasn't finished: a read was refused, which gave nothing; or something was
+-- read. A call that was refused wasn't interrupted, or as often in a row as 64 bits can count.
+abbrev pub HasCause : RoundFault → (read : List ℕ) → Type 0
+HasCause (round.Input refusal) read = IsFinal refusal × (read ≡ [])
+HasCause (round.Output refusal) read = IsFinal refusal × (read ≢ [])
+HasCause _ read = read ≢ []
 
 module _ {S : Type 0} (g : Ghosts S) (limits : Bounds) where
   -- these rounds, one after another; each goes on from less than a whole piece
@@ -73,9 +81,9 @@ module _ {S : Type 0} (g : Ghosts S) (limits : Bounds) where
       (put ≡ answers) × StaysUnwritten g limits batch old tables
   Tells round.Exhausted put pieces rest answers dones batch server old tables =
       (put ≡ []) × Untouched batch old tables × LacksNumber limits server rest
-  Tells round.Input put pieces rest answers dones batch server old tables =
+  Tells (round.Input refusal) put pieces rest answers dones batch server old tables =
       (pieces ≡ []) × (put ≡ []) × Untouched batch old tables
-  Tells (round.Output e) put pieces rest answers dones batch server old tables =
+  Tells (round.Output refusal) put pieces rest answers dones batch server old tables =
       ((n : ℕ) × (put ≡ take n answers) × Untouched batch old tables)
       ⊎ ((n : ℕ) × (put ≡ answers ++ take n dones) × SaysDones limits server batch dones
       × Writes g limits batch old tables)
@@ -130,18 +138,20 @@ module _ {S : Type 0} (g : Ghosts S) (limits : Bounds) where
   abbrev pub EndsQuietly : (read put : List ℕ) → Standing S → Held S → Type 0
   EndsQuietly read put last tables = (read ≡ []) × (put ≡ []) × (tables ≡ last.tables)
 
-  -- how it ends behind the last round: with the input; with an input that goes on wrongly, or ends
-  -- within a frame; or within a round
-  abbrev pub Ends : {E : Type 0} → Result E ServeFault → (read put : List ℕ)
+  -- how it ends behind so many rounds: with the input; with an input that goes on wrongly, or ends
+  -- within a frame; once 64 bits can't count more rounds; or within a round, for its cause
+  abbrev pub Ends : {E : Type 0} → Result E ServeFault → (rounds : ℕ) → (read put : List ℕ)
       → (new_in : Option (List ℕ)) → Standing S → LifeState → Held S → Type 0
-  Ends (Ok _) read put new_in last life tables =
+  Ends (Ok _) rounds read put new_in last life tables =
       (last.waiting ≡ []) × IsAtEnd new_in × EndsQuietly read put last tables
-  Ends (Err fault.NoFrame) read put new_in last life tables =
+  Ends (Err fault.NoFrame) rounds read put new_in last life tables =
       IsNoFrame limits last.waiting × EndsQuietly read put last tables
-  Ends (Err fault.Cut) read put new_in last life tables = IsPart limits last.waiting
+  Ends (Err fault.Cut) rounds read put new_in last life tables = IsPart limits last.waiting
       × (last.waiting ≢ []) × IsAtEnd new_in × EndsQuietly read put last tables
-  Ends (Err (fault.Round f)) read put new_in last life tables =
-      StopsInLife f read put last life tables
+  Ends (Err fault.Endless) rounds read put new_in last life tables =
+      (rounds ≡ 2 ^ 64 - 1) × EndsQuietly read put last tables
+  Ends (Err (fault.Round f)) rounds read put new_in last life tables =
+      HasCause f read × StopsInLife f read put last life tables
 
   -- Rounds from there on, and how they end.
   pub record Serves {E : Type 0} (ending : Result E ServeFault) (old : Standing S)
@@ -154,7 +164,7 @@ module _ {S : Type 0} (g : Ghosts S) (limits : Bounds) where
     pub reads : Consumes old_in new_in (read_in rounds ++ read)
     pub put : List ℕ
     pub puts : Appends old_out new_out (put_in rounds ++ put)
-    pub ends : Ends ending read put new_in last last_life tables
+    pub ends : Ends ending (length rounds) read put new_in last last_life tables
 
   -- Rounds over a store that the tables hold: the first of them begins with the server of a life
   -- over it, and with these tables.

@@ -3,10 +3,10 @@ ghost use Rattle.std.specs.Prelude.{◌≡◌};
 ghost use Rattle.cb_serve.specs.Endings.{becomes_of_server, becomes_of_shelf};
 ghost use Rattle.cb_serve.specs.declared.fault.RoundFault.TheVariants.{Memory};
 
+use crate::calls::Refusal;
 use cb_server::ServerFault;
 use cb_shelf::ShelfFault;
 use std::alloc::AllocError;
-use std::io;
 
 /// Why a round wasn't finished, or none could begin.
 #[derive(Debug, Drop)]
@@ -17,10 +17,10 @@ pub enum RoundFault {
     Store,
     /// No number is left for a frame.
     Exhausted,
-    /// The input couldn't be read.
-    Input,
-    /// The output couldn't be written.
-    Output(io::Error),
+    /// The input couldn't be read: a read was refused.
+    Input(Refusal),
+    /// The output couldn't be written: a write or a flush was refused.
+    Output(Refusal),
     /// Memory was refused.
     Memory,
 }
@@ -32,6 +32,8 @@ pub enum ServeFault {
     NoFrame,
     /// The input ended within a frame.
     Cut,
+    /// As many rounds were done as 64 bits can count.
+    Endless,
     /// A round wasn't finished.
     Round(RoundFault),
 }

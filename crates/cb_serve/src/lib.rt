@@ -6,6 +6,7 @@
 #![tactic(auto)]
 
 mod announcing;
+mod calls;
 mod fault;
 mod front;
 mod lives;
@@ -16,6 +17,7 @@ mod serving;
 mod taking;
 
 pub use announcing::announce;
+pub use calls::Refusal;
 pub use fault::{RoundFault, ServeFault};
 pub use printing::print_served;
 pub use serving::{Served, serve};

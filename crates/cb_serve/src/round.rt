@@ -1,7 +1,7 @@
 //! One round: what is there is read and taken, what was committed is written, and what is said goes
 //! out.
-ghost use Rattle.std.specs.Prelude.{◌≡◌, ◌++◌, ◌<◌, ◌≤◌, ℕ, List, [], drop, length, false};
-ghost use Rattle.std.specs.Prelude.{Some, IfErr, IfOk, OnErr, OnOk};
+ghost use Rattle.std.specs.Prelude.{◌≡◌, ◌≢◌, ◌++◌, ◌<◌, ◌≤◌, ℕ, List, [], drop, length, true, false};
+ghost use Rattle.std.specs.Prelude.{Some, IfErr, IfOk, OnOk};
 ghost use Rattle.std.specs.Io.KnownBytes.{Consumes, IsAtEnd};
 ghost use Rattle.sqlite.specs.Held.{state};
 ghost use Rattle.sqlite.specs.State.{Survives};
@@ -13,8 +13,10 @@ ghost use Rattle.cb_shelf.specs.Flushing.{WritesOne};
 ghost use Rattle.cb_sql.specs.Writing.{Fits, Wrote};
 ghost use Rattle.cb_serve.specs.Living.{KeepsRoom};
 ghost use Rattle.cb_serve.specs.Parts.{Answered, Commits, EndsRound, RefusesBatch, StopsCommit};
-ghost use Rattle.cb_serve.specs.Parts.{StopsReading, StopsRound, StopsWithin, standing};
+ghost use Rattle.cb_serve.specs.Parts.{StopsBehind, StopsReading, StopsRound, StopsWithin};
+ghost use Rattle.cb_serve.specs.Parts.{standing};
 
+use crate::calls::read_some;
 use crate::fault::RoundFault;
 use crate::lives::keep_room;
 use crate::output::{append_frames, put_out};
@@ -24,7 +26,7 @@ use cb_server::Server;
 use cb_shelf::{Life, Shelf};
 use sqlite::Alter;
 use std::alloc::Global;
-use std::io::{ErrorKind, Read, Write};
+use std::io::{Read, Write};
 
 /// The bytes of a service, whose memory each round uses again.
 #[derive(Drop)]
@@ -48,7 +50,8 @@ pub(crate) enum RoundEnd {
     NoFrame,
 }
 
-/// Reads what is there, behind what came before; whether the input goes on.
+/// Reads what is there, behind what came before; whether the input goes on. It goes on only where
+/// something was read, and a read that is refused ends the round.
 fn read_more<R: Read>(
     input: &mut R,
     room: &mut [u8],
@@ -58,17 +61,16 @@ fn read_more<R: Read>(
     ensures ok { IfOk result (λ goes_on. (read : List ℕ)
         × (pending.new.items ≡ pending.old.items ++ read)
         × Consumes (R.remaining input.old) (R.remaining input.new) read
+        × (goes_on ≡ true → read ≢ [])
         × (goes_on ≡ false → (read ≡ []) × IsAtEnd (R.remaining input.new))) }
-    ensures err { OnErr result ((read : List ℕ)
-        × Consumes (R.remaining input.old) (R.remaining input.new) read) }
-    ensures fault { IfErr result StopsReading }
+    ensures err { IfErr result (λ fault. (read : List ℕ)
+        × Consumes (R.remaining input.old) (R.remaining input.new) read
+        × StopsReading fault read) }
 {
-    let count = match input.read(room) {
+    let count = match read_some(input, room) {
         Ok(0) => return Ok(false),
         Ok(count) => count,
-        Err(error) if error.kind() == ErrorKind::Interrupted => return Ok(true),
-        Err(error) if error.kind() == ErrorKind::OutOfMemory => return Err(RoundFault::Memory),
-        Err(_) => return Err(RoundFault::Input),
+        Err(refusal) => return Err(RoundFault::Input(refusal)),
     };
     pending.extend_from_slice(&room[..count])?;
     Ok(true)
@@ -102,6 +104,7 @@ fn answer<S: Alter, W: Write>(
     ensures err { IfErr result (λ fault. StopsWithin S.Store fault server.old
         desk.old.pending.items life.old shelf.old.conn shelf.new.conn
         (W.contents output.old) (W.contents output.new)) }
+    ensures cause { IfErr result StopsBehind }
     ensures limits { shelf.new.limits ≡ shelf.old.limits }
 {
     desk.said.clear();
@@ -142,7 +145,7 @@ fn write_batch<S: Alter>(
     // It arose by the protocol's steps: `limits` says so.
     let _arose = server.limits();
     match shelf.write(batch) {
-        Ok(()) => Ok(()),
+        Ok(_) => Ok(()),
         Err(fault) => Err(RoundFault::from(fault)),
     }
 }
@@ -160,6 +163,7 @@ fn commit<S: Alter, W: Write>(
         (W.contents output.old) (W.contents output.new)) }
     ensures err { IfErr result (λ fault. StopsCommit S.Store fault server.old shelf.old.conn
         shelf.new.conn (W.contents output.old) (W.contents output.new)) }
+    ensures cause { IfErr result StopsBehind }
     ensures limits { shelf.new.limits ≡ shelf.old.limits }
 {
     let Some(batch) = server.batch(alloc)? else {

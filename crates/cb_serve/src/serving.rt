@@ -61,7 +61,7 @@ fn serve_rounds<S: Alter, R: Read, W: Write>(
         (W.contents output.old) (W.contents output.new) }
     ensures limits { shelf.new.limits ≡ shelf.old.limits }
 {
-    for _ in 0..u64::MAX {
+    for _count in 0..u64::MAX {
         let end = match round(alloc, server, desk, room, shelf, life, input, output) {
             Ok(end) => end,
             Err(fault) => return Err(ServeFault::Round(fault)),
@@ -72,7 +72,7 @@ fn serve_rounds<S: Alter, R: Read, W: Write>(
             RoundEnd::GoesOn => {}
         }
     }
-    Err(ServeFault::Round(RoundFault::Input))
+    Err(ServeFault::Endless)
 }
 
 /// How it ends with the input: within a frame, where something waits.
@@ -92,6 +92,11 @@ fn ended(pending: &[u8]) -> Result<(), ServeFault>
 /// was committed by the frames that were read at once is written in one transaction, and answered
 /// then. What can't be read is passed over. A Hello for which the life can't be given room is let
 /// go; of any other incarnation the tables tell a number above it before it is welcomed.
+///
+/// It ends with the input, or for a cause: the input goes on with no frame, or ends within one; a
+/// read, a write or a flush was refused ([`Refusal`](crate::Refusal)), and by no interruption;
+/// behind something that was read the tables refused, no number was left, or memory was refused; or
+/// 2^64 - 1 rounds were done. In each round something was read.
 ///
 /// The shelf's tables hold the store, as a load of them says, so what each round writes goes over
 /// that store. It is refused before any round only for want of memory.

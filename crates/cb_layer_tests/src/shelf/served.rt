@@ -10,7 +10,8 @@ use cb_serve::{print_served, serve};
 use cb_shelf::Shelf;
 use sqlite::{Alter, Connection};
 use std::alloc::{AllocError, Global};
-use std::io::{Read, Write};
+use std::io;
+use std::io::{ErrorKind, Read, Write};
 use std::test::Fail;
 
 /// Client 0 begins as incarnation 1, reads page 0 in transaction 1, asks to write it, and commits
@@ -258,6 +259,51 @@ fn frame_cut(rt: HostRuntime) -> Result<(), Fail> {
         let input = [before.as_slice(), &COMMIT[..count.min(58)]];
         assert!(rt; answers(alloc, &input, &[pieces.as_slice()], ending)?);
     }
+    Ok(())
+}
+
+/// An input whose first read is refused, by an error of that kind; those behind it read the bytes.
+#[derive(Drop)]
+struct RefusesOnce<'a> {
+    kind: Option<ErrorKind>,
+    bytes: &'a [u8],
+}
+
+impl Read for RefusesOnce<'_> {
+    fn read(&mut self, buf: &mut [u8]) -> io::Result<usize> {
+        if let Some(kind) = self.kind.take() {
+            return Err(io::Error::from(kind));
+        }
+        self.bytes.read(buf)
+    }
+}
+
+/// Whether a service whose first read is refused so puts these pieces out, and ends so.
+fn refused_once(
+    alloc: Global,
+    kind: ErrorKind,
+    pieces: &[&[u8]],
+    ending: Ending<'_>,
+) -> Result<bool, AllocError> {
+    let mut input = RefusesOnce {
+        kind: Some(kind),
+        bytes: HELLO.as_slice(),
+    };
+    puts_out(alloc, &mut input, pieces, ending)
+}
+
+/// A read that is refused ends the service, though the next one would give a frame. One that a
+/// signal interrupts is made again.
+#[test]
+fn input_refused_once(rt: HostRuntime) -> Result<(), Fail> {
+    let alloc = rt.alloc();
+    let unread = ("input: cannot read\n", Some(3), ZEROS);
+    let unfit = ("memory\n", Some(4), ZEROS);
+    let pieces = [WELCOME.as_slice()];
+    assert!(rt; refused_once(alloc, ErrorKind::ConnectionReset, &[], unread)?);
+    assert!(rt; refused_once(alloc, ErrorKind::WouldBlock, &[], unread)?);
+    assert!(rt; refused_once(alloc, ErrorKind::OutOfMemory, &[], unfit)?);
+    assert!(rt; refused_once(alloc, ErrorKind::Interrupted, &pieces, ("", Some(0), ZEROS))?);
     Ok(())
 }
 

@@ -2,10 +2,10 @@
 use Rattle.std.proofs.Common.{◌≡◌, ◌∙◌, ◌++◌, ℕ, List, Err, ap, drop, inl, inr, refl, rules, subst, sym, take}
 use Rattle.std.proofs.lemmas.List.{take-append-drop}
 use Rattle.std.specs.Io.KnownBytes.{Appends}
-use Rattle.cb_serve.proofs.Faults.{on_fault}
+use Rattle.cb_serve.proofs.Faults.{behind_front, behind_room, on_fault}
 use Rattle.cb_serve.proofs.Rounds.{stops_at_answers, stops_taking}
 use Rattle.cb_serve.specs.Living.MakesRoom.{had}
-use Rattle.cb_serve.specs.Parts.{StopsWithin}
+use Rattle.cb_serve.specs.Parts.{StopsBehind, StopsWithin}
 use Rattle.cb_serve.specs.Steps.{StopsTaking, TakesAll}
 use Rattle.cb_serve.specs.declared.fault.RoundFault.{RoundFault}
 use Rattle.cb_serve.proofs.round.answer.Goals as goal
@@ -47,3 +47,15 @@ returns-in-Err-clause-err g c = inl (
       (subst (λ (k : List ℕ). TakesAll c.args.server.now k c.clear.new.self.items c.in_ok-taken.taken c.take_all.new.said.items c.take_all.new.server) c.as_slice.ensures.value c.in_ok-taken.ensures.ok)
       (subst (λ (k : List ℕ). Appends (g.W.Write.contents c.args.output.now) (g.W.Write.contents c.put_out.new.output) (take c.in-Err.ensures.err.0 k)) c.as_slice-2.ensures.value c.in-Err.ensures.err.1),
 )
+
+pub returns-in_err-taken-clause-cause : goal.returns-in_err-taken-clause-cause
+returns-in_err-taken-clause-cause g c =
+    let same : c.from_residual.result ≡ Err c.in_err-taken.field-0.0 = search rules in
+    let stops = c.in_err-taken.ensures.err in
+    on_fault StopsBehind c.from_residual.result c.in_err-taken.field-0.0 same (behind_front stops.mid (drop stops.used c.as_slice.result.now) c.in_err-taken.field-0.0 stops.refuses)
+
+pub returns-in_err-keep_room-clause-cause : goal.returns-in_err-keep_room-clause-cause
+returns-in_err-keep_room-clause-cause g c =
+    let same : c.from_residual-in_err-keep_room.result ≡ Err c.in_err-keep_room.field-0.0 = search rules in
+    on_fault StopsBehind c.from_residual-in_err-keep_room.result c.in_err-keep_room.field-0.0 same
+    (behind_room g.S.Store c.in_err-keep_room.field-0.0 c.args.shelf.now.conn c.keep_room.new.shelf.conn c.in_err-keep_room.ensures.err)

@@ -8,9 +8,9 @@ use Rattle.cb_protocol.specs.AnyMessages.{ReachesDisk}
 use Rattle.cb_server.specs.ServerValue.{forgot}
 use Rattle.cb_server.specs.Taking.{Does}
 use Rattle.cb_server_state.specs.Commits.{batch_of}
-use Rattle.cb_serve.proofs.Faults.{on_fault, on_memory}
+use Rattle.cb_serve.proofs.Faults.{behind_batch, on_fault, on_memory}
 use Rattle.cb_serve.proofs.Writing.{commits_batch, flushed_to, stops_at_batch, stops_at_dones, stops_before, stops_behind}
-use Rattle.cb_serve.specs.Parts.{StopsCommit}
+use Rattle.cb_serve.specs.Parts.{StopsBehind, StopsCommit}
 use Rattle.cb_serve.specs.declared.fault.RoundFault.{RoundFault}
 use Rattle.cb_serve.proofs.round.commit.Goals as goal
 
@@ -77,3 +77,18 @@ returns-clause-err g c =
     (subst (λ (k : List ℕ). Appends (g.W.Write.contents c.args.output.now) (g.W.Write.contents c.put_out.new.output) (take c.in-Err.ensures.err.0 k))
     (c.as_slice-2.ensures.value ∙ c.in_ok-append_frames.ensures ∙ ap (λ (k : List ℕ). k ++ flat_map spelling c.as_slice.result.now) c.clear.ensures.items ∙ ap (flat_map spelling) c.as_slice.ensures.value)
     c.in-Err.ensures.err.1)
+
+pub returns-in_err-batch-clause-cause : goal.returns-in_err-batch-clause-cause
+returns-in_err-batch-clause-cause g c = on_memory StopsBehind c.from_residual.result c.from_residual.ensures.1 tt
+
+pub returns-in_err-write_batch-clause-cause : goal.returns-in_err-write_batch-clause-cause
+returns-in_err-write_batch-clause-cause g c =
+    let same : c.from_residual-in_err-write_batch.result ≡ Err c.in_err-write_batch.field-0.0 = search rules in
+    on_fault StopsBehind c.from_residual-in_err-write_batch.result c.in_err-write_batch.field-0.0 same
+    (behind_batch g.S.Store c.in_err-write_batch.field-0.0 c.args.shelf.now.conn c.write_batch.new.shelf.conn c.in_err-write_batch.ensures.err)
+
+pub returns-in_err-dones-clause-cause : goal.returns-in_err-dones-clause-cause
+returns-in_err-dones-clause-cause g c = on_memory StopsBehind c.from_residual-in_err-dones.result c.from_residual-in_err-dones.ensures.1 tt
+
+pub returns-in_err-append_frames-clause-cause : goal.returns-in_err-append_frames-clause-cause
+returns-in_err-append_frames-clause-cause g c = on_memory StopsBehind c.from_residual-in_err-append_frames.result c.from_residual-in_err-append_frames.ensures.1 tt

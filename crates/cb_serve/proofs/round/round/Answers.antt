@@ -1,7 +1,7 @@
 -- Goals of `round`.
 use Rattle.std.proofs.Common.{◌≡◌, Err, refl, rules}
 use Rattle.cb_serve.proofs.Faults.{on_fault}
-use Rattle.cb_serve.proofs.Rounds.{does_round, known_then, stops_committing, stops_reading, stops_within}
+use Rattle.cb_serve.proofs.Rounds.{cause_behind, does_round, known_then, stops_committing, stops_reading, stops_within}
 use Rattle.cb_serve.specs.Parts.{StopsRound, standing}
 use Rattle.cb_serve.specs.declared.fault.RoundFault.{RoundFault}
 use Rattle.cb_serve.proofs.round.round.Goals as goal
@@ -13,7 +13,7 @@ returns-in_err-read_more-clause-err g c =
     (g.R.Read.remaining c.args.input.now) (g.R.Read.remaining c.read_more.new.input) (g.W.Write.contents c.args.output.now) (g.W.Write.contents c.args.output.now))
     c.from_residual.result c.in_err-read_more.field-0.0 same
     (stops_reading g.S.Store c.args.server.now.limits c.in_err-read_more.field-0.0 (standing g.S.Store c.args.server.now c.args.desk.now c.args.shelf.now.conn) c.args.life.now c.in_err-read_more.ensures.err.0
-    (g.R.Read.remaining c.args.input.now) (g.R.Read.remaining c.read_more.new.input) (g.W.Write.contents c.args.output.now) c.in_err-read_more.ensures.fault c.in_err-read_more.ensures.err.1)
+    (g.R.Read.remaining c.args.input.now) (g.R.Read.remaining c.read_more.new.input) (g.W.Write.contents c.args.output.now) c.in_err-read_more.ensures.err.2 c.in_err-read_more.ensures.err.1)
 
 pub returns-in_err-taken-clause-err : goal.returns-in_err-taken-clause-err
 returns-in_err-taken-clause-err g c =
@@ -23,7 +23,8 @@ returns-in_err-taken-clause-err g c =
     c.from_residual-in_err-taken.result c.in_err-taken.field-0.0 same
     (stops_within g.S.Store c.args.server.now.limits c.in_err-taken.field-0.0 c.args.server.now c.args.desk.now c.args.shelf.now.conn c.answer.new.shelf.conn c.args.life.now c.in_ok-read_more.ensures.ok.0 c.read_more.new.pending.items
     (g.R.Read.remaining c.args.input.now) (g.R.Read.remaining c.read_more.new.input) (g.W.Write.contents c.args.output.now) (g.W.Write.contents c.answer.new.output)
-    refl c.in_ok-read_more.ensures.ok.1 c.in_ok-read_more.ensures.ok.2 c.in_err-taken.ensures.err)
+    refl c.in_ok-read_more.ensures.ok.1 c.in_ok-read_more.ensures.ok.2
+    (cause_behind c.in_err-taken.field-0.0 c.in_ok-read_more.ensures.ok.0 c.in_err-taken.ensures.cause (c.in_ok-read_more.ensures.ok.3 (search rules))) c.in_err-taken.ensures.err)
 
 pub returns-in_err-commit-clause-err : goal.returns-in_err-commit-clause-err
 returns-in_err-commit-clause-err g c =
@@ -35,7 +36,8 @@ returns-in_err-commit-clause-err g c =
     (record { pending = c.read_more.new.pending; said = c.args.desk.now.said; passed_over = c.args.desk.now.passed_over }) c.answer.new.desk c.args.shelf.now.conn c.answer.new.shelf.conn c.commit.new.shelf.conn c.args.life.now c.answer.new.life
     c.in_ok-read_more.ensures.ok.0 c.in_ok-taken.taken (g.R.Read.remaining c.args.input.now) (g.R.Read.remaining c.read_more.new.input)
     (g.W.Write.contents c.args.output.now) (g.W.Write.contents c.answer.new.output) (g.W.Write.contents c.commit.new.output)
-    c.in_ok-taken.ensures.room.room refl c.in_ok-read_more.ensures.ok.1 c.in_ok-read_more.ensures.ok.2 c.in_ok-taken.ensures.ok c.in_err-commit.ensures.err)
+    c.in_ok-taken.ensures.room.room refl c.in_ok-read_more.ensures.ok.1 c.in_ok-read_more.ensures.ok.2
+    (cause_behind c.in_err-commit.field-0.0 c.in_ok-read_more.ensures.ok.0 c.in_err-commit.ensures.cause (c.in_ok-read_more.ensures.ok.3 (search rules))) c.in_ok-taken.ensures.ok c.in_err-commit.ensures.err)
 
 pub returns-then-taken-clause-ok : goal.returns-then-taken-clause-ok
 returns-then-taken-clause-ok g c = (
@@ -43,7 +45,7 @@ returns-then-taken-clause-ok g c = (
       (record { pending = c.read_more.new.pending; said = c.args.desk.now.said; passed_over = c.args.desk.now.passed_over }) c.answer.new.desk c.args.shelf.now.conn c.answer.new.shelf.conn c.commit.new.shelf.conn c.args.life.now c.answer.new.life
       c.in_ok-read_more.ensures.ok.0 c.in_ok-taken.taken (g.R.Read.remaining c.args.input.now) (g.R.Read.remaining c.read_more.new.input)
       (g.W.Write.contents c.args.output.now) (g.W.Write.contents c.answer.new.output) (g.W.Write.contents c.commit.new.output)
-      c.in_ok-taken.ensures.room refl c.in_ok-read_more.ensures.ok.1 refl c.in_ok-read_more.ensures.ok.2 c.in_ok-taken.ensures.ok c.in_ok-commit.ensures.ok,
+      c.in_ok-taken.ensures.room refl c.in_ok-read_more.ensures.ok.1 refl c.in_ok-read_more.ensures.ok.2 (c.in_ok-read_more.ensures.ok.3 (search rules)) c.in_ok-taken.ensures.ok c.in_ok-commit.ensures.ok,
   c.in_ok-taken.ensures.ok.no_frame c.if-taken.true,
 )
 
@@ -53,7 +55,7 @@ returns-clause-ok g c = (
       (record { pending = c.read_more.new.pending; said = c.args.desk.now.said; passed_over = c.args.desk.now.passed_over }) c.answer.new.desk c.args.shelf.now.conn c.answer.new.shelf.conn c.commit.new.shelf.conn c.args.life.now c.answer.new.life
       c.in_ok-read_more.ensures.ok.0 c.in_ok-taken.taken (g.R.Read.remaining c.args.input.now) (g.R.Read.remaining c.read_more.new.input)
       (g.W.Write.contents c.args.output.now) (g.W.Write.contents c.answer.new.output) (g.W.Write.contents c.commit.new.output)
-      c.in_ok-taken.ensures.room refl c.in_ok-read_more.ensures.ok.1 refl c.in_ok-read_more.ensures.ok.2 c.in_ok-taken.ensures.ok c.in_ok-commit.ensures.ok,
+      c.in_ok-taken.ensures.room refl c.in_ok-read_more.ensures.ok.1 refl c.in_ok-read_more.ensures.ok.2 (c.in_ok-read_more.ensures.ok.3 (search rules)) c.in_ok-taken.ensures.ok c.in_ok-commit.ensures.ok,
   c.in_ok-taken.ensures.ok.part c.if-taken.false,
 )
 
