@@ -17,13 +17,14 @@ How many kills came within the 20 milliseconds is said. One that came later is m
 machine that is too busy for that they are fewer, and nothing fails for it. The gateway is built
 with ASan and UBSan. It needs the library (that of LIBRARY, else installed by scripts/library, with
 what stands in crates/rughvadi/out after --built), `cb_play` (that of PLAY, else built), a C
-compiler, libuv, SQLite and libpq with their headers. With 200 kills it takes one to three minutes.
-The status is 1 where something failed.
+compiler, libuv, SQLite and libpq with their headers. KEEP names a folder that gets the logs. With
+200 kills it takes one to three minutes. The status is 1 where something failed.
 """
 from __future__ import annotations
 
 import os
 import random
+import shutil
 import signal
 import sqlite3
 import subprocess
@@ -166,7 +167,10 @@ def run_kills(tries: Tries, service: Service, count: int, seed: int) -> None:
             worker.kill()
             worker.wait()
         service.gateway.stop(signal.SIGKILL)
-    verdict = serial.judge(sorted(service.gateway.room.glob("log_*")))
+    logs = sorted(service.gateway.room.glob("log_*"))
+    for log in logs if "KEEP" in os.environ else []:
+        shutil.copy(log, os.environ["KEEP"])
+    verdict = serial.judge(logs)
     kills = ", ".join(f"{number} {when}" for when, number in sorted(came.items()) if when)
     said = f"{sum(came.values())} kills ({kills}); {str(verdict).splitlines()[0]}"
     right = not wrong and not verdict.faults and "" not in came
