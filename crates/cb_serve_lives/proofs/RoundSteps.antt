@@ -7,6 +7,11 @@ use Rattle.sqlite.specs.Held.{Held, state}
 use Rattle.sqlite.specs.State.{HasCleanDisk}
 use Rattle.sqlite.specs.Store.{Ghosts}
 use Rattle.cb_commit.specs.Batches.{BatchState}
+use Rattle.cb_commit.specs.Stores.{StoreState}
+use Rattle.cb_protocol.specs.LivesWorld.{Lives}
+use Rattle.cb_shelf.specs.Living.{life_statements}
+use Rattle.cb_serve_lives.specs.ServedFile.{BeginsLife, IsLivesOf, LivesFollow, Restarts, begun}
+use Rattle.cb_serve_lives.specs.ServedFile.{service_of}
 use Rattle.cb_page.specs.Bounds.{Bounds}
 use Rattle.cb_protocol.proofs.OthersKeep.{others_keep_rows_and_permissions}
 use Rattle.cb_protocol.specs.Flush.{next_batch}
@@ -24,7 +29,7 @@ use Rattle.cb_serve.specs.Living.MakesRoom.{had, made}
 use Rattle.cb_serve.specs.Rounds.{Round, Standing, Writes, reached}
 use Rattle.cb_serve.specs.Serving.{AreRounds}
 use Rattle.cb_serve_lives.proofs.Keeping.{clean_before}
-use Rattle.cb_serve_lives.proofs.Services.{nothing_more, regroup}
+use Rattle.cb_serve_lives.proofs.Services.{nothing_more, regroup, services_restart}
 use Rattle.cb_serve_lives.specs.ServedFile.{Course, IsAt, MakesStep, MakesSteps, RoundsAreSteps, Step}
 use Rattle.cb_serve_lives.specs.ServedFile.{after_step, after_steps, said_in, said_once}
 use Rattle.cb_serve_lives.specs.ServedFile as step
@@ -182,6 +187,13 @@ module _ {S : Type 0} (g : Ghosts S) where
             ∙ sym (regroup c.said said (said_once taken round.batch));
       }
 
+-- what was said, and more
+said_on : (now before answers dones more : List Message) → now ≡ before ++ (answers ++ dones)
+    → now ++ more ≡ before ++ (answers ++ (dones ++ more))
+said_on now before answers dones more e = ap (λ (l : List Message). l ++ more) e
+    ∙ sym (regroup before (answers ++ dones) more)
+    ∙ ap (λ (l : List Message). before ++ l) (sym (regroup answers dones more))
+
 -- all of them
 pub are_steps : {S : Type 0} (g : Ghosts S) → RoundsAreSteps g
 are_steps {S} g c [] old new life last at are clean = (
@@ -217,15 +229,67 @@ are_steps {S} g c (round ∷ rounds) old new life last at are clean =
           (state g new.tables).now one.makes more.1,
       subst (λ (x : Course). IsAt x new last) (sym (after_both one.steps more.0 c)) more.2,
       ap (λ (x : Course). x.said) (after_both one.steps more.0 c) ∙ more.3
-          ∙ ap (λ (l : List Message). l ++ said_in are.1.server rounds) one.said_is
-          ∙ sym (regroup c.said (said_to c.server (inputs_in round.pieces)
-          ++ said_once (after_inputs c.server (inputs_in round.pieces)) round.batch)
-          (said_in are.1.server rounds))
-          ∙ ap (λ (l : List Message). c.said ++ l)
-          (sym (regroup (said_to c.server (inputs_in round.pieces))
+          ∙ said_on d.said c.said (said_to c.server (inputs_in round.pieces))
           (said_once (after_inputs c.server (inputs_in round.pieces)) round.batch)
-          (said_in are.1.server rounds)))
+          (said_in are.1.server rounds) one.said_is
           ∙ (λ i. c.said ++ (said_to (at.server i) (inputs_in round.pieces)
           ++ (said_once (after_inputs (at.server i) (inputs_in round.pieces)) round.batch
           ++ said_in (are.3.is.server i) rounds))),
+    )
+
+-- ---- one life after another
+
+-- a life that begins is a step
+begins_so : {S : Type 0} (g : Ghosts S) (c : Course) (limits : Bounds) (life : LifeState)
+    (store : StoreState) (found tables : Held S) → c.runs ≡ false
+    → BeginsLife g limits life store found tables
+    → MakesStep g c (step.served limits life store) (state g found).now (state g tables).now
+begins_so g c limits life store found tables stopped b = (
+  stopped,
+  b.follows,
+  subst (MakesAll g (life_statements life) (state g found).now)
+      (sym (b.same ∙ b.settled.same)) b.made,
+  b.number,
+  b.of,
+  b.full,
+  b.holds,
+)
+
+pub lives_follow : {S : Type 0} (g : Ghosts S) → LivesFollow g
+lives_follow {S} g limits own later steps more rounds opening store loaded life present last next before first found tables found_then tables_then service opens one m stopped begins are clean =
+    let c0 : Course = begun limits opening life in
+    let c : Course = after_steps c0 steps in
+    let serve : Step = step.served own present store in
+    let r = are_steps g (after_step c serve) rounds (service_of g own present store tables) service
+    present last (record {
+      runs = refl;
+      server = refl;
+      told = refl;
+      answered = refl;
+      life = refl;
+    }) are clean in
+    let d : Course = after_steps c (serve ∷ r.0) in (
+      r.0,
+      (
+        r.2,
+        λ n over again lives is.
+            let front : MakesSteps g c (serve ∷ r.0) (state g found).now (state g service.tables).now
+            = ((state g tables).now, begins_so g c own present store found tables stopped begins, r.1) in
+            let all : List Step = steps ++ ((serve ∷ r.0) ++ more) in
+            let makes : MakesSteps g c0 all first (state g found_then).now
+            = makes_both g steps ((serve ∷ r.0) ++ more) c0 first (state g found).now
+            (state g found_then).now m
+            (makes_both g (serve ∷ r.0) more c (state g found).now (state g service.tables).now
+            (state g found_then).now front n) in
+            let end : after_steps c0 all ≡ after_steps d more
+            = after_both steps ((serve ∷ r.0) ++ more) c0 ∙ after_both (serve ∷ r.0) more c in
+            subst (λ (x : Course).
+            MakesStep g x (step.served later next loaded) (state g found_then).now
+            (state g tables_then).now → (l : Lives) → IsLivesOf l x
+            → Restarts x later next (after_step x (step.served later next loaded)) l) end
+            (services_restart g limits later all opening loaded life next before first
+            (state g found_then).now (state g tables_then).now opens one makes)
+            (begins_so g (after_steps d more) later next loaded found_then tables_then over again)
+            lives is,
+      ),
     )

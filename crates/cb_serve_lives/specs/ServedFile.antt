@@ -3,7 +3,7 @@ use Rattle.std.specs.Prelude.{◌≡◌, ◌≤◌, ℕ, Bool, true, false, List
 use Rattle.std.specs.Prelude.{None}
 use Rattle.std.specs.List.{AllByRecursion}
 use Rattle.sqlite.specs.Effect.{Database}
-use Rattle.sqlite.specs.Held.{state}
+use Rattle.sqlite.specs.Held.{Held, state}
 use Rattle.sqlite.specs.State.{HasCleanDisk}
 use Rattle.sqlite.specs.Store.{Ghosts}
 use Rattle.cb_commit.specs.Batches.{BatchState}
@@ -21,6 +21,7 @@ use Rattle.cb_protocol.specs.World.{Opening, opening_store}
 use Rattle.cb_server.specs.Knowing.{KnowsBelow}
 use Rattle.cb_server_state.specs.Commits.{batch_of}
 use Rattle.cb_server_state.specs.States.{limits_of, opening_of}
+use Rattle.cb_sql.specs.Inside.{IsSettled}
 use Rattle.cb_sql.specs.Statements.{MakesAll, batch_statements}
 use Rattle.cb_sql.specs.Writing.{Fits}
 use Rattle.cb_shelf.specs.LifeRows.{LifeState, life_row}
@@ -238,3 +239,48 @@ RoundsAreSteps {S} g = (c : Course) (rounds : List Round) (old new : Standing S)
     × MakesSteps g c steps (state g old.tables).now (state g new.tables).now
     × IsAt (after_steps c steps) new last
     × ((after_steps c steps).said ≡ c.said ++ said_in old.server rounds)
+
+module _ {S : Type 0} (g : Ghosts S) where
+  -- A life begins over the tables that a connection sees, and the store in them is read: as the
+  -- clauses of `begin_life` and `load` say it on a clean disk.
+  pub record BeginsLife (limits : Bounds) (life : LifeState) (store : StoreState)
+      (found tables : Held S) : Type 0 where
+    pub number : IsNumber life.floor
+    pub begun : Held S
+    pub follows : Follows (state g found).now life
+    pub made : MakesAll g (life_statements life) (state g found).now (state g begun).committed
+    pub settled : IsSettled (state g begun)
+    pub same : (state g tables).now ≡ (state g begun).now
+    pub of : IsOf limits store
+    pub full : HasFullPages store
+    pub holds : HoldsNewer (state g tables).now store
+
+  -- the service of that life, before any frame
+  abbrev pub service_of : Bounds → LifeState → StoreState → (tables : Held S) → Standing S
+  service_of limits life store tables = record {
+    server = opened limits store life.floor;
+    waiting = [];
+    passed = 0;
+    tables = tables;
+  }
+
+  -- In one: a file went through any steps. A life begins, and its service does rounds as `serve`
+  -- does them. Further steps follow, as those of a round that isn't finished, until the service has
+  -- stopped; and another life begins. That is a restart of the server that the service told.
+  abbrev pub LivesFollow : Type 0
+  LivesFollow = (limits own later : Bounds) (steps more : List Step) (rounds : List Round)
+      (opening store loaded : StoreState) (life present last next : LifeState)
+      (before first : Database) (found tables found_then tables_then : Held S)
+      (service : Standing S) → FirstOpen g limits opening life before first → 1 ≤ life.below
+      → MakesSteps g (begun limits opening life) steps first (state g found).now
+      → (let c = after_steps (begun limits opening life) steps in c.runs ≡ false
+      → BeginsLife own present store found tables
+      → AreRounds g own rounds (service_of own present store tables) service present last
+      → HasCleanDisk (state g service.tables)
+      → (done : List Step) × (let d = after_steps c (served own present store ∷ done) in
+      IsAt d service last
+      × (MakesSteps g d more (state g service.tables).now (state g found_then).now
+      → (after_steps d more).runs ≡ false → BeginsLife later next loaded found_then tables_then
+      → (lives : Lives) → IsLivesOf lives (after_steps d more)
+      → Restarts (after_steps d more) later next
+      (after_step (after_steps d more) (served later next loaded)) lives)))

@@ -9,7 +9,8 @@ ghost use Rattle.cb_serve_lives.specs.NextLife.{NextLifeIsNew};
 ghost use Rattle.cb_serve_lives.specs.ProcessLaws.{CopiesAgree, ProcessesAreSerial};
 ghost use Rattle.cb_serve_lives.specs.ProcessLaws.{ProcessesGoAlong, ProcessesKeepThePromise};
 ghost use Rattle.cb_serve_lives.specs.ProcessLaws.{WritersAreAlone};
-ghost use Rattle.cb_serve_lives.specs.ServedFile.{DonesStand, RoundsAreSteps, ServicesRestart};
+ghost use Rattle.cb_serve_lives.specs.ServedFile.{DonesStand, LivesFollow, RoundsAreSteps};
+ghost use Rattle.cb_serve_lives.specs.ServedFile.{ServicesRestart};
 
 use sqlite::Alter;
 
@@ -53,7 +54,8 @@ pub fn processes_are_worlds<S: Alter>()
 /// begins as `server_of_life` over `store_on_disk`, and the number on disk is one between the last
 /// that was reported and the last that was made. What the tables answer at any moment is the first
 /// store with the commits that stand written over it; and each Done that went out, of whichever
-/// service, is of one of these. Rounds as `serve` does them are such steps, on a clean disk.
+/// service, is of one of these. Rounds as `serve` does them are such steps, on a clean disk. So
+/// behind `begin_life`, such rounds and a stop, the next life is a restart of that server.
 ///
 /// A stop keeps what was committed, by the definition of a step; nobody else writes the file. What
 /// the first open found, and its premises, are as of `loads_follow_commits` of `cb_shelf_stops`.
@@ -62,4 +64,5 @@ pub fn services_are_lives<S: Alter>()
     ensures restart { ServicesRestart S.Store }
     ensures stand { DonesStand S.Store }
     ensures rounds { RoundsAreSteps S.Store }
+    ensures follow { LivesFollow S.Store }
 {}

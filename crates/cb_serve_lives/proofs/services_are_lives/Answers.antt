@@ -1,5 +1,5 @@
 -- Goals of `services_are_lives`.
-use Rattle.cb_serve_lives.proofs.RoundSteps.{are_steps}
+use Rattle.cb_serve_lives.proofs.RoundSteps.{are_steps, lives_follow}
 use Rattle.cb_serve_lives.proofs.Services.{dones_stand, services_restart}
 use Rattle.cb_serve_lives.proofs.services_are_lives.Goals as goal
 
@@ -8,4 +8,5 @@ returns g c = record {
   restart = services_restart g.S.Store;
   stand = dones_stand g.S.Store;
   rounds = are_steps g.S.Store;
+  follow = lives_follow g.S.Store;
 }
