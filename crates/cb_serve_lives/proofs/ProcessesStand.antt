@@ -1,11 +1,11 @@
 -- Whatever a service and its clients do, there is a world that they are.
-use Rattle.std.proofs.Common.{◌≡◌, ◌≢◌, ◌<◌, ◌-◌, ◌++◌, ◌⊎◌, ℕ, Bool, true, nat_lt}
+use Rattle.std.proofs.Common.{◌≡◌, ◌≢◌, ◌<◌, ◌-◌, ◌++◌, ◌⊎◌, ℕ, Bool, true, false, nat_lt}
 use Rattle.std.proofs.Common.{if◌then◌else◌, List, [], ◌∷◌, Option, Some, None, refl, sym, ◌∙◌, ap}
 use Rattle.std.proofs.Common.{subst, arith, inl, inr}
 use Rattle.std.proofs.lemmas.Bool.{cases_eq}
 use Rattle.std.proofs.lemmas.Bool.Decides.{nat_tests}
 use Rattle.std.specs.List.{AllByRecursion}
-use Rattle.std.specs.Prelude.{option_map}
+use Rattle.std.specs.Prelude.{IfSome, option_map}
 use Rattle.sqlite.specs.Held.{Held}
 use Rattle.sqlite.specs.Store.{Ghosts}
 use Rattle.cb_client_core.proofs.Reaching.{starts}
@@ -47,6 +47,7 @@ use Rattle.cb_serve_lives.specs.ProcessLaws.{CopiesAgree, HasCopy, MayWritePage,
 use Rattle.cb_serve_lives.specs.ProcessLaws.{ProcessesGoAlong, ProcessesKeepThePromise}
 use Rattle.cb_serve_lives.specs.ProcessLaws.{WritersAreAlone, committed_history}
 use Rattle.cb_serve_lives.specs.ProcessSteps as steps
+use Rattle.cb_serve_lives.specs.ProcessSteps.{StopsAmid, dones_said}
 use Rattle.cb_serve_lives.specs.ProcessSteps.{Becomes, Begins, CallsClient, DoesRound, IsNext, MayCome}
 use Rattle.cb_serve_lives.specs.ProcessSteps.{Moment, Runs, Step, TakesOne, done_frames, frames_put}
 use Rattle.cb_serve_lives.specs.ProcessSteps.{processes_after}
@@ -66,8 +67,8 @@ record Kept {S : Type 0} (limits : Bounds) (floor : ℕ) (origin : Origin (limit
   world : World
   is_reached : Reached (limits_of limits) origin world
   opened : SoundOpening origin.opening
-  server : world.server ≡ p.service.server
-  known : KnowsFloor limits.clients floor p.service.server
+  server : p.runs ≡ true → world.server ≡ p.service.server
+  known : KnowsFloor limits.clients floor world.server
   there : (c : ℕ) (k : ClientState) → p.client c ≡ Some k → c < limits.clients
   client : (c : ℕ) (k : ClientState) → p.client c ≡ Some k → IsWorldClient limits world c k
   absent : (c : ℕ) → c < limits.clients → p.client c ≡ None → world.incarnation c ≡ floor
@@ -124,10 +125,9 @@ module _ {S : Type 0} (limits : Bounds) (floor : ℕ) (origin : Origin (limits_o
     world = moved.world;
     is_reached = moved.reached;
     opened = kept.opened;
-    server = moved.server ∙ kept.server
+    server = λ r. moved.server ∙ kept.server (sym becomes.service.2 ∙ r)
         ∙ ap (λ (s : Standing S). s.server) (sym becomes.service.0);
-    known = subst (λ (s : Standing S). KnowsFloor limits.clients floor s.server)
-        (sym becomes.service.0) kept.known;
+    known = subst (KnowsFloor limits.clients floor) (sym moved.server) kept.known;
     there = λ d x e. is_there d x e (cases_eq d c);
     client = λ d x e. is_own d x e (cases_eq d c);
     absent = λ d lt e. is_absent d lt e (cases_eq d c);
@@ -187,10 +187,9 @@ module _ {S : Type 0} (limits : Bounds) (floor : ℕ) (origin : Origin (limits_o
     world = renewed.world;
     is_reached = renewed.reached;
     opened = kept.opened;
-    server = renewed.server_is ∙ kept.server
+    server = λ r. renewed.server_is ∙ kept.server (sym t.service.2 ∙ r)
         ∙ ap (λ (s : Standing S). s.server) (sym t.service.0);
-    known = subst (λ (s : Standing S). KnowsFloor limits.clients floor s.server) (sym t.service.0)
-        kept.known;
+    known = subst (KnowsFloor limits.clients floor) (sym renewed.server_is) kept.known;
     there = λ d x e. is_there d x e (cases_eq d c);
     client = λ d x e. is_own d x e (cases_eq d c);
     absent = λ d lt e. is_absent d lt e (cases_eq d c);
@@ -286,7 +285,8 @@ module _ {S : Type 0} (g : Ghosts S) (limits : Bounds) (floor : ℕ)
 
   one : Served L origin floor kept.world taken (said_to old.service.server (inputs_in round.pieces))
   one = serves_pieces limits L refl origin floor round.pieces kept.world kept.is_reached
-      old.service.server kept.server kept.known
+      old.service.server (kept.server t.ran)
+      (subst (KnowsFloor limits.clients floor) (kept.server t.ran) kept.known)
       (among limits floor kept.world old kept.floor_is kept.said round.pieces t.is.is.are t.come)
       t.numbers
 
@@ -313,8 +313,8 @@ module _ {S : Type 0} (g : Ghosts S) (limits : Bounds) (floor : ℕ)
     world = two.world;
     is_reached = two.reached;
     opened = kept.opened;
-    server = two.server ∙ sym t.is.is.server;
-    known = subst (KnowsFloor limits.clients floor) (sym t.is.is.server) two.known;
+    server = λ r. two.server ∙ sym t.is.is.server;
+    known = subst (KnowsFloor limits.clients floor) (sym two.server) two.known;
     there = λ c k e. kept.there c k (sym (t.clients c) ∙ e);
     client = λ c k e. still limits kept.world two.world c k
         (two.incarnation c ∙ one.incarnation c) (two.client c ∙ one.client c)
@@ -326,6 +326,60 @@ module _ {S : Type 0} (g : Ghosts S) (limits : Bounds) (floor : ℕ)
     performed = two.silent ∙ one.silent ∙ kept.performed ∙ sym t.performed;
   }
 
+-- what was written may be reported
+may_be_told : (L : Limits) (o : Origin L) (floor : ℕ) (w : World) → Reached L o w → (s : Server)
+    → w.server ≡ s → KnowsFloor L.clients floor s → (batch : Option BatchState)
+    → IfSome batch (λ b. next_batch s ≡ Some (batch_of b))
+    → Served L o floor w (reached s batch) (dones_said s batch)
+may_be_told L o floor w r s same known None next = serves_none L o floor w r s same known
+may_be_told L o floor w r s same known (Some batch) next =
+    serves_batch L o floor w r s same known batch.number (can_reach s batch next)
+
+module _ {S : Type 0} (g : Ghosts S) (limits : Bounds) (floor : ℕ)
+    (origin : Origin (limits_of limits)) (old : Processes S) (pieces : List Piece)
+    (batch : Option BatchState) (new : Processes S) (kept : Kept limits floor origin old)
+    (t : StopsAmid g limits old pieces batch new) where
+  abbrev last_taken : Server
+  last_taken = after_inputs old.service.server (inputs_in pieces)
+
+  taking : Served (limits_of limits) origin floor kept.world last_taken
+      (said_to old.service.server (inputs_in pieces))
+  taking = serves_pieces limits (limits_of limits) refl origin floor pieces kept.world
+      kept.is_reached old.service.server (kept.server t.ran)
+      (subst (KnowsFloor limits.clients floor) (kept.server t.ran) kept.known)
+      (among limits floor kept.world old kept.floor_is kept.said pieces t.are t.come) t.numbers
+
+  telling : Served (limits_of limits) origin floor taking.world (reached last_taken batch)
+      (dones_said last_taken batch)
+  telling = may_be_told (limits_of limits) origin floor taking.world taking.reached last_taken
+      taking.server taking.known batch t.next
+
+  went_out : (f : Frame) → IsIn f t.frames → IsIn (message_of f) telling.world.packets
+  went_out f i = elim (in_append (message_of f) (said_to old.service.server (inputs_in pieces))
+      (dones_said last_taken batch) (t.among f i)) [
+        | inl j ↦ telling.grows (message_of f) (taking.says (message_of f) j)
+        | inr j ↦ telling.says (message_of f) j
+      ]
+
+  stop_kept : Kept limits floor origin new
+  stop_kept = record {
+    floor_is = t.life ∙ kept.floor_is;
+    world = telling.world;
+    is_reached = telling.reached;
+    opened = kept.opened;
+    server = λ r. absurd (let z : false ≡ true = sym t.stopped ∙ r in cc);
+    known = subst (KnowsFloor limits.clients floor) (sym telling.server) telling.known;
+    there = λ c k e. kept.there c k (sym (t.clients c) ∙ e);
+    client = λ c k e. still limits kept.world telling.world c k
+        (telling.incarnation c ∙ taking.incarnation c) (telling.client c ∙ taking.client c)
+        (kept.client c k (sym (t.clients c) ∙ e));
+    absent = λ c lt e. telling.incarnation c ∙ taking.incarnation c
+        ∙ kept.absent c lt (sym (t.clients c) ∙ e);
+    said = said_more kept.world telling.world old.said t.frames new.said t.said
+        (λ m i. telling.grows m (taking.grows m i)) kept.said went_out;
+    performed = telling.silent ∙ taking.silent ∙ kept.performed ∙ sym t.performed;
+  }
+
 module _ {S : Type 0} (g : Ghosts S) (limits : Bounds) (floor : ℕ) where
   -- one step
   step_kept : (origin : Origin (limits_of limits)) (old : Processes S) (step : Step)
@@ -333,6 +387,8 @@ module _ {S : Type 0} (g : Ghosts S) (limits : Bounds) (floor : ℕ) where
       → Kept limits floor origin new
   step_kept origin old (steps.Serve round) new kept does =
       round_kept g limits floor origin old round new kept does
+  step_kept origin old (steps.Stop pieces batch) new kept does =
+      stop_kept g limits floor origin old pieces batch new kept does
   step_kept origin old (steps.Begin c i) new kept does =
       begin_kept limits floor origin old new kept c i does
   step_kept origin old (steps.CallClient c call) new kept does =
@@ -391,8 +447,9 @@ begins limits store p begun = record {
   world = told.world;
   is_reached = told.reached;
   opened = sound_opening store begun.sound;
-  server = told.server ∙ sym begun.server;
-  known = λ c lt. knows c lt;
+  server = λ r. told.server ∙ sym begun.server;
+  known = subst (KnowsFloor limits.clients p.life.floor) (sym (told.server ∙ sym begun.server))
+      (λ c lt. knows c lt);
   there = λ c k e. absurd (none_there (p.client c) k e (begun.nobody c));
   client = λ c k e. absurd (none_there (p.client c) k e (begun.nobody c));
   absent = λ c lt e. told.below c lt;
@@ -464,20 +521,20 @@ keep_the_promise g limits store p moments begun runs =
 
 module _ {S : Type 0} (limits : Bounds) (store : StoreState) (p : Processes S)
     (after : Promised limits store p) where
-  serial : IsSerial (opening_of store).bytes (committed_history p)
+  serial : p.runs ≡ true → IsSerial (opening_of store).bytes (committed_history p)
       × ((page : ℕ) → store_left (opening_of store).bytes (committed_history p) page
       ≡ p.service.server.store.bytes page)
-  serial = (
+  serial runs = (
     subst (λ (h : List (List Operation)). IsSerial (opening_of store).bytes h) same
         after.promise.serial.legal,
     λ page. ap (λ (h : List (List Operation)). store_left (opening_of store).bytes h page)
         (sym same) ∙ after.promise.serial.leaves page
-        ∙ ap (λ (x : Server). x.store.bytes page) after.kept.server,
+        ∙ ap (λ (x : Server). x.store.bytes page) (after.kept.server runs),
   )
     where
       same : protocol.committed_history after.kept.world ≡ committed_history p
       same = (λ i. committed_operations
-          (committed_names (after.kept.server i).commits) (after.kept.performed i))
+          (committed_names (after.kept.server runs i).commits) (after.kept.performed i))
 
   readable : (c page : ℕ) (bytes : Bytes) → HasCopy p c page bytes
       → protocol.ReadableCopy after.kept.world c page bytes

@@ -45,11 +45,11 @@ module _ {S : Type 0} (g : Ghosts S) where
       (world : World) × IsReachedWorldOf limits store world processes
       × Promise (opening_of store) world)
 
-  -- What committed transactions read and wrote is a serial history on the store that was handed to
-  -- the service, in commit order, and it leaves the server's store.
+  -- While the service runs, what committed transactions read and wrote is a serial history on the
+  -- store that was handed to it, in commit order, and it leaves the server's store.
   abbrev pub ProcessesAreSerial : Type 0
-  ProcessesAreSerial = AfterEveryRun (λ limits store processes.
-      IsSerial (opening_of store).bytes (committed_history processes)
+  ProcessesAreSerial = AfterEveryRun (λ limits store processes. processes.runs ≡ true
+      → IsSerial (opening_of store).bytes (committed_history processes)
       × ((page : ℕ) → store_left (opening_of store).bytes (committed_history processes) page
       ≡ processes.service.server.store.bytes page))
 

@@ -1,7 +1,7 @@
 -- What a service and its clients do, one step after another, whatever happens to the frames between
 -- them.
 use Rattle.std.specs.Prelude.{◌≡◌, ◌≢◌, ◌<◌, ◌≤◌, ◌⊎◌, ◌++◌, ℕ, true, false, List, [], ◌∷◌, Option}
-use Rattle.std.specs.Prelude.{Some, None, ⊤}
+use Rattle.std.specs.Prelude.{Some, None, IfSome, ⊤}
 use Rattle.std.specs.List.{AllByRecursion}
 use Rattle.sqlite.specs.Store.{Ghosts}
 use Rattle.cb_client.specs.ByTable.{Calls}
@@ -9,21 +9,23 @@ use Rattle.cb_client.specs.FramesTaken.{TakesFrame}
 use Rattle.cb_client_core.specs.ClientState.{ClientState, new_state}
 use Rattle.cb_commit.specs.Batches.{BatchState}
 use Rattle.cb_frame_types.specs.declared.frame.Frame.{Frame}
-use Rattle.cb_outbox.specs.Messages.{body_of, messages_of}
+use Rattle.cb_outbox.specs.Messages.{body_of, message_of, messages_of}
 use Rattle.cb_page.specs.Bounds.{Bounds}
-use Rattle.cb_protocol.specs.AnyMessages.{Input, MessageComes, input_steps}
+use Rattle.cb_protocol.specs.AnyMessages.{Input, MessageComes, ReachesDisk, input_steps}
 use Rattle.cb_protocol.specs.Answers.{AnswerWord}
 use Rattle.cb_protocol.specs.Basics.{IsIn, max_number}
 use Rattle.cb_protocol.specs.ClientCalls.{Call}
-use Rattle.cb_protocol.specs.Messages.{to_server}
+use Rattle.cb_protocol.specs.Flush.{next_batch}
+use Rattle.cb_protocol.specs.Messages.{Message, to_server}
 use Rattle.cb_protocol.specs.Serial.{Operation}
 use Rattle.cb_protocol.specs.Server.{Server, server_after}
 use Rattle.cb_protocol.specs.ServerMessages.{is_exhausted}
 use Rattle.cb_protocol.specs.WaitsFor.{on_cycle}
-use Rattle.cb_serve.specs.Answering.{after_inputs, inputs_in}
+use Rattle.cb_server_state.specs.Commits.{batch_of}
+use Rattle.cb_serve.specs.Answering.{after_inputs, inputs_in, said_to}
 use Rattle.cb_serve.specs.Living.{IsRoundOfLife}
 use Rattle.cb_serve.specs.Rounds.{IsRound, Round, SaysDones, Standing}
-use Rattle.cb_serve.specs.Streams.{Piece, comes}
+use Rattle.cb_serve.specs.Streams.{IsPiece, Piece, comes}
 use Rattle.cb_serve_lives.specs.Processes.{Processes}
 use Rattle.cb_threads.specs.Steps.{performs}
 
@@ -68,6 +70,11 @@ frames_put {limits = limits} {round = round} {old = old} is = is.answers.frames
     ++ done_frames limits (after_inputs old.server (inputs_in round.pieces)) round.dones round.batch
     is.dones
 
+-- what the server says once a batch is on disk
+abbrev pub dones_said : Server → Option BatchState → List Message
+dones_said server None = []
+dones_said server (Some batch) = said_to server (ReachesDisk batch.number ∷ [])
+
 -- the processes of all other clients are as they were
 abbrev pub OthersStay : {S : Type 0} → (old : Processes S) → (client : ℕ) → (new : Processes S)
     → Type 0
@@ -75,7 +82,8 @@ OthersStay old client new = (other : ℕ) → other ≢ client → new.client ot
 
 -- the service does nothing
 abbrev pub ServiceStays : {S : Type 0} → (old new : Processes S) → Type 0
-ServiceStays old new = (new.service ≡ old.service) × (new.life ≡ old.life)
+ServiceStays old new =
+    (new.service ≡ old.service) × (new.life ≡ old.life) × (new.runs ≡ old.runs)
 
 -- The client's process becomes another; those of all other clients and the service stay.
 pub record Becomes {S : Type 0} (old : Processes S) (client : ℕ) (state next : ClientState)
@@ -133,6 +141,7 @@ pub record TakesOne {S : Type 0} (old : Processes S) (client : ℕ) (frame : Fra
 -- one step of a process
 pub data Step : Type 0 where
   Serve : Round → Step
+  Stop : List Piece → Option BatchState → Step
   Begin : (client incarnation : ℕ) → Step
   CallClient : (client : ℕ) → Call → Step
   Take : (client : ℕ) → Frame → Step
@@ -141,6 +150,8 @@ module _ {S : Type 0} (g : Ghosts S) (limits : Bounds) where
   -- The service does a round of its life: each frame that comes to it may come, and it has a number
   -- for each. What it puts out is on its way.
   pub record DoesRound (old : Processes S) (round : Round) (new : Processes S) : Type 0 where
+    pub ran : old.runs ≡ true
+    pub runs : new.runs ≡ true
     pub is : IsRoundOfLife g limits round old.service new.service old.life new.life
     pub come : AllByRecursion (MayCome old) round.pieces
     pub numbers : HasNumbers old.service.server (inputs_in round.pieces)
@@ -148,9 +159,31 @@ module _ {S : Type 0} (g : Ghosts S) (limits : Bounds) where
     pub said : new.said ≡ old.said ++ frames_put is.is
     pub performed : new.performed ≡ old.performed
 
+  -- The service stops, between two rounds or within one, and does nothing more. It took these
+  -- pieces as a round does, and wrote this batch, if it came to one. What went out of it are whole
+  -- frames of what the server says to the pieces, and Dones of the batch alone.
+  pub record StopsAmid (old : Processes S) (pieces : List Piece) (batch : Option BatchState)
+      (new : Processes S) : Type 0 where
+    pub ran : old.runs ≡ true
+    pub stopped : new.runs ≡ false
+    pub are : AllByRecursion (IsPiece limits) pieces
+    pub come : AllByRecursion (MayCome old) pieces
+    pub numbers : HasNumbers old.service.server (inputs_in pieces)
+    pub next : IfSome batch (λ b.
+        next_batch (after_inputs old.service.server (inputs_in pieces)) ≡ Some (batch_of b))
+    pub frames : List Frame
+    pub among : (frame : Frame) → IsIn frame frames
+        → IsIn (message_of frame) (said_to old.service.server (inputs_in pieces)
+        ++ dones_said (after_inputs old.service.server (inputs_in pieces)) batch)
+    pub said : new.said ≡ old.said ++ frames
+    pub life : new.life.floor ≡ old.life.floor
+    pub clients : (client : ℕ) → new.client client ≡ old.client client
+    pub performed : new.performed ≡ old.performed
+
   -- what a step makes of the processes
   abbrev pub Does : (old : Processes S) → Step → (new : Processes S) → Type 0
   Does old (Serve round) new = DoesRound old round new
+  Does old (Stop pieces batch) new = StopsAmid old pieces batch new
   Does old (Begin client incarnation) new = Begins limits old client incarnation new
   Does old (CallClient client call) new = CallsClient old client call new
   Does old (Take client frame) new = TakesOne old client frame new

@@ -1,5 +1,5 @@
 -- Which world of the protocol a service and its clients are.
-use Rattle.std.specs.Prelude.{◌≡◌, ℕ, List, [], ◌∷◌, Some, ⊤}
+use Rattle.std.specs.Prelude.{◌≡◌, ℕ, true, List, [], ◌∷◌, Some, ⊤}
 use Rattle.cb_client_core.specs.ClientState.{ClientState, client_of}
 use Rattle.cb_commit.specs.Stores.{StoreState}
 use Rattle.cb_frame_types.specs.declared.frame.Frame.{Frame}
@@ -25,11 +25,11 @@ pub record IsWorldClient (bounds : Bounds) (world : World) (client : ℕ) (state
   pub operations : List Operation
   pub shows : world.client client ≡ client_of state operations
 
--- The world is the processes: it has the service's server, their clients, each frame that was said
--- as a packet, and in its transcript what was read and written.
+-- The world is the processes: it has the service's server, while that runs, their clients, each
+-- frame that was said as a packet, and in its transcript what was read and written.
 pub record IsWorldOf {S : Type 0} (limits : Bounds) (world : World) (processes : Processes S)
     : Type 0 where
-  pub server : world.server ≡ processes.service.server
+  pub server : processes.runs ≡ true → world.server ≡ processes.service.server
   pub client : (client : ℕ) (state : ClientState) → processes.client client ≡ Some state
       → IsWorldClient limits world client state
   pub said : (frame : Frame) → IsIn frame processes.said → IsIn (message_of frame) world.packets

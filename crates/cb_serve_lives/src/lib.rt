@@ -22,12 +22,12 @@ pub fn next_life_is_new<S: Alter>()
 
 /// Whatever a service and its clients do, and whatever comes through between them: a run of the
 /// protocol's world goes along. Each step is a round of the service (`IsRoundOfLife`), a call of a
-/// `Client`, a frame that a client takes, or a process that begins an incarnation of a client. At
-/// each moment the world has this server, these clients and every frame that was said, and its
-/// transcript has what was read and written. So the whole promise holds of it. What committed
-/// transactions read and wrote is serial in commit order, and leaves the store. Two processes that
-/// have bytes of one page have the same; and while a transaction may write a page, no other process
-/// has bytes of it.
+/// `Client`, a frame that a client takes, or a process that begins an incarnation of a client; or
+/// the service stops, also within a round. At each moment the world has this server, while it runs,
+/// these clients and every frame that was said, and its transcript has what was read and written.
+/// So the whole promise holds of it. What committed transactions read and wrote is serial in commit
+/// order, and leaves the store. Two processes that have bytes of one page have the same; and while
+/// a transaction may write a page, no other process has bytes of it.
 ///
 /// Any frame that was said may come, once, often or never, in any order, and whatever is no frame.
 /// Four premises are no clause of any call. No frame comes that no client said, but of incarnations
