@@ -1,5 +1,6 @@
 pub mod Commands
 pub mod Events
+pub mod LivesEvents
 pub mod Pieces
 pub mod FaultTexts
 pub mod ScheduleText

@@ -14,10 +14,12 @@ mod command;
 mod drawing;
 mod event;
 mod kind;
+mod lives_event;
 mod pieces;
 mod text;
 
 pub use drawing::Drawing;
 pub use event::{Call, Event};
+pub use lives_event::LivesEvent;
 pub use pieces::{is_text, number_of, split_line, split_word};
 pub use text::{ScheduleFault, read_schedule};

@@ -1,4 +1,5 @@
 pub mod Answers
+pub mod LivesTranscripts
 pub mod Operations
 pub mod ProtocolEvents
 pub mod RefusalTexts

@@ -2,6 +2,8 @@
 use Rattle.std.specs.Prelude.{ℕ, List, codes}
 use Rattle.cb_transcript.specs.declared.refusal.Refusal.{Refusal}
 use Rattle.cb_transcript.specs.declared.refusal.Refusal.TheVariants as refusal
+use Rattle.cb_transcript.specs.declared.restart.RestartRefusal.{RestartRefusal}
+use Rattle.cb_transcript.specs.declared.restart.RestartRefusal.TheVariants as restart
 
 -- the number and the name of a refusal
 abbrev pub refusal_text : Refusal → List ℕ
@@ -17,3 +19,8 @@ refusal_text refusal.NotWritable = codes "9 NotWritable"
 refusal_text refusal.WrongLength = codes "10 WrongLength"
 refusal_text refusal.PoolFull = codes "11 PoolFull"
 refusal_text refusal.Exhausted = codes "12 Exhausted"
+
+-- the number and the name of a refusal to restart the server
+abbrev pub restart_refusal_text : RestartRefusal → List ℕ
+restart_refusal_text restart.Floor = codes "1 Floor"
+restart_refusal_text restart.Number = codes "2 Number"

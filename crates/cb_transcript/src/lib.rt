@@ -1,20 +1,25 @@
 //! What became of the events of a world, and whether that is serial.
 //!
 //! A [`Transcript`] lists each event with its [`Answer`], and the transactions that were committed.
+//! A [`LivesTranscript`] does so where the server restarts too.
 //! [`check_serial`] tells whether those of a transcript, whoever made it, are a serial history on
 //! its opening store.
 #![tactic(auto)]
 
 mod answer;
 mod current_transaction;
+mod lives_transcript;
 mod operation;
 mod refusal;
 mod replay;
+mod restart;
 mod serial;
 mod transactions;
 mod transcript;
 
 pub use answer::{Answer, AnswerWord, SentPacket, SentPackets, TranscriptEntry};
+pub use lives_transcript::{LivesEntry, LivesTranscript};
 pub use refusal::Refusal;
+pub use restart::{RestartAnswer, RestartEntry, RestartRefusal};
 pub use serial::{Verdict, check_serial};
 pub use transcript::{TransactionName, Transcript};

@@ -129,7 +129,7 @@ impl Transcript {
 }
 
 /// Names commits behind the others.
-fn name_commits(names: &mut Vec<TransactionName>, commits: &[Commit])
+pub(crate) fn name_commits(names: &mut Vec<TransactionName>, commits: &[Commit])
     requires room { length names.old.items + length commits.now ≤ vec_capacity names.old }
     ensures { names.new.items ≡ names.old.items ++ map committed_name commits.now }
 {
