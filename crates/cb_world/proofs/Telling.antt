@@ -106,7 +106,7 @@ names_applied : (cs : List Commit) → committed_names (map applied_commit cs) �
 names_applied [] = refl
 names_applied (c ∷ cs) = ap (λ (ns : List serial.TransactionName). record { client = c.client; incarnation = c.incarnation; txn = c.txn } ∷ ns) (names_applied cs)
 
-names_listed : (cs : List Commit) → committed_names (newest_first cs) ≡ reverse (names_in cs)
+pub names_listed : (cs : List Commit) → committed_names (newest_first cs) ≡ reverse (names_in cs)
 names_listed cs = names_reversed (map applied_commit cs) ∙ ap reverse (names_applied cs)
 
 -- What is to be told after an event: the server's commits begin with those told.

@@ -3,3 +3,7 @@ pub mod NetMoves
 pub mod WorldState
 pub mod Plays
 pub mod Draws
+pub mod NextLife
+pub mod LivesState
+pub mod LivesTold
+pub mod LivesPlays

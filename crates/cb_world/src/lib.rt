@@ -2,14 +2,18 @@
 //!
 //! In contracts a running [`World`] is a world of the protocol that is reached from its opening
 //! store, whatever events are played: so the protocol's whole promise holds of it at each moment.
+//! [`Lives`] is the same over all lives of the server, which restarts.
 //! [`draw`] draws schedules: events at random, in a world that plays them as they come.
 #![tactic(auto)]
 
 mod laws;
+mod life;
+mod lives;
 mod net;
 mod schedule;
 mod world;
 
 pub use laws::worlds_are_serial;
+pub use lives::{Lives, LivesFault};
 pub use schedule::draw;
 pub use world::{PlayFault, World};

@@ -93,6 +93,7 @@ impl<Q: Chooser> Net<Q> {
     pub(crate) fn server(&self) -> &Server
         ensures value { result.now ≡ self.now.server }
         ensures forgotten { (commits_of result.now).forgotten ≡ 0 }
+        ensures limits { result.now.limits ≡ limits_in self.now }
     {
         &self.server
     }
@@ -118,6 +119,15 @@ impl<Q: Chooser> Net<Q> {
         } }
     {
         self.packets.keep(count);
+    }
+
+    /// The server restarts: this is the server of its next life. Clients and packets stay.
+    pub(crate) fn restart_server(&mut self, server: Server)
+        requires limits { server.limits ≡ limits_in self.old }
+        requires forgotten { (commits_of server).forgotten ≡ 0 }
+        ensures { self.new ≡ record self.old { server = server } }
+    {
+        self.server = server;
     }
 
     /// One event happens. `AllocError` only where memory was refused, and never in place of a

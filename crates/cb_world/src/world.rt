@@ -301,7 +301,7 @@ fn tell<Q: Chooser>(
 }
 
 /// The commits behind those told, of which there are so many.
-fn untold(commits: &[Commit], told: usize) -> &[Commit]
+pub(crate) fn untold(commits: &[Commit], told: usize) -> &[Commit]
     requires { told ≤ length commits.now }
     ensures { result.now ≡ drop told commits.now }
 {
