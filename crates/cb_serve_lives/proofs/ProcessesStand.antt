@@ -45,7 +45,9 @@ use Rattle.cb_serve_lives.proofs.Taking.{serves_none, serves_pieces}
 use Rattle.cb_serve_lives.specs.Processes.{HasBegun, Processes}
 use Rattle.cb_serve_lives.specs.ProcessLaws.{CopiesAgree, HasCopy, MayWritePage, ProcessesAreSerial}
 use Rattle.cb_serve_lives.specs.ProcessLaws.{ProcessesGoAlong, ProcessesKeepThePromise}
-use Rattle.cb_serve_lives.specs.ProcessLaws.{WritersAreAlone, committed_history}
+use Rattle.cb_serve_lives.specs.ProcessLaws.{RunsAreServed, WritersAreAlone, committed_history}
+use Rattle.cb_serve_lives.specs.ProcessLaws.{rounds_in, with_round}
+use Rattle.cb_serve.specs.Serving.{AreRounds}
 use Rattle.cb_serve_lives.specs.ProcessSteps as steps
 use Rattle.cb_serve_lives.specs.ProcessSteps.{StopsAmid, dones_said}
 use Rattle.cb_serve_lives.specs.ProcessSteps.{Becomes, Begins, CallsClient, DoesRound, IsNext, MayCome}
@@ -569,3 +571,66 @@ writers_are_alone g limits store p moments begun runs c d page bytes may copy =
     let after : Promised limits store last = promised g limits store p moments begun runs in
     after.promise.alone c d page bytes (writes limits store last after c page may)
     (readable limits store last after d page bytes copy)
+
+-- ---- the rounds of a run
+
+module _ {S : Type 0} (g : Ghosts S) (limits : Bounds) where
+  -- a service that stopped doesn't run again
+  stays_stopped : (p : Processes S) (moments : List (Moment S)) → Runs g limits p moments
+      → p.runs ≡ false → (processes_after p moments).runs ≡ false
+  stays_stopped p [] runs stopped = stopped
+  stays_stopped p (m ∷ moments) runs stopped =
+      stays_stopped m.processes moments runs.1 (by m.step runs.0)
+    where
+      by : (s : Step) → steps.Does g limits p s m.processes → m.processes.runs ≡ false
+      by (steps.Serve round) does =
+          absurd (let z : true ≡ false = sym does.ran ∙ stopped in cc)
+      by (steps.Stop pieces batch) does = does.stopped
+      by (steps.Begin c i) does = does.service.2 ∙ stopped
+      by (steps.CallClient c call) does = does.becomes.service.2 ∙ stopped
+      by (steps.Take c frame) does = does.becomes.service.2 ∙ stopped
+
+  -- where the service stays, so do the rounds from there on
+  from_there : (old new : Processes S) (rounds : List Round) (last : Standing S) (end : LifeState)
+      → (new.service ≡ old.service) → (new.life ≡ old.life)
+      → AreRounds g limits rounds new.service last new.life end
+      → AreRounds g limits rounds old.service last old.life end
+  from_there old new rounds last end service life are =
+      subst (λ (l : LifeState). AreRounds g limits rounds old.service last l end) life
+      (subst (λ (s : Standing S). AreRounds g limits rounds s last new.life end) service are)
+
+  run_served : (p : Processes S) (moments : List (Moment S)) → Runs g limits p moments
+      → (processes_after p moments).runs ≡ true
+      → AreRounds g limits (rounds_in moments) p.service (processes_after p moments).service p.life
+      (processes_after p moments).life
+  run_served p [] runs at = (refl, refl)
+  run_served p (m ∷ moments) runs at =
+      by m.step runs.0 (run_served m.processes moments runs.1 at)
+      (λ stopped. stays_stopped m.processes moments runs.1 stopped)
+    where
+      by : (s : Step) → steps.Does g limits p s m.processes
+          → AreRounds g limits (rounds_in moments) m.processes.service
+          (processes_after m.processes moments).service m.processes.life
+          (processes_after m.processes moments).life
+          → (m.processes.runs ≡ false → (processes_after m.processes moments).runs ≡ false)
+          → AreRounds g limits (with_round s (rounds_in moments)) p.service
+          (processes_after m.processes moments).service p.life
+          (processes_after m.processes moments).life
+      by (steps.Serve round) does rest stays =
+          (does.begins, m.processes.service, m.processes.life, does.is, rest)
+      by (steps.Stop pieces batch) does rest stays =
+          absurd (let z : true ≡ false = sym at ∙ stays does.stopped in cc)
+      by (steps.Begin c i) does rest stays =
+          from_there p m.processes (rounds_in moments) (processes_after m.processes moments).service
+          (processes_after m.processes moments).life does.service.0 does.service.1 rest
+      by (steps.CallClient c call) does rest stays =
+          from_there p m.processes (rounds_in moments) (processes_after m.processes moments).service
+          (processes_after m.processes moments).life does.becomes.service.0 does.becomes.service.1
+          rest
+      by (steps.Take c frame) does rest stays =
+          from_there p m.processes (rounds_in moments) (processes_after m.processes moments).service
+          (processes_after m.processes moments).life does.becomes.service.0 does.becomes.service.1
+          rest
+
+pub are_served : {S : Type 0} (g : Ghosts S) → RunsAreServed g
+are_served g limits p moments runs at = run_served g limits p moments runs at

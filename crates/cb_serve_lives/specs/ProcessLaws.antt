@@ -1,5 +1,5 @@
 -- What holds of a service and its clients, whatever they do and whatever comes through.
-use Rattle.std.specs.Prelude.{◌≡◌, ℕ, List, [], Some, true}
+use Rattle.std.specs.Prelude.{◌≡◌, ℕ, List, [], ◌∷◌, Some, true}
 use Rattle.sqlite.specs.Store.{Ghosts}
 use Rattle.cb_cache.specs.CacheState.{content_at}
 use Rattle.cb_client_core.specs.ClientState.{ClientState, client_of}
@@ -12,8 +12,10 @@ use Rattle.cb_protocol.specs.Headline.{Promise}
 use Rattle.cb_protocol.specs.Serial.{IsSerial, Operation, committed_operations, store_left}
 use Rattle.cb_protocol.specs.World.{World}
 use Rattle.cb_server_state.specs.States.{opening_of}
+use Rattle.cb_serve.specs.Rounds.{Round}
+use Rattle.cb_serve.specs.Serving.{AreRounds}
 use Rattle.cb_serve_lives.specs.Processes.{HasBegun, Processes}
-use Rattle.cb_serve_lives.specs.ProcessSteps.{Moment, Runs, processes_after}
+use Rattle.cb_serve_lives.specs.ProcessSteps.{Moment, Runs, Serve, Step, processes_after}
 use Rattle.cb_serve_lives.specs.ProcessWorlds.{GoesAlong, IsReachedWorldOf}
 
 -- what the committed transactions read and wrote, in commit order
@@ -79,3 +81,20 @@ module _ {S : Type 0} (g : Ghosts S) where
   WritersAreAlone = AfterEveryRun g (λ limits store processes. (client other page : ℕ)
       (bytes : Bytes) → MayWritePage processes client page
       → HasCopy processes other page bytes → other ≡ client)
+
+-- the rounds of a run, in order
+abbrev pub with_round : Step → List Round → List Round
+with_round (Serve round) rounds = round ∷ rounds
+with_round _ rounds = rounds
+
+abbrev pub rounds_in : {S : Type 0} → List (Moment S) → List Round
+rounds_in [] = []
+rounds_in (moment ∷ moments) = with_round moment.step (rounds_in moments)
+
+-- While the service of a run runs, its rounds are rounds as `serve` does them, one after another.
+abbrev pub RunsAreServed : {S : Type 0} → Ghosts S → Type 0
+RunsAreServed {S} g = (limits : Bounds) (processes : Processes S) (moments : List (Moment S))
+    → Runs g limits processes moments
+    → (let after = processes_after processes moments in after.runs ≡ true
+    → AreRounds g limits (rounds_in moments) processes.service after.service
+    processes.life after.life)

@@ -25,7 +25,7 @@ use Rattle.cb_server_state.specs.Commits.{batch_of}
 use Rattle.cb_serve.specs.Answering.{after_inputs, inputs_in, said_to}
 use Rattle.cb_serve.specs.Living.{IsRoundOfLife}
 use Rattle.cb_serve.specs.Rounds.{IsRound, Round, SaysDones, Standing}
-use Rattle.cb_serve.specs.Streams.{IsPiece, Piece, comes}
+use Rattle.cb_serve.specs.Streams.{IsPart, IsPiece, Piece, comes}
 use Rattle.cb_serve_lives.specs.Processes.{Processes}
 use Rattle.cb_threads.specs.Steps.{performs}
 
@@ -147,11 +147,12 @@ pub data Step : Type 0 where
   Take : (client : ℕ) → Frame → Step
 
 module _ {S : Type 0} (g : Ghosts S) (limits : Bounds) where
-  -- The service does a round of its life: each frame that comes to it may come, and it has a number
-  -- for each. What it puts out is on its way.
+  -- The service does a round of its life, behind less than a whole piece: each frame that comes to
+  -- it may come, and it has a number for each. What it puts out is on its way.
   pub record DoesRound (old : Processes S) (round : Round) (new : Processes S) : Type 0 where
     pub ran : old.runs ≡ true
     pub runs : new.runs ≡ true
+    pub begins : IsPart limits old.service.waiting
     pub is : IsRoundOfLife g limits round old.service new.service old.life new.life
     pub come : AllByRecursion (MayCome old) round.pieces
     pub numbers : HasNumbers old.service.server (inputs_in round.pieces)

@@ -8,7 +8,7 @@
 ghost use Rattle.cb_serve_lives.specs.NextLife.{NextLifeIsNew};
 ghost use Rattle.cb_serve_lives.specs.ProcessLaws.{CopiesAgree, ProcessesAreSerial};
 ghost use Rattle.cb_serve_lives.specs.ProcessLaws.{ProcessesGoAlong, ProcessesKeepThePromise};
-ghost use Rattle.cb_serve_lives.specs.ProcessLaws.{WritersAreAlone};
+ghost use Rattle.cb_serve_lives.specs.ProcessLaws.{RunsAreServed, WritersAreAlone};
 ghost use Rattle.cb_serve_lives.specs.ServedFile.{DonesStand, LivesFollow, RoundsAreSteps};
 ghost use Rattle.cb_serve_lives.specs.ServedFile.{ServicesRestart};
 
@@ -27,7 +27,8 @@ pub fn next_life_is_new<S: Alter>()
 /// these clients and every frame that was said, and its transcript has what was read and written.
 /// So the whole promise holds of it. What committed transactions read and wrote is serial in commit
 /// order, and leaves the store. Two processes that have bytes of one page have the same; and while
-/// a transaction may write a page, no other process has bytes of it.
+/// a transaction may write a page, no other process has bytes of it. The rounds are those of `serve`
+/// one after another (`AreRounds`).
 ///
 /// Any frame that was said may come, once, often or never, in any order, and whatever is no frame.
 /// Four premises are no clause of any call. No frame comes that no client said, but of incarnations
@@ -41,6 +42,7 @@ pub fn processes_are_worlds<S: Alter>()
     ensures serial { ProcessesAreSerial S.Store }
     ensures agree { CopiesAgree S.Store }
     ensures alone { WritersAreAlone S.Store }
+    ensures served { RunsAreServed S.Store }
 {}
 
 /// Of a file, from its first open on: whatever services ran over it one after another, each begun

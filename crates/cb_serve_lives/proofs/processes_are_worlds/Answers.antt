@@ -1,6 +1,6 @@
 -- Goals of `processes_are_worlds`.
 use Rattle.cb_serve_lives.proofs.ProcessesStand.{are_serial, copies_agree, go_along, keep_the_promise}
-use Rattle.cb_serve_lives.proofs.ProcessesStand.{writers_are_alone}
+use Rattle.cb_serve_lives.proofs.ProcessesStand.{are_served, writers_are_alone}
 use Rattle.cb_serve_lives.proofs.processes_are_worlds.Goals as goal
 
 pub returns : goal.returns
@@ -10,4 +10,5 @@ returns g c = record {
   serial = are_serial g.S.Store;
   agree = copies_agree g.S.Store;
   alone = writers_are_alone g.S.Store;
+  served = are_served g.S.Store;
 }
