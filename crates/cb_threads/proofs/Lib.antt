@@ -13,6 +13,7 @@
 -- Worlds: whatever threads do, there is a world that it is.
 -- ByContracts: which calls are steps, by what their contracts say.
 -- Moves: so is each move by which a worker comes.
+-- Lending: what a fetch lends.
 pub mod Events
 pub mod Standing
 pub mod Calling
@@ -29,3 +30,4 @@ pub mod Telling
 pub mod Worlds
 pub mod ByContracts
 pub mod Moves
+pub mod Lending

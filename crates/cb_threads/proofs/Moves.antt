@@ -1,5 +1,5 @@
 -- Each move by which a worker comes is a step of the program that has its station.
-use Rattle.std.proofs.Common.{◌≡◌, ℕ, List, [], ◌∷◌, Some, None, Ok, inl, inr, refl, sym, ◌∙◌}
+use Rattle.std.proofs.Common.{◌≡◌, ◌++◌, ℕ, List, [], ◌∷◌, Some, None, Ok, inl, inr, refl, sym, ◌∙◌}
 use Rattle.std.proofs.Common.{ap, subst}
 use Rattle.cb_client_core.specs.ClientState.{IsClient}
 use Rattle.cb_hands.specs.Hands.{HandState}
@@ -10,16 +10,18 @@ use Rattle.cb_station.specs.Telling.{Tells}
 use Rattle.cb_threads.proofs.ByContracts.{becomes, commits_are_steps, joins_are_steps}
 use Rattle.cb_threads.proofs.ByContracts.{leaves_are_steps, read_at_hand, restarts_are_steps}
 use Rattle.cb_threads.proofs.ByContracts.{tells_are_steps, turns_are_steps}
-use Rattle.cb_threads.specs.ByContracts.{CallsGoBySteps, WorkersJoinBySteps, WorkersLeaveBySteps}
-use Rattle.cb_threads.specs.ByContracts.{WorkersRestartBySteps, with_worker}
-use Rattle.cb_threads.specs.Moves.{AreSteps, DoesAll, IsStep}
-use Rattle.cb_threads.specs.Programs.{Program, limits_in}
+use Rattle.cb_threads.proofs.Calling.{at_itself}
+use Rattle.cb_threads.specs.ByContracts.{CallsAreRuns, CallsGoBySteps, WorkersJoinBySteps}
+use Rattle.cb_threads.specs.ByContracts.{WorkersLeaveBySteps, WorkersRestartBySteps, with_worker}
+use Rattle.cb_threads.specs.Moves.{AreSteps, DoesAll, GoesOn, IsStep, moments_of, moved_after}
+use Rattle.cb_threads.specs.Moves.{step_of}
+use Rattle.cb_threads.specs.Programs.{IsSound, Program, limits_in}
 use Rattle.cb_threads.specs.Steps as steps
-use Rattle.cb_threads.specs.Steps.{CallsClient, performs}
+use Rattle.cb_threads.specs.Steps.{CallsClient, Moment, Runs, performs, program_after}
 use Rattle.cb_worker.specs.Committing.{CommitsAt}
 use Rattle.cb_worker.specs.Entering.{HasLimits, Joined, JoinsAndTells, JoinsWith, Left, Restarted}
 use Rattle.cb_worker.specs.Moving as moving
-use Rattle.cb_worker.specs.Moving.{IsCalled, Move, Moved, new_worker}
+use Rattle.cb_worker.specs.Moving.{IsCalled, Move, Moved, MovesBy, new_worker}
 use Rattle.cb_worker.specs.Turns.{Turns}
 use Rattle.cb_worker.specs.Workers.{WorkerState}
 
@@ -68,6 +70,53 @@ all_are_steps c k (moved ∷ moves) =
 
 pub calls_go_by_steps : CallsGoBySteps
 calls_go_by_steps c old new still = all_are_steps c old still.moves
+
+-- two runs, one behind the other
+run_on : (program : Program) (xs ys : List Moment) → Runs program xs
+    → Runs (program_after program xs) ys → Runs program (xs ++ ys)
+run_on program [] ys a b = b
+run_on program (x ∷ xs) ys a b = (a.0, a.1, run_on x.program xs ys a.2 b)
+
+after_both : (program : Program) (xs ys : List Moment)
+    → program_after program (xs ++ ys) ≡ program_after (program_after program xs) ys
+after_both program [] ys = refl
+after_both program (x ∷ xs) ys = after_both x.program xs ys
+
+-- what a run leaves is sound
+run_sound : (program : Program) (xs : List Moment) → IsSound program → Runs program xs
+    → IsSound (program_after program xs)
+run_sound program [] sound a = sound
+run_sound program (x ∷ xs) sound a = run_sound x.program xs a.1 a.2
+
+-- the client's worker after these moments
+abbrev Leaves : Program → List Moment → ℕ → WorkerState → Type 0
+Leaves program moments c worker = (program_after program moments).worker c ≡ Some worker
+
+goes_on : (program : Program) (c : ℕ) (k : WorkerState) (moves : List Moved) (last : WorkerState)
+    (made : MovesBy k moves last) (others : List (List Moment)) → IsSound program
+    → program.worker c ≡ Some k → GoesOn program c k moves last made others
+    → Runs program (moments_of program c k moves last made others)
+    × Leaves program (moments_of program c k moves last made others) c last
+goes_on program c k [] last made others sound was goes =
+    (tt, was ∙ ap (λ (w : WorkerState). Some w) (sym made))
+goes_on program c k (moved ∷ moves) last made [] sound was goes = absurd goes
+goes_on program c k (moved ∷ moves) last made (these ∷ others) sound was goes =
+    let before : Program = program_after program these in
+    let next : Program = moved_after program these c k moved made.0 in
+    let is : IsClient k.client = (run_sound program these sound goes.0).client c k goes.1 in
+    let does : steps.Does before (step_of c moved.move) next =
+    move_is_step c k moved.move moved.worker before goes.1 is goes.2 made.0 in
+    let rest = goes_on next c moved.worker moves last made.1 others goes.3
+    (at_itself before.worker c (Some moved.worker)) goes.4 in
+    let tail : List Moment = record { step = step_of c moved.move; program = next }
+    ∷ moments_of next c moved.worker moves last made.1 others in (
+      run_on program these tail goes.0 (does, goes.3, rest.0),
+      ap (λ (p : Program). p.worker c) (after_both program these tail) ∙ rest.1,
+    )
+
+pub calls_are_runs : CallsAreRuns
+calls_are_runs program c worker last others sound was still goes =
+    goes_on program c worker still.moves last still.moved others sound was goes
 
 -- and then all who are to be told are
 told_too : (old mid : Program) (step : steps.Step) (after : StationState)

@@ -1,7 +1,7 @@
 -- Which public calls are steps, by what their contracts say. Each has the clauses of one call as
 -- premises, and says which step it is, of whatever program it was called in.
-use Rattle.std.specs.Prelude.{◌≡◌, ◌≤◌, ◌∷◌, ℕ, true, [], Bool, Option, Some, None, Result, Ok}
-use Rattle.std.specs.Prelude.{replicate}
+use Rattle.std.specs.Prelude.{◌≡◌, ◌≤◌, ◌∷◌, ℕ, true, List, [], Bool, Option, Some, None, Result, Ok}
+use Rattle.std.specs.Prelude.{⊤, replicate}
 use Rattle.cb_client.specs.CallAnswers.{Begins, Writes}
 use Rattle.cb_client_core.specs.ClientState.{IsClient}
 use Rattle.cb_commit.specs.Stores as stores
@@ -18,15 +18,19 @@ use Rattle.cb_server.specs.ServerValue.{IsNew, IsResumed}
 use Rattle.cb_station.specs.Stations.{IsUnchanged, StationState, forgot, mailbox_of, server_of}
 use Rattle.cb_station.specs.Telling as telling
 use Rattle.cb_station.specs.Telling.{untold_in, with_untold}
-use Rattle.cb_threads.specs.Moves.{AreSteps, DoesAll}
-use Rattle.cb_threads.specs.Programs.{HasOpened, Program, limits_in}
+use Rattle.cb_threads.specs.Laws.{Lends}
+use Rattle.cb_threads.specs.Moves.{AreSteps, DoesAll, GoesOn, moments_of}
+use Rattle.cb_threads.specs.Programs.{HasOpened, IsSound, Program, limits_in}
 use Rattle.cb_threads.specs.Steps.{CallClient, Commit, Does, Flush, Forget, Join, Leave, Refuse}
-use Rattle.cb_threads.specs.Steps.{Restart, Tell, Turn, operation_of}
+use Rattle.cb_threads.specs.Steps.{Moment, Restart, Runs, Tell, Turn, operation_of, program_after}
 use Rattle.cb_worker.specs.Committing.{CommitsAt}
 use Rattle.cb_worker.specs.Entering.{Joined, Left, LeavesSome, Restarted}
 use Rattle.cb_worker.specs.Moving.{HasJoined, HasRestarted, IsStill, new_worker}
 use Rattle.cb_worker.specs.Turns.{Turns}
+use Rattle.cb_worker.specs.Waiting.{Fetches}
 use Rattle.cb_worker.specs.Workers.{Hit, WorkerState, after_hit, with_client}
+use Rattle.cb_worker.specs.declared.answers.Fetched.{Fetched}
+use Rattle.cb_worker.specs.declared.answers.Fetched.TheVariants as fetched
 use Rattle.cb_worker.specs.declared.worker_fault.WorkerFault.{WorkerFault}
 
 -- a station of which nobody has a worker
@@ -148,6 +152,30 @@ RefusalsAreSteps = (old : Program) (after : StationState) → IsUnchanged old.st
 abbrev pub CallsGoBySteps : Type 0
 CallsGoBySteps = (client : ℕ) (worker next : WorkerState) → (still : IsStill worker next)
     → AreSteps client worker still.moves
+
+-- So a whole call is a run, whatever others do between its moves, where each move finds the station
+-- that it names. At its end the worker is the one that the call left.
+abbrev pub CallsAreRuns : Type 0
+CallsAreRuns = (program : Program) (client : ℕ) (worker last : WorkerState)
+    (others : List (List Moment)) → IsSound program → program.worker client ≡ Some worker
+    → (still : IsStill worker last)
+    → GoesOn program client worker still.moves last still.moved others
+    → Runs program (moments_of program client worker still.moves last still.moved others)
+    × ((program_after program
+    (moments_of program client worker still.moves last still.moved others)).worker client
+    ≡ Some last)
+
+-- the bytes that were fetched are those that `hit` lends
+abbrev pub LendsFetched : Program → (client page : ℕ) → Fetched → Type 0
+LendsFetched program client page (fetched.Bytes bytes) = Lends program client page bytes.now
+LendsFetched program client page fetched.Aborted = ⊤
+
+-- `Worker::fetch` lends what `hit` would lend of the worker that it leaves. In a run these are the
+-- store's bytes, then, but where the worker's own transaction wrote the page.
+abbrev pub FetchesLend : Type 0
+FetchesLend = (program : Program) (client page : ℕ) (worker next : WorkerState)
+    (answer : Fetched) → Fetches worker next page answer → program.worker client ≡ Some next
+    → LendsFetched program client page answer
 
 -- `Worker::join`, also where it gives up behind the station's own join: the client joins at the
 -- station that is named, and who is to be told is. From there on the worker comes by moves.

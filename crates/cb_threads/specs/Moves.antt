@@ -1,16 +1,17 @@
 -- What a worker's moves make of the program that it works in. Each public call of a worker tells by
 -- its contract by which moves the worker came (`IsStill` of `cb_worker`).
-use Rattle.std.specs.Prelude.{◌≡◌, ◌∷◌, ℕ, List, [], Some, ⊤}
+use Rattle.std.specs.Prelude.{◌≡◌, ◌++◌, ◌∷◌, ℕ, List, [], Some, ⊤}
 use Rattle.cb_client.specs.CallAnswers.{bytes_at}
 use Rattle.cb_client_core.specs.ClientState.{IsClient}
 use Rattle.cb_protocol.specs.Basics.{update}
 use Rattle.cb_protocol.specs.ClientCalls.{CallRead}
 use Rattle.cb_protocol.specs.Serial.{PerformedOperation, Saw}
 use Rattle.cb_station.specs.Stations.{StationState}
-use Rattle.cb_threads.specs.Programs.{Program}
-use Rattle.cb_threads.specs.Steps.{CallClient, Commit, Does, Step, Turn, operation_of, performs}
+use Rattle.cb_threads.specs.Programs.{IsSound, Program}
+use Rattle.cb_threads.specs.Steps.{CallClient, Commit, Does, Moment, Runs, Step, Turn}
+use Rattle.cb_threads.specs.Steps.{operation_of, performs, program_after}
 use Rattle.cb_worker.specs.Moving as moving
-use Rattle.cb_worker.specs.Moving.{Move, Moved, Moves}
+use Rattle.cb_worker.specs.Moving.{Move, Moved, Moves, MovesBy}
 use Rattle.cb_worker.specs.Workers.{WorkerState}
 
 -- the step that a move of that client's worker is
@@ -67,3 +68,37 @@ abbrev pub DoesAll : (old : Program) → List Step → (new : Program) → Type 
 DoesAll old [] new = new ≡ old
 DoesAll old (step ∷ steps) new =
     (next : Program) × Does old step next × DoesAll next steps new
+
+-- the program once others have made these steps, and then the worker has moved so
+abbrev pub moved_after : (program : Program) → List Moment → (client : ℕ) → (worker : WorkerState)
+    → (moved : Moved) → Moves worker moved.move moved.worker → Program
+moved_after program others client worker moved moves =
+    moved_program (program_after program others) client worker moved.move moved.worker moves
+
+-- The moments of a call by these moves. Before each of them others make steps: these lists, one for
+-- each move.
+abbrev pub moments_of : (program : Program) (client : ℕ) (worker : WorkerState)
+    (moves : List Moved) (last : WorkerState) → MovesBy worker moves last → List (List Moment)
+    → List Moment
+moments_of program client worker [] last made others = []
+moments_of program client worker (moved ∷ moves) last made [] = []
+moments_of program client worker (moved ∷ moves) last made (these ∷ others) = these
+    ++ record {
+      step = step_of client moved.move;
+      program = moved_after program these client worker moved made.0;
+    }
+    ∷ moments_of (moved_after program these client worker moved made.0) client moved.worker moves
+    last made.1 others
+
+-- Others' steps are runs that leave the worker as it is, and after them the station lies there that
+-- the next move names. What the move leaves is sound.
+abbrev pub GoesOn : (program : Program) (client : ℕ) (worker : WorkerState) (moves : List Moved)
+    (last : WorkerState) → MovesBy worker moves last → List (List Moment) → Type 0
+GoesOn program client worker [] last made others = ⊤
+GoesOn program client worker (moved ∷ moves) last made [] = ⊥
+GoesOn program client worker (moved ∷ moves) last made (these ∷ others) =
+    Runs program these × ((program_after program these).worker client ≡ Some worker)
+    × IsMadeAt (program_after program these) moved.move
+    × IsSound (moved_after program these client worker moved made.0)
+    × GoesOn (moved_after program these client worker moved made.0) client moved.worker moves last
+    made.1 others

@@ -7,12 +7,13 @@
 //! steps they are.
 #![tactic(auto)]
 
-ghost use Rattle.cb_threads.specs.ByContracts.{BeginsAreSteps, CallsGoBySteps, CommitsAreSteps};
-ghost use Rattle.cb_threads.specs.ByContracts.{FlushesAreSteps, ForgetsAreSteps, HitsAreSteps};
-ghost use Rattle.cb_threads.specs.ByContracts.{JoinsAreSteps, LeavesAreSteps};
-ghost use Rattle.cb_threads.specs.ByContracts.{NewStationsHaveOpened, RefusalsAreSteps};
-ghost use Rattle.cb_threads.specs.ByContracts.{RestartsAreSteps, ResumedStationsHaveOpened};
-ghost use Rattle.cb_threads.specs.ByContracts.{TellsAreSteps, TurnsAreSteps, WorkersJoinBySteps};
+ghost use Rattle.cb_threads.specs.ByContracts.{BeginsAreSteps, CallsAreRuns, CallsGoBySteps};
+ghost use Rattle.cb_threads.specs.ByContracts.{CommitsAreSteps, FetchesLend, FlushesAreSteps};
+ghost use Rattle.cb_threads.specs.ByContracts.{ForgetsAreSteps, HitsAreSteps, JoinsAreSteps};
+ghost use Rattle.cb_threads.specs.ByContracts.{LeavesAreSteps, NewStationsHaveOpened};
+ghost use Rattle.cb_threads.specs.ByContracts.{RefusalsAreSteps, RestartsAreSteps};
+ghost use Rattle.cb_threads.specs.ByContracts.{ResumedStationsHaveOpened, TellsAreSteps};
+ghost use Rattle.cb_threads.specs.ByContracts.{TurnsAreSteps, WorkersJoinBySteps};
 ghost use Rattle.cb_threads.specs.ByContracts.{WorkersLeaveBySteps, WorkersRestartBySteps};
 ghost use Rattle.cb_threads.specs.ByContracts.{WritesAreSteps};
 ghost use Rattle.cb_threads.specs.Laws.{HitsAgree, HitsAreTheStores, MailIsTheStores};
@@ -62,12 +63,15 @@ pub fn calls_are_steps()
 /// What the contracts of a worker's calls that take the lock say makes each of them a list of steps,
 /// also where it is refused. `join`, `restart` and `leave` are one step of the station, after which
 /// who is to be told is told. The worker of a new hand comes from there by moves, and so does that of
-/// each other call. Each move is a step of whatever program has the station that the move names. In a
-/// run each worker has the station's limits.
+/// each other call. Each move is a step of whatever program has the station that the move names; so a
+/// whole call is a run, whatever others do between its moves, and what `fetch` lends at its end is
+/// what `hit` would lend. In a run each worker has the station's limits.
 pub fn workers_go_by_steps()
     ensures joins { WorkersJoinBySteps }
     ensures restarts { WorkersRestartBySteps }
     ensures leaves { WorkersLeaveBySteps }
     ensures calls { CallsGoBySteps }
+    ensures runs { CallsAreRuns }
+    ensures lends { FetchesLend }
     ensures limits { WorkersHaveTheLimits }
 {}

@@ -1,5 +1,6 @@
 -- Goals of `workers_go_by_steps`.
-use Rattle.cb_threads.proofs.Moves.{calls_go_by_steps, workers_join_by_steps}
+use Rattle.cb_threads.proofs.Lending.{fetches_lend}
+use Rattle.cb_threads.proofs.Moves.{calls_are_runs, calls_go_by_steps, workers_join_by_steps}
 use Rattle.cb_threads.proofs.Moves.{workers_leave_by_steps, workers_restart_by_steps}
 use Rattle.cb_threads.proofs.Worlds.{workers_have_the_limits}
 use Rattle.cb_threads.proofs.workers_go_by_steps.Goals as goal
@@ -15,6 +16,12 @@ returns-clause-leaves c = workers_leave_by_steps
 
 pub returns-clause-calls : goal.returns-clause-calls
 returns-clause-calls c = calls_go_by_steps
+
+pub returns-clause-runs : goal.returns-clause-runs
+returns-clause-runs c = calls_are_runs
+
+pub returns-clause-lends : goal.returns-clause-lends
+returns-clause-lends c = fetches_lend
 
 pub returns-clause-limits : goal.returns-clause-limits
 returns-clause-limits c = workers_have_the_limits
