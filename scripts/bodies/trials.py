@@ -169,7 +169,7 @@ def try_one(prover: Prover, crate: Path, words: list[str], edit: Edit, came: Cam
     came.add(said)
     for file, text in was.items():
         (crate / file).write_text(text)
-    errors = [line for line in said.log.splitlines() if "error" in line]
+    errors = [line for line in said.log.splitlines() if ": error" in line]
     if said.status == 0 and "logic=proved" in said.log:
         came.proved.append(edit)
     elif said.status == 1 and said.is_verdict():
