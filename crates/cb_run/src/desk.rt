@@ -1,21 +1,23 @@
 //! What the flusher asks of the office, and what it tells it.
-ghost use Rattle.std.specs.Prelude.{◌≡◌, ◌↔◌, ◌<◌, ◌≤◌, ℕ, false, Err, IfErr};
+ghost use Rattle.std.specs.Prelude.{◌≡◌, ◌↔◌, ℕ, false, Err, IfErr, IfOk};
 ghost use Rattle.std.specs.Prelude.{OnErr, OnOk, Some};
 ghost use Rattle.std.specs.Sync.Mutex.{mutex_guard_value};
 ghost use Rattle.sqlite.specs.Held.{state};
 ghost use Rattle.sqlite.specs.State.{Survives};
 ghost use Rattle.cb_station.specs.Flags.{is_over};
-ghost use Rattle.cb_station.specs.Stations.{server_of};
+ghost use Rattle.cb_station.specs.Telling.{Tells};
+ghost use Rattle.cb_station.specs.Stations.{IsUnchanged, StationState};
 ghost use Rattle.cb_run.specs.Ends.{IsWritten};
+ghost use Rattle.cb_run.specs.Reporting.{ReportsUpTo};
 ghost use Rattle.cb_shelf.specs.Flushing.{WritesOne, WritesOrStays};
 ghost use Rattle.cb_sql.specs.Writing.{Fits, Wrote};
 
 use crate::over::{Next, next_at};
 use crate::pace::{Pace, time_since};
+use crate::reporting::{Reported, report_at};
 use cb_commit::Batch;
 use cb_jobs::Watch;
-use cb_page::CommitNo;
-use cb_shelf::{Reports, Shelf, ShelfFault, write_and_report};
+use cb_shelf::{Reports, Shelf, ShelfFault, Written, write_and_report};
 use cb_station::{Office, Station};
 use sqlite::Alter;
 use std::alloc::{AllocError, Global};
@@ -73,45 +75,41 @@ pub(crate) fn next_batch<R: Wait + Clock, W: Watch>(
     unreachable!()
 }
 
-/// Reports the commits up to a number, and forgets them. Where memory is refused for that they are
-/// still to be reported.
-fn report_at(alloc: Global, station: &mut Station, number: CommitNo) -> Result<(), AllocError>
-    ensures reported { OnOk result (number ≤ (server_of station.new).flushed) }
-    ensures refused { OnErr result ((server_of station.new).flushed < number) }
+/// Reports a batch to the station under the lock, and tells all who are to be told of that.
+fn report_under(
+    alloc: Global,
+    office: &Office,
+    station: &mut Station,
+    written: Written,
+) -> Result<Reported, AllocError>
+    ensures told { IfOk result (λ reported. reported.number ≡ written) }
+    ensures reports { OnOk result ((mid : StationState) × ReportsUpTo written station.old mid
+        × Tells mid station.new) }
+    ensures unchanged { OnErr result ((mid : StationState) × IsUnchanged station.old mid
+        × Tells mid station.new) }
 {
-    // Whether that was refused, the station shows.
-    let _ = station.flushed(alloc, number);
-    if !station.is_on_disk(number) {
-        return Err(AllocError);
-    }
-    station.forget(number);
-    Ok(())
+    let reported = report_at(alloc, station, written);
+    office.tell(station);
+    reported
 }
 
-/// The office, to which a batch is reported under its lock (`report_at`). That the station lies
-/// there no contract says.
+/// The office, to which a batch is reported under its lock (`report_under`). That the station lies
+/// there no contract says; what was reported, and that `report_at` did it, the answer says.
 #[derive(Drop)]
 struct Desk<'a, R> {
     rt: &'a R,
     office: &'a Office,
-    /// The number of the next commit, as of the last report.
-    next: Option<CommitNo>,
 }
 
 impl<R: Wait> Reports for Desk<'_, R> {
-    type Told = ();
+    type Told = Reported;
 
     ghost can_report = { λ desk number. Unit {0} };
 
-    ghost tells = { λ desk number told after. Unit {0} };
+    ghost tells = { λ desk number reported after. reported.number ≡ number };
 
-    fn report(&mut self, alloc: Global, number: CommitNo) -> Result<(), AllocError> {
-        let mut station = self.office.lock(self.rt);
-        let reported = report_at(alloc, &mut station, number);
-        self.office.tell(&mut station);
-        reported?;
-        self.next = station.next_commit();
-        Ok(())
+    fn report(&mut self, alloc: Global, written: Written) -> Result<Reported, AllocError> {
+        report_under(alloc, self.office, &mut self.office.lock(self.rt), written)
     }
 }
 
@@ -141,13 +139,10 @@ pub(crate) fn flush_batch<R: Wait + Clock, S: Alter, W: Watch>(
         (Wrote S.Store batch.now shelf.old.conn) }
 {
     let start = Instant::now(rt).ok();
-    let mut desk = Desk {
-        rt,
-        office,
-        next: None,
-    };
-    write_and_report(alloc, &mut desk, shelf, batch)?;
-    pace.report(batch.number(), desk.next, time_since(rt, start));
-    watch.flushed(batch.number());
+    let mut desk = Desk { rt, office };
+    let reported = write_and_report(alloc, &mut desk, shelf, batch)?;
+    let took = time_since(rt, start);
+    pace.report(reported.number(), reported.next(), took);
+    watch.flushed(reported.number());
     Ok(())
 }

@@ -24,6 +24,7 @@ mod loops;
 mod over;
 mod pace;
 mod parts;
+mod reporting;
 mod results;
 mod run;
 mod running;

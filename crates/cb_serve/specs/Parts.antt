@@ -8,9 +8,14 @@ use Rattle.sqlite.specs.State.{HasCleanDisk, Survives}
 use Rattle.sqlite.specs.Store.{Ghosts}
 use Rattle.cb_commit.specs.Batches.{BatchState}
 use Rattle.cb_page.specs.Bounds.{Bounds}
+use Rattle.cb_frame_types.specs.Grammar.{Fits as FrameFits}
+use Rattle.cb_frame_types.specs.declared.frame.Frame.{Frame}
+use Rattle.cb_outbox.specs.Messages.{messages_of}
+use Rattle.cb_protocol.specs.AnyMessages.{ReachesDisk}
 use Rattle.cb_protocol.specs.Flush.{next_batch}
 use Rattle.cb_protocol.specs.Server.{Server}
-use Rattle.cb_server.specs.ServerValue.{ServerValue, server_of}
+use Rattle.cb_server.specs.ServerValue.{ServerValue, forgot, server_of}
+use Rattle.cb_server.specs.Taking.{Does}
 use Rattle.cb_server_state.specs.Commits.{batch_of}
 use Rattle.cb_shelf.specs.LifeRows.{LifeState}
 use Rattle.cb_sql.specs.Inside.{IsSame}
@@ -78,6 +83,14 @@ pub record StopsAnswering (fault : RoundFault) (old : ServerValue) (bytes : List
   pub puts : Appends old_out new_out put
   pub told : PutsAnswers fault old.limits put answers
       (after_inputs (server_of old) (inputs_in pieces)) rest
+
+-- The commits up to a number are on disk, which is said by these frames; then they are forgotten.
+pub record ReportsWritten (old : ServerValue) (number : ℕ) (dones : List Frame)
+    (new : ServerValue) : Type 0 where
+  pub reported : ServerValue
+  pub does : Does old (ReachesDisk number) (messages_of dones) reported
+  pub fit : AllByRecursion (FrameFits old.limits) dones
+  pub forgets : new ≡ forgot reported number
 
 module _ {S : Type 0} (g : Ghosts S) where
   -- What is committed is written, in one batch; then it is on disk, and the Dones are put out.

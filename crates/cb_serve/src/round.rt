@@ -5,14 +5,17 @@ ghost use Rattle.std.specs.Prelude.{Some, IfErr, IfOk, OnOk};
 ghost use Rattle.std.specs.Io.KnownBytes.{Consumes, IsAtEnd};
 ghost use Rattle.sqlite.specs.Held.{state};
 ghost use Rattle.sqlite.specs.State.{Survives};
-ghost use Rattle.cb_protocol.specs.Flush.{next_batch};
+ghost use Rattle.std.specs.List.{AllByRecursion};
+ghost use Rattle.cb_frame_types.specs.Grammar.{Fits as FrameFits};
+ghost use Rattle.cb_protocol.specs.Flush.{can_flush, next_batch};
 ghost use Rattle.cb_server.specs.Knowing.{KnowsBelow};
 ghost use Rattle.cb_server.specs.ServerValue.{server_of};
 ghost use Rattle.cb_server_state.specs.Commits.{batch_of};
 ghost use Rattle.cb_shelf.specs.Flushing.{WritesOne};
 ghost use Rattle.cb_sql.specs.Writing.{Fits, Wrote};
 ghost use Rattle.cb_serve.specs.Living.{KeepsRoom};
-ghost use Rattle.cb_serve.specs.Parts.{Answered, Commits, EndsRound, RefusesBatch, StopsCommit};
+ghost use Rattle.cb_serve.specs.Parts.{Answered, Commits, EndsRound, RefusesBatch};
+ghost use Rattle.cb_serve.specs.Parts.{ReportsWritten, StopsCommit};
 ghost use Rattle.cb_serve.specs.Parts.{StopsBehind, StopsReading, StopsRound, StopsWithin};
 ghost use Rattle.cb_serve.specs.Parts.{standing};
 
@@ -22,8 +25,9 @@ use crate::lives::keep_room;
 use crate::output::{append_frames, put_out};
 use crate::taking::{Taken, take_all};
 use cb_commit::Batch;
+use cb_frame::Frame;
 use cb_server::Server;
-use cb_shelf::{Life, Shelf};
+use cb_shelf::{Life, Shelf, Written};
 use sqlite::Alter;
 use std::alloc::Global;
 use std::io::{Read, Write};
@@ -130,10 +134,11 @@ fn write_batch<S: Alter>(
     server: &Server,
     shelf: &mut Shelf<S>,
     batch: &Batch,
-) -> Result<(), RoundFault>
+) -> Result<Written, RoundFault>
     requires limits { shelf.old.limits ≡ server.now.limits }
     requires next { next_batch (server_of server.now) ≡ Some (batch_of batch.now) }
     ensures fits { Fits server.now.limits batch.now }
+    ensures number { IfOk result (λ written. written ≡ batch.now.number) }
     ensures ok { OnOk result (WritesOne S.Store server.now.limits batch.now shelf.old.conn
         shelf.new.conn) }
     ensures err { IfErr result (λ fault. RefusesBatch S.Store fault shelf.old.conn
@@ -145,9 +150,25 @@ fn write_batch<S: Alter>(
     // It arose by the protocol's steps: `limits` says so.
     let _arose = server.limits();
     match shelf.write(batch) {
-        Ok(_) => Ok(()),
+        Ok(written) => Ok(written),
         Err(fault) => Err(RoundFault::from(fault)),
     }
+}
+
+/// Reports a batch that was written to the server, and forgets its commits; what the server says to
+/// that.
+fn report(alloc: Global, server: &mut Server, written: Written) -> Result<Vec<Frame>, RoundFault>
+    requires { can_flush (server_of server.old) written ≡ true }
+    ensures ok { IfOk result (λ dones. ReportsWritten server.old written dones.items
+        server.new) }
+    ensures fits { IfOk result (λ dones. AllByRecursion (FrameFits server.new.limits)
+        dones.items) }
+    ensures err { IfErr result (λ fault. fault ≡ RoundFault.Memory) }
+{
+    let number = written.number();
+    let dones = server.flushed(alloc, number)?;
+    server.forget(number);
+    Ok(dones)
 }
 
 /// Writes what was committed, in one transaction, and then puts out its Dones.
@@ -169,9 +190,8 @@ fn commit<S: Alter, W: Write>(
     let Some(batch) = server.batch(alloc)? else {
         return Ok(());
     };
-    write_batch(server, shelf, &batch)?;
-    let dones = server.flushed(alloc, batch.number())?;
-    server.forget(batch.number());
+    let written = write_batch(server, shelf, &batch)?;
+    let dones = report(alloc, server, written)?;
     said.clear();
     append_frames(alloc, server.limits(), dones.as_slice(), said)?;
     match put_out(output, said.as_slice()) {

@@ -12,14 +12,14 @@ ghost use Rattle.cb_shelf.specs.Flushing.{IsMisfit, IsReported, WritesOne, Write
 ghost use Rattle.cb_shelf.specs.Flushing.{once_written, dones_of};
 ghost use Rattle.cb_shelf.specs.Events.{AreSteps};
 
-use crate::{Shelf, ShelfFault};
+use crate::{Shelf, ShelfFault, Written};
 use cb_commit::{Batch, Commits};
 use cb_frame::Frame;
-use cb_page::CommitNo;
 use sqlite::Alter;
 use std::alloc::{AllocError, Global};
 
-/// Who is told that a batch is in the tables: the commits themselves, or what others share them by.
+/// Who is told that a batch is in the tables, by a value that only its write makes ([`Written`]):
+/// the commits themselves, or what others share them by.
 pub trait Reports {
     /// What a report answers.
     type Told;
@@ -30,12 +30,12 @@ pub trait Reports {
     /// What it answers, and what is made of the commits.
     ghost tells: { Self → ℕ → Self.Told → Self → Type 0 };
 
-    /// The commits up to this number are on disk now.
+    /// The commits up to this batch's number are on disk now.
     ///
     /// `AllocError` only where memory was refused.
-    fn report(&mut self, alloc: Global, number: CommitNo) -> Result<Self::Told, AllocError>
-        requires { can_report self.old number }
-        ensures told { IfOk result (λ told. tells self.old number told self.new) }
+    fn report(&mut self, alloc: Global, written: Written) -> Result<Self::Told, AllocError>
+        requires { can_report self.old written }
+        ensures told { IfOk result (λ told. tells self.old written told self.new) }
         ensures err { OnErr result (self.new ≡ self.old) };
 }
 
@@ -46,8 +46,8 @@ impl Reports for Commits {
 
     ghost tells = { λ commits number dones after. IsReported commits number dones.items after };
 
-    fn report(&mut self, alloc: Global, number: CommitNo) -> Result<Vec<Frame>, AllocError> {
-        self.flushed(alloc, number)
+    fn report(&mut self, alloc: Global, written: Written) -> Result<Vec<Frame>, AllocError> {
+        self.flushed(alloc, written.number())
     }
 }
 
@@ -78,8 +78,8 @@ pub fn write_and_report<S: Alter, C: Reports>(
     ensures crash { Survives (state S.Store shelf.old.conn) (state S.Store shelf.new.conn)
         (Wrote S.Store batch.now shelf.old.conn) }
 {
-    shelf.write(batch)?;
-    let told = commits.report(alloc, batch.number())?;
+    let written = shelf.write(batch)?;
+    let told = commits.report(alloc, written)?;
     Ok(told)
 }
 

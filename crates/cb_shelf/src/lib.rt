@@ -20,3 +20,4 @@ pub use flush::{Reports, flush_once, write_and_report};
 pub use laws::tables_follow_commits;
 pub use life::Life;
 pub use shelf::Shelf;
+pub use writing::Written;

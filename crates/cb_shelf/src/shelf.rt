@@ -18,7 +18,7 @@ ghost use Rattle.cb_sql.specs.Writing.{Fits, Wrote};
 use crate::life::{Life, begin, raise};
 use crate::opening::open_tables;
 use crate::reading::read_back;
-use crate::writing::write_batch;
+use crate::writing::{Written, write_batch};
 use cb_commit::{Batch, Store};
 use cb_page::{Incarnation, Limits};
 use cb_sql::{ShelfFault, fits};
@@ -158,8 +158,10 @@ impl<S: Alter> Shelf<S> {
         raise(&mut self.conn, life, incarnation)
     }
 
-    /// Sets the pages and the number of a batch, in one transaction.
-    pub fn write(&mut self, batch: &Batch) -> Result<(), ShelfFault>
+    /// Sets the pages and the number of a batch, in one transaction. The answer says that the tables
+    /// hold it.
+    pub fn write(&mut self, batch: &Batch) -> Result<Written, ShelfFault>
+        ensures number { IfOk result (λ written. written ≡ batch.now.number) }
         ensures limits { self.new.limits ≡ self.old.limits }
         ensures fits { OnOk result (Fits self.old.limits batch.now) }
         ensures shape { (result ≡ Err ShelfFault.Shape) ↔ ¬ Fits self.old.limits batch.now }

@@ -1,5 +1,5 @@
 //! Writing a batch in one transaction.
-ghost use Rattle.std.specs.Prelude.{◌≡◌, ◌≢◌, Err, OnOk, OnErr};
+ghost use Rattle.std.specs.Prelude.{◌≡◌, ◌≢◌, Err, IfOk, OnOk, OnErr};
 ghost use Rattle.sqlite.specs.State.{HasCleanDisk, Survives};
 ghost use Rattle.sqlite.specs.Held.{state};
 ghost use Rattle.cb_sql.specs.Statements.{MakesAll, batch_statements};
@@ -7,8 +7,36 @@ ghost use Rattle.cb_sql.specs.Inside.{Inside, IsSame, IsSettled};
 ghost use Rattle.cb_sql.specs.Writing.{Wrote};
 
 use cb_commit::Batch;
+use cb_page::CommitNo;
 use cb_sql::{ShelfFault, put_mark, put_pages};
 use sqlite::{Alter, Connection, Transaction};
+use std::marker::Model;
+
+/// Says that a batch was written to the tables of a shelf, and committed:
+/// [`Shelf::write`](crate::Shelf::write) alone makes one, and nobody copies it. So who takes one by
+/// value can't report a batch that no shelf wrote, nor one twice. In contracts it is the number of
+/// the batch.
+#[derive(Drop)]
+pub struct Written {
+    number: CommitNo,
+}
+
+impl Model for Written {
+    ghost use Rattle.std.specs.Prelude.{ℕ};
+
+    ghost Value = { ℕ };
+
+    ghost view = { λ written. written.number };
+}
+
+impl Written {
+    /// The number of the batch: all commits up to it are in the tables.
+    pub fn number(&self) -> CommitNo
+        ensures { result ≡ self.now }
+    {
+        self.number
+    }
+}
 
 /// Writes a batch: its pages, then its number.
 fn put_batch<S: Alter>(tx: &mut Transaction<'_, S>, batch: &Batch) -> Result<(), ShelfFault>
@@ -25,7 +53,8 @@ fn put_batch<S: Alter>(tx: &mut Transaction<'_, S>, batch: &Batch) -> Result<(),
 pub(crate) fn write_batch<S: Alter>(
     conn: &mut Connection<S>,
     batch: &Batch,
-) -> Result<(), ShelfFault>
+) -> Result<Written, ShelfFault>
+    ensures number { IfOk result (λ written. written ≡ batch.now.number) }
     ensures both { HasCleanDisk (state S.Store conn.new)
         → OnOk result (MakesAll S.Store (batch_statements batch.now) (state S.Store conn.old).now
         (state S.Store conn.new).committed) }
@@ -44,5 +73,7 @@ pub(crate) fn write_batch<S: Alter>(
     let mut tx = conn.transaction();
     put_batch(&mut tx, batch)?;
     tx.commit()?;
-    Ok(())
+    Ok(Written {
+        number: batch.number(),
+    })
 }

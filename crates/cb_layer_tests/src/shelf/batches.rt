@@ -209,7 +209,7 @@ fn serves<S: Alter>(
     let batch = server.batch(alloc).ok()??;
     let number = batch.number();
     shelf.limit_steps(1);
-    let refused = shelf.write(&batch) == Err(ShelfFault::Store);
+    let refused = shelf.write(&batch).err() == Some(ShelfFault::Store);
     let before = holds(alloc, limits, shelf, ZEROS);
     let silent = server.again(alloc).ok()?.is_empty();
     let written = shelf.write(&batch).is_ok();

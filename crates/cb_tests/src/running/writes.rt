@@ -26,7 +26,7 @@ fn write_at_last<S: Alter>(shelf: &mut Shelf<S>, batch: &Batch) -> Option<u64> {
         match shelf.write(batch) {
             Err(ShelfFault::Store) => {}
             Err(_) => return None,
-            Ok(()) => {
+            Ok(_) => {
                 shelf.limit_steps(0);
                 return Some(refused);
             }
@@ -43,7 +43,7 @@ fn writes_again<S: Alter>(
     batch: &Batch,
 ) -> bool {
     shelf.limit_steps(1);
-    let refused = shelf.write(batch) == Err(ShelfFault::Store);
+    let refused = shelf.write(batch).err() == Some(ShelfFault::Store);
     shelf.limit_steps(0);
     let zeros = holds(alloc, limits, shelf, 0, &[(0, 0), (0, 0)]);
     match write_at_last(shelf, batch) {

@@ -1,0 +1,25 @@
+-- What a report of a written batch does to a station. This project's rules.
+use Rattle.std.specs.Prelude.{◌≡◌, ◌+◌, ℕ, true, false, max, Option, IfSome}
+use Rattle.cb_mailboxes.specs.Dispatching.{Everybody, Posts}
+use Rattle.cb_protocol.specs.AnyMessages.{ReachesDisk}
+use Rattle.cb_protocol.specs.Flush.{can_flush}
+use Rattle.cb_station.specs.Stations.{IsUnchanged, StationState, forgot, mailbox_of, server_of}
+
+-- The commits up to that number, and no others, are on disk; what the server says to that lies in
+-- the mailboxes, and they are forgotten. Where they were on disk before, nothing is said. Hands,
+-- history and flags stay.
+pub record ReportsUpTo (number : ℕ) (old new : StationState) : Type 0 where
+  pub flushed : (server_of new).flushed ≡ max number (server_of old).flushed
+  pub reported : StationState
+  pub says : can_flush (server_of old) number ≡ true
+      → Posts old.dispatcher (ReachesDisk number) (mailbox_of old) Everybody reported.dispatcher
+  pub silent : can_flush (server_of old) number ≡ false → IsUnchanged old reported
+  pub hands : reported.hands ≡ old.hands
+  pub history : reported.history ≡ old.history
+  pub flags : reported.flags ≡ old.flags
+  pub forgets : new ≡ forgot reported number
+
+-- the number that the station's next commit has, where one is told
+abbrev pub IsNextOf : StationState → Option ℕ → Type 0
+IsNextOf station next =
+    IfSome next (λ number. number ≡ (server_of station).store.last_commit + 1)
