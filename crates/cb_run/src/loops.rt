@@ -1,14 +1,15 @@
 //! The flusher, with one who looks on and without.
-ghost use Rattle.std.specs.Prelude.{◌≡◌, IfErr, IfSome, OnErr, OnOk};
+ghost use Rattle.std.specs.Prelude.{◌≡◌, IfErr, IfOk, IfSome, OnErr, OnOk};
 ghost use Rattle.sqlite.specs.Held.{state};
 ghost use Rattle.sqlite.specs.State.{Survives};
-ghost use Rattle.cb_run.specs.Ends.{WasOver};
+ghost use Rattle.cb_run.specs.Ends.{EndedAs};
 ghost use Rattle.cb_run.specs.Flushing.{LeavesFirst, LeavesSome, MadeFirst, MadeSome, WritesFirst};
 ghost use Rattle.cb_run.specs.Flushing.{WritesSome};
 ghost use Rattle.cb_run.specs.Stopping.{Stops};
 ghost use Rattle.cb_sql.specs.Writing.{Fits};
 
 use crate::flusher::{FlushStop, flush_counted, flush_counted_again};
+use crate::over::Over;
 use cb_jobs::{Unwatched, Watch};
 use cb_shelf::Shelf;
 use cb_station::Office;
@@ -23,16 +24,16 @@ use std::time::Clock;
 /// enough.
 ///
 /// It holds no lock while it writes. Which batches those are no contract says, since it takes the
-/// lock itself. That it was so at a moment while nobody had the lock, where it ends well, a clause
-/// says.
+/// lock itself. Who ends well holds that it was so at a moment while nobody had the lock ([`Over`]),
+/// and whether the run was cut off then.
 pub fn flush_loop<R: Wait + Clock, S: Alter>(
     rt: &R,
     alloc: Global,
     office: &Office,
     shelf: &mut Shelf<S>,
-) -> Result<(), FlushStop>
+) -> Result<Over, FlushStop>
     ensures limits { shelf.new.limits ≡ shelf.old.limits }
-    ensures over { OnOk result WasOver }
+    ensures over { IfOk result EndedAs }
     ensures stops { IfErr result (Stops shelf.old.limits) }
     ensures written { OnOk result (WritesSome S.Store shelf.old.limits shelf.old.conn
         shelf.new.conn) }
@@ -52,9 +53,9 @@ pub fn flush_loop_watched<R: Wait + Clock, S: Alter, W: Watch>(
     office: &Office,
     shelf: &mut Shelf<S>,
     watch: &mut W,
-) -> Result<(), FlushStop>
+) -> Result<Over, FlushStop>
     ensures limits { shelf.new.limits ≡ shelf.old.limits }
-    ensures over { OnOk result WasOver }
+    ensures over { IfOk result EndedAs }
     ensures stops { IfErr result (Stops shelf.old.limits) }
     ensures written { OnOk result (WritesSome S.Store shelf.old.limits shelf.old.conn
         shelf.new.conn) }
@@ -64,7 +65,10 @@ pub fn flush_loop_watched<R: Wait + Clock, S: Alter, W: Watch>(
         (MadeSome S.Store shelf.old.conn) }
 {
     match flush_counted(rt, alloc, office, shelf, watch) {
-        Ok(over) => Ok(over.end()),
+        Ok(over) => {
+            let _known = over.is_cut_off();
+            Ok(over)
+        }
         Err(counted) => Err(counted.into_stop()),
     }
 }
@@ -77,9 +81,9 @@ pub fn flush_again<R: Wait + Clock, S: Alter>(
     office: &Office,
     shelf: &mut Shelf<S>,
     stop: FlushStop,
-) -> Result<(), FlushStop>
+) -> Result<Over, FlushStop>
     ensures limits { shelf.new.limits ≡ shelf.old.limits }
-    ensures over { OnOk result WasOver }
+    ensures over { IfOk result EndedAs }
     ensures stops { IfErr result (Stops shelf.old.limits) }
     ensures held { OnOk result (IfSome stop.batch (Fits shelf.old.limits)) }
     ensures written { OnOk result (WritesFirst S.Store shelf.old.limits stop.batch shelf.old.conn
@@ -100,9 +104,9 @@ pub fn flush_again_watched<R: Wait + Clock, S: Alter, W: Watch>(
     shelf: &mut Shelf<S>,
     watch: &mut W,
     stop: FlushStop,
-) -> Result<(), FlushStop>
+) -> Result<Over, FlushStop>
     ensures limits { shelf.new.limits ≡ shelf.old.limits }
-    ensures over { OnOk result WasOver }
+    ensures over { IfOk result EndedAs }
     ensures stops { IfErr result (Stops shelf.old.limits) }
     ensures held { OnOk result (IfSome stop.batch (Fits shelf.old.limits)) }
     ensures written { OnOk result (WritesFirst S.Store shelf.old.limits stop.batch shelf.old.conn
@@ -113,7 +117,10 @@ pub fn flush_again_watched<R: Wait + Clock, S: Alter, W: Watch>(
         (MadeFirst S.Store stop.batch shelf.old.conn) }
 {
     match flush_counted_again(rt, alloc, office, shelf, watch, stop) {
-        Ok(over) => Ok(over.end()),
+        Ok(over) => {
+            let _known = over.is_cut_off();
+            Ok(over)
+        }
         Err(counted) => Err(counted.into_stop()),
     }
 }

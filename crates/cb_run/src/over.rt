@@ -1,6 +1,6 @@
 //! That a run is over: who says so holds a token, which is made under the lock alone.
 ghost use Rattle.std.specs.Prelude.{◌≡◌, true, false, IfErr, IfOk, IfSome, None};
-ghost use Rattle.cb_run.specs.Ends.{IsWritten, WasCutOff, WasOver};
+ghost use Rattle.cb_run.specs.Ends.{EndedAs, IsWritten, WasCutOff, WasOver};
 ghost use Rattle.cb_run.specs.Stopping.{IsNext};
 ghost use Rattle.cb_station.specs.Flags.{is_over};
 
@@ -10,11 +10,11 @@ use cb_station::Station;
 use std::alloc::Global;
 use std::marker::Model;
 
-/// Says that no call of `work` commits any more and each commit is on disk: nobody but [`next_at`]
-/// makes one, which looks under the lock, and nobody copies it. In contracts it is whether the run
-/// was cut off then.
+/// Says that a run was over: no call of `work` commits any more, and each commit is on disk. Nobody
+/// makes one but the flusher, at the station that lies under the office's lock (`next_at`), and
+/// nobody copies it. In contracts it is whether the run was cut off then.
 #[derive(Drop)]
-pub(crate) struct Over {
+pub struct Over {
     cut_off: bool,
 }
 
@@ -30,19 +30,15 @@ impl Model for Over {
 }
 
 impl Over {
-    /// Whether the run was cut off as it ended.
-    pub(crate) fn is_cut_off(&self) -> bool
+    /// Whether the run was cut off as it ended: the station was halted, or calls of `work` were
+    /// still to end.
+    pub fn is_cut_off(&self) -> bool
+        ensures value { result ≡ self.now }
+        ensures ended { EndedAs self.now }
         ensures over { WasOver }
         ensures cut_off { result ≡ true → WasCutOff }
     {
         self.cut_off
-    }
-
-    /// The run was over: the token goes for that.
-    pub(crate) fn end(self)
-        ensures { WasOver }
-    {
-        let Over { cut_off: _ } = self;
     }
 }
 

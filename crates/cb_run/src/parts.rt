@@ -10,6 +10,7 @@ use crate::over::Over;
 use cb_jobs::{Ending, FirstEnding, Noted};
 use cb_shelf::ShelfFault;
 use cb_worker::Left;
+use std::marker::Model;
 
 /// How a client's part of the run of this name ended. It can't be copied or let go:
 /// [`Parts::take`] alone takes one.
@@ -86,16 +87,26 @@ impl<N> Parts<N> {
     }
 }
 
-/// Says that a run is over, and that as many parts as it has clients had nothing to tell: nobody
-/// but [`Parts::end`] makes one, and nobody copies it.
+/// Says that a run was over, and that as many parts as it has clients had nothing to tell: nobody
+/// but `Parts::end` makes one, of the [`Over`] that its flusher ended with, and nobody copies it. In
+/// contracts it is whether the run was cut off then.
 #[derive(Drop)]
-pub(crate) struct RunOver {
+pub struct RunOver {
     over: Over,
+}
+
+impl Model for RunOver {
+    ghost use Rattle.std.specs.Prelude.{Bool};
+
+    ghost Value = { Bool };
+
+    ghost view = { λ over. over.over };
 }
 
 impl RunOver {
     /// Whether the run was cut off as it ended.
-    pub(crate) fn is_cut_off(&self) -> bool
+    pub fn is_cut_off(&self) -> bool
+        ensures value { result ≡ self.now }
         ensures over { WasOver }
         ensures cut_off { result ≡ true → WasCutOff }
     {

@@ -1,7 +1,7 @@
 //! Workers and the flusher, to their end.
-ghost use Rattle.std.specs.Prelude.{◌*◌, IfOk};
+ghost use Rattle.std.specs.Prelude.{◌≡◌, ◌*◌, true, IfOk};
 ghost use Rattle.cb_jobs.specs.Outcomes.{PrintsCounted};
-ghost use Rattle.cb_run.specs.Runs.{IsCounted};
+ghost use Rattle.cb_run.specs.Runs.{IsCounted, adds_up};
 
 use crate::client::{give_up, job_list, run_part};
 use crate::counting::{Counting, adds_up, all_jobs, sum_up};
@@ -80,14 +80,46 @@ where
         PrintsCounted (IsCounted S.Store (limits.now.clients * jobs) shelf.new.conn) status
         (O.contents out.old) (O.contents out.new) (E.contents err.old) (E.contents err.new)) }
 {
+    let counted = run_and_count(rt, alloc, limits, office, shelf, jobs, gate, watch);
+    let outcome = match counted {
+        Ok((counted, _over)) => Ok(counted),
+        Err(ending) => Err(ending),
+    };
+    print_run(outcome, out, err)
+}
+
+/// Starts a worker for each client, with so many jobs each, and runs the flusher to the end of all:
+/// how many jobs were committed, the sum of the counters as the tables have them, and that the run
+/// was over. Fewer than all jobs are committed only where it says that this run was cut off.
+///
+/// The office is halted when it returns, but where memory was refused before any thread started.
+pub fn run_and_count<R, G, S, W>(
+    rt: &R,
+    alloc: Global,
+    limits: &Limits,
+    office: &Office,
+    shelf: &mut Shelf<S>,
+    jobs: u32,
+    gate: &G,
+    watch: &mut W,
+) -> Result<(Counted, RunOver), Ending>
+where
+    R: Threads + Wait + Clock + Sync,
+    G: Gate + Sync,
+    S: Alter,
+    W: Watch,
+    ensures counted { IfOk result (λ done.
+        IsCounted S.Store (limits.now.clients * jobs) shelf.new.conn done.0) }
+    ensures exact { IfOk result (λ done.
+        adds_up done.0.committed (limits.now.clients * jobs) done.1 ≡ true) }
+{
     let run = Run {
         rt,
         alloc,
         office,
         gate,
     };
-    let outcome = counted(run, limits, shelf, jobs, watch);
-    print_run(outcome, out, err)
+    counted(run, limits, shelf, jobs, watch)
 }
 
 /// Runs all to their end, and counts the results as they come: how many jobs were committed, and the
@@ -99,14 +131,16 @@ fn counted<R, G, S, W>(
     shelf: &mut Shelf<S>,
     jobs: u32,
     watch: &mut W,
-) -> Result<Counted, Ending>
+) -> Result<(Counted, RunOver), Ending>
 where
     R: Threads + Wait + Clock + Sync,
     G: Gate + Sync,
     S: Alter,
     W: Watch,
-    ensures { IfOk result
-        (IsCounted S.Store (limits.now.clients * jobs) shelf.new.conn) }
+    ensures counted { IfOk result (λ done.
+        IsCounted S.Store (limits.now.clients * jobs) shelf.new.conn done.0) }
+    ensures exact { IfOk result (λ done.
+        adds_up done.0.committed (limits.now.clients * jobs) done.1 ≡ true) }
 {
     let Ok(results) = Results::new(run.alloc) else {
         return Err(Ending::Memory);
@@ -119,7 +153,7 @@ where
         return Err(Ending::Worker);
     }
     let sum = sum_up(run.alloc, shelf)?;
-    Ok(Counted { committed, sum })
+    Ok((Counted { committed, sum }, over))
 }
 
 /// The name of a run, under which its clients' endings are noted.

@@ -1,8 +1,8 @@
 //! How often a batch is tried.
-ghost use Rattle.std.specs.Prelude.{◌≡◌, OnErr, OnOk};
+ghost use Rattle.std.specs.Prelude.{◌≡◌, IfOk, OnErr, OnOk};
 ghost use Rattle.sqlite.specs.Held.{state};
 ghost use Rattle.sqlite.specs.State.{Survives};
-ghost use Rattle.cb_run.specs.Ends.{WasOver};
+ghost use Rattle.cb_run.specs.Ends.{EndedAs};
 ghost use Rattle.cb_run.specs.Flushing.{MadeAtLast, Tries, WritesAtLast};
 ghost use Rattle.cb_run.specs.Stopping.{number_of, tries_left};
 
@@ -55,15 +55,15 @@ fn pause(left: u64) -> Duration {
 
 /// Runs the flusher. A batch that is refused is tried again, three times in all, and so is one for
 /// which there is no memory; then the office is halted, and the last fault answered. A batch that
-/// is written in between ends the count.
+/// is written in between ends the count. Who ends well holds that the run is over.
 pub fn flush_in_tries<R: Wait + Clock, S: Alter, W: Watch>(
     rt: &R,
     alloc: Global,
     office: &Office,
     shelf: &mut Shelf<S>,
     watch: &mut W,
-) -> Result<(), ShelfFault>
-    ensures over { OnOk result WasOver }
+) -> Result<Over, ShelfFault>
+    ensures over { IfOk result EndedAs }
     ensures limits { shelf.new.limits ≡ shelf.old.limits }
     ensures written { OnOk result (WritesAtLast S.Store shelf.old.limits shelf.old.conn
         shelf.new.conn) }
@@ -72,7 +72,10 @@ pub fn flush_in_tries<R: Wait + Clock, S: Alter, W: Watch>(
         (MadeAtLast S.Store shelf.old.limits shelf.old.conn) }
 {
     match flush_to_end(rt, alloc, office, shelf, watch) {
-        Ok(over) => Ok(over.end()),
+        Ok(over) => {
+            let _known = over.is_cut_off();
+            Ok(over)
+        }
         Err(fault) => Err(fault),
     }
 }

@@ -71,7 +71,7 @@ fn is_given_up<R: Wait + Clock, S: Alter>(
     shelf: &mut Shelf<S>,
     told: &mut Told,
 ) -> bool {
-    let refused = flush_in_tries(rt, alloc, office, shelf, told) == Err(ShelfFault::Store);
+    let refused = flush_in_tries(rt, alloc, office, shelf, told).err() == Some(ShelfFault::Store);
     let halted = office.lock(rt).is_halted();
     refused && halted && *told == Told::none() && !is_reported(rt, alloc, office)
 }
@@ -109,7 +109,7 @@ fn is_written_after<R: Wait + Clock, S: Alter>(
     shelf.limit_steps(0);
     match ran {
         Err(second) => is_written_now(rt, alloc, office, shelf, told, second, hand),
-        Ok(()) => false,
+        Ok(_) => false,
     }
 }
 
@@ -138,7 +138,7 @@ fn is_written_at_last<R: Wait + Clock, S: Alter>(
     };
     let written = match stopped {
         Err(stop) => is_written_after(rt, alloc, office, shelf, &mut told, stop, hand),
-        Ok(()) => false,
+        Ok(_) => false,
     };
     given_up && zeros && written && told.last == last && holds_sevens(alloc, limits, shelf, last)
 }

@@ -25,7 +25,7 @@ pub(crate) fn is_written_next<R: Wait + Clock, S: Alter>(
     shelf.limit_steps(0);
     match stopped {
         Err(stop) => is_refused(&stop) && flush_again(rt, alloc, office, shelf, stop).is_ok(),
-        Ok(()) => false,
+        Ok(_) => false,
     }
 }
 
