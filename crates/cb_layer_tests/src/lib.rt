@@ -18,6 +18,8 @@ mod example;
 #[cfg(test)]
 mod frame;
 #[cfg(test)]
+mod lives;
+#[cfg(test)]
 mod server;
 #[cfg(test)]
 mod shelf;
