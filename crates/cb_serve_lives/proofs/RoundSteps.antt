@@ -194,6 +194,53 @@ said_on now before answers dones more e = ap (λ (l : List Message). l ++ more) 
     ∙ sym (regroup before (answers ++ dones) more)
     ∙ ap (λ (l : List Message). before ++ l) (sym (regroup answers dones more))
 
+-- What rounds come to from there on: steps, where the service stands then, and what was said.
+abbrev Goes : {S : Type 0} (g : Ghosts S) (c : Course) (rounds : List Round) (old new : Standing S)
+    (last : LifeState) → Type 0
+Goes g c rounds old new last = (steps : List Step)
+    × MakesSteps g c steps (state g old.tables).now (state g new.tables).now
+    × IsAt (after_steps c steps) new last
+    × ((after_steps c steps).said ≡ c.said ++ said_in old.server rounds)
+
+-- one round, and then others
+go_on : {S : Type 0} (g : Ghosts S) (c : Course) (round : Round) (rounds : List Round)
+    (old mid new : Standing S) (mid_life last : LifeState) → c.server ≡ old.server
+    → mid.server ≡ reached (after_inputs old.server (inputs_in round.pieces)) round.batch
+    → (one : Came g c (state g old.tables).now (state g mid.tables).now mid.server mid_life
+    (said_to c.server (inputs_in round.pieces)
+    ++ said_once (after_inputs c.server (inputs_in round.pieces)) round.batch))
+    → Goes g (after_steps c one.steps) rounds mid new last → Goes g c (round ∷ rounds) old new last
+go_on g c round rounds old mid new mid_life last same is one more = (
+  one.steps ++ more.0,
+  makes_both g one.steps more.0 c (state g old.tables).now (state g mid.tables).now
+      (state g new.tables).now one.makes more.1,
+  subst (λ (x : Course). IsAt x new last) (sym (after_both one.steps more.0 c)) more.2,
+  ap (λ (x : Course). x.said) (after_both one.steps more.0 c) ∙ more.3
+      ∙ said_on (after_steps c one.steps).said c.said (said_to c.server (inputs_in round.pieces))
+      (said_once (after_inputs c.server (inputs_in round.pieces)) round.batch)
+      (said_in mid.server rounds) one.said_is
+      ∙ (λ i. c.said ++ (said_to (same i) (inputs_in round.pieces)
+      ++ (said_once (after_inputs (same i) (inputs_in round.pieces)) round.batch
+      ++ said_in (is i) rounds))),
+)
+
+-- the others begin where it ended
+next_rounds : {S : Type 0} (g : Ghosts S) (c : Course) (rounds : List Round) (before after : Database)
+    (mid new : Standing S) (mid_life last : LifeState) (said : List Message)
+    → (one : Came g c before after mid.server mid_life said)
+    → AreRounds g c.limits rounds mid new mid_life last
+    → (IsAt (after_steps c one.steps) mid mid_life
+    → AreRounds g (after_steps c one.steps).limits rounds mid new mid_life last
+    → Goes g (after_steps c one.steps) rounds mid new last)
+    → Goes g (after_steps c one.steps) rounds mid new last
+next_rounds g c rounds before after mid new mid_life last said one are go = go (record {
+  runs = one.runs;
+  server = one.server_is;
+  told = one.told;
+  answered = one.answered;
+  life = one.life_is;
+}) (subst (λ (b : Bounds). AreRounds g b rounds mid new mid_life last) (sym one.limits) are)
+
 -- all of them
 pub are_steps : {S : Type 0} (g : Ghosts S) → RoundsAreSteps g
 are_steps {S} g c [] old new life last at are clean = (
@@ -212,30 +259,15 @@ are_steps {S} g c (round ∷ rounds) old new life last at are clean =
     let early : HasCleanDisk (state g are.1.tables)
     = clean_before g false c.limits rounds are.1 new are.2 last are.4 clean in
     let one = round_steps g c round old are.1 are.2 at.runs at.told at.answered
-    (subst (λ (l : LifeState). IsRoundOfLife g c.limits round (record old { server = c.server }) are.1 l
-    are.2) (sym at.life)
-    (subst (λ (s : Server). IsRoundOfLife g c.limits round (record old { server = s }) are.1 life are.2)
-    (sym at.server) are.3)) early in
-    let d : Course = after_steps c one.steps in
-    let more = are_steps g d rounds are.1 new are.2 last (record {
-      runs = one.runs;
-      server = one.server_is;
-      told = one.told;
-      answered = one.answered;
-      life = one.life_is;
-    }) (subst (λ (b : Bounds). AreRounds g b rounds are.1 new are.2 last) (sym one.limits) are.4) clean in (
-      one.steps ++ more.0,
-      makes_both g one.steps more.0 c (state g old.tables).now (state g are.1.tables).now
-          (state g new.tables).now one.makes more.1,
-      subst (λ (x : Course). IsAt x new last) (sym (after_both one.steps more.0 c)) more.2,
-      ap (λ (x : Course). x.said) (after_both one.steps more.0 c) ∙ more.3
-          ∙ said_on d.said c.said (said_to c.server (inputs_in round.pieces))
-          (said_once (after_inputs c.server (inputs_in round.pieces)) round.batch)
-          (said_in are.1.server rounds) one.said_is
-          ∙ (λ i. c.said ++ (said_to (at.server i) (inputs_in round.pieces)
-          ++ (said_once (after_inputs (at.server i) (inputs_in round.pieces)) round.batch
-          ++ said_in (are.3.is.server i) rounds))),
-    )
+    (subst (λ (l : LifeState). IsRoundOfLife g c.limits round (record old { server = c.server })
+    are.1 l are.2) (sym at.life)
+    (subst (λ (s : Server). IsRoundOfLife g c.limits round (record old { server = s }) are.1 life
+    are.2) (sym at.server) are.3)) early in
+    go_on g c round rounds old are.1 new are.2 last at.server are.3.is.server one
+    (next_rounds g c rounds (state g old.tables).now (state g are.1.tables).now are.1 new are.2 last
+    (said_to c.server (inputs_in round.pieces)
+    ++ said_once (after_inputs c.server (inputs_in round.pieces)) round.batch) one are.4
+    (λ there on. are_steps g (after_steps c one.steps) rounds are.1 new are.2 last there on clean))
 
 -- ---- one life after another
 
