@@ -34,7 +34,7 @@ RUNS = [
     ("refused", ["calls"]), ("refused", ["plays"]), ("refused", ["run"]), ("load", ["2"]),
     ("library", ["--built"]), ("serve", ["--built"]), ("storm", ["--built"]),
     ("takeover", ["--built"]), ("lives", ["--built"]),
-    ("files", []), ("refused", ["shelf"]), ("refused", ["station"]), ("killed", []),
+    ("files", []), ("refused", ["shelf"]), ("refused", ["station"]), ("killed", []), ("lent", []),
     ("memory", []), ("memory", ["run", "10000", "100000"]), ("refused", ["growths"]),
     ("readme", []), ("wrong", ["--all"]),
 ]
