@@ -16,6 +16,7 @@ mod giving_up;
 mod hurried;
 mod late;
 mod lines;
+mod other_limits;
 mod pacing;
 mod refusals;
 mod run;

@@ -8,6 +8,7 @@ use crate::running::flags::{Flags, Moment, follows, wakes};
 use crate::running::gates::Counts;
 use crate::running::giving_up::drops_and_gives_up;
 use crate::running::late::comes_too_late;
+use crate::running::other_limits::is_refused_with_others;
 use crate::running::pacing::keeps_pace;
 use crate::running::refusals::{Refusal, is_refused_at_first};
 use crate::running::run::came_in;
@@ -42,6 +43,8 @@ pub(crate) enum Trial<'a> {
     GivingUp,
     /// A call of `work` comes to a closed office, in which another is going on.
     Late,
+    /// Clients come with limits that aren't the office's.
+    OtherLimits,
     /// A batch is refused at first.
     Refused(Refusal),
     /// A try waits to be let in until this ends its wait.
@@ -100,6 +103,7 @@ fn comes_with<R: Wait + Threads + Clock + Sync, S: Alter>(
         Trial::Alone => works::<TwoQ, R>(rt, alloc, limits, office, true),
         Trial::GivingUp => works::<TwoQ, R>(rt, alloc, limits, office, false),
         Trial::Late => comes_too_late::<TwoQ, R>(rt, alloc, limits, office),
+        Trial::OtherLimits => is_refused_with_others::<TwoQ, R>(rt, alloc, limits, office),
         Trial::Refused(refusal) => is_refused_at_first(rt, alloc, limits, office, shelf, refusal),
         Trial::Entered(wake) => ends_its_wait(rt, alloc, limits, office, wake),
         Trial::GoingOn => goes_on_until_halted(rt, alloc, limits, office),
