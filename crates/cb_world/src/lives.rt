@@ -294,7 +294,7 @@ impl<Q: Chooser> Lives<Q> {
         Ok(())
     }
 
-    /// Plays one event that is kept, whichever it is, and leaves its answer in the transcript alone.
+    /// Plays one event that is kept, and leaves its answer in the transcript alone.
     fn advance_by(&mut self, event: &LivesEvent) -> Result<(), AllocError>
         ensures ok { OnOk result ((happened : EntryData) × (told_event happened ≡ event.now)
             × LivesStep self.old happened self.new) }
@@ -308,7 +308,8 @@ impl<Q: Chooser> Lives<Q> {
 
     /// An event of the present life is played.
     fn advance(&mut self, event: Event) -> Result<(), AllocError>
-        ensures ok { OnOk result ((happened : EntryData) × (told_event happened ≡ LivesEvent.Within event)
+        ensures ok { OnOk result ((happened : EntryData)
+            × (told_event happened ≡ LivesEvent.Within event)
             × LivesStep self.old happened self.new) }
         ensures kept { OnErr result (self.new.told ≡ self.old.told) }
     {
