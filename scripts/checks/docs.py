@@ -11,7 +11,8 @@
   that it names of a crate is one of its sources; and each crate stands only on crates above it.
 - scripts/contracts runs, and prints a part of each crate of crates.txt, but of cb_tests.
 - The pictures of docs/charts are what the stored run of `cb_play` prints, byte for byte.
-- Links: each link of README and of docs leads to a file of the repository.
+- Links: each link of README and of docs leads to a file of the repository, and to one of its
+  headings where it names one.
 - README names no folder or file of the repository that isn't there, and no page names a word of
   scripts/check or scripts/bench that there isn't.
 - Each must-fail edit can be applied: its old texts stand exactly once in their files.
@@ -136,6 +137,23 @@ def misplaced() -> list[str]:
     return wrong
 
 
+def anchors(page: pathlib.Path) -> set[str]:
+    """The anchors of a page's headings."""
+    headings = re.findall(r"^#+ (.*)$", page.read_text(), re.MULTILINE)
+    return {re.sub(r"[^\w -]", "", it.lower()).replace(" ", "-") for it in headings}
+
+
+def lost_anchors(page: pathlib.Path) -> list[str]:
+    """Links of a page to a heading that the other page hasn't got."""
+    links = re.findall(r"\]\(([^)#\s:]*\.md)?#([^)\s]*)\)", page.read_text())
+    others = [(page.parent / name if name else page, anchor) for name, anchor in links]
+    return [
+        f"{other.name}#{anchor}"
+        for other, anchor in others
+        if other.exists() and anchor not in anchors(other)
+    ]
+
+
 def lost_links() -> list[str]:
     """Links that lead nowhere, paths in README and words of the two tools that aren't there."""
     wrong = []
@@ -143,6 +161,7 @@ def lost_links() -> list[str]:
         links = re.findall(r"\]\(([^)#\s]+)(?:#[^)]*)?\)", page.read_text())
         lost = [it for it in links if "://" not in it and not (page.parent / it).exists()]
         wrong += [f"{page.name}: no {it}" for it in lost]
+        wrong += [f"{page.name}: no {it}" for it in lost_anchors(page)]
         for tool, folder in [("check", "checks"), ("bench", "benches")]:
             words = set(re.findall(rf"scripts/{tool}\s+([a-z]+)", page.read_text()))
             there = {path.stem for path in (TOP / "scripts" / folder).glob("*.*")}
