@@ -4,7 +4,9 @@
 //! or repeated, restarts, and what is left to the server. [`read_schedule`] reads one from a text,
 //! and [`draw`] draws one by a seed. A [`World`] is a server with its clients and their packets. It
 //! plays events one by one, each with an [`Answer`], or a whole list, which gives a [`Transcript`];
-//! [`check_serial`] tells of any transcript whether its commits are a serial history.
+//! [`check_serial`] tells of any transcript whether its commits are a serial history. [`Lives`] is
+//! such a world whose server restarts too: it plays [`LivesEvent`]s, and gives a
+//! [`LivesTranscript`].
 //!
 //! What each call promises stands where it is made: `cb_event`, `cb_transcript` and `cb_world`.
 //! The limits, the store and the chooser that a world is made of are handed on too.
@@ -23,8 +25,11 @@
 #![tactic(auto)]
 
 pub use cb_commit::Store;
-pub use cb_event::{Call, Event, ScheduleFault, read_schedule};
-pub use cb_page::Limits;
-pub use cb_transcript::{Answer, Transcript, Verdict, check_serial};
+pub use cb_event::{Call, Event, LivesEvent, ScheduleFault, read_schedule};
+pub use cb_page::{Incarnation, Limits};
+pub use cb_transcript::{
+    Answer, LivesEntry, LivesTranscript, RestartAnswer, RestartRefusal, Transcript, Verdict,
+    check_serial,
+};
 pub use cb_twoq::TwoQ;
-pub use cb_world::{PlayFault, World, draw};
+pub use cb_world::{Lives, LivesFault, PlayFault, World, draw};
