@@ -5,4 +5,5 @@ mod disks;
 mod lives;
 mod reopened;
 mod served;
+mod shapes;
 mod stops;

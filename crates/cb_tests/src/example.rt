@@ -5,8 +5,7 @@ use cb_office::{
     Chooser, ClientNo, CommitNo, Finished, FlushStop, Limits, Office, PageNo, Shelf, Station, TwoQ,
     Worker, WorkerFault, flush_loop,
 };
-use sqlite::{Alter, Connection, Files, Options};
-use sqlite_disk::Memory;
+use sqlite::{Alter, Connection};
 use std::alloc::Global;
 use std::sync::Wait;
 use std::time::Clock;
@@ -99,21 +98,30 @@ fn has_the_page<S: Alter>(alloc: Global, limits: &Limits, shelf: &mut Shelf<S>) 
     Some(store.bytes(page) == [7; 16].as_slice())
 }
 
-/// Whether a client does so over a new database in memory, which has the page then.
+/// Whether a client does so, and the shelf has the page then.
+fn puts_the_page_there<R: Wait + Clock, S: Alter>(
+    rt: &R,
+    alloc: Global,
+    limits: &Limits,
+    shelf: &mut Shelf<S>,
+) -> Option<bool>
+    requires plain { limits.now.keep_write ≡ false }
+    requires shelf { shelf.old.limits ≡ limits.now }
+{
+    let is_first = joins_commits_and_leaves(rt, alloc, limits, shelf)?;
+    Some(is_first && has_the_page(alloc, limits, shelf)?)
+}
+
+/// Whether a client does so over a new database in memory.
 fn commits_to_a_new_database<R: Wait + Clock>(rt: &R, alloc: Global) -> Option<bool> {
     let Ok(limits) = Limits::new(1, 8, 16, 4, 1, 2) else {
         return None;
     };
-    let files = Files {
-        log: Memory::new(alloc),
-        db: Memory::new(alloc),
-    };
-    let conn = Connection::open_files(alloc, files, Options::new(1)).ok()?;
-    let Ok(mut shelf) = Shelf::open(alloc, conn, &limits) else {
-        return None;
-    };
-    let is_first = joins_commits_and_leaves(rt, alloc, &limits, &mut shelf)?;
-    Some(is_first && has_the_page(alloc, &limits, &mut shelf)?)
+    let conn = Connection::open_in_memory(alloc).ok()?;
+    match Shelf::open(alloc, conn, &limits) {
+        Ok(mut shelf) => puts_the_page_there(rt, alloc, &limits, &mut shelf),
+        Err(_) => None,
+    }
 }
 
 #[test]

@@ -3,7 +3,7 @@
 #![tactic(auto)]
 
 #[cfg(test)]
-use cb_test_parts::{commits, stores};
+use cb_test_parts::stores;
 
 #[cfg(test)]
 mod example;

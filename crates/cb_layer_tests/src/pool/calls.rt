@@ -62,10 +62,11 @@ fn puts<Q: Chooser>(
     ensures pages { length pool.new.fixed ≡ length pool.old.fixed }
     ensures size { pool.new.page_size ≡ 16 }
 {
-    match put(alloc, pool, page, byte) {
-        Err(PoolFault::Memory) => put(alloc, pool, page, byte) == Ok(goes),
-        gone => gone == Ok(goes),
+    let mut gone = put(alloc, pool, page, byte);
+    if gone == Err(PoolFault::Memory) {
+        gone = put(alloc, pool, page, byte);
     }
+    gone == Ok(goes)
 }
 
 /// Overwrites a page, if it is here.

@@ -193,8 +193,42 @@ fn commits_page(alloc: Global, limits: &Limits, server: &mut Server) -> Option<[
     ])
 }
 
-/// Whether a server's batch is refused under a limit of one step, with nothing reported and the
-/// tables as before; and is written without one, after which its commit is done.
+/// Whether the batch is refused under a limit of one step, with the tables as before, and is written
+/// without one.
+fn is_refused_once<S: Alter>(
+    alloc: Global,
+    limits: &Limits,
+    shelf: &mut Shelf<S>,
+    batch: &Batch,
+) -> bool {
+    shelf.limit_steps(1);
+    let refused = shelf.write(batch).err() == Some(ShelfFault::Store);
+    let before = holds(alloc, limits, shelf, ZEROS);
+    refused && before && shelf.write(batch).is_ok()
+}
+
+/// Whether the server's batch is refused once, and its commit is done after it was written.
+fn is_done_at_last<S: Alter>(
+    alloc: Global,
+    limits: &Limits,
+    shelf: &mut Shelf<S>,
+    server: &mut Server,
+) -> Option<bool> {
+    let answered = commits_page(alloc, limits, server)? == [1, 1, 1, 0];
+    let batch = server.batch(alloc).ok()??;
+    let number = batch.number();
+    let written = is_refused_once(alloc, limits, shelf, &batch);
+    let silent = server.again(alloc).ok()?.is_empty();
+    if !server.can_flush(number) {
+        return None;
+    }
+    let dones = server.flushed(alloc, number).ok()?;
+    let told = are_done(dones.as_slice());
+    Some(answered && written && silent && told && holds(alloc, limits, shelf, SEVENS))
+}
+
+/// Whether a server's batch is refused under a limit of one step, with the tables as before, and is
+/// written without one. Nothing is reported before, and then its commit is done.
 fn serves<S: Alter>(
     alloc: Global,
     limits: &Limits,
@@ -204,21 +238,8 @@ fn serves<S: Alter>(
     if !store.is_of(limits) {
         return None;
     }
-    let mut server = Server::new(alloc, limits, store).ok()?;
-    let answered = commits_page(alloc, limits, &mut server)? == [1, 1, 1, 0];
-    let batch = server.batch(alloc).ok()??;
-    let number = batch.number();
-    shelf.limit_steps(1);
-    let refused = shelf.write(&batch).err() == Some(ShelfFault::Store);
-    let before = holds(alloc, limits, shelf, ZEROS);
-    let silent = server.again(alloc).ok()?.is_empty();
-    let written = shelf.write(&batch).is_ok();
-    if !(answered && refused && before && silent && written) {
-        return Some(false);
+    match Server::new(alloc, limits, store) {
+        Ok(mut server) => is_done_at_last(alloc, limits, shelf, &mut server),
+        Err(_) => None,
     }
-    if !server.can_flush(number) {
-        return None;
-    }
-    let dones = server.flushed(alloc, number).ok()?;
-    Some(are_done(dones.as_slice()) && holds(alloc, limits, shelf, SEVENS))
 }

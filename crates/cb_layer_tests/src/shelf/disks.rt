@@ -8,13 +8,23 @@ use sqlite::{Alter, Connection, FileStore, Files, Options};
 use sqlite_disk::{Crash, Fuse, Memory};
 use std::alloc::Global;
 
-/// A database is opened, a text runs over it, and a shelf of these limits is opened; this is done
-/// to it then.
+/// A database is opened, texts run over it, and a shelf of these limits is opened; this is done to it
+/// then.
 #[derive(Clone, Copy)]
 pub(crate) struct Session<'a> {
     pub(crate) limits: &'a Limits,
-    pub(crate) text: &'a str,
+    pub(crate) texts: [&'a str; 2],
     pub(crate) deed: Deed,
+}
+
+/// After this text a shelf is read.
+pub(crate) fn reading<'a>(limits: &'a Limits, text: &'a str) -> Session<'a> {
+    let (texts, deed) = ([text, ""], Deed::Load);
+    Session {
+        limits,
+        texts,
+        deed,
+    }
 }
 
 /// What is done to a shelf.
@@ -33,7 +43,7 @@ pub(crate) enum Deed {
 pub(crate) enum Outcome {
     /// No database was opened.
     Nothing,
-    /// The database was opened, and the text didn't run.
+    /// The database was opened, and a text didn't run.
     Database,
     /// The shelf was refused.
     Refused(ShelfFault),
@@ -54,6 +64,15 @@ pub(crate) type Held = (u64, [(u64, u8); 2]);
 
 /// After how many calls the disk of the log stops, and that of the database's file.
 pub(crate) type Calls = (u64, u64);
+
+/// One of the two stops after so many calls, and the other never.
+pub(crate) fn calls_of(is_log: bool, count: u64) -> Calls {
+    if is_log {
+        (count, u64::MAX)
+    } else {
+        (u64::MAX, count)
+    }
+}
 
 /// New files, of which each stops after so many calls.
 pub(crate) fn files_that_stop(alloc: Global, calls: Calls) -> Files<Fuse<Memory>> {
@@ -86,22 +105,42 @@ fn connect(
     }
 }
 
+/// The store of a connection. It has no clause: of a store over files the prover takes half a minute
+/// for those of `into_store`.
+fn store_of<S: Alter + Drop>(conn: Connection<S>) -> S {
+    conn.into_store()
+}
+
+/// What comes of a session, and the files.
+fn session_over(
+    alloc: Global,
+    files: Files<Fuse<Memory>>,
+    session: Session<'_>,
+) -> (Outcome, Files<Fuse<Memory>>) {
+    match connect(alloc, files) {
+        Ok(conn) => {
+            let (outcome, conn) = over(alloc, conn, session);
+            (outcome, store_of(conn).close())
+        }
+        Err(files) => (Outcome::Nothing, files),
+    }
+}
+
 /// What comes of a session, and the files after a crash.
 pub(crate) fn run_session(
     alloc: Global,
     files: Files<Fuse<Memory>>,
     session: Session<'_>,
 ) -> (Outcome, Files<Fuse<Memory>>) {
-    let (outcome, mut files) = match connect(alloc, files) {
-        Ok(conn) => {
-            let (outcome, conn) = over(alloc, conn, session);
-            (outcome, conn.into_store().close())
-        }
-        Err(files) => (Outcome::Nothing, files),
-    };
+    let (outcome, mut files) = session_over(alloc, files, session);
     files.log.crash();
     files.db.crash();
     (outcome, files)
+}
+
+/// Whether the texts run.
+fn run_texts<S: Alter>(conn: &mut Connection<S>, texts: [&str; 2]) -> bool {
+    conn.execute_batch(texts[0]).is_ok() && conn.execute_batch(texts[1]).is_ok()
 }
 
 /// The same over a connection, which comes back.
@@ -110,7 +149,7 @@ fn over<S: Alter>(
     mut conn: Connection<S>,
     session: Session<'_>,
 ) -> (Outcome, Connection<S>) {
-    if conn.execute_batch(session.text).is_err() {
+    if !run_texts(&mut conn, session.texts) {
         return (Outcome::Database, conn);
     }
     match Shelf::open(alloc, conn, session.limits) {

@@ -1,8 +1,8 @@
 //! Lives of a server over a shelf: with which floors they begin, and what stops of the disks leave.
 
-use crate::shelf::disks::{Calls, Deed, Outcome, Session, files_that_stop, run_session};
+use crate::shelf::disks::{Calls, Deed, Outcome, Session, calls_of, files_that_stop, run_session};
 use crate::shelf::reopened::outcomes;
-use crate::shelf::stops::OLD;
+use crate::shelf::shapes::{NEW, OLD};
 use cb_page::Limits;
 use cb_shelf::ShelfFault;
 use std::alloc::Global;
@@ -17,20 +17,14 @@ const UNKEPT: u64 = 1 << 61;
 /// Above the room of a life that begins with floor 1, by twice the range.
 const HELLO: u64 = 1 << 22;
 
-/// The tables of a shelf that kept no lives, with zeros.
-static UNSERVED: &'static str =
-    "BEGIN; CREATE TABLE mark2(id INTEGER PRIMARY KEY, commits INTEGER NOT NULL, page_size \
-     INTEGER NOT NULL, pages INTEGER NOT NULL) STRICT; CREATE TABLE page2(no INTEGER PRIMARY KEY, \
-     version INTEGER NOT NULL) STRICT; CREATE TABLE part(no INTEGER NOT NULL, place INTEGER NOT \
-     NULL, body BLOB NOT NULL, PRIMARY KEY(no, place)) STRICT; \
-     INSERT INTO mark2 VALUES (1, 0, 16, 2); INSERT INTO page2 VALUES (0, 0), (1, 0); \
-     INSERT INTO part VALUES (0, 0, x'00000000000000000000000000000000'), \
-     (1, 0, x'00000000000000000000000000000000'); COMMIT";
-
 /// After this text a life begins, and gets room for this incarnation if it has none.
 fn living<'a>(limits: &'a Limits, text: &'a str, incarnation: u64) -> Session<'a> {
-    let deed = Deed::Live(incarnation);
-    Session { limits, text, deed }
+    let (texts, deed) = ([text, ""], Deed::Live(incarnation));
+    Session {
+        limits,
+        texts,
+        deed,
+    }
 }
 
 /// Whether the lives over these tables begin with this floor, then where that one's room ended, and
@@ -55,7 +49,7 @@ fn have_floors(alloc: Global, limits: &Limits, text: &str, floor: u64) -> bool {
 #[test]
 fn first_floors(rt: HostRuntime) -> Result<(), Fail> {
     let limits = Limits::new(1, 2, 16, 2, 1, 1)?;
-    for (text, floor) in [("", 1), (OLD, UNKEPT), (UNSERVED, UNKEPT)] {
+    for (text, floor) in [("", 1), (OLD, UNKEPT), (NEW, UNKEPT)] {
         assert!(rt; have_floors(rt.alloc(), &limits, text, floor));
     }
     Ok(())
@@ -153,11 +147,7 @@ fn survives_stops(alloc: Global, limits: &Limits, text: &str, first: u64, is_log
     let session = living(limits, text, first.wrapping_add(HELLO));
     let mut stops = Stops::default();
     for count in 0..1_000 {
-        let calls = if is_log {
-            (count, u64::MAX)
-        } else {
-            (u64::MAX, count)
-        };
+        let calls = calls_of(is_log, count);
         match stopped(alloc, calls, session, first) {
             Some(Outcome::Lived(_, true)) => return stops.beginning > 0 && stops.raising > 0,
             Some(reached) => stops.count(reached),
@@ -171,9 +161,13 @@ fn survives_stops(alloc: Global, limits: &Limits, text: &str, first: u64, is_log
 #[test]
 fn disks_stop_as_lives_begin(rt: HostRuntime) -> Result<(), Fail> {
     let limits = Limits::new(1, 2, 16, 2, 1, 1)?;
-    for (text, first) in [("", 1), (OLD, UNKEPT), (UNSERVED, UNKEPT)] {
-        assert!(rt; survives_stops(rt.alloc(), &limits, text, first, true));
-        assert!(rt; survives_stops(rt.alloc(), &limits, text, first, false));
+    for (text, first, is_log) in [
+        ("", 1, true),
+        ("", 1, false),
+        (OLD, UNKEPT, true),
+        (NEW, UNKEPT, false),
+    ] {
+        assert!(rt; survives_stops(rt.alloc(), &limits, text, first, is_log));
     }
     Ok(())
 }

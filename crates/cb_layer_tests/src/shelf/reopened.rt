@@ -1,8 +1,8 @@
 //! What a shelf holds that is opened again.
 
 use crate::shelf::batches::{SEVENS, Writing};
-use crate::shelf::disks::{Deed, Outcome, Session, files_that_stop, run_session};
-use crate::shelf::stops::{OLD, OLD_STORE};
+use crate::shelf::disks::{Deed, Held, Outcome, Session, files_that_stop, reading, run_session};
+use crate::shelf::shapes::{OLD, OLD_STORE};
 use cb_page::Limits;
 use cb_shelf::ShelfFault;
 use std::alloc::Global;
@@ -17,23 +17,16 @@ pub(crate) fn outcomes(alloc: Global, sessions: [Session<'_>; 3]) -> [Outcome; 3
     [first, second, third]
 }
 
-fn reading<'a>(limits: &'a Limits, text: &'a str) -> Session<'a> {
-    Session {
-        limits,
-        text,
-        deed: Deed::Load,
-    }
-}
-
-/// Whether a commit is written so over zeros, and is there when the tables are opened again, twice.
-fn is_written(alloc: Global, limits: &Limits, writing: Writing) -> bool {
+/// Whether a commit is written so over zeros, and this is there when the tables are opened again,
+/// twice.
+fn is_written(alloc: Global, limits: &Limits, writing: Writing, held: Held) -> bool {
     let first = Session {
         limits,
-        text: "",
+        texts: ["", ""],
         deed: Deed::Write(writing),
     };
     let read = reading(limits, "");
-    let there = Outcome::Holds(Some(SEVENS));
+    let there = Outcome::Holds(Some(held));
     outcomes(alloc, [first, read, read]) == [Outcome::Written(true), there, there]
 }
 
@@ -42,8 +35,19 @@ fn is_written(alloc: Global, limits: &Limits, writing: Writing) -> bool {
 #[test]
 fn refused_table(rt: HostRuntime) -> Result<(), Fail> {
     let limits = Limits::new(1, 2, 16, 2, 1, 1)?;
-    assert!(rt; is_written(rt.alloc(), &limits, Writing::Served));
-    assert!(rt; is_written(rt.alloc(), &limits, Writing::Raised));
+    assert!(rt; is_written(rt.alloc(), &limits, Writing::Served, SEVENS));
+    assert!(rt; is_written(rt.alloc(), &limits, Writing::Raised, SEVENS));
+    Ok(())
+}
+
+/// Pages of two parts, of five with a short last one, and of thirty-two.
+#[test]
+fn pages_of_many_parts(rt: HostRuntime) -> Result<(), Fail> {
+    let nines = (1, [(1, 9), (1, 9)]);
+    for size in [4096, 8208, 65536] {
+        let limits = Limits::new(1, 2, size, 2, 1, 1)?;
+        assert!(rt; is_written(rt.alloc(), &limits, Writing::Once, nines));
+    }
     Ok(())
 }
 

@@ -1,23 +1,14 @@
-//! Stops of the database's file at each of its calls in turn, and a crash. Those of its log are
-//! beside the running program's tests.
+//! Stops of the database's log and of its file, at each of their calls in turn, and a crash.
 
 use crate::shelf::batches::{Writing, ZEROS};
-use crate::shelf::disks::{Deed, Held, Outcome, Session, files_that_stop, run_session};
+use crate::shelf::disks::{
+    Deed, Held, Outcome, Session, calls_of, files_that_stop, reading, run_session,
+};
+use crate::shelf::shapes::{OLD, OLD_STORE};
 use cb_page::Limits;
 use cb_shelf::ShelfFault;
 use std::alloc::Global;
 use std::test::Fail;
-
-/// The tables of an older generation, with a store.
-pub(crate) static OLD: &'static str =
-    "BEGIN; CREATE TABLE page(no INTEGER PRIMARY KEY, version INTEGER NOT NULL, body BLOB NOT \
-     NULL) STRICT; CREATE TABLE mark(id INTEGER PRIMARY KEY, commits INTEGER NOT NULL, \
-     page_size INTEGER NOT NULL) STRICT; INSERT INTO page VALUES (0, 3, \
-     x'07070707070707070707070707070707'), (1, 0, x'00000000000000000000000000000000'); \
-     INSERT INTO mark VALUES (1, 3, 16); COMMIT";
-
-/// The store that they hold.
-pub(crate) static OLD_STORE: Held = (3, [(3, 7), (0, 0)]);
 
 /// Whether that may be read after a crash, where the disk stopped amid a session over tables of the
 /// store before, in which a commit was to be written.
@@ -54,16 +45,20 @@ impl Stops {
     }
 }
 
-/// The stops of sessions of which each is stopped by one call more, up to the one that isn't.
-/// `None` where a store that was there after a stop wasn't whole.
-fn count_stops(alloc: Global, limits: &Limits, text: &str, stores: [Held; 2]) -> Option<Stops> {
+/// The stops of sessions of which each is stopped by one call more of a disk, up to the one that
+/// isn't. `None` where a store that was there after a stop wasn't whole.
+fn count_stops(
+    alloc: Global,
+    session: Session<'_>,
+    stores: [Held; 2],
+    is_log: bool,
+) -> Option<Stops> {
     let [before, after] = stores;
-    let deed = Deed::Write(Writing::Once);
     let mut stops = Stops::default();
-    for calls in 0..1_000 {
-        let files = files_that_stop(alloc, (u64::MAX, calls));
-        let (reached, files) = run_session(alloc, files, Session { limits, text, deed });
-        let (left, _) = run_session(alloc, files, reading(limits));
+    for count in 0..1_000 {
+        let files = files_that_stop(alloc, calls_of(is_log, count));
+        let (reached, files) = run_session(alloc, files, session);
+        let (left, _) = run_session(alloc, files, reading(session.limits, ""));
         if !may_be_left(reached, left, before, after) {
             return None;
         }
@@ -75,13 +70,21 @@ fn count_stops(alloc: Global, limits: &Limits, text: &str, stores: [Held; 2]) ->
     None
 }
 
-/// What is left is read.
-fn reading(limits: &Limits) -> Session<'_> {
-    Session {
+/// Whether each disk stops some in the open and some in the write of a commit of nines, after this
+/// text, and leaves one of these stores each time.
+fn stop_at_each_call<'a>(
+    alloc: Global,
+    limits: &'a Limits,
+    text: &'a str,
+    stores: [Held; 2],
+) -> bool {
+    let session = Session {
         limits,
-        text: "",
-        deed: Deed::Load,
-    }
+        texts: [text, ""],
+        deed: Deed::Write(Writing::Once),
+    };
+    are_some(count_stops(alloc, session, stores, true))
+        && are_some(count_stops(alloc, session, stores, false))
 }
 
 /// Whether some stopped in the open, and some in the write.
@@ -97,7 +100,7 @@ const OTHER: &str = "CREATE TABLE other(id INTEGER PRIMARY KEY) STRICT";
 fn file_stops_at_each_call(rt: HostRuntime) -> Result<(), Fail> {
     let limits = Limits::new(1, 2, 16, 2, 1, 1)?;
     let written = (1, [(1, 9), (1, 9)]);
-    assert!(rt; are_some(count_stops(rt.alloc(), &limits, OTHER, [ZEROS, written])));
+    assert!(rt; stop_at_each_call(rt.alloc(), &limits, OTHER, [ZEROS, written]));
     Ok(())
 }
 
@@ -106,6 +109,6 @@ fn file_stops_at_each_call(rt: HostRuntime) -> Result<(), Fail> {
 fn file_stops_amid_the_copy(rt: HostRuntime) -> Result<(), Fail> {
     let limits = Limits::new(1, 2, 16, 2, 1, 1)?;
     let written = (4, [(4, 9), (4, 9)]);
-    assert!(rt; are_some(count_stops(rt.alloc(), &limits, OLD, [OLD_STORE, written])));
+    assert!(rt; stop_at_each_call(rt.alloc(), &limits, OLD, [OLD_STORE, written]));
     Ok(())
 }

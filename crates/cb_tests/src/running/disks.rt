@@ -9,7 +9,7 @@ use crate::running::clocks::OwnClock;
 use crate::running::hurried::Hurried;
 use crate::running::work::{Deed, Outcome, Work, opening, work_on};
 use cb_page::Limits;
-use sqlite::{Connection, FileStore, Files, Options};
+use sqlite::{Alter, Connection, FileStore, Files, Options};
 use sqlite_disk::{Crash, Disk, Fuse, Memory};
 use std::alloc::Global;
 use std::sync::Wait;
@@ -53,6 +53,12 @@ fn connect<D: Disk + Drop>(
     }
 }
 
+/// The store of a connection. It has no clause: of a store over files the prover takes half a minute
+/// for those of `into_store`.
+fn store_of<S: Alter + Drop>(conn: Connection<S>) -> S {
+    conn.into_store()
+}
+
 /// Does this over a new connection to these files.
 fn over<R: Threads + Wait + Clock + Sync, D: Disk + Drop>(
     rt: &R,
@@ -66,7 +72,7 @@ fn over<R: Threads + Wait + Clock + Sync, D: Disk + Drop>(
     match connect(alloc, files) {
         Ok(conn) => {
             let (outcome, conn) = work_on(rt, alloc, limits, conn, work);
-            (outcome, conn.into_store().close())
+            (outcome, store_of(conn).close())
         }
         Err(files) => (Outcome::Nothing, files),
     }
@@ -89,15 +95,16 @@ fn both_over<R: Threads + Wait + Clock + Sync, D: Crash + Drop>(
     (reached, left)
 }
 
-/// Does both over new disks, with two pages of this size, and a crash between them.
+/// Does both over new disks, with so many clients and two pages of sixteen bytes, and a crash
+/// between them.
 pub(crate) fn both<R: Threads + Wait + Clock + Sync>(
     rt: &R,
     alloc: Global,
-    sizes: (u16, u64),
+    clients: u16,
     faults: Faults<'_>,
     works: [Work<'_>; 2],
 ) -> (Outcome, Outcome) {
-    let Ok(limits) = Limits::new(u64::from(sizes.0), 2, sizes.1, 2, 1, 1) else {
+    let Ok(limits) = Limits::new(u64::from(clients), 2, 16, 2, 1, 1) else {
         return (Outcome::Nothing, Outcome::Nothing);
     };
     let files = Files {
@@ -111,16 +118,4 @@ pub(crate) fn both<R: Threads + Wait + Clock + Sync>(
     let room = if faults.frees { faults.left } else { None };
     let hurried = Hurried::new(rt, room, faults.clock);
     both_over(&hurried, alloc, &limits, files, works)
-}
-
-/// What comes of a shelf that is opened after these texts over new disks, of four clients and two
-/// pages of sixteen bytes.
-pub(crate) fn opened<'a, R: Threads + Wait + Clock + Sync>(
-    rt: &R,
-    alloc: Global,
-    texts: [&'a str; 2],
-    deed: Deed<'a>,
-) -> Outcome {
-    let works = [Work { texts, deed }, opening(Deed::Nothing)];
-    both(rt, alloc, (4, 16), NONE, works).0
 }

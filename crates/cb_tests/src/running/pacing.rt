@@ -5,7 +5,7 @@ use crate::running::disks::{Faults, NONE, both};
 use crate::running::run::Told;
 use crate::running::trials::Trial;
 use crate::running::visits::commit;
-use crate::running::work::{Deed, Outcome, Work, opening};
+use crate::running::work::{Deed, Outcome, opening};
 use cb_frame::Writes;
 use cb_hands::Hand;
 use cb_jobs::Watch;
@@ -189,10 +189,9 @@ fn is_paced<R: Threads + Wait + Clock + Sync>(rt: &R, alloc: Global) -> bool {
         clock: Some(&clock),
         ..NONE
     };
-    let deed = Deed::Try(Trial::Paced(&clock));
-    let texts = ["", ""];
-    let works = [Work { texts, deed }, opening(Deed::Nothing)];
-    both(rt, alloc, (2, 16), faults, works).0 == Outcome::Well(true)
+    let paced = opening(Deed::Try(Trial::Paced(&clock)));
+    let works = [paced, opening(Deed::Nothing)];
+    both(rt, alloc, 2, faults, works).0 == Outcome::Well(true)
 }
 
 #[test]

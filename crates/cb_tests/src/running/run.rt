@@ -232,10 +232,7 @@ pub(crate) fn came_in<R: Threads + Wait + Clock + Sync, S: Alter>(
 fn running<'a>(text: &'a str, counts: &'a Counts) -> Work<'a> {
     let trial = Trial::Run(counts);
     let deed = Deed::Try(trial);
-    Work {
-        texts: [text, ""],
-        deed,
-    }
+    Work { text, deed }
 }
 
 /// Whether the disk is full for a while.
@@ -265,7 +262,7 @@ pub(crate) fn came_over<R: Threads + Wait + Clock + Sync>(
         clock: None,
     };
     let works = [running(text, &counts), opening(Deed::Begin(&counts))];
-    match both(rt, alloc, (plan.clients, 16), faults, works) {
+    match both(rt, alloc, plan.clients, faults, works) {
         (Outcome::Ran(Came::Exhausted), _) => Came::Exhausted,
         (Outcome::Ran(came), Outcome::Well(true)) => came,
         (Outcome::Nothing, Outcome::Well(true)) => Came::Stopped,

@@ -3,7 +3,7 @@ ghost use Rattle.std.specs.Prelude.{◌≡◌, false};
 
 use crate::running::alone::commits_and_leaves;
 use crate::running::clocks::OwnClock;
-use crate::running::disks::opened;
+use crate::running::disks::{NONE, both};
 use crate::running::flags::{Flags, Moment, follows, wakes};
 use crate::running::gates::Counts;
 use crate::running::giving_up::drops_and_gives_up;
@@ -15,7 +15,7 @@ use crate::running::run::came_in;
 use crate::running::sharing::are_shared;
 use crate::running::tickets::{Wake, ends_its_wait, goes_on_until_halted};
 use crate::running::unwatched::is_counted;
-use crate::running::work::{Deed, Outcome};
+use crate::running::work::{Deed, Outcome, opening};
 use cb_page::{ClientNo, Limits};
 use cb_shelf::{Shelf, ShelfFault};
 use cb_station::{Office, Station};
@@ -140,11 +140,12 @@ pub(crate) fn comes_over<R: Wait + Threads + Clock + Sync, S: Alter>(
     }
 }
 
-/// Whether it goes well over a new database.
+/// Whether it goes well over a new database, of four clients.
 pub(crate) fn goes_well<R: Wait + Threads + Clock + Sync>(
     trial: Trial<'_>,
     rt: &R,
     alloc: Global,
 ) -> bool {
-    opened(rt, alloc, ["", ""], Deed::Try(trial)) == Outcome::Well(true)
+    let works = [opening(Deed::Try(trial)), opening(Deed::Nothing)];
+    both(rt, alloc, 4, NONE, works).0 == Outcome::Well(true)
 }

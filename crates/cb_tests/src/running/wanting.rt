@@ -4,7 +4,7 @@ use crate::running::disks::{NONE, both};
 use crate::running::gates::Counts;
 use crate::running::run::{Came, open_plan};
 use crate::running::trials::Trial;
-use crate::running::work::{Deed, Outcome, Work, opening};
+use crate::running::work::{Deed, Outcome, opening};
 use cb_shelf::ShelfFault;
 use std::alloc::Global;
 use std::sync::Wait;
@@ -52,17 +52,9 @@ fn end_of(ran: Outcome, seen: Outcome) -> End {
 /// How a run over new disks ends, of two clients with two jobs each.
 fn ended<R: Threads + Wait + Clock + Sync>(rt: &R, alloc: Global) -> End {
     let counts = Counts::new(open_plan(2, 2, 0));
-    let run = Work {
-        texts: ["", ""],
-        deed: Deed::Try(Trial::Run(&counts)),
-    };
-    let (ran, seen) = both(
-        rt,
-        alloc,
-        (2, 16),
-        NONE,
-        [run, opening(Deed::Begin(&counts))],
-    );
+    let run = opening(Deed::Try(Trial::Run(&counts)));
+    let works = [run, opening(Deed::Begin(&counts))];
+    let (ran, seen) = both(rt, alloc, 2, NONE, works);
     end_of(ran, seen)
 }
 

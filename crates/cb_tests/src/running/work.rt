@@ -1,13 +1,10 @@
 //! What is done over a database.
 ghost use Rattle.std.specs.Prelude.{◌≡◌, false};
 
-use crate::running::commits::{Row, holds};
-use crate::running::crashes::{Found, Old, find};
 use crate::running::gates::Counts;
 use crate::running::run::Came;
 use crate::running::stops::is_beginning;
 use crate::running::trials::{Trial, comes_over};
-use crate::running::writes::{Writing, writes_well};
 use cb_page::Limits;
 use cb_shelf::{Shelf, ShelfFault};
 use sqlite::{Alter, Connection};
@@ -16,10 +13,10 @@ use std::sync::Wait;
 use std::thread::Threads;
 use std::time::Clock;
 
-/// Texts that run over a connection, and what is done to the shelf that is opened then.
+/// A text that runs over a connection, and what is done to the shelf that is opened then.
 #[derive(Clone, Copy)]
 pub(crate) struct Work<'a> {
-    pub(crate) texts: [&'a str; 2],
+    pub(crate) text: &'a str,
     pub(crate) deed: Deed<'a>,
 }
 
@@ -27,12 +24,6 @@ pub(crate) struct Work<'a> {
 #[derive(Clone, Copy)]
 pub(crate) enum Deed<'a> {
     Nothing,
-    /// It holds a store of this number and these pages.
-    Hold(u64, &'a [Row]),
-    /// A commit is written.
-    Write(Writing),
-    /// Which store it holds.
-    Find(Old),
     /// It holds what the first commits of a run left, at least those that were answered as done.
     Begin(&'a Counts),
     /// This is tried over it and an office.
@@ -44,28 +35,19 @@ pub(crate) enum Deed<'a> {
 pub(crate) enum Outcome {
     /// No database was opened.
     Nothing,
-    /// The database was opened, and a text didn't run.
+    /// The database was opened, and the text didn't run.
     Database,
     /// The shelf was refused.
     Refused(ShelfFault),
     /// Whether what was to be done went well.
     Well(bool),
-    Found(Found),
     /// How a run ended.
     Ran(Came),
 }
 
 /// A shelf is opened, and this is done to it.
 pub(crate) fn opening(deed: Deed<'_>) -> Work<'_> {
-    Work {
-        texts: ["", ""],
-        deed,
-    }
-}
-
-/// Whether the texts run.
-fn run_texts<S: Alter>(conn: &mut Connection<S>, texts: [&str; 2]) -> bool {
-    conn.execute_batch(texts[0]).is_ok() && conn.execute_batch(texts[1]).is_ok()
+    Work { text: "", deed }
 }
 
 /// Does this over a connection, which comes back.
@@ -78,7 +60,7 @@ pub(crate) fn work_on<R: Threads + Wait + Clock + Sync, S: Alter>(
 ) -> (Outcome, Connection<S>)
     requires { limits.now.keep_write ≡ false }
 {
-    if !run_texts(&mut conn, work.texts) {
+    if conn.execute_batch(work.text).is_err() {
         return (Outcome::Database, conn);
     }
     match Shelf::open(alloc, conn, limits) {
@@ -103,9 +85,6 @@ fn done<R: Threads + Wait + Clock + Sync, S: Alter>(
 {
     match deed {
         Deed::Nothing => Outcome::Well(true),
-        Deed::Hold(number, rows) => Outcome::Well(holds(alloc, limits, shelf, number, rows)),
-        Deed::Write(writing) => Outcome::Well(writes_well(alloc, limits, shelf, writing)),
-        Deed::Find(old) => Outcome::Found(find(alloc, limits, shelf, old)),
         Deed::Begin(counts) => is_beginning(alloc, limits, shelf, counts),
         Deed::Try(trial) => comes_over(trial, rt, alloc, limits, shelf),
     }
