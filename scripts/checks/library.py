@@ -211,7 +211,7 @@ def tried(room, built, seeds):
         run_wrappers(tries, it)
         run_examples(tries, it)
         library_hosts.tried(tries, it)
-        other = docs.other_programs()
+        other = docs.other_programs(building.TOP / "docs/EMBEDDING.md")
         tries.told("programs in docs/EMBEDDING.md", not other, "\n".join(other) or "none differs")
     return tries
 
