@@ -17,4 +17,5 @@ mod callbacks;
 mod laws;
 
 pub use callbacks::Callbacks;
+pub use cb_asks::{Ask, Asks, Fate, Marks, Queue, Waiting};
 pub use laws::{an_ask_sends_at_most_one, grants_are_left};

@@ -88,7 +88,7 @@ impl<Q: Chooser> Client<Q> {
         })
     }
 
-    /// The client at the start of another incarnation, over an empty chooser of as many slots as
+    /// The client at the start of a later incarnation, over an empty chooser of as many slots as
     /// before. Nothing is left of the one that ended.
     ///
     /// It takes no memory, and costs what that one touched: what [`Cache::restart`] says of its
@@ -96,6 +96,7 @@ impl<Q: Chooser> Client<Q> {
     pub fn restart(&mut self, incarnation: Incarnation, chooser: Q)
         requires members { Q.members chooser ≡ [] }
         requires slots { Q.slots chooser ≡ self.old.copies.limits.slots }
+        requires later { self.old.incarnation < incarnation }
         ensures state { self.new ≡ new_state self.old.no incarnation self.old.copies.limits }
         ensures by_table { client_of self.new [] ≡ new_client }
     {

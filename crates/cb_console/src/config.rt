@@ -19,8 +19,8 @@ ghost use Rattle.cb_console.specs.declared.config.Key.TheVariants as key;
 use crate::escaped::Escaped;
 use cb_page::{LimitFault, Limits, MAX_NUMBER};
 use std::alloc::{AllocError, AllocFailed, Global};
-use std::error::Error;
 use std::fmt;
+use thiserror::Error;
 use toml::{Table, Value};
 
 /// A setting, in the order in which they are checked.
@@ -77,7 +77,7 @@ const KEYS: [Key; 8] = [
 
 /// What is wrong with a configuration, in the order of the checks; the first is answered. The text
 /// is the rest of the program's line of it.
-#[derive(Debug, Drop)]
+#[derive(Debug, Drop, Error)]
 pub enum ConfigFault {
     /// Not TOML, or not UTF-8.
     Text,
@@ -116,8 +116,6 @@ impl fmt::Display for ConfigFault {
         }
     }
 }
-
-impl Error for ConfigFault {}
 
 impl From<AllocError> for ConfigFault {
     ghost from_gives = { λ _ e. e ≡ fault.Memory };

@@ -18,12 +18,12 @@ use cb_transcript::{Transcript, Verdict, check_serial};
 use cb_twoq::TwoQ;
 use cb_world::World;
 use std::alloc::{AllocError, Global};
-use std::error::Error;
 use std::io::Write;
 use std::{fmt, io};
+use thiserror::Error;
 
 /// Why a schedule isn't played. The text is the program's line of it.
-#[derive(Debug, Drop)]
+#[derive(Debug, Drop, Error)]
 pub enum ReadFault {
     Config(ConfigFault),
     Schedule(ScheduleFault),
@@ -41,8 +41,6 @@ impl fmt::Display for ReadFault {
         }
     }
 }
-
-impl Error for ReadFault {}
 
 impl From<ConfigFault> for ReadFault {
     ghost from_gives = { BecomesOfConfig };

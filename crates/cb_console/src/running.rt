@@ -6,12 +6,12 @@ ghost use Rattle.cb_console.specs.declared.running.RunFault.TheVariants as fault
 
 use crate::config::{Config, ConfigFault, read_config};
 use std::alloc::Global;
-use std::error::Error;
 use std::io::Write;
 use std::{fmt, io};
+use thiserror::Error;
 
 /// Why no worker starts. The text is the program's line of it.
-#[derive(Debug, Drop)]
+#[derive(Debug, Drop, Error)]
 pub enum RunFault {
     Config(ConfigFault),
     /// There is one page; each job counts in two.
@@ -33,8 +33,6 @@ impl fmt::Display for RunFault {
         }
     }
 }
-
-impl Error for RunFault {}
 
 impl From<ConfigFault> for RunFault {
     ghost from_gives = { BecomesOfConfig };

@@ -20,12 +20,12 @@ use crate::event::{Call, Event};
 use crate::pieces::{is_text, split_line, split_word};
 use cb_page::Limits;
 use std::alloc::{AllocError, AllocFailed, Global};
-use std::error::Error;
 use std::fmt;
+use thiserror::Error;
 
 /// Why a text is no schedule, lowest number first. Lines count from 1, skipped ones too. The text is
 /// the program's line of it.
-#[derive(Clone, Copy, Debug, PartialEq, Eq)]
+#[derive(Clone, Copy, Debug, PartialEq, Eq, Error)]
 pub enum ScheduleFault {
     /// A byte that is neither a tab nor printable ASCII, in a skipped line too.
     NotText { line: u64 },
@@ -58,8 +58,6 @@ impl fmt::Display for ScheduleFault {
         }
     }
 }
-
-impl Error for ScheduleFault {}
 
 impl From<AllocError> for ScheduleFault {
     ghost from_gives = { λ _ e. e ≡ Memory };

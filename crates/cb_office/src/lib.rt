@@ -37,10 +37,10 @@
 
 pub use cb_admission::{Ticket, TryEnd};
 pub use cb_commit::Store;
-pub use cb_hands::{Entry, Grant, Hand};
-pub use cb_jobs::{Gate, Tally, Turn, counter_sum};
+pub use cb_hands::{Entry, Grant, Hand, Read, Shown};
+pub use cb_jobs::{Gate, JobDone, Tally, TallyFault, Turn, Watch, counter_sum};
 pub use cb_page::{ClientNo, CommitNo, Limits, PageNo};
-pub use cb_run::{FlushStop, flush_again, flush_loop, run_on, work};
+pub use cb_run::{DoneJob, FlushStop, Results, flush_again, flush_loop, run_on, work};
 pub use cb_shelf::{Shelf, ShelfFault};
 pub use cb_station::{Office, OfficeFault, Station};
 pub use cb_twoq::{Chooser, TwoQ};

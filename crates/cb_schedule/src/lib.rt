@@ -9,7 +9,9 @@
 //! [`LivesTranscript`].
 //!
 //! What each call promises stands where it is made: `cb_event`, `cb_transcript` and `cb_world`.
-//! The limits, the store and the chooser that a world is made of are handed on too.
+//! The limits, the store and the chooser that a world is made of are handed on too. So are the laws
+//! of worlds: [`copies_are_backed_by_rows`], [`written_pages_are_alone`],
+//! [`readable_copies_agree`], [`writer_is_alone`] and [`committed_transactions_are_serial`].
 //!
 //! An example, which is compiled and run as the test `example` of `cb_layer_tests`:
 //!
@@ -26,10 +28,15 @@
 
 pub use cb_commit::Store;
 pub use cb_event::{Call, Event, LivesEvent, ScheduleFault, read_schedule};
+pub use cb_laws::written_pages_are_alone;
 pub use cb_page::{Incarnation, Limits};
+pub use cb_protocol::{
+    committed_transactions_are_serial, copies_are_backed_by_rows, readable_copies_agree,
+    writer_is_alone,
+};
 pub use cb_transcript::{
-    Answer, LivesEntry, LivesTranscript, RestartAnswer, RestartRefusal, Transcript, Verdict,
-    check_serial,
+    Answer, AnswerWord, LivesEntry, LivesTranscript, Refusal, RestartAnswer, RestartRefusal,
+    SentPacket, SentPackets, TransactionName, Transcript, TranscriptEntry, Verdict, check_serial,
 };
 pub use cb_twoq::TwoQ;
 pub use cb_world::{Lives, LivesFault, PlayFault, World, draw};

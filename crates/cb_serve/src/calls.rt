@@ -3,6 +3,7 @@ ghost use Rattle.std.specs.Prelude.{◌≡◌, ◌≤◌, ◌<◌, ◌+◌, [], 
 ghost use Rattle.std.specs.Prelude.{OnErr, OnOk};
 ghost use Rattle.std.specs.IoError.{error_kind};
 ghost use Rattle.std.specs.Io.KnownBytes.{Appends, Consumes};
+ghost use Rattle.cb_serve.specs.Endings.{input_line, input_status};
 ghost use Rattle.cb_serve.specs.Calls.{IsFinal, IsPassing, Reads, calls_of, lacks_memory};
 
 use std::io;
@@ -34,6 +35,24 @@ impl Refusal {
             ErrorKind::OutOfMemory => true,
             _ => false,
         }
+    }
+
+    /// What is said of an input of which this call was a read.
+    pub(crate) fn input_line(&self) -> &str
+        ensures { result.now ≡ input_line self.now }
+    {
+        if self.lacks_memory() {
+            "memory"
+        } else {
+            "input: cannot read"
+        }
+    }
+
+    /// The program's status at the end of such an input.
+    pub(crate) fn input_status(&self) -> u8
+        ensures { result ≡ input_status self.now }
+    {
+        if self.lacks_memory() { 4 } else { 3 }
     }
 
     /// Whether the call isn't made again: no signal interrupted it, or too many did.

@@ -1,10 +1,9 @@
 //! What is said of a service at its end.
 ghost use Rattle.std.specs.Prelude.{◌≡◌, ◌⊎◌, ◌++◌, [], ◌∷◌, IfOk, OnOk};
 ghost use Rattle.std.specs.Io.KnownBytes.{Appends};
-ghost use Rattle.cb_serve.specs.Endings.{PrintsEnding, PrintsFault, input_line, input_status};
-ghost use Rattle.cb_serve.specs.Endings.{passed_line, round_line, round_status};
+ghost use Rattle.cb_serve.specs.Endings.{PrintsEnding, PrintsFault, passed_line, round_line};
+ghost use Rattle.cb_serve.specs.Endings.{round_status};
 
-use crate::calls::Refusal;
 use crate::fault::{RoundFault, ServeFault};
 use crate::serving::Served;
 use std::io;
@@ -39,17 +38,19 @@ fn put_passed_over<E: Write>(passed_over: u64, err: &mut E) -> io::Result<()>
     writeln!(err, "passed over {passed_over}")
 }
 
-/// Says why it ended; the answer is the program's status.
+/// Says why it ended; the answer is the program's status. Where the output couldn't be written, that
+/// fault is handed on.
 fn print_fault<E: Write>(fault: ServeFault, err: &mut E) -> io::Result<u8>
     ensures prints { IfOk result (λ status. PrintsFault fault status
         (E.contents err.old) (E.contents err.new)) }
     ensures status { IfOk result (λ status. (status ≡ 3) ⊎ (status ≡ 4)) }
 {
     match fault {
-        ServeFault::NoFrame => put_line("input: no frame", 3, err),
-        ServeFault::Cut => put_line("input: frame cut", 3, err),
-        ServeFault::Endless => put_line("input: cannot read", 3, err),
         ServeFault::Round(fault) => print_round(fault, err),
+        fault => {
+            writeln!(err, "{fault}")?;
+            Ok(fault.status())
+        }
     }
 }
 
@@ -62,34 +63,10 @@ fn print_round<E: Write>(fault: RoundFault, err: &mut E) -> io::Result<u8>
     ensures status { IfOk result (λ status. (status ≡ 3) ⊎ (status ≡ 4)) }
 {
     match fault {
-        RoundFault::Shape => put_line("store: Shape", 3, err),
-        RoundFault::Store => put_line("store: Store", 3, err),
-        RoundFault::Exhausted => put_line("store: Exhausted", 3, err),
-        RoundFault::Input(refusal) => print_input(&refusal, err),
         RoundFault::Output(refusal) => Err(refusal.error()),
-        RoundFault::Memory => put_line("memory", 4, err),
+        fault => {
+            writeln!(err, "{fault}")?;
+            Ok(fault.status())
+        }
     }
-}
-
-/// Says that the input couldn't be read, or that there was no memory to read it.
-fn print_input<E: Write>(refusal: &Refusal, err: &mut E) -> io::Result<u8>
-    ensures line { OnOk result (Appends (E.contents err.old) (E.contents err.new)
-        (input_line refusal.now ++ 10 ∷ [])) }
-    ensures value { IfOk result (λ status. status ≡ input_status refusal.now) }
-    ensures status { IfOk result (λ status. (status ≡ 3) ⊎ (status ≡ 4)) }
-{
-    if refusal.lacks_memory() {
-        return put_line("memory", 4, err);
-    }
-    put_line("input: cannot read", 3, err)
-}
-
-/// Says a line, and answers that status.
-fn put_line<E: Write>(line: &str, status: u8, err: &mut E) -> io::Result<u8>
-    ensures status { IfOk result (λ answered. answered ≡ status) }
-    ensures said { OnOk result
-        (Appends (E.contents err.old) (E.contents err.new) (line.now ++ 10 ∷ [])) }
-{
-    writeln!(err, "{line}")?;
-    Ok(status)
 }

@@ -2,12 +2,12 @@
 ghost use Rattle.std.specs.Prelude.{Some};
 ghost use Rattle.cb_transcript.specs.RefusalTexts.{refusal_text};
 
-use std::error::Error;
 use std::fmt;
+use thiserror::Error;
 
 /// Why a client refused a call; nothing changed then. The text is the refusal's number and name.
 /// Want of memory is no answer, so none of these is it.
-#[derive(Clone, Copy, Debug, PartialEq, Eq)]
+#[derive(Clone, Copy, Debug, PartialEq, Eq, Error)]
 pub enum Refusal {
     /// The server's Welcome has not come.
     NotWelcome,
@@ -56,5 +56,3 @@ impl fmt::Display for Refusal {
         write!(f, "{text}")
     }
 }
-
-impl Error for Refusal {}

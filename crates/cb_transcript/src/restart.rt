@@ -3,12 +3,12 @@ ghost use Rattle.std.specs.Prelude.{Some};
 ghost use Rattle.cb_transcript.specs.RefusalTexts.{restart_refusal_text};
 
 use cb_page::Incarnation;
-use std::error::Error;
 use std::fmt;
+use thiserror::Error;
 
 /// Why a server isn't restarted; nothing changed then. The text is the refusal's number and name.
 /// The lower number is told where both hold.
-#[derive(Clone, Copy, Debug, PartialEq, Eq)]
+#[derive(Clone, Copy, Debug, PartialEq, Eq, Error)]
 pub enum RestartRefusal {
     /// The floor isn't above the present one and above each incarnation that the server admitted.
     Floor,
@@ -28,8 +28,6 @@ impl fmt::Display for RestartRefusal {
         write!(f, "{text}")
     }
 }
-
-impl Error for RestartRefusal {}
 
 /// What a restart of the server is answered.
 #[derive(Clone, Copy, Debug, PartialEq, Eq)]

@@ -1,6 +1,7 @@
 //! The world over all lives of its server: the server restarts too.
 ghost use Rattle.std.specs.Prelude.{◌≡◌, ◌↔◌, ℕ, ◌<◌, [], ◌∷◌, ◌++◌, length, take};
-ghost use Rattle.std.specs.Prelude.{true, false, IfOk, IfErr, OnErr, OnOk, IsErr, IsTrue};
+ghost use Rattle.std.specs.Prelude.{true, false, IfOk, IfErr, OnErr, OnOk, IsErr, IsTrue, Some};
+ghost use Rattle.std.specs.Prelude.{codes};
 ghost use Rattle.cb_cache.specs.CacheState.{limits_of};
 ghost use Rattle.cb_commit.specs.Stores.{IsOf};
 ghost use Rattle.cb_protocol.specs.LivesWorld.{first_life};
@@ -29,12 +30,29 @@ use cb_transcript::{
 };
 use cb_twoq::Chooser;
 use std::alloc::{AllocError, Global};
+use std::fmt;
 use std::marker::Model;
+use thiserror::Error;
 
 /// Want of memory in a play over all lives, and what became of the events before it.
-#[derive(Drop)]
+#[derive(Drop, Error)]
 pub struct LivesFault {
     pub transcript: LivesTranscript,
+}
+
+impl fmt::Display for LivesFault {
+    ghost output = { λ _. Some (codes "memory") };
+
+    fn fmt<W: fmt::Write>(&self, f: &mut fmt::Formatter<W>) -> fmt::Result {
+        write!(f, "memory")
+    }
+}
+
+// By hand: a transcript isn't shown.
+impl fmt::Debug for LivesFault {
+    fn fmt<W: fmt::Write>(&self, f: &mut fmt::Formatter<W>) -> fmt::Result {
+        write!(f, "LivesFault")
+    }
 }
 
 /// A server, its clients, every packet that was sent, and what became of every event, where the

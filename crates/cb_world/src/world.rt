@@ -1,7 +1,7 @@
 //! The world: it plays events one by one, and keeps what became of each.
 ghost use Rattle.std.specs.Prelude.{◌≡◌, ◌↔◌, ℕ, ◌<◌, ◌≤◌, List, [], ◌∷◌, ◌++◌, length, take, drop};
 ghost use Rattle.std.specs.Prelude.{option_copied, slice_get, true, false, IfOk, IfErr, IfSome};
-ghost use Rattle.std.specs.Prelude.{OnErr, IsErr, IsTrue, map};
+ghost use Rattle.std.specs.Prelude.{OnErr, IsErr, IsTrue, Some, codes, map};
 ghost use Rattle.std.specs.Option.{is_some};
 ghost use Rattle.cb_commit.specs.Stores.{IsOf};
 ghost use Rattle.cb_protocol.specs.Headline.{Promise};
@@ -28,12 +28,29 @@ use cb_protocol::callback_read;
 use cb_transcript::{Answer, Transcript, TranscriptEntry};
 use cb_twoq::Chooser;
 use std::alloc::{AllocError, Global};
+use std::fmt;
 use std::marker::Model;
+use thiserror::Error;
 
 /// Want of memory in a play, and what became of the events before it.
-#[derive(Drop)]
+#[derive(Drop, Error)]
 pub struct PlayFault {
     pub transcript: Transcript,
+}
+
+impl fmt::Display for PlayFault {
+    ghost output = { λ _. Some (codes "memory") };
+
+    fn fmt<W: fmt::Write>(&self, f: &mut fmt::Formatter<W>) -> fmt::Result {
+        write!(f, "memory")
+    }
+}
+
+// By hand: a transcript isn't shown.
+impl fmt::Debug for PlayFault {
+    fn fmt<W: fmt::Write>(&self, f: &mut fmt::Formatter<W>) -> fmt::Result {
+        write!(f, "PlayFault")
+    }
 }
 
 /// A server, its clients, every packet that was sent, and what became of every event. In contracts
