@@ -162,6 +162,14 @@ def whole_input(it: Scene) -> bool:
     return right and again.dones()[0][2] == 61 and again.how == (0, []) and it.stored()[0] == 123
 
 
+def closed_file(it: Scene) -> bool:
+    """The store is closed at the end: every commit is in the file alone, with no log beside it."""
+    ended = it.serve(it.given(20))
+    alone = Scene(it.room, it.server)
+    shutil.copyfile(it.store, alone.store)
+    return ended.how == (0, []) and alone.holds(ended, 20)
+
+
 def byte_by_byte(it: Scene) -> bool:
     """What comes a byte at a time is what comes at once."""
     with subprocess.Popen(it.words(), stdin=subprocess.PIPE, stdout=subprocess.PIPE,
@@ -481,8 +489,8 @@ def limits_of_memory(it: Scene) -> bool:
 
 
 SCENES = [
-    whole_input, byte_by_byte, damaged_frames, strangers, no_header, cut_input, says_again,
-    kept_writes, wrong_configs, stores_that_refuse, full_disk, closed_outputs,
+    whole_input, closed_file, byte_by_byte, damaged_frames, strangers, no_header, cut_input,
+    says_again, kept_writes, wrong_configs, stores_that_refuse, full_disk, closed_outputs,
     reader_goes, unreadable_input,
     refused_growths, limits_of_memory,
 ]

@@ -44,7 +44,7 @@ right_input L cycle s (ReachesDisk n) o e f = right_flushes Any s n o
 either_in : (ms ns : List Message) (f : Message) → IsIn f ms ⊎ IsIn f ns → IsIn f (ms ++ ns)
 either_in ms ns f k = elim k [ inl j ↦ in_left f ms ns j | inr j ↦ in_right f ms ns j ]
 
-kept_input : (L : Limits) (cycle : DeadlockTest) (s : Server) (ms : List Message) (i : Input) → Kept L s ms → ComesFromClient L s i → Kept L (server_after s (input_steps cycle s i)) (ms ++ messages_sent (input_steps cycle s i))
+pub kept_input : (L : Limits) (cycle : DeadlockTest) (s : Server) (ms : List Message) (i : Input) → Kept L s ms → ComesFromClient L s i → Kept L (server_after s (input_steps cycle s i)) (ms ++ messages_sent (input_steps cycle s i))
 kept_input L cycle s ms i k f = let ds : List ServerStep = input_steps cycle s i in
     let t : StepsRight Any s ds = right_input L cycle s i k.orderly k.clients f in
     record {
@@ -54,7 +54,7 @@ kept_input L cycle s ms i k f = let ds : List ServerStep = input_steps cycle s i
       sent = more_sent (λ f. IsIn f ms ⊎ IsIn f (messages_sent ds)) (λ f. IsIn f (ms ++ messages_sent ds)) (server_after s ds) (either_in ms (messages_sent ds)) (rows_sent (λ f. IsIn f ms) s ds k.sent (first_asks_met cycle s i).0);
     }
 
-kept_new : (L : Limits) (o : Opening) → SoundOpening o → Kept L (new_server L.clients L.pages (opening_store L o)) []
+pub kept_new : (L : Limits) (o : Opening) → SoundOpening o → Kept L (new_server L.clients L.pages (opening_store L o)) []
 kept_new L o sound = record {
   orderly = orderly_start Any L o;
   clients = refl;
@@ -68,11 +68,11 @@ kept_new L o sound = record {
   sent = λ c p g e. absurd cc;
 }
 
-kept_by_server : (L : Limits) (cycle : DeadlockTest) (o : Opening) (s : Server) (ms : List Message) → SoundOpening o → SentByServer L cycle o s ms → Kept L s ms
+pub kept_by_server : (L : Limits) (cycle : DeadlockTest) (o : Opening) (s : Server) (ms : List Message) → SoundOpening o → SentByServer L cycle o s ms → Kept L s ms
 kept_by_server L cycle o s ms sound SentNothing = kept_new L o sound
 kept_by_server L cycle o s ms sound (SentAfter {server = k} {sent = ns} r i f) = kept_input L cycle k ns i (kept_by_server L cycle o k ns sound r) f
 
-row_versions : (L : Limits) (s : Server) (ms : List Message) → Kept L s ms → RowVersions s ms
+pub row_versions : (L : Limits) (s : Server) (ms : List Message) → Kept L s ms → RowVersions s ms
 row_versions L s ms k = record {
   sent = k.sent;
   current = λ c i p g v b m e. (k.facts.right c i p g v b m e).0;

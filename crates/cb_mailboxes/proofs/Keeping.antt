@@ -41,7 +41,7 @@ pub kept_told : (s : ServerValue) (old new : MailboxesState)
     → new ≡ record old { untold = new.untold } → IsKept s old → IsKept s new
 kept_told s old new e k = (
   ap (λ (o : MailboxesState). length o.boxes) e ∙ k.0,
-  mail_stays (of s old) (of s new) refl refl refl
+  mail_stays (of s old) (of s new) refl refl
       (λ client frame i. subst (λ (l : List Frame). IsIn frame l)
       (ap (λ (o : MailboxesState). mailbox_in (current_in (server.server_of s)) o client) e) i) k.1,
 )
@@ -51,7 +51,7 @@ pub kept_forgot : (s new : ServerValue) (number : ℕ) (boxes : MailboxesState)
 kept_forgot s new number boxes e k = rw e (
   k.0,
   mail_stays (of s boxes)
-      (of (server.forgot s number) boxes) refl refl refl (λ client frame i. i) k.1,
+      (of (server.forgot s number) boxes) refl refl (λ client frame i. i) k.1,
 )
 
 pub same_before : (current : ℕ → ℕ) (boxes : MailboxesState) → AsBefore current boxes boxes

@@ -1,19 +1,14 @@
 -- What lies in the mailboxes was said by the server, whatever is called.
-use Rattle.std.proofs.Common.{◌≡◌, ◌≢◌, ◌<◌, ◌≤◌, ◌+◌, ℕ, Bool, true, false, suc, zero, ◌&&◌, ◌==◌}
-use Rattle.std.proofs.Common.{nat_lt, if◌then◌else◌, cond, List, [], ◌∷◌, ◌++◌, drop, length}
+use Rattle.std.proofs.Common.{◌≡◌, ◌≢◌, ◌≤◌, ◌+◌, ℕ, Bool, true, false, ◌&&◌, ◌==◌}
+use Rattle.std.proofs.Common.{if◌then◌else◌, cond, List, [], ◌∷◌, ◌++◌, drop}
 use Rattle.std.proofs.Common.{filter, slice_get, Option, Some, None, refl, sym, ◌∙◌, ap, subst}
 use Rattle.std.proofs.Common.{arith, inl, inr, ◌⊎◌}
 use Rattle.std.specs.Prelude.{IfSome}
 use Rattle.std.proofs.lemmas.Bool.{cases_eq}
 use Rattle.std.proofs.lemmas.Bool.Decides.{nat_tests}
-use Rattle.std.proofs.lemmas.List.{get_or_past}
-use Rattle.std.proofs.lemmas.List.Elements.{All-get_or}
-use Rattle.cb_commit.specs.Stores.{IsSound, IsStored, StoreState, no_page, version_at}
+use Rattle.cb_commit.specs.Stores.{IsSound, StoreState}
 use Rattle.cb_frame_types.specs.declared.frame.Frame.{Frame}
-use Rattle.cb_laws.proofs.RowVersions.{server_row_versions}
-use Rattle.cb_laws.specs.RowVersions.{GrantedSent, RowVersions, SentAfter, SentByServer}
-use Rattle.cb_laws.specs.RowVersions.{SentNothing}
-use Rattle.cb_lives.proofs.LifeBegins.{greeted, greets_alone, none_greeted}
+use Rattle.cb_laws.specs.RowVersions.{GrantedSent, RowVersions}
 use Rattle.cb_mailboxes.specs.Dispatching.{DispatcherState, Everybody, IsUnchanged, Others, Posts}
 use Rattle.cb_mailboxes.specs.Dispatching.{emptied, mailbox_of, server_of, without_oldest}
 use Rattle.cb_mailboxes.specs.Mail.{HasMail, IsMailFor}
@@ -21,30 +16,14 @@ use Rattle.cb_mailboxes.specs.Mailboxes.{addressed, current_in, is_for}
 use Rattle.cb_outbox.specs.Messages.{body_of, message_of, messages_of}
 use Rattle.cb_page.specs.Bounds.{Bounds}
 use Rattle.cb_protocol.proofs.LifeImage.{in_append, in_left, in_right}
-use Rattle.cb_protocol.specs.AnyMessages.{ComesFromClient, Input, MessageComes, input_steps}
-use Rattle.cb_protocol.specs.Basics.{Bytes, IsIn, Limits}
-use Rattle.cb_protocol.specs.Headline.{SoundOpening}
-use Rattle.cb_protocol.specs.Messages.{Granted, Hello, Message}
-use Rattle.cb_protocol.specs.Server.{Server}
-use Rattle.cb_protocol.specs.StoreLimits.{limits_of}
-use Rattle.cb_protocol.specs.WaitsFor.{on_cycle}
-use Rattle.cb_protocol.specs.World.{Opening, messages_sent}
+use Rattle.cb_protocol.specs.AnyMessages.{ComesFromClient, Input}
+use Rattle.cb_protocol.specs.Basics.{Bytes, IsIn}
+use Rattle.cb_protocol.specs.Messages.{Granted, Message}
 use Rattle.cb_server.specs.ServerValue as server
-use Rattle.cb_server.specs.ServerValue.{IsNew, IsResumed, commits_of, limits_at, opening_at}
+use Rattle.cb_server.specs.ServerValue.{IsNew, IsResumed, ServerValue, limits_at}
+use Rattle.cb_server.proofs.RowsSaid.{says_row_versions}
+use Rattle.cb_server.specs.Said.{Answered, HasSaid, Opened, Resumed, Stayed}
 use Rattle.cb_server.specs.Taking.{Does}
-use Rattle.cb_server_state.specs.States.{opening_of}
-use Rattle.cb_server_state.specs.declared.server_state.ServerState.{ServerState}
-
--- no page of a store is newer than its last commit
-sound_opening : (s : StoreState) → IsSound s → SoundOpening (opening_of s)
-sound_opening s sound p = by_test (nat_lt p (length s.pages)) refl
-  where
-    by_test : (b : Bool) → nat_lt p (length s.pages) ≡ b → version_at s p ≤ s.number
-    by_test true e = (All-get_or (IsStored s.page_size s.number) s.pages p no_page
-        (grind (arith, nat_tests)) sound.pages).version
-    by_test false e =
-        let past : length s.pages ≤ p = grind (arith, nat_tests) in
-        rw (version_at, get_or_past s.pages p no_page past) (omega arith)
 
 in_filter : {A : Type 0} (p : A → Bool) (x : A) (xs : List A) → IsIn x (filter p xs)
     → IsIn x xs × (p x ≡ true)
@@ -78,10 +57,9 @@ for_client current client frame e = go (frame.client == client) refl e
 
 -- A frame that the server said to the client is mail for it, by the law of row versions.
 mail_for : (d : DispatcherState) (sent : List Message) (client : ℕ) (frame : Frame)
-    → SoundOpening (opening_at d.server)
-    → SentByServer (limits_at d.server) on_cycle (opening_at d.server) (server_of d) sent
-    → IsIn (message_of frame) sent → frame.client ≡ client → IsMailFor (server_of d) client frame
-mail_for d sent client frame sound by_server i to = record {
+    → HasSaid d.server sent → IsIn (message_of frame) sent → frame.client ≡ client
+    → IsMailFor (server_of d) client frame
+mail_for d sent client frame by_server i to = record {
   addressed = to;
   copy = λ page grant version bytes e row.
       let was : GrantedSent sent client frame.incarnation page grant version bytes =
@@ -92,8 +70,7 @@ mail_for d sent client frame sound by_server i to = record {
 }
   where
     rows : RowVersions (server_of d) sent
-    rows = server_row_versions (limits_at d.server) on_cycle (opening_at d.server) (server_of d)
-        sent sound by_server
+    rows = says_row_versions d.server sent by_server
 
     same : (page grant version : ℕ) (bytes : Bytes)
         → body_of frame.body ≡ Granted page grant version bytes
@@ -106,70 +83,34 @@ mail_for d sent client frame sound by_server i to = record {
         λ j. record { client = to j; incarnation = frame.incarnation; body = e j }
 
 -- Mail is what was said to its client.
-has_mail : (d : DispatcherState) → SoundOpening (opening_at d.server) → (sent : List Message)
-    → SentByServer (limits_at d.server) on_cycle (opening_at d.server) (server_of d) sent
+has_mail : (d : DispatcherState) (sent : List Message) → HasSaid d.server sent
     → ((client : ℕ) (frame : Frame) → IsIn frame (mailbox_of d client)
     → IsIn (message_of frame) sent × (frame.client ≡ client)) → HasMail d
-has_mail d sound sent by_server from = record {
-  opening = sound;
+has_mail d sent by_server from = record {
   sent = sent;
   by_server = by_server;
   said = λ client frame i. (from client frame i).0;
   mail = λ client frame i. let x = from client frame i in
-      mail_for d sent client frame sound by_server x.0 x.1;
+      mail_for d sent client frame by_server x.0 x.1;
 }
 
 -- a server as it begins, and nothing is to be sent
-begun_mail : (limits : Bounds) (store : StoreState) (d : DispatcherState) → IsSound store
-    → d.server.limits ≡ limits → (commits_of d.server).opening ≡ store → (sent : List Message)
-    → SentByServer (limits_of limits) on_cycle (opening_of store) (server_of d) sent
+begun_mail : (d : DispatcherState) → HasSaid d.server []
     → ((client : ℕ) → mailbox_of d client ≡ []) → HasMail d
-begun_mail limits store d sound bounds opening sent by_server none = has_mail d
-    (subst (λ (s : StoreState). SoundOpening (opening_of s)) (sym opening)
-    (sound_opening store sound)) sent
-    (subst (λ (s : StoreState). SentByServer (limits_at d.server) on_cycle (opening_of s)
-    (server_of d) sent) (sym opening)
-    (subst (λ (b : Bounds). SentByServer (limits_of b) on_cycle (opening_of store) (server_of d)
-    sent) (sym bounds) by_server))
+begun_mail d by_server none = has_mail d [] by_server
     (λ client frame i. absurd (subst (λ (l : List Frame). IsIn frame l) (none client) i))
 
 -- a new one said nothing
 pub new_mail : (limits : Bounds) (store : StoreState) (d : DispatcherState) → IsSound store
     → IsNew limits store d.server → ((client : ℕ) → mailbox_of d client ≡ []) → HasMail d
-new_mail limits store d sound new none = begun_mail limits store d sound new.limits
-    (ap (λ k. k.opening) new.commits) []
-    (subst (λ (s : Server). SentByServer (limits_of limits) on_cycle (opening_of store) s [])
-    (sym new.server) SentNothing) none
+new_mail limits store d sound new none = begun_mail d (Opened limits store d.server sound new) none
 
--- what a server says to the Hellos of its floor, from the clients below n
-floor_said : (L : Limits) (o : Opening) (floor : ℕ) → 1 ≤ floor → (n : ℕ) → n ≤ L.clients
-    → (sent : List Message) × SentByServer L on_cycle o (greeted L o floor n) sent
-floor_said L o floor least zero within = (
-  [],
-  subst (λ (s : Server). SentByServer L on_cycle o s []) (sym (none_greeted L o floor))
-      SentNothing,
-)
-floor_said L o floor least (suc n) within =
-    let before = floor_said L o floor least n (omega (arith, within)) in
-    let next : n + 1 ≡ suc n = omega arith in
-    let says : List Message = messages_sent (input_steps on_cycle (greeted L o floor n)
-    (MessageComes n floor Hello)) in (
-      before.0 ++ says,
-      subst (λ (s : Server). SentByServer L on_cycle o s (before.0 ++ says))
-          (greets_alone L on_cycle o floor n least ∙ ap (greeted L o floor) next)
-          (SentAfter before.1 (MessageComes n floor Hello) (omega (arith, within))),
-    )
-
--- one of a later life said that, and it was let go
+-- nor did one of a later life
 pub resumed_mail : (limits : Bounds) (store : StoreState) (floor : ℕ) (d : DispatcherState)
     → IsSound store → 1 ≤ floor → IsResumed limits store floor d.server
     → ((client : ℕ) → mailbox_of d client ≡ []) → HasMail d
 resumed_mail limits store floor d sound least is none =
-    let said = floor_said (limits_of limits) (opening_of store) floor least limits.clients
-    (omega arith) in
-    begun_mail limits store d sound is.limits is.opening said.0
-    (subst (λ (s : Server). SentByServer (limits_of limits) on_cycle (opening_of store) s said.0)
-    (sym is.server) said.1) none
+    begun_mail d (Resumed limits store floor d.server sound least is) none
 
 -- The server does a step, and what it says is put behind what was to be sent.
 module _ (old new : DispatcherState) (input : Input) (said : List Frame)
@@ -181,22 +122,10 @@ module _ (old new : DispatcherState) (input : Input) (said : List Frame)
       → IsIn frame (mailbox_of old client) ⊎ (IsIn frame said × (frame.client ≡ client))
 
   mail_after : ((client : ℕ) → Comes client) → HasMail new
-  mail_after from = has_mail new
-      (subst (λ (s : StoreState). SoundOpening (opening_of s)) (sym does.opening) h.opening)
-      (h.sent ++ messages_of said)
-      (subst (λ (m : List Message). SentByServer (limits_at new.server) on_cycle
-      (opening_at new.server) (server_of new) (h.sent ++ m)) (sym does.sends)
-      (subst (λ (o : StoreState). SentByServer (limits_at new.server) on_cycle (opening_of o)
-      (server_of new) (h.sent ++ sends)) (sym does.opening)
-      (subst (λ (l : Bounds). SentByServer (limits_of l) on_cycle (opening_at old.server)
-      (server_of new) (h.sent ++ sends)) (sym does.limits)
-      (subst (λ (s : Server). SentByServer (limits_at old.server) on_cycle (opening_at old.server)
-      s (h.sent ++ sends)) (sym does.becomes) (SentAfter h.by_server input comes)))))
+  mail_after from = has_mail new (h.sent ++ messages_of said)
+      (Answered h.by_server input (messages_of said) new.server comes does)
       (λ client frame i. by client frame (from client frame i))
     where
-      sends : List Message
-      sends = messages_sent (input_steps on_cycle (server_of old) input)
-
       by : (client : ℕ) (frame : Frame)
           → IsIn frame (mailbox_of old client) ⊎ (IsIn frame said × (frame.client ≡ client))
           → IsIn (message_of frame) (h.sent ++ messages_of said) × (frame.client ≡ client)
@@ -266,26 +195,24 @@ mail_dismissed old new input client p silent comes h =
         (λ f j. j) (p.mailbox c n) frame i
 
 -- the server stays, and nothing comes into a mailbox
-pub mail_stays : (old new : DispatcherState) → limits_at new.server ≡ limits_at old.server
-    → opening_at new.server ≡ opening_at old.server → server_of new ≡ server_of old
+pub mail_stays : (old new : DispatcherState) → new.server.limits ≡ old.server.limits
+    → server_of new ≡ server_of old
     → ((client : ℕ) (frame : Frame) → IsIn frame (mailbox_of new client)
     → IsIn frame (mailbox_of old client)) → HasMail old → HasMail new
-mail_stays old new limits opening same less h =
-    has_mail new (subst SoundOpening (sym opening) h.opening) h.sent
-    (rw (limits, opening, same) h.by_server)
+mail_stays old new limits same less h =
+    has_mail new h.sent (Stayed h.by_server new.server limits same)
     (λ client frame i. let was = less client frame i in
     (h.said client frame was, (h.mail client frame was).addressed))
 
 pub mail_unchanged : (old new : DispatcherState) → IsUnchanged old new → HasMail old → HasMail new
-mail_unchanged old new same h = mail_stays old new (ap limits_of same.server.limits)
-    (ap (λ (s : ServerState). opening_of s.commits.opening) same.server.rest) same.server.server
+mail_unchanged old new same h = mail_stays old new same.server.limits same.server.server
     (λ client frame i. subst (λ (l : List Frame). IsIn frame l) (same.mailbox client) i) h
 
 pub mail_collected : (old new : DispatcherState) (client : ℕ) → new.server ≡ old.server
     → ((other : ℕ) → mailbox_of new other ≡ without_oldest (mailbox_of old) client other)
     → HasMail old → HasMail new
 mail_collected old new client same rest h =
-    mail_stays old new (ap limits_at same) (ap opening_at same) (ap server.server_of same)
+    mail_stays old new (ap (λ (s : ServerValue). s.limits) same) (ap server.server_of same)
     (λ c frame i. kept c frame (cases_eq c client)
     (subst (λ (l : List Frame). IsIn frame l) (rest c) i)) h
   where

@@ -14,6 +14,7 @@
 -- Onward: what a message other than Hello leaves of its own client's incarnation and transaction.
 -- Knowing: which incarnations a server knows.
 -- LawsKept: what the protocol says of servers that arose, of each server.
+-- RowsSaid: the versions of rows, by what a server's calls answered.
 pub mod Counting
 pub mod Making
 pub mod Beginning
@@ -26,6 +27,7 @@ pub mod Committing
 pub mod Flushing
 pub mod Serving
 pub mod LawsKept
+pub mod RowsSaid
 pub mod Resuming
 pub mod Onward
 pub mod Knowing

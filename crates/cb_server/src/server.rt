@@ -15,6 +15,7 @@ ghost use Rattle.cb_outbox.specs.Messages.{messages_of};
 ghost use Rattle.cb_protocol.specs.AnyMessages.{ReachesDisk, SendsAgain};
 ghost use Rattle.cb_protocol.specs.Flush.{can_flush, next_batch};
 ghost use Rattle.cb_server.specs.Knowing.{KnowsBelow, KnowsUpTo};
+ghost use Rattle.cb_server.specs.Said.{SaysRowVersions};
 ghost use Rattle.cb_server.specs.ServerValue.{IsNew, IsResumed, IsServer, IsUnchanged, commits_of};
 ghost use Rattle.cb_server.specs.ServerValue.{forgot};
 ghost use Rattle.cb_server.specs.ServerValue.{most_frames, server_of};
@@ -320,10 +321,15 @@ impl Server {
     }
 
     /// What it has of its clients and pages, who waits, and who uses a page. Its parts agree.
+    ///
+    /// The version of a row is the store's (`rows`): each row was sent to its client as a Granted,
+    /// by what the calls of this server answered since it was made. Each such Granted is as the
+    /// store has the page now, save where its client itself wrote the page since.
     pub fn state(&self) -> &ServerState
         ensures value { result.now ≡ self.now.state }
         ensures agree { PartsAgree result.now }
         ensures of { AreOf self.now.limits result.now }
+        ensures rows { SaysRowVersions self.now }
     {
         self.engine.callbacks.state()
     }

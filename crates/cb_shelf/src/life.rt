@@ -114,6 +114,7 @@ fn look_below<S: Alter>(conn: &mut Connection<S>) -> Result<u64, ShelfFault>
 fn life_from(below: u64) -> Result<Life, ShelfFault>
     ensures ok { IfOk result (λ life. (life ≡ life_from below) × HasLifeFrom below) }
     ensures err { OnErr result (¬ HasLifeFrom below) }
+    ensures fault { OnErr result (result ≡ Err ShelfFault.Shape) }
 {
     if below < 1 || below > MAX_NUMBER - RANGE {
         return Err(ShelfFault::Shape);

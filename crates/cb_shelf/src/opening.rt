@@ -42,6 +42,7 @@ pub(crate) enum Found {
 fn both_or_none(first: bool, second: bool) -> Result<bool, ShelfFault>
     ensures ok { IfOk result (λ both. (first ≡ both) × (second ≡ both)) }
     ensures err { OnErr result (first ≢ second) }
+    ensures fault { OnErr result (result ≡ Err ShelfFault.Shape) }
 {
     if first == second {
         Ok(first)
@@ -55,6 +56,7 @@ fn all_or_none(first: bool, second: bool, third: bool) -> Result<bool, ShelfFaul
     ensures ok { IfOk result (λ all. (first ≡ all) × (second ≡ all) × (third ≡ all)) }
     ensures err { OnErr result ((all : Bool) → ¬ ((first ≡ all) × (second ≡ all)
         × (third ≡ all))) }
+    ensures fault { OnErr result (result ≡ Err ShelfFault.Shape) }
 {
     let both = both_or_none(first, second)?;
     both_or_none(both, third)
@@ -123,6 +125,7 @@ fn judged(old: bool, rows: bool, new: bool) -> Result<TablesFound, ShelfFault>
         → HasRowsIf old db rows → HasNew db.schema new → Has db tables) }
     ensures err { OnErr result ((db : Database) → HasOld db.schema old
         → HasRowsIf old db rows → HasNew db.schema new → IsMixed db) }
+    ensures fault { OnErr result (result ≡ Err ShelfFault.Shape) }
 {
     match (old, rows, new) {
         (false, _, false) => Ok(TablesFound::Nothing),

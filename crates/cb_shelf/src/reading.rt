@@ -95,6 +95,7 @@ impl Generation {
 fn only(rows: &[Row]) -> Result<&Row, ShelfFault>
     ensures ok { IfOk result (λ row. rows.now ≡ row.now ∷ []) }
     ensures err { OnErr result (length rows.now ≢ 1) }
+    ensures fault { OnErr result (result ≡ Err ShelfFault.Shape) }
 {
     match rows {
         [row] => Ok(row),
@@ -106,6 +107,7 @@ fn only(rows: &[Row]) -> Result<&Row, ShelfFault>
 fn number_of(value: ValueRef<'_>) -> Result<u64, ShelfFault>
     ensures ok { IfOk result (λ number. owned value.entry ≡ Int (pos number)) }
     ensures err { OnErr result ((number : _) → owned value.entry ≢ Int (pos number)) }
+    ensures fault { OnErr result (result ≡ Err ShelfFault.Shape) }
 {
     match value {
         ValueRef::Int(number) => {
@@ -123,6 +125,7 @@ fn number_of(value: ValueRef<'_>) -> Result<u64, ShelfFault>
 fn number_at(row: &Row, at: usize) -> Result<u64, ShelfFault>
     ensures ok { IfOk result (λ number. column row.now at ≡ Int (pos number)) }
     ensures err { OnErr result ((number : _) → column row.now at ≢ Int (pos number)) }
+    ensures fault { OnErr result (result ≡ Err ShelfFault.Shape) }
 {
     match row.get_ref(at) {
         Ok(value) => number_of(value),
@@ -144,6 +147,7 @@ fn has_number(row: &Row, at: usize, wanted: u64) -> bool
 fn only_number(rows: &[Row]) -> Result<u64, ShelfFault>
     ensures ok { IfOk result (λ number. IsRow rows.now (number_values number)) }
     ensures err { OnErr result ((values : _) → IsNumber values → ¬ IsRow rows.now values) }
+    ensures fault { OnErr result (result ≡ Err ShelfFault.Shape) }
 {
     let row = only(rows)?;
     number_at(row, 0)
@@ -186,6 +190,7 @@ fn marked(rows: &[Row], limits: &Limits) -> Result<u64, ShelfFault>
     ensures ok { IfOk result (λ number. IsRow rows.now
         (mark_values number limits.now.page_size limits.now.pages)) }
     ensures err { OnErr result ((values : _) → IsMark limits.now values → ¬ IsRow rows.now values) }
+    ensures fault { OnErr result (result ≡ Err ShelfFault.Shape) }
 {
     let row = only(rows)?;
     let number = number_at(row, 1)?;
@@ -219,6 +224,7 @@ fn read_mark<S: Alter>(
 fn agree(found: u64, wanted: u64) -> Result<(), ShelfFault>
     ensures ok { OnOk result (found ≡ wanted) }
     ensures err { OnErr result (found ≢ wanted) }
+    ensures fault { OnErr result (result ≡ Err ShelfFault.Shape) }
 {
     if found == wanted {
         Ok(())
@@ -283,6 +289,7 @@ fn version_up_to(version: u64, number: u64) -> Result<Version, ShelfFault>
     ensures ok { IfOk result (λ checked. checked ≡ version) }
     ensures most { IfOk result (λ checked. checked ≤ number) }
     ensures err { OnErr result (number < version) }
+    ensures fault { OnErr result (result ≡ Err ShelfFault.Shape) }
 {
     if version <= number {
         Ok(Version::new(version))
@@ -317,6 +324,7 @@ fn bytes_of(value: ValueRef<'_>, count: usize) -> Result<&[u8], ShelfFault>
     ensures ok { IfOk result (λ bytes. owned value.entry ≡ Blob bytes.now) }
     ensures err { OnErr result ((bytes : _) → length bytes ≡ count
         → owned value.entry ≢ Blob bytes) }
+    ensures fault { OnErr result (result ≡ Err ShelfFault.Shape) }
 {
     match value {
         ValueRef::Blob(bytes) => {
@@ -336,6 +344,7 @@ fn first_bytes(row: &Row, count: usize) -> Result<&[u8], ShelfFault>
     ensures ok { IfOk result (λ bytes. column row.now 0 ≡ Blob bytes.now) }
     ensures err { OnErr result ((bytes : _) → length bytes ≡ count
         → column row.now 0 ≢ Blob bytes) }
+    ensures fault { OnErr result (result ≡ Err ShelfFault.Shape) }
 {
     match row.get_ref(0) {
         Ok(value) => bytes_of(value, count),
@@ -348,6 +357,7 @@ fn only_bytes(rows: &[Row], count: usize) -> Result<&[u8], ShelfFault>
     ensures count { IfOk result (λ bytes. length bytes.now ≡ count) }
     ensures ok { IfOk result (λ bytes. IsRow rows.now (Blob bytes.now ∷ [])) }
     ensures err { OnErr result ((values : _) → IsBytes count values → ¬ IsRow rows.now values) }
+    ensures fault { OnErr result (result ≡ Err ShelfFault.Shape) }
 {
     let row = only(rows)?;
     first_bytes(row, count)
