@@ -25,6 +25,9 @@
 //! worker.commit_at(alloc, &mut office.lock(rt))?;
 //! ```
 //!
+//! The guard of the lock tells the flusher of the commit as it goes ([`LockedStation`]). Who has
+//! that guard makes no call that takes the lock itself: it would wait for itself.
+//!
 //! The flusher writes that to a shelf, mostly on a thread of its own. It ends once the office is
 //! closed, and then the client is told:
 //!
@@ -42,6 +45,6 @@ pub use cb_jobs::{Gate, Tally, Turn, counter_sum};
 pub use cb_page::{ClientNo, CommitNo, Limits, PageNo};
 pub use cb_run::{FlushStop, flush_again, flush_loop, run_on, work};
 pub use cb_shelf::{Shelf, ShelfFault};
-pub use cb_station::{Office, OfficeFault, Station};
+pub use cb_station::{LockedStation, Office, OfficeFault, Station};
 pub use cb_twoq::{Chooser, TwoQ};
 pub use cb_worker::{Fetched, Finished, Left, Wanted, Worker, WorkerFault};

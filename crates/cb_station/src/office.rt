@@ -3,10 +3,12 @@ ghost use Rattle.std.specs.Prelude.{◌≡◌};
 ghost use Rattle.std.specs.Sync.Mutex.{mutex_guard_value};
 ghost use Rattle.cb_mailboxes.specs.Mail.{HasMail};
 ghost use Rattle.cb_mailboxes.specs.Mailboxes.{IsNobody};
+ghost use Rattle.cb_station.specs.Locking.{lent_station};
 ghost use Rattle.cb_station.specs.Stations.{IsStation};
 ghost use Rattle.cb_station.specs.Telling.{EndsTry, Halts, IsTold, Tells, after_work, closed};
 ghost use Rattle.cb_station.specs.Telling.{untold_in, with_untold};
 
+use crate::locked::LockedStation;
 use crate::station::{Expected, Station};
 use cb_admission::{Ticket, TryEnd};
 use cb_page::{ClientNo, CommitNo};
@@ -54,11 +56,27 @@ impl Office {
         }
     }
 
-    /// Takes the lock, and lends the station until the guard is let go. Whatever threads did
-    /// before, the station is one: its history is legal and is what its server did, what it has
-    /// stored of each hand the server has, and where it is halted it is closed. Each frame in a
-    /// mailbox was said by the server to that mailbox's client.
-    pub fn lock<R: Wait>(&self, rt: &R) -> MutexGuard<'_, Station>
+    /// Takes the lock, and lends the station until the guard is let go, which tells all who are to
+    /// be told of what was done meanwhile. Whatever threads did before, the station is one: its
+    /// history is legal and is what its server did, what it has stored of each hand the server has,
+    /// and where it is halted it is closed. Each frame in a mailbox was said by the server to that
+    /// mailbox's client.
+    ///
+    /// Who has the guard makes no call that takes this lock itself: neither this one again, nor
+    /// another that is handed `rt`, nor a worker's that is handed this office. It would wait for
+    /// itself, for ever, and no clause refuses it.
+    pub fn lock<R: Wait>(&self, rt: &R) -> LockedStation<'_>
+        ensures sound { IsStation (lent_station result) }
+        ensures mail { HasMail (lent_station result).dispatcher }
+        ensures told { IsTold (lent_station result) }
+    {
+        LockedStation::new(self, self.lock_to_wait(rt))
+    }
+
+    /// As [`Office::lock`], for whoever waits by this guard: [`Office::wait`] and the calls like it
+    /// take it, and tell as they let the lock go. The guard itself tells nobody, so who changes the
+    /// station and doesn't wait then calls [`Office::tell`] before it goes.
+    pub fn lock_to_wait<R: Wait>(&self, rt: &R) -> MutexGuard<'_, Station>
         ensures sound { IsStation (mutex_guard_value result) }
         ensures mail { HasMail (mutex_guard_value result).dispatcher }
         ensures told { IsTold (mutex_guard_value result) }
@@ -77,7 +95,7 @@ impl Office {
         ensures mail { HasMail (mutex_guard_value result).dispatcher }
         ensures told { IsTold (mutex_guard_value result) }
     {
-        self.sound(self.changed.wait(rt, station))
+        self.sound(self.changed.wait(rt, self.sound(station)))
     }
 
     /// Lets the lock go until there may be a frame to that client, or the office is halted, and
@@ -92,7 +110,7 @@ impl Office {
         ensures mail { HasMail (mutex_guard_value result).dispatcher }
         ensures told { IsTold (mutex_guard_value result) }
     {
-        self.sound(self.condition_of(client).wait(rt, station))
+        self.sound(self.condition_of(client).wait(rt, self.sound(station)))
     }
 
     /// As [`Office::wait_for_frame`], and no longer than so long.
@@ -107,7 +125,8 @@ impl Office {
         ensures mail { HasMail (mutex_guard_value result).dispatcher }
         ensures told { IsTold (mutex_guard_value result) }
     {
-        let waited = self.condition_of(client).wait_timeout(rt, station, limit);
+        let told = self.sound(station);
+        let waited = self.condition_of(client).wait_timeout(rt, told, limit);
         self.sound(waited.0)
     }
 
@@ -124,11 +143,10 @@ impl Office {
         ensures mail { HasMail (mutex_guard_value result).dispatcher }
         ensures told { IsTold (mutex_guard_value result) }
     {
-        let waited = self
-            .changed
-            .wait_timeout_while(rt, station, limit, |station| {
-                !station.can_flush(number) && !station.is_over()
-            });
+        let told = self.sound(station);
+        let waited = self.changed.wait_timeout_while(rt, told, limit, |station| {
+            !station.can_flush(number) && !station.is_over()
+        });
         self.sound(waited.0)
     }
 
@@ -149,8 +167,8 @@ impl Office {
     /// server said something, and the one that is to be let in next; and, of commits, of the end of
     /// a call of `work`, of closing and of halting, whoever waits for these.
     ///
-    /// Who changes a station by a call of its own calls this before the lock goes. Who is forgotten
-    /// is told by the next one that takes the lock.
+    /// The guard of [`Office::lock`] calls this as it goes, and so does each call that waits. Who
+    /// is forgotten all the same is told by the next one that takes the lock.
     pub fn tell(&self, station: &mut Station)
         ensures { Tells station.old station.new }
     {

@@ -27,7 +27,7 @@ impl<Q: Chooser> Worker<Q> {
         ensures still { IsStill self.old self.new }
         ensures refused { IfErr result (StopsServing self.new) }
     {
-        let mut station = office.lock(rt);
+        let mut station = office.lock_to_wait(rt);
         let first = self.enter_at(rt, alloc, office, &mut station);
         self.wait_to_enter(rt, alloc, office, station, first)
     }
@@ -47,7 +47,7 @@ impl<Q: Chooser> Worker<Q> {
         ensures still { IsStill self.old self.new }
         ensures refused { IfErr result (StopsServing self.new) }
     {
-        let mut station = office.lock(rt);
+        let mut station = office.lock_to_wait(rt);
         let first = self.enter_again_at(rt, alloc, office, &mut station, ticket, end);
         self.wait_to_enter(rt, alloc, office, station, first)
     }
@@ -143,7 +143,7 @@ impl<Q: Chooser> Worker<Q> {
         ensures still { IsStill self.old self.new }
         ensures refused { IfErr result (StopsServing self.new) }
     {
-        let mut station = office.lock(rt);
+        let mut station = office.lock_to_wait(rt);
         self.serve_at(rt, alloc, office, &mut station)?;
         let _station = office.wait_for_frame_at_most(rt, station, self.hand.client(), limit);
         Ok(())

@@ -239,7 +239,7 @@ impl<Q: Chooser> Worker<Q> {
         ensures refused { IfErr result (λ refused. IsStill self refused.1) }
         ensures why { IfErr result (λ refused. StopsServing refused.1 refused.0) }
     {
-        let mut station = office.lock(rt);
+        let mut station = office.lock_to_wait(rt);
         let first = self.go_on(rt, alloc, office, &Awaited::Welcome, &mut station);
         match self.wait_on(rt, alloc, office, &Awaited::Welcome, station, first) {
             Ok(_) => Ok(self),
