@@ -9,7 +9,8 @@
 //! [`work`] does the jobs of a client: each adds one to two counters, by a transaction of its own.
 //! A [`Gate`] says when a job may begin, and a [`Tally`] counts each job that was done once.
 //! [`Worker::enter`] waits until a try of a transaction is let in and answers its [`Ticket`], which
-//! goes back by [`Office::end_try`]; a program with jobs of its own may do so, and need not.
+//! goes back as an [`EndedTry`] by [`Office::end_try`]; a program with jobs of its own may do so,
+//! and need not.
 //!
 //! What each call promises stands where it is made: `cb_hands`, `cb_admission`, `cb_station`,
 //! `cb_worker`, `cb_jobs` and `cb_run`. What an office and a worker are made of is handed on too.
@@ -38,13 +39,13 @@
 //! ```
 #![tactic(auto)]
 
-pub use cb_admission::{Ticket, TryEnd};
+pub use cb_admission::TryEnd;
 pub use cb_commit::Store;
 pub use cb_hands::{Entry, Grant, Hand};
 pub use cb_jobs::{Gate, Tally, Turn, counter_sum};
 pub use cb_page::{ClientNo, CommitNo, Limits, PageNo};
 pub use cb_run::{FlushStop, flush_again, flush_loop, run_on, work};
 pub use cb_shelf::{Shelf, ShelfFault};
-pub use cb_station::{LockedStation, Office, OfficeFault, Station};
+pub use cb_station::{EndedTry, LockedStation, Office, OfficeFault, Station, Ticket};
 pub use cb_twoq::{Chooser, TwoQ};
 pub use cb_worker::{Fetched, Finished, Left, Wanted, Worker, WorkerFault};

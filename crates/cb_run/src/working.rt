@@ -4,12 +4,12 @@ ghost use Rattle.cb_run.specs.Ends.{HasLeft};
 ghost use Rattle.cb_worker.specs.Entering.{LeavesSome};
 ghost use Rattle.cb_worker.specs.Refusals.{RefusesLeave};
 
-use crate::ended_try::{EndedTry, give_back};
+use crate::ended_try::give_back;
 use crate::results::{Results, do_job};
 use crate::run::Run;
 use cb_jobs::{Gate, Turn};
 use cb_page::ClientNo;
-use cb_station::{Office, OfficeFault};
+use cb_station::{EndedTry, Office, OfficeFault};
 use cb_twoq::Chooser;
 use cb_worker::{Left, Worker, WorkerFault};
 use crossbeam_channel::{Receiver, TryRecvError};

@@ -19,4 +19,4 @@ mod station;
 pub use locked::LockedStation;
 pub use office::Office;
 pub use office_fault::OfficeFault;
-pub use station::Station;
+pub use station::{EndedTry, Station, Ticket};

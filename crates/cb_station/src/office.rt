@@ -9,8 +9,7 @@ ghost use Rattle.cb_station.specs.Telling.{EndsTry, Halts, IsTold, Tells, after_
 ghost use Rattle.cb_station.specs.Telling.{untold_in, with_untold};
 
 use crate::locked::LockedStation;
-use crate::station::{Expected, Station};
-use cb_admission::{Ticket, TryEnd};
+use crate::station::{EndedTry, Expected, Station};
 use cb_page::{ClientNo, CommitNo};
 use std::array;
 use std::marker::Model;
@@ -151,15 +150,15 @@ impl Office {
     }
 
     /// A try ends: it gives its ticket back, and who is to be let in next is told.
-    pub fn end_try<R: Wait>(&self, rt: &R, ticket: Ticket, end: TryEnd) {
-        self.end_try_at(&mut self.lock(rt), ticket, end);
+    pub fn end_try<R: Wait>(&self, rt: &R, ended: EndedTry) {
+        self.end_try_at(&mut self.lock(rt), ended);
     }
 
     /// As [`Office::end_try`], at the locked station.
-    pub fn end_try_at(&self, station: &mut Station, ticket: Ticket, end: TryEnd)
-        ensures { EndsTry station.old end station.new }
+    pub fn end_try_at(&self, station: &mut Station, ended: EndedTry)
+        ensures { EndsTry station.old ended station.new }
     {
-        station.end_try(ticket, end);
+        station.end_try(ended);
         self.tell(station);
     }
 
