@@ -10,7 +10,8 @@
 //! A [`Gate`] says when a job may begin, and a [`Tally`] counts each job that was done once.
 //! [`Worker::enter`] waits until a try of a transaction is let in and answers its [`Ticket`], which
 //! goes back as an [`EndedTry`] by [`Office::end_try`]; a program with jobs of its own may do so,
-//! and need not.
+//! and need not. Where a client can't join that the office expects at `work`, its program calls
+//! [`Office::skip_work`], so that the flusher doesn't wait for it.
 //!
 //! What each call promises stands where it is made: `cb_hands`, `cb_admission`, `cb_station`,
 //! `cb_worker`, `cb_jobs` and `cb_run`. What an office and a worker are made of is handed on too.

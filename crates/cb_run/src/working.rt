@@ -24,6 +24,8 @@ const MOMENT: u64 = 1;
 /// left the worker leaves; after a fault it is abandoned. Whatever happened, the office is told
 /// that one call of `work` has ended.
 ///
+/// Where a client can't join, [`Office::skip_work`] is called in place of this.
+///
 /// In an office that is closed already it takes no job, and the worker leaves. One that is closed
 /// meanwhile waits for it: it does all its jobs, and the flusher writes them.
 pub fn work<R: Wait + Clock, Q: Chooser, G: Gate>(

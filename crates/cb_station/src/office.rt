@@ -6,7 +6,7 @@ ghost use Rattle.cb_mailboxes.specs.Mailboxes.{IsNobody};
 ghost use Rattle.cb_station.specs.Locking.{lent_station};
 ghost use Rattle.cb_station.specs.Stations.{IsStation};
 ghost use Rattle.cb_station.specs.Telling.{EndsTry, Halts, IsTold, Tells, after_work, closed};
-ghost use Rattle.cb_station.specs.Telling.{untold_in, with_untold};
+ghost use Rattle.cb_station.specs.Telling.{untold_in, with_untold, without_work};
 
 use crate::locked::LockedStation;
 use crate::station::{EndedTry, Expected, Station};
@@ -42,7 +42,9 @@ impl Model for Office {
 
 impl Office {
     /// An office over a station. So many are expected to work, each from `begin_work` to `end_work`
-    /// (as `work` does); the last to end closes it. With none it is closed.
+    /// (as `work` does); the last to end closes it. For one that won't begin, since its client
+    /// couldn't join, [`Office::skip_work`] is called in place of these: else the office stays
+    /// open, and the flusher waits for that one for ever. With none it is closed.
     pub fn new(mut station: Station, workers: usize) -> Office
         ensures { result.expected ≡ workers }
     {
@@ -207,6 +209,20 @@ impl Office {
         ensures { Tells (after_work station.old) station.new }
     {
         station.end_work();
+        self.tell(station);
+    }
+
+    /// One call of `work` that is expected won't begin, and who waits for that is told; the last
+    /// one closes the office. Calls that go on are still waited for.
+    pub fn skip_work<R: Wait>(&self, rt: &R) {
+        self.skip_work_at(&mut self.lock(rt));
+    }
+
+    /// As [`Office::skip_work`], at the locked station.
+    pub fn skip_work_at(&self, station: &mut Station)
+        ensures { Tells (without_work station.old) station.new }
+    {
+        station.skip_work();
         self.tell(station);
     }
 

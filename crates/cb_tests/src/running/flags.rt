@@ -24,6 +24,8 @@ pub(crate) enum Moment {
     Nothing,
     /// A call of `work` ends.
     EndOfWork,
+    /// One that was expected won't begin.
+    SkippedWork,
     Closing,
     Halting,
     /// Client 1 has a frame.
@@ -84,6 +86,7 @@ fn happens<R: Wait>(rt: &R, alloc: Global, office: &Office, moment: Moment) {
     match moment {
         Moment::Nothing => {}
         Moment::EndOfWork => office.end_work(rt),
+        Moment::SkippedWork => office.skip_work(rt),
         Moment::Closing => office.close(rt),
         Moment::Halting => office.halt(rt),
         Moment::Greeting => greet(rt, alloc, office, ClientNo::new(1)),
@@ -123,6 +126,14 @@ fn last_work_closes(rt: HostRuntime) {
         (Moment::EndOfWork, CLOSED),
     ];
     assert!(rt; goes_well(Trial::Flagged(2, &moments), &rt, rt.alloc()));
+}
+
+#[test]
+fn skipped_work_closes(rt: HostRuntime) {
+    let last = [(Moment::EndOfWork, OPEN), (Moment::SkippedWork, CLOSED)];
+    assert!(rt; goes_well(Trial::Flagged(2, &last), &rt, rt.alloc()));
+    let first = [(Moment::SkippedWork, OPEN), (Moment::EndOfWork, CLOSED)];
+    assert!(rt; goes_well(Trial::Flagged(2, &first), &rt, rt.alloc()));
 }
 
 #[test]
