@@ -1,6 +1,5 @@
 //! The window.
-ghost use Rattle.std.specs.Prelude.{◌≡◌, false, MatchOption};
-ghost use Rattle.std.specs.Option.{is_some};
+ghost use Rattle.std.specs.Prelude.{◌≡◌, false, MatchBool, MatchOption};
 ghost use Rattle.cb_admission.specs.Windows.{Enters, GivesUp, IsNew, IsNextIn, IsTurn};
 ghost use Rattle.cb_admission.specs.Windows.{NoneIsNext, StaysOut, aborted_after, after_try};
 ghost use Rattle.cb_admission.specs.Windows.{clean_after, is_passed_over, may_enter};
@@ -17,12 +16,6 @@ const CLEAN: u16 = 64;
 
 /// So often in a row a client is let in while others wait.
 const TURNS: u16 = 16;
-
-/// What lets one try go on. It can't be copied or let go: `leave` of the window that it came from
-/// ends it.
-pub struct Ticket {
-    sealed: (),
-}
 
 /// How a try ended.
 #[derive(Clone, Copy, Debug, PartialEq, Eq)]
@@ -107,22 +100,22 @@ impl AdmissionWindow {
         }
     }
 
-    /// Lets a try of the client in, and answers its ticket; the client waits no more then. `None`
-    /// where it may not enter: it waits then, and one that was passed over isn't the next time.
-    pub fn enter(&mut self, client: ClientNo) -> Option<Ticket>
-        ensures exact { is_some result ≡ may_enter self.old client }
-        ensures after { MatchOption result (StaysOut self.old client self.new)
-            (λ ticket. Enters self.old client self.new) }
+    /// Whether a try of the client is let in; the client waits no more then. `false` where it may
+    /// not enter: it waits then, and one that was passed over isn't the next time.
+    pub fn enter(&mut self, client: ClientNo) -> bool
+        ensures exact { result ≡ may_enter self.old client }
+        ensures after { MatchBool result (Enters self.old client self.new)
+            (StaysOut self.old client self.new) }
     {
         if !self.may_enter(client) {
             self.stay_out(client);
-            return None;
+            return false;
         }
         self.inside += 1;
         self.waiting.remove(client);
         self.turns = self.turns_of(client);
         self.last = client;
-        Some(Ticket { sealed: () })
+        true
     }
 
     /// Whether a try of the client is let in.
@@ -164,12 +157,11 @@ impl AdmissionWindow {
         self.waiting.insert(client);
     }
 
-    /// A try ends, and gives its ticket back. One that was aborted halves the width, and so many
-    /// commits with none aborted between them widen it by one.
-    pub fn leave(&mut self, ticket: Ticket, end: TryEnd)
+    /// A try ends. One that was aborted halves the width, and so many commits with none aborted
+    /// between them widen it by one.
+    pub fn leave(&mut self, end: TryEnd)
         ensures { self.new ≡ after_try self.old end }
     {
-        let Ticket { sealed: () } = ticket;
         self.inside = self.inside.saturating_sub(1);
         match end {
             TryEnd::Committed => self.widen(),

@@ -9,7 +9,9 @@
 //! [`work`] does the jobs of a client: each adds one to two counters, by a transaction of its own.
 //! A [`Gate`] says when a job may begin, and a [`Tally`] counts each job that was done once.
 //! [`Worker::enter`] waits until a try of a transaction is let in and answers its [`Ticket`], which
-//! goes back by [`Office::end_try`]; a program with jobs of its own may do so, and need not.
+//! goes back as an [`EndedTry`] by [`Office::end_try`]; a program with jobs of its own may do so,
+//! and need not. Where a client can't join that the office expects at `work`, its program calls
+//! [`Office::skip_work`], so that the flusher doesn't wait for it.
 //!
 //! What each call promises stands where it is made: `cb_hands`, `cb_admission`, `cb_station`,
 //! `cb_worker`, `cb_jobs` and `cb_run`. What an office and a worker are made of is handed on too.
@@ -25,6 +27,9 @@
 //! worker.commit_at(alloc, &mut office.lock(rt))?;
 //! ```
 //!
+//! The guard of the lock tells the flusher of the commit as it goes ([`LockedStation`]). Who has
+//! that guard makes no call that takes the lock itself: it would wait for itself.
+//!
 //! The flusher writes that to a shelf, mostly on a thread of its own. It ends once the office is
 //! closed, and then the client is told:
 //!
@@ -35,13 +40,13 @@
 //! ```
 #![tactic(auto)]
 
-pub use cb_admission::{Ticket, TryEnd};
+pub use cb_admission::TryEnd;
 pub use cb_commit::Store;
 pub use cb_hands::{Entry, Grant, Hand, Read, Shown};
 pub use cb_jobs::{Gate, JobDone, Tally, TallyFault, Turn, Watch, counter_sum};
 pub use cb_page::{ClientNo, CommitNo, Limits, PageNo};
 pub use cb_run::{DoneJob, FlushStop, Results, flush_again, flush_loop, run_on, work};
 pub use cb_shelf::{Shelf, ShelfFault};
-pub use cb_station::{Office, OfficeFault, Station};
+pub use cb_station::{EndedTry, LockedStation, Office, OfficeFault, Station, Ticket};
 pub use cb_twoq::{Chooser, TwoQ};
 pub use cb_worker::{Fetched, Finished, Left, Wanted, Worker, WorkerFault};

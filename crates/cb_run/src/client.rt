@@ -98,6 +98,8 @@ pub(crate) fn run_part<Q: Chooser, R: Wait + Clock, G: Gate, N: Drop>(
     parts.lock(run.rt).take(end);
 }
 
+/// A client joins and works, and leaves. Where it can't join, its call of `work` is no more
+/// expected.
 fn join_and_work<Q: Chooser, R: Wait + Clock, G: Gate>(
     run: Run<'_, R, G>,
     limits: &Limits,
@@ -107,19 +109,36 @@ fn join_and_work<Q: Chooser, R: Wait + Clock, G: Gate>(
 ) -> Result<Left, WorkerFault>
     ensures { IfOk result (λ left. left ≡ client) }
 {
-    if !limits.has_client(client) {
-        return Err(WorkerFault::Office(OfficeFault::Foreign));
-    }
     let Run {
         rt,
         alloc,
         office,
         gate,
     } = run;
+    match join::<Q, R>(rt, alloc, office, limits, client) {
+        Ok(worker) => work_and_leave(rt, alloc, office, worker, jobs, results, gate),
+        Err(fault) => {
+            office.skip_work(rt);
+            Err(fault)
+        }
+    }
+}
+
+/// A worker of the client, which joins over an empty chooser.
+fn join<Q: Chooser, R: Wait>(
+    rt: &R,
+    alloc: Global,
+    office: &Office,
+    limits: &Limits,
+    client: u16,
+) -> Result<Worker<Q>, WorkerFault>
+    ensures { IfOk result (λ worker. worker.hand.client ≡ client) }
+{
+    if !limits.has_client(client) {
+        return Err(WorkerFault::Office(OfficeFault::Foreign));
+    }
     let Ok(chooser) = Q::make(alloc, limits) else {
         return Err(WorkerFault::Client(ClientFault::Memory));
     };
-    let client = ClientNo::new(client);
-    let worker = Worker::join(rt, alloc, office, limits, client, chooser)?;
-    work_and_leave(rt, alloc, office, worker, jobs, results, gate)
+    Worker::join(rt, alloc, office, limits, ClientNo::new(client), chooser)
 }

@@ -64,7 +64,7 @@ pub(crate) fn next_batch<R: Wait + Clock, W: Watch>(
 ) -> Result<Next, ShelfFault>
     ensures { IfErr result (λ fault. fault ≡ ShelfFault.Memory) }
 {
-    let mut station = office.lock(rt);
+    let mut station = office.lock_to_wait(rt);
     for _ in rt.forever() {
         station = await_others(rt, office, station, pace);
         if let Some(next) = next_at(alloc, &station) {

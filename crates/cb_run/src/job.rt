@@ -5,11 +5,11 @@ ghost use Rattle.cb_run.specs.Jobs.{CommitsJob, Copies, CountsBoth, CountsUp, En
 ghost use Rattle.cb_run.specs.Jobs.{IsOneMore};
 ghost use Rattle.cb_worker.specs.Workers.{last_txn};
 
-use crate::ended_try::{EndedTry, enter_next, give_back};
+use crate::ended_try::{enter_next, give_back};
 use cb_admission::TryEnd;
 use cb_jobs::count_up;
 use cb_page::{ClientNo, CommitNo, PageNo};
-use cb_station::Office;
+use cb_station::{EndedTry, Office};
 use cb_twoq::Chooser;
 use cb_worker::{Fetched, Finished, Wanted, Worker, WorkerFault};
 use std::alloc::Global;
@@ -52,7 +52,7 @@ fn admitted<R: Wait, Q: Chooser>(
     let tried = try_job(rt, alloc, office, worker, client);
     let end = end_of(&tried);
     // None is held meanwhile.
-    give_back(rt, office, held.replace(EndedTry { ticket, end }));
+    give_back(rt, office, held.replace(ticket.ended(end)));
     tried
 }
 

@@ -2,11 +2,10 @@
 ghost use Rattle.std.specs.Prelude.{◌≡◌, IfOk};
 ghost use Rattle.cb_run.specs.Jobs.{TellsJob};
 
-use crate::ended_try::EndedTry;
 use crate::job::run_job;
 use cb_jobs::JobDone;
 use cb_page::ClientNo;
-use cb_station::Office;
+use cb_station::{EndedTry, Office};
 use cb_twoq::Chooser;
 use cb_worker::{Worker, WorkerFault};
 use crossbeam_channel::{Receiver, Sender, TryIter};

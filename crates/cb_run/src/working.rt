@@ -4,12 +4,12 @@ ghost use Rattle.cb_run.specs.Ends.{HasLeft};
 ghost use Rattle.cb_worker.specs.Entering.{LeavesSome};
 ghost use Rattle.cb_worker.specs.Refusals.{RefusesLeave};
 
-use crate::ended_try::{EndedTry, give_back};
+use crate::ended_try::give_back;
 use crate::results::{Results, do_job};
 use crate::run::Run;
 use cb_jobs::{Gate, Turn};
 use cb_page::ClientNo;
-use cb_station::{Office, OfficeFault};
+use cb_station::{EndedTry, Office, OfficeFault};
 use cb_twoq::Chooser;
 use cb_worker::{Left, Worker, WorkerFault};
 use crossbeam_channel::{Receiver, TryRecvError};
@@ -23,6 +23,8 @@ const MOMENT: u64 = 1;
 /// Takes each job from the channel, and sends a result for each once it is on disk. Where no job is
 /// left the worker leaves; after a fault it is abandoned. Whatever happened, the office is told
 /// that one call of `work` has ended.
+///
+/// Where a client can't join, [`Office::skip_work`] is called in place of this.
 ///
 /// In an office that is closed already it takes no job, and the worker leaves. One that is closed
 /// meanwhile waits for it: it does all its jobs, and the flusher writes them.

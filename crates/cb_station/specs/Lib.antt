@@ -6,5 +6,6 @@ pub mod Admission
 pub mod Telling
 pub mod FaultTexts
 pub mod Offices
+pub mod Locking
 pub mod Copies
 pub mod Written

@@ -33,6 +33,17 @@ abbrev pub closed : StationState → StationState
 closed station =
     record station { flags = record station.flags { closed = true; news = true } }
 
+-- one call of `work` that was expected won't begin, of which whoever waits for that is to be told;
+-- the last one closes the station
+abbrev pub without_work : StationState → StationState
+without_work station = record station {
+  flags = record station.flags {
+    closed = station.flags.closed || nat_le station.flags.left 1;
+    left = station.flags.left - 1;
+    news = true;
+  };
+}
+
 -- one call of `work` has ended, of which whoever waits for that is to be told; the last one closes
 -- the station
 abbrev pub after_work : StationState → StationState

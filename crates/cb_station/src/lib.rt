@@ -7,14 +7,16 @@
 //!
 //! An [`Office`] is the station under one lock, with conditions on which threads wait until it has
 //! changed: one for each client, for its frames, and one for all else. What holds of the station
-//! whenever the lock is free, `lock` says.
+//! whenever the lock is free, `lock` says. Its guard, a [`LockedStation`], tells them as it goes.
 #![tactic(auto)]
 
+mod locked;
 mod office;
 mod office_fault;
 mod reading;
 mod station;
 
+pub use locked::LockedStation;
 pub use office::Office;
 pub use office_fault::OfficeFault;
-pub use station::Station;
+pub use station::{EndedTry, Station, Ticket};

@@ -3,12 +3,13 @@ ghost use Rattle.std.specs.Prelude.{◌≡◌};
 ghost use Rattle.std.specs.Sync.Mutex.{mutex_guard_value};
 ghost use Rattle.cb_mailboxes.specs.Mail.{HasMail};
 ghost use Rattle.cb_mailboxes.specs.Mailboxes.{IsNobody};
+ghost use Rattle.cb_station.specs.Locking.{lent_station};
 ghost use Rattle.cb_station.specs.Stations.{IsStation};
 ghost use Rattle.cb_station.specs.Telling.{EndsTry, Halts, IsTold, Tells, after_work, closed};
-ghost use Rattle.cb_station.specs.Telling.{untold_in, with_untold};
+ghost use Rattle.cb_station.specs.Telling.{untold_in, with_untold, without_work};
 
-use crate::station::{Expected, Station};
-use cb_admission::{Ticket, TryEnd};
+use crate::locked::LockedStation;
+use crate::station::{EndedTry, Expected, Station};
 use cb_page::{ClientNo, CommitNo};
 use std::array;
 use std::marker::Model;
@@ -41,7 +42,9 @@ impl Model for Office {
 
 impl Office {
     /// An office over a station. So many are expected to work, each from `begin_work` to `end_work`
-    /// (as `work` does); the last to end closes it. With none it is closed.
+    /// (as `work` does); the last to end closes it. For one that won't begin, since its client
+    /// couldn't join, [`Office::skip_work`] is called in place of these: else the office stays
+    /// open, and the flusher waits for that one for ever. With none it is closed.
     pub fn new(mut station: Station, workers: usize) -> Office
         ensures { result.expected ≡ workers }
     {
@@ -54,11 +57,27 @@ impl Office {
         }
     }
 
-    /// Takes the lock, and lends the station until the guard is let go. Whatever threads did
-    /// before, the station is one: its history is legal and is what its server did, what it has
-    /// stored of each hand the server has, and where it is halted it is closed. Each frame in a
-    /// mailbox was said by the server to that mailbox's client.
-    pub fn lock<R: Wait>(&self, rt: &R) -> MutexGuard<'_, Station>
+    /// Takes the lock, and lends the station until the guard is let go, which tells all who are to
+    /// be told of what was done meanwhile. Whatever threads did before, the station is one: its
+    /// history is legal and is what its server did, what it has stored of each hand the server has,
+    /// and where it is halted it is closed. Each frame in a mailbox was said by the server to that
+    /// mailbox's client.
+    ///
+    /// Who has the guard makes no call that takes this lock itself: neither this one again, nor
+    /// another that is handed `rt`, nor a worker's that is handed this office. It would wait for
+    /// itself, for ever, and no clause refuses it.
+    pub fn lock<R: Wait>(&self, rt: &R) -> LockedStation<'_>
+        ensures sound { IsStation (lent_station result) }
+        ensures mail { HasMail (lent_station result).dispatcher }
+        ensures told { IsTold (lent_station result) }
+    {
+        LockedStation::new(self, self.lock_to_wait(rt))
+    }
+
+    /// As [`Office::lock`], for whoever waits by this guard: [`Office::wait`] and the calls like it
+    /// take it, and tell as they let the lock go. The guard itself tells nobody, so who changes the
+    /// station and doesn't wait then calls [`Office::tell`] before it goes.
+    pub fn lock_to_wait<R: Wait>(&self, rt: &R) -> MutexGuard<'_, Station>
         ensures sound { IsStation (mutex_guard_value result) }
         ensures mail { HasMail (mutex_guard_value result).dispatcher }
         ensures told { IsTold (mutex_guard_value result) }
@@ -77,7 +96,7 @@ impl Office {
         ensures mail { HasMail (mutex_guard_value result).dispatcher }
         ensures told { IsTold (mutex_guard_value result) }
     {
-        self.sound(self.changed.wait(rt, station))
+        self.sound(self.changed.wait(rt, self.sound(station)))
     }
 
     /// Lets the lock go until there may be a frame to that client, or the office is halted, and
@@ -92,7 +111,7 @@ impl Office {
         ensures mail { HasMail (mutex_guard_value result).dispatcher }
         ensures told { IsTold (mutex_guard_value result) }
     {
-        self.sound(self.condition_of(client).wait(rt, station))
+        self.sound(self.condition_of(client).wait(rt, self.sound(station)))
     }
 
     /// As [`Office::wait_for_frame`], and no longer than so long.
@@ -107,7 +126,8 @@ impl Office {
         ensures mail { HasMail (mutex_guard_value result).dispatcher }
         ensures told { IsTold (mutex_guard_value result) }
     {
-        let waited = self.condition_of(client).wait_timeout(rt, station, limit);
+        let told = self.sound(station);
+        let waited = self.condition_of(client).wait_timeout(rt, told, limit);
         self.sound(waited.0)
     }
 
@@ -124,24 +144,23 @@ impl Office {
         ensures mail { HasMail (mutex_guard_value result).dispatcher }
         ensures told { IsTold (mutex_guard_value result) }
     {
-        let waited = self
-            .changed
-            .wait_timeout_while(rt, station, limit, |station| {
-                !station.can_flush(number) && !station.is_over()
-            });
+        let told = self.sound(station);
+        let waited = self.changed.wait_timeout_while(rt, told, limit, |station| {
+            !station.can_flush(number) && !station.is_over()
+        });
         self.sound(waited.0)
     }
 
     /// A try ends: it gives its ticket back, and who is to be let in next is told.
-    pub fn end_try<R: Wait>(&self, rt: &R, ticket: Ticket, end: TryEnd) {
-        self.end_try_at(&mut self.lock(rt), ticket, end);
+    pub fn end_try<R: Wait>(&self, rt: &R, ended: EndedTry) {
+        self.end_try_at(&mut self.lock(rt), ended);
     }
 
     /// As [`Office::end_try`], at the locked station.
-    pub fn end_try_at(&self, station: &mut Station, ticket: Ticket, end: TryEnd)
-        ensures { EndsTry station.old end station.new }
+    pub fn end_try_at(&self, station: &mut Station, ended: EndedTry)
+        ensures { EndsTry station.old ended station.new }
     {
-        station.end_try(ticket, end);
+        station.end_try(ended);
         self.tell(station);
     }
 
@@ -149,8 +168,8 @@ impl Office {
     /// server said something, and the one that is to be let in next; and, of commits, of the end of
     /// a call of `work`, of closing and of halting, whoever waits for these.
     ///
-    /// Who changes a station by a call of its own calls this before the lock goes. Who is forgotten
-    /// is told by the next one that takes the lock.
+    /// The guard of [`Office::lock`] calls this as it goes, and so does each call that waits. Who
+    /// is forgotten all the same is told by the next one that takes the lock.
     pub fn tell(&self, station: &mut Station)
         ensures { Tells station.old station.new }
     {
@@ -190,6 +209,20 @@ impl Office {
         ensures { Tells (after_work station.old) station.new }
     {
         station.end_work();
+        self.tell(station);
+    }
+
+    /// One call of `work` that is expected won't begin, and who waits for that is told; the last
+    /// one closes the office. Calls that go on are still waited for.
+    pub fn skip_work<R: Wait>(&self, rt: &R) {
+        self.skip_work_at(&mut self.lock(rt));
+    }
+
+    /// As [`Office::skip_work`], at the locked station.
+    pub fn skip_work_at(&self, station: &mut Station)
+        ensures { Tells (without_work station.old) station.new }
+    {
+        station.skip_work();
         self.tell(station);
     }
 

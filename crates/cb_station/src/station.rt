@@ -26,6 +26,7 @@ mod flags;
 mod taking;
 
 use crate::office_fault::OfficeFault;
+pub use crate::station::admitting::{EndedTry, Ticket};
 pub(crate) use crate::station::flags::Expected;
 use crate::station::flags::Flags;
 use cb_commit::{Batch, Store};

@@ -27,6 +27,10 @@ pub use entering::Left;
 use std::marker::Model;
 
 /// A client with its hand. It can't be copied or let go; `leave` and `abandon` end it.
+///
+/// A call that is handed the office takes its lock. Who has a guard of that lock lets it go first:
+/// the call would wait for its own thread, for ever, and no clause refuses it. What a worker does
+/// under a guard are the calls that are lent the station, `turn_at` and `commit_at`.
 pub struct Worker<Q: Chooser> {
     client: Client<Q>,
     hand: Hand,

@@ -6,8 +6,41 @@ ghost use Rattle.cb_station.specs.Admission.{with_window};
 ghost use Rattle.cb_station.specs.Telling.{NoticesNext, untold_in, with_untold};
 
 use crate::station::Station;
-use cb_admission::{AdmissionWindow, Ticket, TryEnd};
+use cb_admission::{AdmissionWindow, TryEnd};
 use cb_page::ClientNo;
+use std::marker::Model;
+
+/// What lets one try of a transaction go on. A station alone makes one, as it lets the try in, and
+/// it can't be copied or let go: [`Ticket::ended`] says how the try ended, and what that answers a
+/// station alone takes.
+pub struct Ticket {
+    sealed: (),
+}
+
+impl Ticket {
+    /// The try with this ticket ended so.
+    pub fn ended(self, end: TryEnd) -> EndedTry
+        ensures { result ≡ end }
+    {
+        EndedTry { ticket: self, end }
+    }
+}
+
+/// A try that ended, with its ticket, which its station hasn't got back yet. How it ended nobody
+/// changes any more, and it can't be copied or let go: [`Station::end_try`] and
+/// [`Station::try_again`] alone take it. In contracts it is how the try ended.
+pub struct EndedTry {
+    ticket: Ticket,
+    end: TryEnd,
+}
+
+impl Model for EndedTry {
+    ghost use Rattle.cb_admission.specs.declared.window.TryEnd.{TryEnd};
+
+    ghost Value = { TryEnd };
+
+    ghost view = { λ ended. ended.end };
+}
 
 impl Station {
     /// Lets a try of the client in, and answers its ticket, exactly where the window has room for
@@ -23,41 +56,68 @@ impl Station {
             (λ ticket. NoticesNext self.new.flags.window (untold_in self.old)
             (untold_in self.new)) }
     {
-        let ticket = self.flags.window.enter(client)?;
+        let ticket = self.let_in(client)?;
         self.notice_next();
         Some(ticket)
     }
 
     /// A try ends, and gives its ticket back; who is next is to be told.
-    pub fn end_try(&mut self, ticket: Ticket, end: TryEnd)
+    pub fn end_try(&mut self, ended: EndedTry)
         ensures ends { self.new ≡ with_untold (with_window self.old
-            (after_try self.old.flags.window end)) (untold_in self.new) }
+            (after_try self.old.flags.window ended)) (untold_in self.new) }
         ensures next { NoticesNext self.new.flags.window (untold_in self.old)
             (untold_in self.new) }
     {
-        self.flags.window.leave(ticket, end);
+        self.take_back(ended);
         self.notice_next();
     }
 
     /// A try of the client's ends, and gives its ticket back; then the client's next one is let in
     /// as by [`Station::admit`]. Only then is looked who is next: so nobody is to be told where the
     /// client takes the place that it gave back, and no room is left beside it.
-    pub fn try_again(&mut self, held: Ticket, end: TryEnd, client: ClientNo) -> Option<Ticket>
+    pub fn try_again(&mut self, ended: EndedTry, client: ClientNo) -> Option<Ticket>
         ensures exact { is_some result
-            ≡ may_enter (after_try self.old.flags.window end) client }
+            ≡ may_enter (after_try self.old.flags.window ended) client }
         ensures after { MatchOption result
-            (StaysOut (after_try self.old.flags.window end) client self.new.flags.window)
+            (StaysOut (after_try self.old.flags.window ended) client self.new.flags.window)
             (λ ticket.
-            Enters (after_try self.old.flags.window end) client self.new.flags.window) }
+            Enters (after_try self.old.flags.window ended) client self.new.flags.window) }
         ensures rest { self.new
             ≡ with_untold (with_window self.old self.new.flags.window) (untold_in self.new) }
         ensures next { NoticesNext self.new.flags.window (untold_in self.old)
             (untold_in self.new) }
     {
-        self.flags.window.leave(held, end);
-        let again = self.flags.window.enter(client);
+        self.take_back(ended);
+        let again = self.let_in(client);
         self.notice_next();
         again
+    }
+
+    /// The ticket of a try of the client, exactly where the window lets it in; else the client
+    /// waits.
+    fn let_in(&mut self, client: ClientNo) -> Option<Ticket>
+        ensures exact { is_some result ≡ may_enter self.old.flags.window client }
+        ensures after { MatchOption result
+            (StaysOut self.old.flags.window client self.new.flags.window)
+            (λ ticket. Enters self.old.flags.window client self.new.flags.window) }
+        ensures rest { self.new ≡ with_window self.old self.new.flags.window }
+    {
+        if !self.flags.window.enter(client) {
+            return None;
+        }
+        Some(Ticket { sealed: () })
+    }
+
+    /// The window gets the ticket of a try that ended back.
+    fn take_back(&mut self, ended: EndedTry)
+        ensures { self.new ≡ with_window self.old
+            (after_try self.old.flags.window ended) }
+    {
+        let EndedTry {
+            ticket: Ticket { sealed: () },
+            end,
+        } = ended;
+        self.flags.window.leave(end);
     }
 
     /// The client no longer waits to be let in; who is next is to be told.

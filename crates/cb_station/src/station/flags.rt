@@ -3,7 +3,7 @@ ghost use Rattle.std.specs.Prelude.{◌≡◌, ◌==◌, ◌+◌, ◌<◌, ◌||
 ghost use Rattle.cb_admission.specs.Windows.{IsNew};
 ghost use Rattle.cb_page.specs.Clients.{has};
 ghost use Rattle.cb_station.specs.Flags.{AreFlags, is_cut_off, is_over, may_begin};
-ghost use Rattle.cb_station.specs.Telling.{after_work, closed, halted, untold_in};
+ghost use Rattle.cb_station.specs.Telling.{after_work, closed, halted, untold_in, without_work};
 
 use crate::station::Station;
 use cb_admission::AdmissionWindow;
@@ -123,12 +123,20 @@ impl Station {
     pub fn end_work(&mut self)
         ensures { self.new ≡ after_work self.old }
     {
+        self.skip_work();
+        self.flags.working = self.flags.working.saturating_sub(1);
+    }
+
+    /// One call of `work` that is expected won't begin; the last one closes the station. As many
+    /// are going on as before.
+    pub fn skip_work(&mut self)
+        ensures { self.new ≡ without_work self.old }
+    {
         self.flags.news = true;
         if self.flags.left <= 1 {
             self.close();
         }
         self.flags.left = self.flags.left.saturating_sub(1);
-        self.flags.working = self.flags.working.saturating_sub(1);
     }
 
     /// Whether no call of `work` commits any more: the station is halted, or it is closed and none

@@ -1,8 +1,8 @@
 //! Who is told as a client's tries end, and its next ones begin.
 use crate::office::stations::over_zeros;
-use cb_admission::{Ticket, TryEnd};
+use cb_admission::TryEnd;
 use cb_page::ClientNo;
-use cb_station::Station;
+use cb_station::{Station, Ticket};
 
 /// So often in a row a client is let in while others wait.
 const TURNS: u64 = 16;
@@ -21,7 +21,7 @@ fn other() -> ClientNo {
 fn narrowed(station: &mut Station, aborted: u64) -> Option<Ticket> {
     let mut ticket = station.admit(first())?;
     for _try in 0..aborted {
-        ticket = station.try_again(ticket, TryEnd::Aborted, first())?;
+        ticket = station.try_again(ticket.ended(TryEnd::Aborted), first())?;
     }
     Some(ticket)
 }
@@ -30,7 +30,7 @@ fn narrowed(station: &mut Station, aborted: u64) -> Option<Ticket> {
 fn is_kept_out(station: &mut Station, client: ClientNo) -> bool {
     match station.admit(client) {
         Some(ticket) => {
-            station.end_try(ticket, TryEnd::GivenUp);
+            station.end_try(ticket.ended(TryEnd::GivenUp));
             false
         }
         None => true,
@@ -53,13 +53,13 @@ fn count_turns(station: &mut Station, held: Ticket) -> u64 {
     let mut ticket = held;
     let mut turns = 0;
     for _try in 0..2 * TURNS {
-        match station.try_again(ticket, TryEnd::Committed, first()) {
+        match station.try_again(ticket.ended(TryEnd::Committed), first()) {
             Some(again) => ticket = again,
             None => return turns,
         }
         turns = u64::from(tells_nobody(station)).saturating_add(turns);
     }
-    station.end_try(ticket, TryEnd::GivenUp);
+    station.end_try(ticket.ended(TryEnd::GivenUp));
     turns
 }
 
@@ -81,17 +81,17 @@ fn waits_for_the_other(station: &mut Station) -> bool {
         return false;
     };
     let Some(beside) = station.admit(other()) else {
-        station.end_try(ticket, TryEnd::GivenUp);
+        station.end_try(ticket.ended(TryEnd::GivenUp));
         return false;
     };
-    let waits = match station.try_again(ticket, TryEnd::Aborted, first()) {
+    let waits = match station.try_again(ticket.ended(TryEnd::Aborted), first()) {
         Some(again) => {
-            station.end_try(again, TryEnd::GivenUp);
+            station.end_try(again.ended(TryEnd::GivenUp));
             false
         }
         None => tells_nobody(station),
     };
-    station.end_try(beside, TryEnd::Committed);
+    station.end_try(beside.ended(TryEnd::Committed));
     waits && tells_alone(station, first()) && station.window().width() == 1
 }
 

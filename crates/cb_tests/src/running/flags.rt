@@ -1,6 +1,7 @@
 //! Closing, halting, and waiting for it.
 use crate::running::trials::{Trial, goes_well};
-use cb_page::ClientNo;
+use crate::running::visits::commit_page;
+use cb_page::{ClientNo, CommitNo, TxnNo};
 use cb_station::{Office, Station};
 use std::alloc::Global;
 use std::sync::Wait;
@@ -23,23 +24,61 @@ pub(crate) enum Moment {
     Nothing,
     /// A call of `work` ends.
     EndOfWork,
+    /// One that was expected won't begin.
+    SkippedWork,
     Closing,
     Halting,
     /// Client 1 has a frame.
     Greeting,
+    /// Client 0 commits for the first time.
+    Commit,
+    /// It does so, and waits by the same guard until the office is closed.
+    CommitAndWait,
 }
 
-/// The client joins, so that there is a Welcome to it, and is told; its number stays joined. Where
-/// it can't join the office is halted.
+/// The client joins, so that there is a Welcome to it, of which the guard tells as the lock goes;
+/// its number stays joined. Where it can't join the office is halted.
 pub(crate) fn greet<R: Wait>(rt: &R, alloc: Global, office: &Office, client: ClientNo) {
-    let mut station = office.lock(rt);
-    let joined = station.join(alloc, client);
-    office.tell(&mut station);
-    drop(station);
+    let joined = office.lock(rt).join(alloc, client);
     match joined {
         Ok(hand) => hand.abandon(),
         Err(_) => office.halt(rt),
     }
+}
+
+/// Client 0 joins and commits, of which the guard tells as the lock goes, and which takes no lock
+/// then; its number stays joined. Where it can't the office is halted.
+fn commit_first<R: Wait>(rt: &R, alloc: Global, office: &Office) {
+    let joined = office.lock(rt).join(alloc, ClientNo::new(0));
+    let Ok(mut hand) = joined else {
+        return office.halt(rt);
+    };
+    let committed = commit_page(alloc, &mut office.lock(rt), &mut hand, TxnNo::new(1));
+    hand.abandon();
+    if !committed {
+        office.halt(rt);
+    }
+}
+
+/// Client 0 joins and commits, and waits until the office is closed, which who is told of the commit
+/// does. Where it can't commit the office is halted.
+fn commit_and_wait<R: Wait>(rt: &R, alloc: Global, office: &Office) {
+    let joined = office.lock(rt).join(alloc, ClientNo::new(0));
+    let Ok(mut hand) = joined else {
+        return office.halt(rt);
+    };
+    let mut station = office.lock_to_wait(rt);
+    if !commit_page(alloc, &mut station, &mut hand, TxnNo::new(1)) {
+        office.halt_at(&mut station);
+    }
+    hand.abandon();
+    for _ in rt.forever() {
+        if station.is_closed() {
+            return;
+        }
+        station = office.wait(rt, station);
+    }
+    unreachable!()
 }
 
 /// It happens.
@@ -47,9 +86,12 @@ fn happens<R: Wait>(rt: &R, alloc: Global, office: &Office, moment: Moment) {
     match moment {
         Moment::Nothing => {}
         Moment::EndOfWork => office.end_work(rt),
+        Moment::SkippedWork => office.skip_work(rt),
         Moment::Closing => office.close(rt),
         Moment::Halting => office.halt(rt),
         Moment::Greeting => greet(rt, alloc, office, ClientNo::new(1)),
+        Moment::Commit => commit_first(rt, alloc, office),
+        Moment::CommitAndWait => commit_and_wait(rt, alloc, office),
     }
 }
 
@@ -87,6 +129,14 @@ fn last_work_closes(rt: HostRuntime) {
 }
 
 #[test]
+fn skipped_work_closes(rt: HostRuntime) {
+    let last = [(Moment::EndOfWork, OPEN), (Moment::SkippedWork, CLOSED)];
+    assert!(rt; goes_well(Trial::Flagged(2, &last), &rt, rt.alloc()));
+    let first = [(Moment::SkippedWork, OPEN), (Moment::EndOfWork, CLOSED)];
+    assert!(rt; goes_well(Trial::Flagged(2, &first), &rt, rt.alloc()));
+}
+
+#[test]
 fn closed_and_halted(rt: HostRuntime) {
     let closing = [(Moment::Closing, CLOSED), (Moment::Halting, HALTED)];
     assert!(rt; goes_well(Trial::Flagged(1, &closing), &rt, rt.alloc()));
@@ -113,19 +163,24 @@ const WAITING: u64 = 2;
 fn has_come(station: &Station, moment: Moment) -> bool {
     match moment {
         Moment::Greeting => station.has_frame_for(ClientNo::new(1)),
+        Moment::Commit | Moment::CommitAndWait => station.can_flush(CommitNo::new(1)),
         _ => station.is_closed(),
     }
 }
 
-/// Waits for it, or until the office is halted. `counted` counts who holds the lock or waits, and
-/// once more who was woken by what it waits for.
+/// Waits for it, or until the office is halted; who commits and waits is answered by closing the
+/// office. `counted` counts who holds the lock or waits, and once more who was woken by what it
+/// waits for.
 fn wait_for<R: Wait>(rt: &R, office: &Office, counted: &AtomicU64, moment: Moment) {
-    let mut station = office.lock(rt);
+    let mut station = office.lock_to_wait(rt);
     counted.fetch_add(1, Ordering::SeqCst);
     for _ in rt.forever() {
         let come = has_come(&station, moment);
         if come || station.is_halted() {
             counted.fetch_add(u64::from(come), Ordering::SeqCst);
+            if let Moment::CommitAndWait = moment {
+                office.close_at(&mut station);
+            }
             return;
         }
         station = match moment {
@@ -180,6 +235,18 @@ pub(crate) fn wakes<R: Wait + Threads + Sync>(
     flags: Flags,
 ) -> bool {
     count_woken(rt, alloc, office, moment) == 2 * WAITING && has_flags(rt, office, flags)
+}
+
+/// Nobody tells of it but the guard: those that wait would sleep on over one that doesn't.
+#[test]
+fn commit_is_told_as_the_lock_goes(rt: HostRuntime) {
+    assert!(rt; goes_well(Trial::Woken(Moment::Commit, OPEN), &rt, rt.alloc()));
+}
+
+/// Nobody tells of it but the call that waits, before it lets the lock go.
+#[test]
+fn commit_is_told_before_a_wait(rt: HostRuntime) {
+    assert!(rt; goes_well(Trial::Woken(Moment::CommitAndWait, CLOSED), &rt, rt.alloc()));
 }
 
 #[test]

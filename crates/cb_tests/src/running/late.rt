@@ -1,4 +1,5 @@
-//! A call of `work` that would begin in an office that was closed before.
+//! A call of `work` that would begin in an office that was closed before, and one whose client
+//! can't join.
 use crate::running::alone::may_come_back;
 use crate::running::gates::{Counts, Guarded};
 use crate::running::run::open_plan;
@@ -58,6 +59,49 @@ pub(crate) fn comes_too_late<Q: Chooser, R: Wait + Clock>(
     let early = office.lock(rt).is_over();
     office.lock(rt).end_work();
     begun && left && !early && office.lock(rt).is_over()
+}
+
+/// Whether a call of `work` whose client can't join is waited for no more, while the one that is
+/// going on is; the office is for two.
+pub(crate) fn is_skipped<Q: Chooser, R: Wait>(
+    rt: &R,
+    alloc: Global,
+    limits: &Limits,
+    office: &Office,
+) -> bool {
+    let others = limits.keeping();
+    let Ok(chooser) = Q::make(alloc, &others) else {
+        return false;
+    };
+    let begun = office.lock(rt).begin_work();
+    match Worker::join(rt, alloc, office, &others, ClientNo::new(0), chooser) {
+        Ok(worker) => worker.abandon(),
+        Err(_) => office.skip_work(rt),
+    }
+    let closed = office.lock(rt).is_closed();
+    office.end_work(rt);
+    let over = office.lock(rt).is_over();
+    begun && !closed && over && !office.lock(rt).is_cut_off()
+}
+
+/// Whether it is waited for no more also where the office is closed while another goes on.
+pub(crate) fn is_skipped_beside<R: Wait>(rt: &R, office: &Office) -> bool {
+    let begun = office.lock(rt).begin_work();
+    office.skip_work(rt);
+    office.close(rt);
+    let early = office.lock(rt).is_over();
+    office.end_work(rt);
+    begun && !early && office.lock(rt).is_over()
+}
+
+#[test]
+fn client_that_cannot_join(rt: HostRuntime) {
+    assert!(rt; goes_well(Trial::Skipped, &rt, rt.alloc()));
+}
+
+#[test]
+fn skipped_beside_one_that_goes_on(rt: HostRuntime) {
+    assert!(rt; goes_well(Trial::SkippedBeside, &rt, rt.alloc()));
 }
 
 #[test]

@@ -1,9 +1,9 @@
 //! A try that waits to be let in while another holds the only ticket; and tries of one client, one
 //! after another.
 use crate::running::trials::{Trial, goes_well};
-use cb_admission::{Ticket, TryEnd};
+use cb_admission::TryEnd;
 use cb_page::{ClientNo, Limits};
-use cb_station::{Office, Station};
+use cb_station::{Office, Station, Ticket};
 use cb_twoq::{Chooser, TwoQ};
 use cb_worker::{Worker, WorkerFault};
 use std::alloc::Global;
@@ -37,7 +37,7 @@ const ABORTED: u64 = 5;
 pub(crate) fn narrow(station: &mut Station) {
     for _try in 0..ABORTED {
         if let Some(ticket) = station.admit(ClientNo::new(1)) {
-            station.end_try(ticket, TryEnd::Aborted);
+            station.end_try(ticket.ended(TryEnd::Aborted));
         }
     }
 }
@@ -61,7 +61,7 @@ fn enters<R: Wait>(rt: &R, alloc: Global, limits: &Limits, office: &Office) -> u
     worker.abandon();
     match entered {
         Ok(ticket) => {
-            office.end_try(rt, ticket, TryEnd::Committed);
+            office.end_try(rt, ticket.ended(TryEnd::Committed));
             LET_IN
         }
         Err(WorkerFault::Halted) => HALTED,
@@ -75,7 +75,7 @@ fn hold<R: Wait>(rt: &R, office: &Office, held: Ticket, told: &AtomicU64) -> Opt
     let mut ticket = held;
     for _ in rt.forever() {
         let mut station = office.lock(rt);
-        station.end_try(ticket, TryEnd::GivenUp);
+        station.end_try(ticket.ended(TryEnd::GivenUp));
         let waits = station.window().next().is_some();
         ticket = station.admit(ClientNo::new(1))?;
         drop(station);
@@ -92,7 +92,7 @@ fn wake_up<R: Wait>(rt: &R, office: &Office, ticket: Ticket, wake: Wake) {
     if let Wake::Halt = wake {
         office.halt(rt);
     }
-    office.end_try(rt, ticket, TryEnd::GivenUp);
+    office.end_try(rt, ticket.ended(TryEnd::GivenUp));
 }
 
 /// Whether no try is in, and nobody waits for one.
@@ -141,14 +141,14 @@ fn goes_on<R: Wait>(
     worker: &mut Worker<TwoQ>,
 ) -> Result<bool, WorkerFault> {
     let ticket = worker.enter(rt, alloc, office)?;
-    let again = worker.enter_again(rt, alloc, office, ticket, TryEnd::Committed)?;
+    let again = worker.enter_again(rt, alloc, office, ticket.ended(TryEnd::Committed))?;
     let inside = office.lock(rt).window().inside();
     office.halt(rt);
-    match worker.enter_again(rt, alloc, office, again, TryEnd::Aborted) {
+    match worker.enter_again(rt, alloc, office, again.ended(TryEnd::Aborted)) {
         Err(WorkerFault::Halted) => Ok(inside == 1 && office.lock(rt).window().aborted() == 1),
         Err(_) => Ok(false),
         Ok(ticket) => {
-            office.end_try(rt, ticket, TryEnd::GivenUp);
+            office.end_try(rt, ticket.ended(TryEnd::GivenUp));
             Ok(false)
         }
     }

@@ -7,7 +7,7 @@ use crate::running::disks::{NONE, both};
 use crate::running::flags::{Flags, Moment, follows, wakes};
 use crate::running::gates::Counts;
 use crate::running::giving_up::drops_and_gives_up;
-use crate::running::late::comes_too_late;
+use crate::running::late::{comes_too_late, is_skipped, is_skipped_beside};
 use crate::running::other_limits::is_refused_with_others;
 use crate::running::pacing::keeps_pace;
 use crate::running::refusals::{Refusal, is_refused_at_first};
@@ -43,6 +43,10 @@ pub(crate) enum Trial<'a> {
     GivingUp,
     /// A call of `work` comes to a closed office, in which another is going on.
     Late,
+    /// One's client can't join an office for two, in which another is going on.
+    Skipped,
+    /// One doesn't begin in an office for two, which is closed while another is going on.
+    SkippedBeside,
     /// Clients come with limits that aren't the office's.
     OtherLimits,
     /// A batch is refused at first.
@@ -65,6 +69,7 @@ fn calls_of(trial: Trial<'_>) -> usize {
         Trial::Flagged(calls, _) => calls,
         Trial::Run(counts) => usize::from(counts.plan.clients),
         Trial::Unwatched => 4,
+        Trial::Skipped | Trial::SkippedBeside => 2,
         _ => 1,
     }
 }
@@ -103,6 +108,8 @@ fn comes_with<R: Wait + Threads + Clock + Sync, S: Alter>(
         Trial::Alone => works::<TwoQ, R>(rt, alloc, limits, office, true),
         Trial::GivingUp => works::<TwoQ, R>(rt, alloc, limits, office, false),
         Trial::Late => comes_too_late::<TwoQ, R>(rt, alloc, limits, office),
+        Trial::Skipped => is_skipped::<TwoQ, R>(rt, alloc, limits, office),
+        Trial::SkippedBeside => is_skipped_beside(rt, office),
         Trial::OtherLimits => is_refused_with_others::<TwoQ, R>(rt, alloc, limits, office),
         Trial::Refused(refusal) => is_refused_at_first(rt, alloc, limits, office, shelf, refusal),
         Trial::Entered(wake) => ends_its_wait(rt, alloc, limits, office, wake),

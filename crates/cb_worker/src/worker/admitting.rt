@@ -7,8 +7,7 @@ ghost use Rattle.cb_worker.specs.Waiting.{IsServed};
 
 use crate::worker::Worker;
 use crate::worker_fault::WorkerFault;
-use cb_admission::{Ticket, TryEnd};
-use cb_station::{Office, Station};
+use cb_station::{EndedTry, Office, Station, Ticket};
 use cb_twoq::Chooser;
 use std::alloc::Global;
 use std::sync::{MutexGuard, Wait};
@@ -16,7 +15,8 @@ use std::time::{Clock, Duration};
 
 impl<Q: Chooser> Worker<Q> {
     /// Waits until a try of the client's is let in, and serves meanwhile. The ticket goes back by
-    /// `Office::end_try` or [`Worker::enter_again`], whatever becomes of the try.
+    /// [`Ticket::ended`], and `Office::end_try` or [`Worker::enter_again`] of the same office,
+    /// whatever becomes of the try.
     pub fn enter<R: Wait>(
         &mut self,
         rt: &R,
@@ -27,12 +27,12 @@ impl<Q: Chooser> Worker<Q> {
         ensures still { IsStill self.old self.new }
         ensures refused { IfErr result (StopsServing self.new) }
     {
-        let mut station = office.lock(rt);
+        let mut station = office.lock_to_wait(rt);
         let first = self.enter_at(rt, alloc, office, &mut station);
         self.wait_to_enter(rt, alloc, office, station, first)
     }
 
-    /// Ends a try that ended so, gives its ticket back, and waits as [`Worker::enter`] until the
+    /// Ends a try, gives its ticket back, and waits as [`Worker::enter`] until the
     /// client's next one is let in. Both are done under one lock: where the client goes on at once
     /// nobody else is told, unless there is room for one more.
     pub fn enter_again<R: Wait>(
@@ -40,15 +40,14 @@ impl<Q: Chooser> Worker<Q> {
         rt: &R,
         alloc: Global,
         office: &Office,
-        ticket: Ticket,
-        end: TryEnd,
+        ended: EndedTry,
     ) -> Result<Ticket, WorkerFault>
         ensures served { OnOk result (IsServed self.new) }
         ensures still { IsStill self.old self.new }
         ensures refused { IfErr result (StopsServing self.new) }
     {
-        let mut station = office.lock(rt);
-        let first = self.enter_again_at(rt, alloc, office, &mut station, ticket, end);
+        let mut station = office.lock_to_wait(rt);
+        let first = self.enter_again_at(rt, alloc, office, &mut station, ended);
         self.wait_to_enter(rt, alloc, office, station, first)
     }
 
@@ -105,7 +104,7 @@ impl<Q: Chooser> Worker<Q> {
         Ok(ticket)
     }
 
-    /// Serves, ends the try that has this ticket, and asks for another. `None` where that is to be
+    /// Serves, ends the try, and asks for another. `None` where that is to be
     /// waited for.
     fn enter_again_at<R: Wait>(
         &mut self,
@@ -113,8 +112,7 @@ impl<Q: Chooser> Worker<Q> {
         alloc: Global,
         office: &Office,
         station: &mut Station,
-        ticket: Ticket,
-        end: TryEnd,
+        ended: EndedTry,
     ) -> Result<Option<Ticket>, WorkerFault>
         ensures served { OnOk result (IsServed self.new) }
         ensures still { IsStill self.old self.new }
@@ -123,10 +121,10 @@ impl<Q: Chooser> Worker<Q> {
     {
         let client = self.hand.client();
         if let Err(fault) = self.serve_at(rt, alloc, office, station) {
-            office.end_try_at(station, ticket, end);
+            office.end_try_at(station, ended);
             return Err(fault);
         }
-        let again = station.try_again(ticket, end, client);
+        let again = station.try_again(ended, client);
         office.tell(station);
         Ok(again)
     }
@@ -143,7 +141,7 @@ impl<Q: Chooser> Worker<Q> {
         ensures still { IsStill self.old self.new }
         ensures refused { IfErr result (StopsServing self.new) }
     {
-        let mut station = office.lock(rt);
+        let mut station = office.lock_to_wait(rt);
         self.serve_at(rt, alloc, office, &mut station)?;
         let _station = office.wait_for_frame_at_most(rt, station, self.hand.client(), limit);
         Ok(())

@@ -22,7 +22,9 @@ impl<Q: Chooser> Worker<Q> {
     /// exactly what it wrote. Where the station refused it the client is committing, and the next
     /// call hands the same commit in.
     ///
-    /// It copies these pages at the locked station; `finish` does so before it takes the lock.
+    /// It copies these pages at the locked station; `finish` does so before it takes the lock. The
+    /// flusher is told of the commit as the guard of `Office::lock` goes, which has to go before a
+    /// call that is handed the office.
     pub fn commit_at(
         &mut self,
         alloc: Global,

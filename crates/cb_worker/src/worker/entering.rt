@@ -50,7 +50,9 @@ impl<Q: Chooser> Worker<Q> {
     /// one that the station gave its hand. A client that these limits haven't got is `Foreign`, and
     /// so is one that comes with other limits than the station's.
     ///
-    /// Where there is no memory for the client, or its Welcome doesn't come, it leaves again.
+    /// Where there is no memory for the client, or its Welcome doesn't come, it leaves again. Of a
+    /// call of `work` that the office expects nothing changes: whoever gives that up calls
+    /// `Office::skip_work`.
     pub fn join<R: Wait>(
         rt: &R,
         alloc: Global,
@@ -239,7 +241,7 @@ impl<Q: Chooser> Worker<Q> {
         ensures refused { IfErr result (λ refused. IsStill self refused.1) }
         ensures why { IfErr result (λ refused. StopsServing refused.1 refused.0) }
     {
-        let mut station = office.lock(rt);
+        let mut station = office.lock_to_wait(rt);
         let first = self.go_on(rt, alloc, office, &Awaited::Welcome, &mut station);
         match self.wait_on(rt, alloc, office, &Awaited::Welcome, station, first) {
             Ok(_) => Ok(self),

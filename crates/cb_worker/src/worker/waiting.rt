@@ -1,4 +1,5 @@
-//! The calls that take the office, and may wait.
+//! The calls that take the office's lock, and may wait. No thread makes one while it has a guard of
+//! that lock: it would wait for itself.
 ghost use Rattle.std.specs.Prelude.{◌≡◌, ◌↔◌, [], false, true, IfErr, IfOk, IfSome, IsTrue};
 ghost use Rattle.std.specs.Prelude.{MatchBool, Ok, Err, OnOk};
 ghost use Rattle.std.specs.Borrow.{sem};
@@ -176,7 +177,7 @@ impl<Q: Chooser> Worker<Q> {
             return Ok(true);
         }
         self.needs_transaction()?;
-        let mut station = office.lock(rt);
+        let mut station = office.lock_to_wait(rt);
         let first = self.begin_fetch(rt, alloc, office, page, &mut station);
         match self.wait_on(rt, alloc, office, &Awaited::Page(page), station, first)? {
             Came::There => Ok(true),
@@ -251,7 +252,7 @@ impl<Q: Chooser> Worker<Q> {
         ensures refused { IfErr result (RefusesWant self.old self.new page) }
     {
         self.needs_transaction()?;
-        let mut station = office.lock(rt);
+        let mut station = office.lock_to_wait(rt);
         let first = self.begin_want(rt, alloc, office, page, &mut station);
         match self.wait_on(
             rt,
@@ -421,7 +422,7 @@ impl<Q: Chooser> Worker<Q> {
     {
         self.needs_transaction()?;
         let frame = self.frame_to_commit(alloc)?;
-        let mut station = office.lock(rt);
+        let mut station = office.lock_to_wait(rt);
         let first = self.begin_finish(rt, alloc, office, frame, &mut station);
         match self.wait_on(rt, alloc, office, &Awaited::End, station, first)? {
             Came::Ended(finished) => Ok(finished),
