@@ -1,11 +1,13 @@
 //! The example of the first page of `cb_office`.
 ghost use Rattle.std.specs.Prelude.{◌≡◌, false};
 
+use crate::running::disks::{NONE, both};
+use crate::running::work::{Deed, Outcome, opening};
 use cb_office::{
     Chooser, ClientNo, CommitNo, Finished, FlushStop, Limits, Office, PageNo, Shelf, Station, TwoQ,
     Worker, WorkerFault, flush_loop,
 };
-use sqlite::{Alter, Connection};
+use sqlite::Alter;
 use std::alloc::Global;
 use std::sync::Wait;
 use std::time::Clock;
@@ -99,7 +101,7 @@ fn has_the_page<S: Alter>(alloc: Global, limits: &Limits, shelf: &mut Shelf<S>) 
 }
 
 /// Whether a client does so, and the shelf has the page then.
-fn puts_the_page_there<R: Wait + Clock, S: Alter>(
+pub(crate) fn puts_the_page_there<R: Wait + Clock, S: Alter>(
     rt: &R,
     alloc: Global,
     limits: &Limits,
@@ -112,19 +114,9 @@ fn puts_the_page_there<R: Wait + Clock, S: Alter>(
     Some(is_first && has_the_page(alloc, limits, shelf)?)
 }
 
-/// Whether a client does so over a new database in memory.
-fn commits_to_a_new_database<R: Wait + Clock>(rt: &R, alloc: Global) -> Option<bool> {
-    let Ok(limits) = Limits::new(1, 8, 16, 4, 1, 2) else {
-        return None;
-    };
-    let conn = Connection::open_in_memory(alloc).ok()?;
-    match Shelf::open(alloc, conn, &limits) {
-        Ok(mut shelf) => puts_the_page_there(rt, alloc, &limits, &mut shelf),
-        Err(_) => None,
-    }
-}
-
+/// Over a new database, on which `Shelf::open` makes the shelf.
 #[test]
 fn example(rt: HostRuntime) {
-    assert!(rt; commits_to_a_new_database(&rt, rt.alloc()) == Some(true));
+    let works = [opening(Deed::Example), opening(Deed::Nothing)];
+    assert!(rt; both(&rt, rt.alloc(), 1, NONE, works).0 == Outcome::Well(true));
 }

@@ -5,7 +5,7 @@ use crate::running::run::{Came, open_plan, run_to_end};
 /// Every job is done, with few aborted tries.
 #[test]
 fn thirty_two_clients_on_two_pages(rt: HostRuntime) {
-    assert!(rt; run_to_end(&rt, rt.alloc(), open_plan(32, 20, 0)) == Came::Done(640));
+    assert!(rt; run_to_end(&rt, rt.alloc(), open_plan(32, 5, 0)) == Came::Done(160));
 }
 
 /// Eight clients with ten jobs each.

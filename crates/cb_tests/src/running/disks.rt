@@ -39,6 +39,15 @@ pub(crate) const NONE: Faults<'static> = Faults {
     clock: None,
 };
 
+/// Room for all pages of the tables, which an open clears; and a short log, since a sync of a disk in
+/// memory copies it. Without proofs more of either takes most of the tests' time.
+const SHORT: Options = Options {
+    cache_pages: 32,
+    spill_pages: 2000,
+    checkpoint_frames: 64,
+    seed: 1,
+};
+
 /// Opens the database, or gives the files back.
 fn connect<D: Disk + Drop>(
     alloc: Global,
@@ -47,7 +56,7 @@ fn connect<D: Disk + Drop>(
     if !files.may_be_used() {
         return Err(files);
     }
-    match Connection::open_files(alloc, files, Options::new(1)) {
+    match Connection::open_files(alloc, files, SHORT) {
         Ok(conn) => Ok(conn),
         Err((_, left)) => Err(left.into_files()),
     }
@@ -57,6 +66,11 @@ fn connect<D: Disk + Drop>(
 /// for those of `into_store`.
 fn store_of<S: Alter + Drop>(conn: Connection<S>) -> S {
     conn.into_store()
+}
+
+/// The files of a connection.
+fn files_of<D: Disk + Drop>(conn: Connection<FileStore<D>>) -> Files<D> {
+    store_of(conn).close()
 }
 
 /// Does this over a new connection to these files.
@@ -72,7 +86,7 @@ fn over<R: Threads + Wait + Clock + Sync, D: Disk + Drop>(
     match connect(alloc, files) {
         Ok(conn) => {
             let (outcome, conn) = work_on(rt, alloc, limits, conn, work);
-            (outcome, store_of(conn).close())
+            (outcome, files_of(conn))
         }
         Err(files) => (Outcome::Nothing, files),
     }
@@ -95,6 +109,18 @@ fn both_over<R: Threads + Wait + Clock + Sync, D: Crash + Drop>(
     (reached, left)
 }
 
+/// New files, with these faults.
+fn new_files(alloc: Global, faults: Faults<'_>) -> Files<Balky<'_, Fuse<Memory>>> {
+    Files {
+        log: Balky::new(
+            Fuse::new(Memory::new(alloc), faults.log),
+            faults.left,
+            faults.clock,
+        ),
+        db: Balky::new(Fuse::new(Memory::new(alloc), faults.db), None, None),
+    }
+}
+
 /// Does both over new disks, with so many clients and two pages of sixteen bytes, and a crash
 /// between them.
 pub(crate) fn both<R: Threads + Wait + Clock + Sync>(
@@ -107,15 +133,7 @@ pub(crate) fn both<R: Threads + Wait + Clock + Sync>(
     let Ok(limits) = Limits::new(u64::from(clients), 2, 16, 2, 1, 1) else {
         return (Outcome::Nothing, Outcome::Nothing);
     };
-    let files = Files {
-        log: Balky::new(
-            Fuse::new(Memory::new(alloc), faults.log),
-            faults.left,
-            faults.clock,
-        ),
-        db: Balky::new(Fuse::new(Memory::new(alloc), faults.db), None, None),
-    };
     let room = if faults.frees { faults.left } else { None };
     let hurried = Hurried::new(rt, room, faults.clock);
-    both_over(&hurried, alloc, &limits, files, works)
+    both_over(&hurried, alloc, &limits, new_files(alloc, faults), works)
 }

@@ -1,6 +1,7 @@
 //! What is done over a database.
 ghost use Rattle.std.specs.Prelude.{◌≡◌, false};
 
+use crate::example::puts_the_page_there;
 use crate::running::gates::Counts;
 use crate::running::run::Came;
 use crate::running::stops::is_beginning;
@@ -28,6 +29,8 @@ pub(crate) enum Deed<'a> {
     Begin(&'a Counts),
     /// This is tried over it and an office.
     Try(Trial<'a>),
+    /// The example of `cb_office` uses it.
+    Example,
 }
 
 /// What came of it.
@@ -87,5 +90,8 @@ fn done<R: Threads + Wait + Clock + Sync, S: Alter>(
         Deed::Nothing => Outcome::Well(true),
         Deed::Begin(counts) => is_beginning(alloc, limits, shelf, counts),
         Deed::Try(trial) => comes_over(trial, rt, alloc, limits, shelf),
+        Deed::Example => {
+            Outcome::Well(puts_the_page_there(rt, alloc, limits, shelf) == Some(true))
+        },
     }
 }
