@@ -58,7 +58,7 @@ impl From<ChartFault> for PictureFault {
 /// prints the picture of the run.
 ///
 /// The answer is the program's status. The configuration is checked first, then the schedule; a
-/// fault is said on `err`, and then nothing is on `out`. It fails only where a writer does.
+/// fault is said on `err`, and then nothing is on `out`. It fails only if a writer does.
 pub fn chart_to<O: Write, E: Write>(
     alloc: Global,
     config: &[u8],
