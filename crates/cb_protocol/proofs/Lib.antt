@@ -218,6 +218,32 @@
 -- the present life's opening store; the present life's history stands behind it (`joined`). A
 -- restart adds the survivors to it (`left_restarts`) and opens a new machine (`image_restarts`).
 --
+-- Wrong tables of one life
+--
+-- Some wrong tables of `scripts/wrong_bodies/cb_protocol.edits`. Each line says which condition of
+-- the protocol the table breaks, then which lemmas need that condition.
+--
+-- - `bare_page_filled_from_any_grant`: the version that came is the one held. `granted_may`, by
+--   `fill_may`
+-- - `greatest_grant_forgotten`: the grant held is at most `seen`, and so is the grant of a GiveBack
+--   under way. `good_refuse`, `now_refuse`, `now_let_go`
+-- - `doomed_permission_freed_at_once`: the client's Drop came. `right_dooms`, `books_all`
+-- - `write_permitted_before_callbacks_are_answered`: no other client has a row of the page.
+--   `right_decide`
+-- - `locked_page_given_back_at_callback`: the page is not locked. `called_back_may`
+-- - `older_incarnation_accepted`: the message is of the current incarnation. `right_message`
+-- - `repeated_commit_applied_again`: the transaction has not ended. `right_answers`
+-- - `downgraded_obeyed_by_page_and_grant_alone`: the tag is the one that the message names.
+--   `right_answers`
+-- - `only_cycles_of_two_found`: a path through client n is two paths through earlier clients, not
+--   two edges. `way_join`, `way_is`
+-- - `done_before_flush`: the number is at most that of the last commit on disk. `serves_again`
+-- - `doomed_commit_applied`: the transaction is not doomed. `applies_none`
+-- - `marks_kept_at_a_greater_hello`: no mark of the client is left, and no doom. `greeted_first`
+-- - `reader_waits_for_readers`: a first read ask waits only where another client is write holder.
+--   `granted`
+-- - `read_ask_overtakes`: the ask is the first for its page. `serves_ask_read`
+--
 -- Wrong tables of lives
 --
 -- These tables of lives stand in `scripts/wrong_bodies/cb_protocol.edits`. Each line says what is
