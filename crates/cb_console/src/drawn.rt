@@ -21,7 +21,7 @@ use std::io::Write;
 /// the text of a schedule.
 ///
 /// The answer is the program's status. A fault of the configuration, or want of memory, is said on
-/// `err`, and then nothing is on `out`. It fails only where a writer does.
+/// `err`, and then nothing is on `out`. It fails only if a writer does.
 pub fn draw_to<O: Write, E: Write>(
     alloc: Global,
     config: &[u8],
