@@ -155,7 +155,7 @@ impl<Q: Chooser> Pool<Q> {
 
     /// Lends the bytes of a page, if it is here, and counts as a reference to it.
     ///
-    /// The pool is the same once the loan is over, save for that reference.
+    /// The pool is the same once the loan is over, but for that reference.
     pub fn hit(&mut self, page: PageNo) -> Option<&[u8]>
         ensures* ends { sem 𝓛 (pool_ends_as Q.row Q.Chooser self.entry (referred self.old page)) }
         ensures bytes { option_copied result ≡ copy_of self.old page }
@@ -170,7 +170,7 @@ impl<Q: Chooser> Pool<Q> {
 
     /// Refers to a page, if it is here, and says whether it is.
     ///
-    /// The pool is the same, save for that reference.
+    /// The pool is the same, but for that reference.
     pub fn touch(&mut self, page: PageNo) -> bool
         ensures here { result ≡ is_some (copy_of self.old page) }
         ensures same { self.new ≡ referred self.old page }
