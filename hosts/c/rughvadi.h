@@ -1,42 +1,43 @@
-/* Rughvadi for C: a page server, and clients that keep their pages across transactions. What they
- * read is current, until the server restarts or is told that they left.
+/* Rughvadi for C: a page server, and clients that keep their pages across transactions. What a
+ * client reads is current, until the server restarts or is told that the client left.
  *
  * The library does no input or output, starts no thread, takes no lock, reads no clock and never
  * aborts. The host hands frames in (rughvadi_take), fetches those that are to be sent
- * (rughvadi_next), and writes the server's pages to disk (rughvadi_server_batch and what follows).
+ * (rughvadi_next), and writes the server's pages to disk (rughvadi_server_batch and the calls
+ * after it).
  *
  * A handle. `rughvadi_handle h = RUGHVADI_EMPTY;` is empty. rughvadi_server_new,
  * rughvadi_open_begin, rughvadi_open_life and rughvadi_client_new put an object into an empty
- * handle, rughvadi_free takes it out again. A handle is never copied, and its fields are the
- * library's: the host neither reads nor writes them. One call at a time is made on a handle. It may
- * go to another thread, with what it holds, where the host orders the calls: by a lock, a thread's
+ * handle, and rughvadi_free takes it out again. A handle is never copied. Its fields are the
+ * library's: the host neither reads nor writes them. Make one call at a time on a handle. A handle
+ * may go to another thread, with what it holds, if the host orders the calls: by a lock, a thread's
  * start or join, or a sequentially consistent atomic. A call that takes a const handle changes
- * nothing that a call can show. It counts as a call all the same, and the handle itself is never
- * const: the object is taken out of it and put back.
+ * nothing that other calls show. It counts as a call all the same. The handle itself is never
+ * const, since such a call takes the object out and puts it back.
  *
- * What is said. A call may say frames: the server's answers, a client's asks. They are kept in the
- * handle until rughvadi_next has fetched each, the oldest first. Until then every call that may say
- * more is refused with RUGHVADI_UNFETCHED. So after each such call: fetch all.
+ * Frames that go out. A call may send frames: the server's answers, a client's asks. They are kept
+ * in the handle until rughvadi_next has fetched each of them, the oldest first. Until then every
+ * call that may send more is refused with RUGHVADI_UNFETCHED. Fetch them all after each such call.
  *
- * Answers. Where nothing else is said, a call answers RUGHVADI_DONE (0), or the number of a fault.
- * After a fault all is as it was before: the object, the buffers, and what the pointers to numbers
- * point to. There are two exceptions: rughvadi_open_serve, and the size that rughvadi_next and
- * rughvadi_fault_text tell with RUGHVADI_ROOM. Where several faults stand, the one is answered that
- * is listed first at the call; of a client's own (1 to 12) the lowest. RUGHVADI_MEMORY and
- * RUGHVADI_FRAME_MEMORY come last, and only where malloc or realloc refused: the same call may be
- * made again.
+ * Results. Unless its comment says otherwise, a call returns RUGHVADI_DONE (0), or the number of a
+ * fault. After a fault everything is as it was before: the object, the buffers, and what the
+ * pointers to numbers point to. There are two exceptions: rughvadi_open_serve, and the size that
+ * rughvadi_next and rughvadi_fault_text tell with RUGHVADI_ROOM. If several faults apply, the call
+ * returns the one that its comment lists first; of a client's own faults (1 to 12), the lowest.
+ * RUGHVADI_MEMORY and RUGHVADI_FRAME_MEMORY come last, and only if malloc or realloc refused. The
+ * same call may then be made again.
  *
- * Pointers. Each is valid for its length and no two of a call overlap; none is null, but a buffer
- * of length 0 may be any pointer that isn't null. The library keeps none of them after the call.
+ * Pointers. Each is valid for its length, and no two of a call overlap. None is null; for a buffer
+ * of length 0 any other pointer will do. The library keeps none of them after the call.
  *
  * Sizes. A frame has at most rughvadi_frame_most(&limits) bytes.
  *
  * Versions. RUGHVADI_VERSION is the version of these headers, and the number behind the shared
- * object's name, librughvadi.so.1. While it stays, calls and numbers stay with what they mean, and
- * structs with their sizes and fields. Calls and numbers may be added, and fields in place of
- * `reserved` ones, where 0 asks for nothing new. So a program runs with each later library of the
- * version that it was compiled for; it may meet numbers that it doesn't know. An earlier library
- * may lack a call that it makes: the linker says so. What breaks this has another number.
+ * object's name, librughvadi.so.1. Within a version calls and numbers keep their meaning, and
+ * structs their sizes and fields. Calls and numbers may be added. Fields may replace `reserved`
+ * ones, and 0 then asks for nothing new. A program therefore runs with each later library of the
+ * version that it was compiled for, and may meet numbers that it doesn't know. An earlier library
+ * may lack a call that the program makes; the linker says so. Any other change gets a new number.
  */
 #ifndef RUGHVADI_H
 #define RUGHVADI_H
@@ -49,11 +50,11 @@
 extern "C" {
 #endif
 
-/* The version of this interface; rughvadi_version() answers the library's. */
+/* The version of this interface; rughvadi_version() returns the library's. */
 #define RUGHVADI_VERSION 1
 
-/* The limits of one store. Its server and its clients have all but slots, kin and kout in common:
- * these are each client's own. A server doesn't use them, but refuses values out of range. */
+/* The limits of one store, which its server and its clients share, except for slots, kin and kout:
+ * each client has its own. A server doesn't use these three, but refuses values out of range. */
 typedef struct {
   uint64_t clients;    /* 1 to 32; they are numbered from 0 */
   uint64_t pages;      /* 1 to 4,096; they are numbered from 0 */
@@ -83,7 +84,7 @@ enum {
   RUGHVADI_NO_TRANSACTION = 2,   /* none is open: none was begun, or it was aborted */
   RUGHVADI_TRANSACTION_OPEN = 3, /* one is, or it is committing */
   RUGHVADI_COMMITTING = 4,
-  RUGHVADI_WAITING = 5,          /* an ask is out: hand frames in until it is answered */
+  RUGHVADI_WAITING = 5,          /* an ask has no answer yet: hand frames in until it has */
   RUGHVADI_PAGE_RANGE = 6,       /* there is no such page */
   RUGHVADI_NOT_READ = 7,         /* the transaction has not read the page */
   RUGHVADI_NOT_HERE = 8,         /* the page's bytes left the pool: read it again */
@@ -110,14 +111,14 @@ enum {
   RUGHVADI_LIMIT_KOUT = 0x206,
   /* of the handle and the other arguments */
   RUGHVADI_OTHER_KIND = 0x301,   /* the handle is empty, or what it holds has no such call */
-  RUGHVADI_UNFETCHED = 0x302,    /* fetch by rughvadi_next what was said before */
+  RUGHVADI_UNFETCHED = 0x302,    /* first fetch the frames that wait, by rughvadi_next */
   RUGHVADI_NOTHING = 0x303,      /* nothing to fetch, to write or to show */
   RUGHVADI_ROOM = 0x304,         /* the buffer hasn't the length that is needed */
   RUGHVADI_RANGE = 0x305,        /* a number is out of range */
   RUGHVADI_HELD = 0x306          /* the handle holds an object already */
 };
 
-/* What a client says of itself. */
+/* What a client reports about itself. */
 enum {
   RUGHVADI_STATUS_NONE = 0, /* there is no client in the handle */
   RUGHVADI_STATUS_NOT_WELCOME = 1,
@@ -157,7 +158,7 @@ enum {
 /* What the header of a frame says. */
 typedef struct {
   uint64_t length;      /* the frame's bytes, the header's 16 among them */
-  uint32_t client;      /* that it is of or for */
+  uint32_t client;      /* that it comes from or goes to */
   uint32_t kind;        /* RUGHVADI_KIND_.. */
   uint64_t incarnation; /* the client's */
 } rughvadi_frame_head;
@@ -167,161 +168,162 @@ static inline size_t rughvadi_frame_most(const rughvadi_limits *limits) {
   return (size_t)(16 + 10 + limits->pages * (16 + limits->page_size));
 }
 
-/* ---- that need no handle ---- */
+/* ---- calls that need no handle ---- */
 
 /* The version of the library's interface: RUGHVADI_VERSION. */
 uint32_t rughvadi_version(void);
 
-/* Writes what a number means, in English and with no 0 behind it, to the room, and how many bytes
- * it has to *size, also where the room is too short for them. No text has more than 64.
+/* Writes the meaning of a fault's number to the room, in English, without a 0 behind it. *size is
+ * how many bytes the text has, at most 64; it is told if the room is too short, too.
  * ROOM: the room is too short; nothing is written to it. */
 uint32_t rughvadi_fault_text(uint32_t fault, uint8_t *room, size_t len, size_t *size);
 
-/* Reads the frame that the bytes begin with: so a host cuts a stream into frames, and knows whose
- * they are before it hands them in. Nothing else happens.
- * LIMIT_..: these are no limits. FRAME_SHORT: more bytes are needed. FRAME_..: no frame will come
- * of these bytes, whatever follows. */
+/* Reads the frame at the front of the bytes. By this call a host cuts a stream into frames, and
+ * learns whose they are before it hands them in. Nothing else happens.
+ * LIMIT_..: a limit is out of range. FRAME_SHORT: more bytes are needed. FRAME_..: no frame begins
+ * with these bytes, whatever follows. */
 uint32_t rughvadi_frame_read(const rughvadi_limits *limits, const uint8_t *bytes, size_t len,
                              rughvadi_frame_head *head);
 
-/* ---- of a server or a client ---- */
+/* ---- calls of a server or a client ---- */
 
-/* Takes the frame that the bytes begin with, whatever follows it; *used is how many bytes it has. A
- * frame that is late, repeated or of another incarnation is taken, and nothing comes of it.
- * OTHER_KIND, UNFETCHED, FRAME_.. (MEMORY only of a commit or a page that was granted), EXHAUSTED
- * (a server's: no number is left for an ask to read or a commit), MEMORY. */
+/* Takes the frame at the front of the bytes, whatever follows it; *used is how many bytes it has. A
+ * frame that is late, repeated or of another incarnation is taken too, and has no effect.
+ * OTHER_KIND, UNFETCHED, FRAME_.. (FRAME_MEMORY only for a commit or a granted page), EXHAUSTED
+ * (from a server: no number is left for an ask to read or a commit), MEMORY. */
 uint32_t rughvadi_take(rughvadi_handle *h, const uint8_t *bytes, size_t len, size_t *used);
 
-/* Fetches the oldest frame that was said, to the beginning of the room: *size is how many bytes it
- * has, *client whose it is: of a client's frame its own number, of a server's the one that it is to
- * be sent to.
- * OTHER_KIND. NOTHING: all is fetched. MEMORY. ROOM: the room is too short; *size is what is
- * needed, and the frame stays. */
+/* Fetches the oldest frame that waits, to the front of the room. *size is how many bytes it has.
+ * *client is the client that a server's frame goes to, or the number of the client that sends it.
+ * OTHER_KIND. NOTHING: no frame waits. MEMORY. ROOM: the room is too short; *size is the length
+ * that is needed, and the frame stays. */
 uint32_t rughvadi_next(rughvadi_handle *h, uint8_t *room, size_t len, size_t *size,
                        uint32_t *client);
 
-/* Says again what may have been lost: call it where an answer has not come for a while. It does no
- * harm where nothing was lost.
+/* Resends what may have been lost. Call it if an answer hasn't come for a while. It does no harm if
+ * nothing was lost.
  * OTHER_KIND, UNFETCHED, MEMORY. */
 uint32_t rughvadi_again(rughvadi_handle *h);
 
-/* Lets go what the handle holds; it is empty then. It may be so before. */
+/* Frees what the handle holds, and leaves it empty. The handle may be empty before. */
 void rughvadi_free(rughvadi_handle *h);
 
 /* ---- a server ---- */
 
-/* A server over a store of zeros: the first time that a store is used.
+/* Makes a server over a store of zeros, for the first time that a store is used.
  * HELD, LIMIT_.., MEMORY. */
 uint32_t rughvadi_server_new(const rughvadi_limits *limits, rughvadi_handle *h);
 
-/* A server over a store that was written before, in three steps. First: how large the store is, and
- * the number of the last commit that is on disk.
- * HELD, LIMIT_... RANGE: no commit has this number. MEMORY. */
+/* Makes a server over a store that was written before, in three steps. The first tells how large
+ * the store is, and the number of the last commit that is on disk.
+ * HELD, LIMIT_... RANGE: no commit can have this number. MEMORY. */
 uint32_t rughvadi_open_begin(const rughvadi_limits *limits, uint64_t last_commit,
                              rughvadi_handle *h);
 
-/* In its place, where the host keeps lives: the server begins one, whose floor this is. Of each
- * client it knows the floor as its incarnation, and it takes no frame of an incarnation below,
- * whenever that comes. The host has a bound on disk, below which each incarnation is that a former
- * server heard of: the floor is that bound, and the next bound is on disk, too, before the server
- * takes anything. A floor of 0 is none: that is rughvadi_open_begin.
- * HELD, LIMIT_... RANGE: no commit has this number, or no incarnation is the floor (2^62 - 1 at
- * most). MEMORY. */
+/* The first step for a host that keeps lives: the server begins a life with this floor. It knows
+ * the floor as each client's incarnation, and ignores every frame of a lower one, whenever that
+ * comes. The host keeps a bound on disk, which is above every incarnation that a former server
+ * heard of. The floor is that bound, and the next bound has to be on disk before the server takes
+ * anything. A floor of 0 stands for no life: the call is then rughvadi_open_begin.
+ * HELD, LIMIT_... RANGE: no commit can have this number, or the floor is above 2^62 - 1. MEMORY. */
 uint32_t rughvadi_open_life(const rughvadi_limits *limits, uint64_t last_commit, uint64_t floor,
                             rughvadi_handle *h);
 
-/* Second, once for each page, by rising number: the version that rughvadi_server_page told when the
- * page was written (0 where it never was), and its bytes (zeros then). They are copied.
+/* The second step, once for each page, by rising number: the version that rughvadi_server_page told
+ * when the page was written, and its bytes, which are copied. For a page that was never written the
+ * version is 0, and so are the bytes.
  * OTHER_KIND. ROOM: the bytes aren't as long as a page, or each page has its row already. RANGE:
  * the version is above the last commit. MEMORY. */
 uint32_t rughvadi_open_row(rughvadi_handle *h, uint64_t version, const uint8_t *bytes, size_t len);
 
-/* Third: the handle holds the server then. All that it has counts as on disk. It knows no client,
- * or in a life the floor of each.
- * OTHER_KIND. ROOM: not each page has its row. MEMORY: alone of all calls, the rows are gone then,
- * and the handle is empty: begin again. */
+/* The third step, after which the handle holds the server. All that it has counts as on disk. It
+ * knows no client, or in a life the floor of each.
+ * OTHER_KIND. ROOM: a page has no row. MEMORY: the rows are gone then, and the handle is empty, so
+ * begin again. No other call does that. */
 uint32_t rughvadi_open_serve(rughvadi_handle *h);
 
-/* Makes the batch that is to be written next: every page that a commit changed which isn't on disk.
- * *number is the last commit in it, *pages how many pages it has.
+/* Makes the batch that is to be written next: every page that was changed by a commit which isn't
+ * on disk yet. *number is the last commit in it, *pages how many pages it has.
  * The host writes these pages, and the number, in one transaction of its store, and syncs it. Only
  * then does it call rughvadi_server_flushed with the number.
  * OTHER_KIND. NOTHING: every commit is on disk. MEMORY. */
 uint32_t rughvadi_server_batch(rughvadi_handle *h, uint64_t *number, size_t *pages);
 
-/* A page of the batch, by its place from 0: its number, its version, and its bytes, to the room.
+/* Tells a page of the batch, by its place from 0: its number, its version, and its bytes, which go
+ * to the room.
  * OTHER_KIND. NOTHING: there is no batch, or no such place. ROOM: the room isn't as long as a
  * page. */
 uint32_t rughvadi_server_page(const rughvadi_handle *h, size_t at, uint8_t *room, size_t len,
                               uint32_t *page, uint64_t *version);
 
-/* Whether that commit was made and isn't on disk yet: then rughvadi_server_flushed takes it. */
+/* Whether that commit was made and isn't on disk yet, so that rughvadi_server_flushed takes it. */
 bool rughvadi_server_can_flush(const rughvadi_handle *h, uint64_t number);
 
-/* The commits up to this number are on disk now, synced: their clients are told.
- * OTHER_KIND, UNFETCHED. RANGE: rughvadi_server_can_flush is false of it. MEMORY. */
+/* Reports that the commits up to this number are on disk now, synced. Their clients are told.
+ * OTHER_KIND, UNFETCHED. RANGE: rughvadi_server_can_flush is false for the number. MEMORY. */
 uint32_t rughvadi_server_flushed(rughvadi_handle *h, uint64_t number);
 
-/* The commits up to this number, which are on disk, leave the server's memory. The host calls it
- * after rughvadi_server_flushed with the same number, or now and then; without it the memory grows
- * with each commit. It costs no more than what it lets go.
+/* Drops the commits up to this number, which are on disk, from the server's memory. Call it after
+ * rughvadi_server_flushed with the same number, or now and then; without it the memory grows with
+ * each commit. Its cost grows with what it drops alone.
  * OTHER_KIND. RANGE: no commit has this number, or not all up to it are on disk. */
 uint32_t rughvadi_server_forget(rughvadi_handle *h, uint64_t number);
 
-/* A client went away and won't come back by its present incarnation: what it held is taken from it,
- * and those who waited for it go on. Among what is said is a Welcome to it, which nobody awaits. A
- * commit of its that was applied stands. Without this call the others may wait for it forever.
+/* Tells the server that a client went away and won't come back in its present incarnation. The
+ * server takes back what the client held, and those who waited for it go on. Its commits that were
+ * applied stand. One of the frames that go out is a Welcome to that client, which nobody awaits.
+ * Without this call the other clients may wait for it forever.
  * OTHER_KIND, UNFETCHED. RANGE: there is no such client, or no incarnation is left. MEMORY. */
 uint32_t rughvadi_server_leave(rughvadi_handle *h, uint32_t client);
 
-/* The incarnation that the client may greet with next: one more than the last that the server heard
- * of since it was made, and than the floor of its life. One without a life that was made anew has
- * heard of none: then the host has to keep the number.
+/* Tells the incarnation with which the client may greet next. It is one more than the greater of
+ * two: the last incarnation that this server heard of, and the floor of its life. A new server
+ * without a life has heard of none, so the host has to keep the number.
  * OTHER_KIND. RANGE: as above. */
 uint32_t rughvadi_server_incarnation(const rughvadi_handle *h, uint32_t client,
                                      uint64_t *incarnation);
 
 /* ---- a client ---- */
 
-/* A client at the start of an incarnation, which no earlier one of its number had: else frames that
- * were meant for that one are taken by this one.
+/* Makes a client at the start of an incarnation. No earlier client of its number may have had that
+ * incarnation: else this one takes frames that were meant for the other.
  * HELD, LIMIT_... RANGE: there is no such client or incarnation (1 to 2^62 - 1). MEMORY. */
 uint32_t rughvadi_client_new(const rughvadi_limits *limits, uint32_t client, uint64_t incarnation,
                              rughvadi_handle *h);
 
-/* Greets the server: the first thing to send. The client is welcome once the answer was taken.
+/* Greets the server. Send this first. The client is welcome once it has taken the answer.
  * OTHER_KIND, UNFETCHED. */
 uint32_t rughvadi_client_hello(rughvadi_handle *h);
 
-/* Begins a transaction; *txn is its number. It says nothing.
+/* Begins a transaction; *txn is its number. It sends no frame.
  * OTHER_KIND, NOT_WELCOME, TRANSACTION_OPEN, EXHAUSTED. */
 uint32_t rughvadi_client_begin(rughvadi_handle *h, uint64_t *txn);
 
-/* Reads a page in the open transaction. Where *here is true its bytes are in the room, no frame was
- * said, and nobody writes the page before the transaction ends, unless the server restarts or is
- * told that the client left. Else an ask is out: fetch it, send it, hand in what comes until the
- * status isn't WAITING any more, and read again.
+/* Reads a page in the open transaction. If *here is true, its bytes are in the room, and no frame
+ * goes out. Nobody writes the page before the transaction ends, unless the server restarts or is
+ * told that the client left. If *here is false, an ask goes out: fetch it, send it, hand in what
+ * comes until the status isn't WAITING any more, and read again.
  * OTHER_KIND. RANGE: no store has such a page (4,096 and more). UNFETCHED. ROOM: the room isn't as
- * long as a page. NOT_WELCOME. NO_TRANSACTION: also where it was aborted meanwhile. COMMITTING,
+ * long as a page. NOT_WELCOME. NO_TRANSACTION, which may have been aborted meanwhile. COMMITTING,
  * WAITING, PAGE_RANGE, POOL_FULL. */
 uint32_t rughvadi_client_read(rughvadi_handle *h, uint32_t page, uint8_t *room, size_t len,
                               bool *here);
 
-/* Wants to write a page that the transaction has read. Where *may is true it may now. Else an ask
- * is out, as with a read, and this call is made again after the answer.
+/* Asks to write a page that the transaction has read. If *may is true, it may be written now. If it
+ * is false, an ask goes out, as with a read; make this call again after the answer.
  * OTHER_KIND, RANGE, UNFETCHED, NOT_WELCOME, NO_TRANSACTION, COMMITTING, WAITING, PAGE_RANGE,
  * NOT_READ, NOT_HERE (read it again first). */
 uint32_t rughvadi_client_want(rughvadi_handle *h, uint32_t page, bool *may);
 
-/* Writes a page that the transaction has read and may write: in this client's pool alone, until the
- * commit. The bytes are copied. It says nothing.
+/* Writes a page that the transaction has read and may write. Until the commit it changes in this
+ * client's pool alone. The bytes are copied. It sends no frame.
  * OTHER_KIND, RANGE, NOT_WELCOME, NO_TRANSACTION, COMMITTING, WAITING, PAGE_RANGE, NOT_READ,
  * NOT_HERE, NOT_WRITABLE, WRONG_LENGTH. */
 uint32_t rughvadi_client_write(rughvadi_handle *h, uint32_t page, const uint8_t *bytes, size_t len);
 
-/* Commits the transaction: it is done, and on disk, once the status isn't COMMITTING any more and
+/* Commits the transaction. It is done, and on disk, once the status isn't COMMITTING any more and
  * rughvadi_client_last says that it committed.
- * OTHER_KIND, UNFETCHED, NOT_WELCOME, NO_TRANSACTION, COMMITTING, WAITING, MEMORY (only where it
+ * OTHER_KIND, UNFETCHED, NOT_WELCOME, NO_TRANSACTION, COMMITTING, WAITING, MEMORY (only if it
  * wrote). */
 uint32_t rughvadi_client_finish(rughvadi_handle *h);
 
@@ -329,15 +331,15 @@ uint32_t rughvadi_client_finish(rughvadi_handle *h);
  * OTHER_KIND, UNFETCHED, NOT_WELCOME, NO_TRANSACTION, COMMITTING, MEMORY. */
 uint32_t rughvadi_client_drop(rughvadi_handle *h);
 
-/* What the client says of itself: RUGHVADI_STATUS_.. */
+/* What the client reports about itself: RUGHVADI_STATUS_.. */
 uint32_t rughvadi_client_status(const rughvadi_handle *h);
 
-/* How the last transaction ended: RUGHVADI_ENDED_..; *number is its commit's number, else 0. */
+/* How the last transaction ended: RUGHVADI_ENDED_... *number is its commit's number, or 0. */
 uint32_t rughvadi_client_last(const rughvadi_handle *h, uint64_t *number);
 
-/* The bytes of the client's copy of a page, also outside of a transaction. It is no read, and locks
- * nothing. They are the store's, or what this client's transaction wrote over them, until the
- * server restarts or is told that the client left.
+/* Tells the bytes of the client's copy of a page, in a transaction or not. It isn't a read, and
+ * locks nothing. The bytes are the store's, or those that this client's transaction wrote, until
+ * the server restarts or is told that the client left.
  * OTHER_KIND, RANGE. NOTHING: it has none. ROOM: the room isn't as long as a page. */
 uint32_t rughvadi_client_peek(const rughvadi_handle *h, uint32_t page, uint8_t *room, size_t len);
 

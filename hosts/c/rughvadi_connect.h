@@ -1,7 +1,7 @@
 /* Connecting to a gateway, for clients in C. It is plain C, and no part of what is proved.
  *
- * A gateway serves stores by name. Whoever connects shows a token, and is told its client number,
- * its incarnation and the limits: what rughvadi_link_open needs.
+ * A gateway serves stores by name. A client that connects shows a token, and is told its number,
+ * its incarnation and the limits, which rughvadi_link_open needs.
  */
 #ifndef RUGHVADI_CONNECT_H
 #define RUGHVADI_CONNECT_H
@@ -21,7 +21,7 @@ enum {
   RUGHVADI_CONNECT_TOKEN = 0x502,    /* no client has this token */
   RUGHVADI_CONNECT_STORE = 0x503,    /* no store has this name */
   RUGHVADI_CONNECT_CLIENT = 0x504,   /* the store hasn't so many clients */
-  RUGHVADI_CONNECT_DOWN = 0x505      /* the store isn't served at the moment: come again */
+  RUGHVADI_CONNECT_DOWN = 0x505      /* the store isn't served at the moment: try again later */
 };
 
 /* What a client is told as it connects. */
@@ -35,19 +35,19 @@ typedef struct {
  * CONNECT_SYSTEM, CONNECT_TOKEN. */
 uint32_t rughvadi_token_read(const char *path, uint32_t client, uint8_t token[RUGHVADI_TOKEN]);
 
-/* Connects a socket, to HOST:PORT, where an IPv6 address may stand in brackets, or to the path of a
- * Unix socket: a name with a '/' in it. It is the caller's, to be closed after the link. Over TCP
- * it is found within 20 seconds that the other end is gone, also where nothing is sent: the next
- * call then answers RUGHVADI_LINK_SYSTEM.
- * CONNECT_SYSTEM; with ETIMEDOUT where an IP address or a path is silent for five seconds. */
+/* Connects a socket to HOST:PORT, with an IPv6 address in brackets, or to the path of a Unix
+ * socket, which is a name with a '/' in it. The socket is the caller's, to be closed after the
+ * link. Over TCP the system notices within 20 seconds that the other end is gone, even if nothing
+ * is sent; the next call then returns RUGHVADI_LINK_SYSTEM.
+ * CONNECT_SYSTEM; with ETIMEDOUT if an IP address or a path is silent for five seconds. */
 uint32_t rughvadi_dial(const char *address, int *socket);
 
-/* The same, within so many milliseconds at each IP address; below 0: as long as the system waits.
- * How long a name is looked up isn't bounded. */
+/* The same, within so many milliseconds for each IP address; below 0: as long as the system waits.
+ * The look-up of a name has no bound. */
 uint32_t rughvadi_dial_within(const char *address, int connect_ms, int *socket);
 
-/* Greets a gateway. Where it is refused the socket is of no use any more.
- * CONNECT_..; CONNECT_SYSTEM with ETIMEDOUT where the answer isn't whole after ten seconds. */
+/* Greets a gateway. If it is refused, the socket is of no use any more.
+ * CONNECT_..; CONNECT_SYSTEM with ETIMEDOUT if the answer isn't complete after ten seconds. */
 uint32_t rughvadi_greet(int socket, const uint8_t token[RUGHVADI_TOKEN], const char *store,
                         rughvadi_seat *seat);
 
@@ -55,17 +55,17 @@ uint32_t rughvadi_greet(int socket, const uint8_t token[RUGHVADI_TOKEN], const c
 uint32_t rughvadi_greet_within(int socket, const uint8_t token[RUGHVADI_TOKEN], const char *store,
                                int greeting_ms, rughvadi_seat *seat);
 
-/* All in one: dials, greets and opens a link, which closes the socket. Several addresses have
- * commas between them, and are tried in turn from the first on: the next one where nobody answers
- * in time, the connection ends, or the store isn't served there (CONNECT_DOWN, LINK_SILENT). What
- * was answered last is the fault. After each fault the link is empty.
- * CONNECT_.., and what rughvadi_link_open answers. */
+/* All in one: dials, greets and opens a link, which closes the socket. Several addresses are
+ * separated by commas, and tried in turn from the first on. The next one is tried if nobody answers
+ * in time, the connection ends, or the store isn't served there (CONNECT_DOWN, LINK_SILENT). The
+ * last fault is returned. After each fault the link is empty.
+ * CONNECT_.., and the faults of rughvadi_link_open. */
 uint32_t rughvadi_link_connect(rughvadi_link *link, const char *addresses,
                                const uint8_t token[RUGHVADI_TOKEN], const char *store,
                                rughvadi_seat *seat);
 
-/* Where a store is served, for a program that connects anew when its link is gone. Its fields but
- * the first are 0 at first. */
+/* Where a store is served, for a program that connects again once its link is gone. Set all fields
+ * but the first to 0 at first. */
 typedef struct {
   const char *addresses; /* as above; it is read by each call */
   uint32_t next;         /* the place in the list, from 0, of the address that is tried next */
@@ -74,8 +74,8 @@ typedef struct {
   uint32_t reserved[4];
 } rughvadi_gateways;
 
-/* The same, each address once: first the one behind that which was tried last. So after a link is
- * gone the program goes on at the next address. */
+/* The same, each address once, beginning behind the one that was tried last. Once a link is gone,
+ * the program therefore goes on at the next address. */
 uint32_t rughvadi_link_connect_next(rughvadi_link *link, rughvadi_gateways *gateways,
                                     const uint8_t token[RUGHVADI_TOKEN], const char *store,
                                     rughvadi_seat *seat);

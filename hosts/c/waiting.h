@@ -23,15 +23,15 @@ static inline moment in_ms(int64_t wait_ms) {
   return wait_ms < 0 || wait_ms > NEVER / 2000000 ? NEVER : now() + wait_ms * 1000000;
 }
 
-/* What is left until then: nothing where it has passed. */
+/* How long it is until then: 0 if that moment has passed. */
 static inline struct timespec left_until(moment until) {
   moment left = until - now();
   left = left < 0 ? 0 : left;
   return (struct timespec){.tv_sec = left / 1000000000, .tv_nsec = left % 1000000000};
 }
 
-/* Above 0 where something is there that is watched for, 0 where the moment passed or a signal came,
- * below 0 where the system refused: errno says how. */
+/* Waits for what is watched for. Above 0 if it is there, 0 if the moment passed or a signal came,
+ * below 0 if the system refused: errno says how. */
 static inline int watch(struct pollfd *watched, moment until) {
   struct timespec left = left_until(until);
   int ready = ppoll(watched, 1, until == NEVER ? NULL : &left, NULL);

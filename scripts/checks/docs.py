@@ -7,7 +7,7 @@
 - Each program that a page shows under a remark with a file's name is that file, byte for byte; under
   a remark that begins with `part of`, it is a part of the file. EMBEDDING, README and TUTORIAL show
   some.
-- The map, docs/MAP.md: the floors of crates.txt, each with its crates, in the same order; each file
+- The map, docs/MAP.md: the groups of crates.txt, each with its crates, in the same order; each file
   that it names of a crate is one of its sources; and each crate stands only on crates above it.
 - scripts/contracts runs, and prints a part of each crate of crates.txt, but of cb_tests.
 - The pictures of docs/charts are what the stored run of `cb_play` prints, byte for byte.
@@ -79,19 +79,19 @@ def other_programs(page: pathlib.Path) -> list[str]:
     return wrong
 
 
-def floors() -> list[tuple[str, dict[str, list[str]]]]:
-    """Each floor of crates.txt, with its crates and the libraries that each stands on."""
+def groups() -> list[tuple[str, dict[str, list[str]]]]:
+    """Each group of crates.txt, with its crates and the libraries that each stands on."""
     found = []
     for line in (TOP / "crates.txt").read_text().splitlines():
-        if floor := re.fullmatch(r"# (\w+): .*", line):
-            found.append((floor[1], {}))
+        if group := re.fullmatch(r"# (\w+): .*", line):
+            found.append((group[1], {}))
         elif crate := re.fullmatch(r"(\w+)\b[^:]*:(.*)", line.partition("#")[0]):
             found[-1][1][crate[1]] = crate[2].split()
     return found
 
 
 def mapped() -> list[tuple[str, dict[str, str]]]:
-    """Each floor of the map, with its crates and what is said of each."""
+    """Each group of the map, with its crates and what is said of each."""
     text = (TOP / "docs/MAP.md").read_text().partition("\n## ")[0]
     found = []
     for line in text.splitlines():
@@ -128,8 +128,8 @@ def other_pictures() -> list[str]:
 def misplaced() -> list[str]:
     """Crates that stand on one that isn't above them."""
     above, wrong = set(), []
-    listed = {name for _, crates in floors() for name in crates}
-    for _, crates in floors():
+    listed = {name for _, crates in groups() for name in crates}
+    for _, crates in groups():
         for name, libraries in crates.items():
             below = [it for it in libraries if it in listed - above]
             wrong += [f"{name} stands on {it}, which isn't above it" for it in below]
@@ -178,7 +178,7 @@ def unprinted() -> list[str]:
     if ran.returncode:
         return [f"scripts/contracts ends with status {ran.returncode}"]
     printed = set(re.findall(r"^### (\w+)$", ran.stdout, re.MULTILINE)) | {"cb_tests"}
-    listed = [name for _, crates in floors() for name in crates]
+    listed = [name for _, crates in groups() for name in crates]
     return [f"scripts/contracts: no {name}" for name in listed if name not in printed]
 
 
@@ -201,8 +201,8 @@ def main(_words: list[str]) -> int:
         wrong += other_programs(TOP / name)
     wrong += misplaced() + lost_links() + lost_sources() + other_pictures()
     wrong += bad_edits() + unprinted()
-    drawn = [(floor, list(crates)) for floor, crates in mapped()]
-    if drawn != [(floor, list(crates)) for floor, crates in floors()]:
+    drawn = [(group, list(crates)) for group, crates in mapped()]
+    if drawn != [(group, list(crates)) for group, crates in groups()]:
         wrong.append("the map isn't that of crates.txt")
     for what in wrong:
         print(what)

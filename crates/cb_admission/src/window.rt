@@ -31,7 +31,7 @@ pub enum TryEnd {
 /// How many tries are in, how many may be, and who waits to be let in.
 ///
 /// A try is let in while fewer are in than the window is wide. While others wait, a client is let
-/// in sixteen times in a row at most: then it is passed over once. No call takes memory, and none
+/// in at most sixteen times in a row, and is then passed over once. No call takes memory, and none
 /// costs more than a few machine steps.
 #[derive(Clone, Copy)]
 pub struct AdmissionWindow {
@@ -100,8 +100,9 @@ impl AdmissionWindow {
         }
     }
 
-    /// Whether a try of the client is let in; the client waits no more then. `false` where it may
-    /// not enter: it waits then, and one that was passed over isn't the next time.
+    /// Lets a try of the client in, if there is room; the client then waits no more. `false` if it
+    /// may not enter: it waits then, and a client that was passed over isn't passed over the next
+    /// time.
     pub fn enter(&mut self, client: ClientNo) -> bool
         ensures exact { result ≡ may_enter self.old client }
         ensures after { MatchBool result (Enters self.old client self.new)
@@ -157,8 +158,8 @@ impl AdmissionWindow {
         self.waiting.insert(client);
     }
 
-    /// A try ends. One that was aborted halves the width, and so many commits with none aborted
-    /// between them widen it by one.
+    /// A try ends. An aborted try halves the width. So many commits with no aborted try between
+    /// them widen it by one.
     pub fn leave(&mut self, end: TryEnd)
         ensures { self.new ≡ after_try self.old end }
     {
@@ -178,7 +179,7 @@ impl AdmissionWindow {
         self.turns = 0;
     }
 
-    /// Who is to be let in next, where one may be and somebody waits: the first after the one that
+    /// Who is to be let in next, if there is room and somebody waits: the first after the one that
     /// was let in last, by their numbers.
     pub fn next(&self) -> Option<ClientNo>
         ensures { MatchOption result (NoneIsNext self.now) (IsNextIn self.now) }

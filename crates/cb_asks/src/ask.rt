@@ -5,16 +5,14 @@ ghost use Rattle.cb_asks.specs.declared.ask.Fate.TheVariants as fate;
 use cb_page::{ClientNo, GrantNo};
 use std::marker::Model;
 
-/// An ask that has left its queue, and isn't answered yet.
-///
-/// It can't be copied, and can't be let go unspent: what became of it is said by one of three
-/// words, which answer its [`Fate`].
+/// An ask that has left its queue, and isn't answered yet. It can't be copied or dropped. One of
+/// three calls spends it, says what became of it, and returns its [`Fate`].
 pub struct Ask {
     client: ClientNo,
     write_grant: Option<GrantNo>,
 }
 
-/// What became of an ask: the word by which it was spent.
+/// What became of an ask: the call by which it was spent.
 #[derive(Clone, Copy)]
 pub enum Fate {
     /// Its client got the copy, or may write its copy of that grant.

@@ -57,7 +57,7 @@ impl Model for Asks {
 impl Asks {
     /// Nobody asks.
     ///
-    /// `AllocError` only where memory was refused.
+    /// `AllocError` only if memory was refused.
     pub fn new(alloc: Global, limits: &Limits) -> Result<Asks, AllocError>
         ensures empty { IfOk result (λ asks. (page : ℕ) → queue_at asks page ≡ []) }
         ensures pages { IfOk result (λ asks. length asks.queues ≡ limits.now.pages) }
@@ -89,8 +89,8 @@ impl Asks {
         self.places.get(client)
     }
 
-    /// The least page at or after a place for which an ask waits: with `from` one past the last
-    /// answer this walks through these pages, rising. It costs as many steps as asks wait.
+    /// The least page at or above `from` for which an ask waits. Calls with one more than the last
+    /// answer walk through these pages in rising order. It costs as many steps as asks wait.
     pub fn next_page(&self, from: usize) -> Option<PageNo>
         ensures { MatchOption result
             ((page : ℕ) → from ≤ page → queue_at self.now page ≡ [])
@@ -106,7 +106,7 @@ impl Asks {
         next
     }
 
-    /// How many asks wait. It costs as many steps.
+    /// How many asks wait. It costs as many steps as that.
     pub fn waiting_asks(&self) -> usize
         ensures asks { (server : Server) → HasQueues server self.now
             → asks_below server server.pages ≡ result }
@@ -131,8 +131,8 @@ impl Asks {
         self.places.reads()
     }
 
-    /// How many asks to read wait once the client's transaction is forgotten, and its ask is gone.
-    /// It costs a look at the client's ask.
+    /// How many asks to read would wait once the client's transaction is forgotten, and its ask is
+    /// gone. It costs a look at that ask.
     pub fn read_asks_of_others(&self, client: ClientNo) -> usize
         ensures { (server : Server) → HasQueues server self.now
             → read_asks_below (after_server_step server (ForgetTransaction client)) server.pages
@@ -157,7 +157,7 @@ impl Asks {
     /// Makes room for one more ask at the page. Whether it is refused or not, nobody asks more or
     /// less.
     ///
-    /// `AllocError` only where memory was refused, so never where there is room, as where nobody
+    /// `AllocError` only if memory was refused, so never if there is room, which there is if nobody
     /// waits for the page.
     pub fn reserve(&mut self, page: PageNo) -> Result<(), AllocError>
         requires { HasPage self.old page }
@@ -169,8 +169,8 @@ impl Asks {
         self.queues[page.index()].reserve()
     }
 
-    /// An ask of the client goes to the end of the page's queue: by the grant of a copy to write,
-    /// else to read.
+    /// An ask of the client enters at the end of the page's queue. It is to write by the grant of a
+    /// copy, or else to read.
     pub fn enter(&mut self, page: PageNo, client: ClientNo, write_grant: Option<GrantNo>)
         requires page { HasPage self.old page }
         requires room { 0 < room_at self.old page }
@@ -195,7 +195,7 @@ impl Asks {
         Ask::new(first.client, first.write_grant)
     }
 
-    /// The client's ask goes, wherever it waits. It costs that page's queue alone.
+    /// Removes the client's ask, wherever it waits. It costs a walk over that page's queue alone.
     pub fn remove(&mut self, client: ClientNo) -> Option<Ask>
         ensures ask { (page : ℕ) → ask_count client (queue_at self.old page) ≢ 0
             → result ≡ option_map asked (ask_by client (queue_at self.old page)) }

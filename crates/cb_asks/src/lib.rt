@@ -2,8 +2,8 @@
 //!
 //! A client that wants a page asks the server for it, to read or to write, and waits in the page's
 //! queue (Franklin, Carey and Livny, TODS 1997). A client has at most one ask at all. [`Asks`] has
-//! the queues; whoever takes an ask out gets an [`Ask`], and has to say its [`Fate`]. [`Marks`] notes
-//! which client said that its transaction uses a page that it was called back for.
+//! the queues. Whoever takes an ask out gets an [`Ask`], and has to say its [`Fate`]. [`Marks`]
+//! notes which clients said that their transaction uses a page that was called back.
 #![tactic(auto)]
 
 mod ask;

@@ -8,9 +8,8 @@ use cb_page::{ClientNo, ClientSet, Limits, PageNo, PageSet};
 use std::alloc::{AllocError, Global};
 use std::marker::Model;
 
-/// Which client said, when it was called back for a page, that its transaction uses it.
-///
-/// Only `new` takes memory.
+/// Which clients said, when a page was called back, that their transaction uses the page. Only
+/// `new` takes memory.
 pub struct Marks {
     by_client: Vec<PageSet>,
     by_page: Vec<ClientSet>,
@@ -42,7 +41,7 @@ impl Model for Marks {
 impl Marks {
     /// No page is in use.
     ///
-    /// `AllocError` only where memory was refused.
+    /// `AllocError` only if memory was refused.
     pub fn new(alloc: Global, limits: &Limits) -> Result<Marks, AllocError>
         ensures none { IfOk result (λ marks. (client page : ℕ)
             → is_in_use marks client page ≡ false) }

@@ -51,9 +51,8 @@ impl Entry {
     }
 }
 
-/// The asks for one page, in order of arrival.
-///
-/// The first costs the same however many wait; taking one out shifts those behind it.
+/// The asks for one page, in order of arrival. Looking at the first one always costs the same;
+/// taking one out shifts those behind it.
 #[derive(Drop)]
 pub struct Queue {
     /// By client. `None`: nobody waits.
@@ -130,9 +129,9 @@ impl Queue {
         Some(entry.of(client))
     }
 
-    /// Makes room for one more ask. Where nobody waits there is room.
+    /// Makes room for one more ask. If nobody waits there is room.
     ///
-    /// `AllocError` only where memory was refused, so never where there is room.
+    /// `AllocError` only if memory was refused, so never if there is room.
     pub(crate) fn reserve(&mut self) -> Result<(), AllocError>
         ensures asks { self.new.asks ≡ self.old.asks }
         ensures kept { self.old.room ≤ self.new.room }
@@ -146,7 +145,7 @@ impl Queue {
         entries.reserve(1)
     }
 
-    /// An ask of a client goes to the end: of a spare map where nobody waits.
+    /// An ask of a client goes to the end: of a spare map if nobody waits.
     pub(crate) fn enter(
         &mut self,
         spare: &mut Spare,
@@ -172,7 +171,7 @@ impl Queue {
         self.entries = Some(entries);
     }
 
-    /// The queue's map, or a spare one where it has none.
+    /// The queue's map, or a spare one if it has none.
     #[tactic(auto, using(crate::proofs::Maps::used_some, crate::proofs::Maps::room_some))]
     fn take_map(&mut self, spare: &mut Spare) -> Box<IndexMap<Key, Entry>>
         requires room { 0 < self.old.room }

@@ -32,7 +32,7 @@ impl Model for Spare {
 impl Spare {
     /// One for each client.
     ///
-    /// `AllocError` only where memory was refused.
+    /// `AllocError` only if memory was refused.
     pub(crate) fn new(alloc: Global) -> Result<Spare, AllocError>
         ensures { IfOk result (λ spare. spare ≡ 32) }
     {

@@ -22,11 +22,11 @@ use cb_twoq::Chooser;
 use std::alloc::{AllocError, Global};
 use std::marker::Model;
 
-/// A client's copies of pages: of each the grants that came, its version, its bytes in a pool, the
-/// permission to write it, and whether the transaction wrote it or asked to.
+/// A client's copies of pages. Of each page it has the grants that came, the version, the bytes in
+/// a pool, the permission to write, and whether the transaction wrote it or asked to.
 ///
-/// Each method that changes something is one step of the protocol, save `restart`; which step comes
-/// when, its caller decides. Only `new`, `install` and `fill` take memory.
+/// Each method that changes something is one step of the protocol, except `restart`. The caller
+/// decides which step comes when. Only `new`, `install` and `fill` take memory.
 pub struct Cache<Q: Chooser> {
     limits: Limits,
     table: CopyTable,
@@ -75,8 +75,8 @@ impl<Q: Chooser> Model for Cache<Q> {
 }
 
 impl<Q: Chooser> Cache<Q> {
-    /// No grant ever came, over an empty chooser of as many slots as the limits say. It is refused
-    /// only where memory is.
+    /// A cache to which no grant ever came, with an empty chooser that has as many slots as the
+    /// limits say. It is refused only if memory is.
     pub fn new(alloc: Global, chooser: Q, limits: &Limits) -> Result<Cache<Q>, AllocError>
         requires members { Q.members chooser ≡ [] }
         requires slots { Q.slots chooser ≡ limits.now.slots }
@@ -102,7 +102,7 @@ impl<Q: Chooser> Cache<Q> {
     }
 
     /// Lends the pool's chooser, whose members are the pages with bytes in the pool. The calls in
-    /// the pool's history made it of one with no members.
+    /// the pool's history made it, from a chooser with no members.
     pub fn chooser(&self) -> &Q
         ensures members { (page : ℕ)
             → on (Q.members result.now) page ≡ is_some (content_at self.now page) }
@@ -141,7 +141,7 @@ impl<Q: Chooser> Cache<Q> {
         self.wanted.contains(page) || self.wrote.contains(page)
     }
 
-    /// The first page that the transaction wrote at or after a place.
+    /// The first page at or above this one that the transaction wrote.
     pub fn next_written(&self, from: usize) -> Option<PageNo>
         ensures { MatchOption result
             ((page : ℕ) → from ≤ page → has self.now.wrote page ≡ false)
@@ -169,7 +169,7 @@ impl<Q: Chooser> Cache<Q> {
 
     /// Refers to a page, if its bytes are in the pool, and says whether they are.
     ///
-    /// The copies are the same, save for that reference.
+    /// The copies stay the same, but for that reference.
     pub fn refer(&mut self, page: PageNo) -> bool
         ensures here { result ≡ is_some (content_at self.old page) }
         ensures same { self.new ≡ referred_to self.old page }
@@ -197,11 +197,11 @@ impl<Q: Chooser> Cache<Q> {
         self.pool.has_free_slot()
     }
 
-    /// A new copy comes. The bytes of the page answered, if any, went from the pool, and its grant
-    /// is bare now: a caller that doesn't read it lets it go by `let_go`.
+    /// A new copy comes. If a page is returned, its bytes went from the pool, and its grant is bare
+    /// now. A caller that doesn't read that page lets it go by `let_go`.
     ///
-    /// `Full` comes where the page isn't in the pool and there is no room, and `Memory` only where
-    /// a growth of the chooser was refused; nothing changes then, and the bytes come back.
+    /// `Full` comes if the page isn't in the pool and there is no room, and `Memory` only if a
+    /// growth of the chooser was refused; nothing changes then, and the bytes come back.
     pub fn install(
         &mut self,
         page: PageNo,
@@ -235,7 +235,7 @@ impl<Q: Chooser> Cache<Q> {
         Ok(gone)
     }
 
-    /// Bytes come for a grant that is held. What is answered and refused is as for `install`.
+    /// Bytes come for a grant that is held. Answers and refusals are those of `install`.
     pub fn fill(&mut self, page: PageNo, bytes: Page) -> Result<Option<PageNo>, (PoolFault, Page)>
         requires held { is_some (copy_at self.old page).held ≡ true }
         requires page { page < self.old.limits.pages }
@@ -253,7 +253,7 @@ impl<Q: Chooser> Cache<Q> {
         self.pool.install_or_return(page, bytes)
     }
 
-    /// A grant is seen that isn't held.
+    /// Notes a grant that isn't held.
     pub fn refuse(&mut self, page: PageNo, grant: GrantNo)
         requires { page < self.old.limits.pages }
         ensures { Does self.old (ChangeCache (RefuseGrant page grant) ∷ []) self.new }
@@ -328,7 +328,7 @@ impl<Q: Chooser> Cache<Q> {
     }
 
     /// The transaction ends as dropped or aborted: the copies that it wrote go, and all
-    /// permissions. It costs the pages written, and what [`PageSet`] says of a walk.
+    /// permissions. It costs a walk over the pages written ([`PageSet`]).
     pub fn abandon(&mut self)
         ensures by_table { (outcome : LastOutcome)
             → Does self.old (EndTransaction outcome ∷ ChangeCache Abandon ∷ []) self.new }
@@ -341,8 +341,8 @@ impl<Q: Chooser> Cache<Q> {
         self.pool.unfix_all();
     }
 
-    /// The transaction ends as committed with that number, which is the version of what it wrote;
-    /// permissions stay where they are kept. It costs the same.
+    /// The transaction ends as committed with that number, which becomes the version of what it
+    /// wrote. Permissions stay if they are kept. It costs as much as `abandon`.
     pub fn take_done(&mut self, number: CommitNo)
         ensures by_table { (outcome : LastOutcome)
             → Does self.old (EndTransaction outcome ∷ ChangeCache (TakeDone number) ∷ []) self.new }
@@ -357,11 +357,9 @@ impl<Q: Chooser> Cache<Q> {
         self.pool.unfix_all();
     }
 
-    /// Begins the client's next incarnation, over an empty chooser of as many slots as the limits
-    /// say.
-    ///
-    /// It takes no memory, and costs the pages that a grant came for in the incarnation that ends
-    /// and what [`PageSet`] says of a walk, beside the drop of the chooser before.
+    /// Begins the client's next incarnation, with an empty chooser that has as many slots as the
+    /// limits say. It takes no memory. It costs a walk over the pages for which a grant came in the
+    /// incarnation that ends ([`PageSet`]), and the drop of the former chooser.
     pub fn restart(&mut self, chooser: Q)
         requires members { Q.members chooser ≡ [] }
         requires slots { Q.slots chooser ≡ self.old.limits.slots }

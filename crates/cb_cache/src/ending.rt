@@ -107,11 +107,11 @@ fn end_pages<Q: Chooser>(
     }
 }
 
-/// The transaction ends as committed with that number: what it wrote has it as its version; copies
-/// that are due or bare are given back, and permissions that are due alone given up, by rising
-/// page. Answers these frames.
+/// The transaction ends as committed with that number, which becomes the version of what it wrote.
+/// Copies that are due or bare are given back, and permissions that are due alone are given up, by
+/// rising page. Returns these frames.
 ///
-/// `AllocError` only where memory for them was refused; nothing changes then.
+/// `AllocError` only if memory for them was refused; nothing changes then.
 pub fn commit_ends<Q: Chooser>(
     alloc: Global,
     copies: &mut Cache<Q>,
@@ -135,11 +135,11 @@ pub fn commit_ends<Q: Chooser>(
     Ok(frames)
 }
 
-/// The transaction ends as dropped or aborted, which is said first: the copies that it wrote go,
-/// and all permissions; these copies and those that are due or bare are given back, by rising page.
-/// Answers these frames.
+/// The transaction ends as dropped or aborted: the copies that it wrote go, and all permissions.
+/// Returns the frames: `said` first, which tells the server so, then a GiveBack of each written,
+/// due or bare copy, by rising page.
 ///
-/// `AllocError` only where memory for them was refused; nothing changes then.
+/// `AllocError` only if memory for them was refused; nothing changes then.
 pub fn drop_ends<Q: Chooser>(
     alloc: Global,
     copies: &mut Cache<Q>,

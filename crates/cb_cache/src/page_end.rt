@@ -37,8 +37,8 @@ pub(crate) fn may_say<Q: Chooser>(
     due || goes
 }
 
-/// Whether something is due of the page that is answered at the end: where the transaction is
-/// dropped, the permission alone isn't.
+/// Whether something is due of the page that is answered at the end: if the transaction is dropped,
+/// the permission alone isn't.
 #[tactic(auto, using(cb_locks::proofs::Counted::flag_at))]
 fn answers(locks: &ReadLocks, page: PageNo, dropped: bool) -> bool
     requires { page < length locks.now.locked }
@@ -118,7 +118,7 @@ fn is_permission_alone(due: &CallbackDue, goes: bool) -> bool
     !goes && alone
 }
 
-/// The copy goes, save where the transaction wrote it and is dropped: then it goes with it.
+/// The copy goes, unless the transaction wrote it and is dropped: then it goes with it.
 fn let_go_unless<Q: Chooser>(copies: &mut Cache<Q>, page: PageNo, written: bool)
     requires page { page < copies.old.limits.pages }
     requires unwritten { written ≡ false → has copies.old.wrote page ≡ false }

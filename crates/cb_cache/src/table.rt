@@ -14,7 +14,7 @@ pub struct PageCopy {
     pub seen: Option<GrantNo>,
     /// The grant of the copy that is held.
     pub held: Option<GrantNo>,
-    /// The version of the copy held; where none is, that of the last one.
+    /// The version of the copy held; if none is, that of the last one.
     pub version: Version,
     /// The transaction that was last permitted to write the page.
     pub tag: Option<TxnNo>,

@@ -25,7 +25,7 @@ use cb_waits::{View, closes_cycle, waits_by_place};
 use std::alloc::{AllocError, Global};
 use std::marker::Model;
 
-/// What a page server has, and who waits for whom.
+/// What a page server knows, and who waits for whom.
 pub struct Callbacks {
     state: ServerState,
     view: View,
@@ -51,7 +51,7 @@ impl Model for Callbacks {
 impl Callbacks {
     /// No client is known, and nobody waits.
     ///
-    /// The store isn't copied. `AllocError` only where memory was refused.
+    /// The store isn't copied. `AllocError` only if memory was refused.
     pub fn new(alloc: Global, limits: &Limits, store: Store) -> Result<Callbacks, AllocError>
         requires { IsOf limits.now store }
         ensures server { IfOk result (λ callbacks. server_of callbacks.state
@@ -69,7 +69,7 @@ impl Callbacks {
         })
     }
 
-    /// What the server has of its clients and pages, who waits, and who uses a page.
+    /// What the server knows of its clients and pages, who waits, and who uses a page.
     pub fn state(&self) -> &ServerState
         ensures value { result.now ≡ self.now.state }
         ensures agree { PartsAgree result.now }
@@ -119,8 +119,8 @@ impl Callbacks {
         self.state.asks.read_asks()
     }
 
-    /// How many asks to read wait once a later transaction of the client has begun, with which its
-    /// own ask goes.
+    /// How many asks to read would wait once a later transaction of the client has begun, which
+    /// removes the client's own ask.
     pub fn read_asks_of_others(&self, client: ClientNo) -> usize
         ensures { result ≡ read_asks_below
             (after_server_step (server_of self.now.state) (ForgetTransaction client))

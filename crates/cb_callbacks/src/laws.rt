@@ -10,16 +10,16 @@ ghost use Rattle.cb_protocol.specs.ServerMessages.{lacks_number};
 ghost use Rattle.cb_protocol.specs.Session.{Admit};
 ghost use Rattle.cb_protocol.specs.WaitsFor.{on_cycle};
 
-/// An ask that enters is answered by one message at most, and by no copy.
+/// An ask that enters a queue is answered by one message at most, and by no copy.
 pub fn an_ask_sends_at_most_one()
     ensures { (server : Server) (page : ℕ) (ask : WaitingAsk) (outbox : OutboxState)
         → length outbox.sent + 1 ≤ outbox.room
         → HasRoomFor (enter_queue on_cycle server page ask) outbox }
 {}
 
-/// Each ask to read that waits can still have a grant number in the middle of a step: once a
-/// message's transaction has begun, once the message is answered, if it lacks no number, and once a
-/// greater incarnation is admitted.
+/// A grant number is left for each ask to read that waits, even in the middle of a step: once a
+/// message's transaction has begun, once the message is answered (if it doesn't lack a number
+/// itself), and once a greater incarnation is admitted.
 pub fn grants_are_left()
     ensures begins { (server : Server) (client txn : ℕ) → HasGrantsLeft server
         → HasGrantsLeft (server_after server (begin_transaction server client txn)) }

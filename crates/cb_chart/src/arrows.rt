@@ -22,8 +22,7 @@ pub struct Arrow {
     pub taken: u16,
 }
 
-/// Puts the packets that an event sent behind the others. `AllocError` only where memory was
-/// refused.
+/// Appends the packets that an event sent. `AllocError` only if memory was refused.
 pub(crate) fn add_sendings(
     sendings: &mut Vec<Sending>,
     sent: &[SentPacket],
@@ -42,7 +41,7 @@ pub(crate) fn add_sendings(
 }
 
 /// Puts the arrow that ends at an event behind the others, if the event took a packet. `AllocError`
-/// only where memory was refused.
+/// only if memory was refused.
 pub(crate) fn add_arrow(
     arrows: &mut Vec<Arrow>,
     sendings: &[Sending],

@@ -26,8 +26,8 @@ impl ClientCopy {
     }
 }
 
-/// A client could read a copy after each of these events, and may write it or not after all of
-/// them. It is a bar in the client's lane.
+/// A bar in a client's lane: the client could read a copy after each of these events, and either
+/// could write it after all of them or after none.
 #[derive(Clone, Copy, Debug, PartialEq, Eq)]
 pub struct Bar {
     pub copy: ClientCopy,
@@ -80,7 +80,7 @@ fn has_bar(bars: &[Bar], copy: &ClientCopy, event: u16) -> bool
 }
 
 /// The bars once these are the copies after that event: those of the event before go on, and a new
-/// one begins for each copy that has none. `AllocError` only where memory was refused.
+/// one begins for each copy that has none. `AllocError` only if memory was refused.
 pub(crate) fn go_on(
     alloc: Global,
     bars: &[Bar],

@@ -61,7 +61,7 @@ impl Drop for Chart {
 }
 
 impl Chart {
-    /// The chart of events that are played over a store of zeros. `Memory` only where memory was
+    /// The chart of events that are played over a store of zeros. `Memory` only if memory was
     /// refused.
     pub fn new(alloc: Global, limits: &Limits, events: &[Event]) -> Result<Chart, ChartFault>
         ensures shows { IfOk result (Shows limits.now events.now) }

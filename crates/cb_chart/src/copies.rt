@@ -9,8 +9,8 @@ use cb_twoq::Chooser;
 use cb_world::World;
 use std::alloc::{AllocError, Global};
 
-/// The copies that clients of the world can read, by rising client and page. `AllocError` only
-/// where memory was refused.
+/// The copies that clients of the world can read, by rising client and page. `AllocError` only if
+/// memory was refused.
 pub(crate) fn copies_in<Q: Chooser>(
     alloc: Global,
     world: &World<Q>,

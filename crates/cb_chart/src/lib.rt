@@ -1,9 +1,10 @@
-//! The chart of a run, as data: what is drawn of a schedule that is played over a store of zeros.
+//! The chart of a run, as data: everything that is drawn of a schedule played over a store of
+//! zeros.
 //!
 //! [`Chart::new`] plays a schedule event by event and notes what there is to see: each event with
 //! its answer, the packets that it sent ([`Sending`]), which event took which packet ([`Arrow`]),
-//! when each client had a copy of a page that it could read ([`Bar`]), and which transactions
-//! ended ([`Mark`]). Who draws it is told all by numbers of events, counted from 0.
+//! when each client had a copy of a page that it could read ([`Bar`]), and which transactions ended
+//! ([`Mark`]). All of it is told by numbers of events, counted from 0.
 #![tactic(auto)]
 
 mod arrows;

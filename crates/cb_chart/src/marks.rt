@@ -5,14 +5,14 @@ use cb_page::{ClientNo, ClientSet};
 use cb_twoq::Chooser;
 use cb_world::World;
 
-/// A client's transaction ended so.
+/// How a client's transaction ended.
 #[derive(Clone, Copy, Debug, PartialEq, Eq)]
 pub struct Ending {
     pub client: ClientNo,
     pub outcome: Outcome,
 }
 
-/// What an event made of transactions.
+/// What an event did to transactions.
 #[derive(Clone, Copy, Debug, PartialEq, Eq)]
 pub struct Mark {
     /// How many commits the server had made after it.

@@ -1,17 +1,17 @@
-//! What the calls that may need the server are answered.
+//! The answers to the calls that may need the server.
 
 use cb_frame::ShortFrame;
 
-/// What a read is answered.
+/// The answer to a read.
 #[derive(Clone, Copy, Debug, PartialEq, Eq)]
 pub enum ReadAnswer<'a> {
     /// The page's bytes, which the pool lends.
     Bytes(&'a [u8]),
-    /// The page is asked for, by the frame that [`Client::ask`](crate::Client::ask) answers.
+    /// The page is asked for, by the frame that [`Client::ask`](crate::Client::ask) returns.
     Asked,
 }
 
-/// What a transaction that wants to write a page is answered.
+/// The answer to a transaction that wants to write a page.
 #[derive(Clone, Copy, Debug, PartialEq, Eq)]
 pub enum WantAnswer {
     /// It may write the page at once.

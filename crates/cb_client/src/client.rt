@@ -26,10 +26,9 @@ use cb_twoq::Chooser;
 use std::alloc::{AllocError, Global};
 use std::marker::Model;
 
-/// One incarnation of a client over any pool, which `restart` makes another.
-///
-/// `new`, `finish`, `commit_frame`, `commit_again`, `drop_txn`, `take`, `take_owned`, `take_bytes`
-/// and `again` take memory; no other call does.
+/// One incarnation of a client over any pool; `restart` begins another one. `new`, `finish`,
+/// `commit_frame`, `commit_again`, `drop_txn`, `take`, `take_owned`, `take_bytes` and `again` take
+/// memory; no other call does.
 pub struct Client<Q: Chooser> {
     core: ClientCore<Q>,
 }
@@ -53,8 +52,8 @@ impl<Q: Chooser> Model for Client<Q> {
 }
 
 impl<Q: Chooser> Client<Q> {
-    /// A client at the start of an incarnation, over an empty chooser of as many slots as the
-    /// limits say. `AllocError` only where memory was refused.
+    /// A client at the start of an incarnation, with an empty chooser that has as many slots as the
+    /// limits say. `AllocError` only if memory was refused.
     pub fn new(
         alloc: Global,
         no: ClientNo,
@@ -120,8 +119,9 @@ impl<Q: Chooser> Client<Q> {
         self.core.incarnation
     }
 
-    /// The limits of its store and its pool. The client arose by the protocol's steps, whatever was
-    /// called and came before: so the laws that hold of every client hold of it.
+    /// The limits of its store and its pool. A clause says that the client arose by the protocol's
+    /// steps, whatever was called and received before. The laws of every client therefore hold of
+    /// it.
     pub fn limits(&self) -> &Limits
         ensures value { result.now ≡ self.now.copies.limits }
         ensures arose { IsClient self.now }
@@ -129,8 +129,9 @@ impl<Q: Chooser> Client<Q> {
         self.core.copies.limits()
     }
 
-    /// Lends the pool's chooser, whose members are the pages of which `peek` has the bytes. The calls
-    /// in the pool's history made it of one with no members: its references are those of the client.
+    /// Lends the pool's chooser, whose members are the pages of which `peek` has the bytes. The
+    /// calls in the pool's history made it, from a chooser with no members. Its references are
+    /// those of the client.
     pub fn chooser(&self) -> &Q
         ensures members { (page : ℕ) → on (Q.members result.now) page
             ≡ is_some (content_at self.now.copies page) }
@@ -152,8 +153,8 @@ impl<Q: Chooser> Client<Q> {
         self.core.stage.is_open() && self.core.copies.may_write(page)
     }
 
-    /// The grant of the client's copy of a page and the copy's version. `None` where it holds none,
-    /// or there is no such page.
+    /// The grant of the client's copy of a page and the copy's version. `None` if it holds none, or
+    /// there is no such page.
     pub fn held(&self, page: PageNo) -> Option<(GrantNo, Version)>
         ensures { result ≡ held_copy self.now page }
     {
@@ -168,7 +169,7 @@ impl<Q: Chooser> Client<Q> {
         }
     }
 
-    /// What the client says of itself.
+    /// What the client reports about itself.
     pub fn status(&self) -> ClientStatus
         ensures { (operations : List Operation)
             → status_of result ≡ client_status (client_of self.now operations) }

@@ -6,8 +6,8 @@ use std::alloc::AllocError;
 use std::fmt;
 use thiserror::Error;
 
-/// Why a call is refused; nothing changes then. The text is the fault's number and name; where
-/// several causes stand, the lowest number is answered.
+/// Why a call is refused; nothing changes then. The text is the fault's number and name. If several
+/// causes apply, the lowest number is returned.
 #[derive(Clone, Copy, Debug, PartialEq, Eq, Error)]
 pub enum ClientFault {
     /// The server's Welcome has not come.

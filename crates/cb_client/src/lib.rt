@@ -1,13 +1,12 @@
-//! One incarnation of a client: it opens transactions, reads pages without a message where it has
-//! them, asks to write, commits, and gives copies back when they are called.
+//! One incarnation of a client. It opens transactions, reads pages that it holds without a message,
+//! asks to write, commits, and gives copies back when they are called back.
 //!
-//! In contracts a [`Client`] is the protocol's client for every list of operations that its
-//! transaction may have done: each call answers and does what the protocol's table of calls says,
-//! and each message is taken as its table of messages says.
+//! In contracts a [`Client`] is the protocol's client, for every list of operations that its
+//! transaction may have done. Each call answers and does what the protocol's table of calls says,
+//! and takes each message as the table of messages says.
 //!
-//! What holds whatever was called and came is said by the laws. An example that is run as a test is
-//! `references_of_a_client` in `cb_layer_tests`, where a chooser of a caller's own stands with its
-//! proof.
+//! The laws say what holds whatever was called and received. An example that is run as a test is
+//! `references_of_a_client` in `cb_layer_tests`, beside a chooser of a caller's own and its proof.
 #![tactic(auto)]
 
 mod answers;

@@ -13,8 +13,8 @@ use cb_locks::ReadLocks;
 use cb_page::{ClientNo, Incarnation, TxnNo};
 use cb_twoq::Chooser;
 
-/// One incarnation of a client over any pool. Its fields change step by step: between two calls
-/// they belong together, which whoever changes them shows.
+/// One incarnation of a client over any pool. Its fields change step by step. Between two calls
+/// they agree; whoever changes them has to show that.
 #[derive(Drop)]
 pub struct ClientCore<Q: Chooser> {
     pub no: ClientNo,

@@ -29,7 +29,7 @@ impl Stage {
     }
 }
 
-/// The ask that is out.
+/// The ask that has no answer yet.
 #[derive(Clone, Copy, Debug, PartialEq, Eq)]
 pub enum PendingAsk {
     /// None is.
@@ -41,7 +41,7 @@ pub enum PendingAsk {
 }
 
 impl PendingAsk {
-    /// Whether any is.
+    /// Whether there is one.
     pub fn is_out(self) -> bool
         ensures { result ≡ is_asking (ask_of self) }
     {
@@ -63,7 +63,7 @@ pub enum Outcome {
     Aborted,
 }
 
-/// What a client says of itself.
+/// What a client reports about itself.
 #[derive(Clone, Copy, Debug, PartialEq, Eq)]
 pub enum ClientStatus {
     /// The server's Welcome has not come.

@@ -12,8 +12,8 @@ use cb_page::{Page, PageNo};
 use cb_twoq::Chooser;
 use std::alloc::{AllocError, Global};
 
-/// What a commit says of the pages that the transaction wrote, rising. Room for all of them is made
-/// before the first is copied. `AllocError` only where memory for them was refused, so never where
+/// The pages that the transaction wrote, as its commit has them, rising. Room for all of them is
+/// made before the first is copied. `AllocError` only if memory for them was refused, so never if
 /// it wrote nothing.
 pub fn written_so_far<Q: Chooser>(alloc: Global, copies: &Cache<Q>) -> Result<Writes, AllocError>
     ensures said { IfOk result (λ writes. (client : TableClient) → page_writes writes

@@ -23,9 +23,9 @@ use std::marker::Model;
 /// A page store, the commits that made it from its opening state, and the number of the last commit
 /// on disk.
 ///
-/// Commit numbers go on from the opening store's. A commit's pages stay in memory until it is
-/// forgotten. In contracts nothing is forgotten: the opening store and all commits stand there for
-/// good, beside how many of the commits were forgotten.
+/// Their numbers follow the opening store's last one. A commit's pages stay in memory until it is
+/// forgotten. In contracts nothing is lost: they keep the opening store and all commits, beside how
+/// many of the commits were forgotten.
 pub struct Commits {
     /// The opening store, for proofs alone.
     opening: Log<Store, ()>,
@@ -63,9 +63,9 @@ impl Model for Commits {
 }
 
 impl Commits {
-    /// No commits yet, over a store of these limits; what the store opens with counts as on disk.
+    /// No commits yet, over a store of these limits, all of which counts as on disk.
     ///
-    /// The store isn't copied. `AllocError` only where memory was refused.
+    /// The store isn't copied. `AllocError` only if memory was refused.
     pub fn new(alloc: Global, limits: &Limits, store: Store) -> Result<Commits, AllocError>
         requires { IsOf limits.now store }
         ensures { IfOk result (λ commits. commits ≡ begun store) }
@@ -80,7 +80,7 @@ impl Commits {
         })
     }
 
-    /// The number that the next commit gets; `None` where all numbers are used up.
+    /// The number that the next commit gets; `None` if all numbers are used up.
     pub fn next_number(&self) -> Option<CommitNo>
         ensures value { IfSome result (λ number. number ≡ self.now.store.number + 1) }
         ensures succeeds { IsSome result ↔ (self.now.store.number + 1 ≤ max_number) }
@@ -88,10 +88,10 @@ impl Commits {
         CommitNo::checked(self.store.number() + 1)
     }
 
-    /// Adds a commit, writes it over the store, and answers its number. The list keeps the pages
+    /// Adds a commit, writes it over the store, and returns its number. The list keeps the pages
     /// that are handed in.
     ///
-    /// Refused only where memory was, and the pages come back; nothing changes then.
+    /// Refused only if memory was; then the pages come back, and nothing changes.
     pub fn apply(
         &mut self,
         client: ClientNo,
@@ -128,10 +128,11 @@ impl Commits {
         Ok(number)
     }
 
-    /// What is to be written to disk next: each page that a commit changed which isn't on disk yet,
-    /// as it is now; `None` where every commit is on disk. It costs no more than those pages.
+    /// What is to be written to disk next: each page that was changed by a commit which isn't on
+    /// disk yet, as the page is now. `None` if every commit is on disk. It costs no more than those
+    /// pages.
     ///
-    /// `AllocError` only where memory was refused, so never where there is nothing to write.
+    /// `AllocError` only if memory was refused, so never if there is nothing to write.
     pub fn batch(&self, alloc: Global) -> Result<Option<Batch>, AllocError>
         ensures batch { IfOk result (λ batch. batch ≡ next_batch self.now) }
         ensures catches_up { IfOk result (λ batch. IfSome batch (CatchesUp self.now)) }
@@ -153,10 +154,10 @@ impl Commits {
         self.flushed < number.get() && number.get() <= self.store.number()
     }
 
-    /// The commits up to this number are on disk now: a Done for each that wasn't before, in order.
-    /// The list has room for these and no more.
+    /// The commits up to this number are on disk now. Returns a Done for each that wasn't before,
+    /// in order, in a list with no more room than that.
     ///
-    /// `AllocError` only where memory was refused.
+    /// `AllocError` only if memory was refused.
     pub fn flushed(&mut self, alloc: Global, number: CommitNo) -> Result<Vec<Frame>, AllocError>
         requires { CanFlush self.old number }
         ensures dones { IfOk result (λ frames.
@@ -175,9 +176,9 @@ impl Commits {
         Ok(frames)
     }
 
-    /// The commits up to this number, which are on disk, are forgotten: they leave memory. It costs
-    /// no more than they are, whatever is left. Nothing changes where they were forgotten before,
-    /// or where no commit has a number as low.
+    /// Forgets the commits up to this number, which are on disk: they leave memory. Its cost grows
+    /// with their number alone, however many are left. Nothing changes if they were forgotten
+    /// before, or if no commit has a number as low.
     pub fn forget(&mut self, number: CommitNo)
         requires on_disk { number ≤ self.old.flushed }
         ensures { self.new ≡ forgot self.old number }
@@ -195,7 +196,7 @@ impl Commits {
         &self.store
     }
 
-    /// The commits that weren't forgotten, the first one first: all, where none was.
+    /// The commits that weren't forgotten, in order.
     pub fn committed(&self) -> &[Commit]
         ensures value { result.now ≡ remembered self.now }
         ensures sound { AreCommits self.now }

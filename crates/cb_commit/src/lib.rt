@@ -5,9 +5,9 @@
 //! [`Commits`] keeps the opening store, the store, every commit since, and the number of the last
 //! commit that is on disk: the store is always the opening store with the commits written over it,
 //! in order. [`Commits::batch`] says what is to be written next. Once a batch is on disk,
-//! [`Commits::flushed`] answers a Done for each commit in it that wasn't reported yet.
+//! [`Commits::flushed`] returns a Done for each commit in it that wasn't reported yet.
 //!
-//! That the store is the fold of the commits is the invariant of [`Commits`]; a batch brings any
+//! The invariant of [`Commits`] is that the store is the fold of the commits. A batch brings any
 //! flushed state to the present one. An example that is run as a test is `batches_and_dones` in
 //! `cb_layer_tests`.
 #![tactic(auto)]

@@ -14,7 +14,7 @@ use std::marker::Model;
 /// A page and the number of the commit that wrote it last.
 #[derive(Drop)]
 pub struct StoredPage {
-    /// 0 where no commit has written the page.
+    /// 0 if no commit has written the page.
     pub version: Version,
     pub bytes: Page,
 }
@@ -69,7 +69,7 @@ impl Model for Store {
 impl Store {
     /// A store of these limits before any commit: every byte 0, every version 0.
     ///
-    /// `AllocError` only where memory was refused.
+    /// `AllocError` only if memory was refused.
     pub fn zeros(alloc: Global, limits: &Limits) -> Result<Store, AllocError>
         ensures { IfOk result (λ store. store ≡ zeros limits.now) }
     {
@@ -100,7 +100,7 @@ impl Store {
         }
     }
 
-    /// A copy of the store. `AllocError` only where memory was refused.
+    /// A copy of the store. `AllocError` only if memory was refused.
     pub fn copy(&self, alloc: Global) -> Result<Store, AllocError>
         ensures { IfOk result (λ store. store ≡ self.now) }
     {
@@ -134,7 +134,7 @@ impl Store {
         self.number
     }
 
-    /// The number of the commit that wrote the page last, 0 where none did.
+    /// The number of the commit that wrote the page last; 0 if none did.
     pub fn version(&self, page: PageNo) -> Version
         requires { page < length self.now.pages }
         ensures value { result ≡ version_at self.now page }

@@ -20,8 +20,8 @@ use std::io::Write;
 /// Draws so many events by the words of a seed, with the configuration's limits, and prints them as
 /// the text of a schedule.
 ///
-/// The answer is the program's status. A fault of the configuration, or want of memory, is said on
-/// `err`, and then nothing is on `out`. It fails only where a writer does.
+/// Returns the program's status. A fault of the configuration, or want of memory, is printed to
+/// `err`, and then nothing to `out`. It fails only if a writer does.
 pub fn draw_to<O: Write, E: Write>(
     alloc: Global,
     config: &[u8],

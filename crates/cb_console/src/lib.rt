@@ -1,10 +1,10 @@
-//! The settings of a play and of a run, what the program prints of a play and of a draw, and the
+//! The settings of a play and of a run, what the program prints about a play and a draw, and the
 //! statuses with which they end.
 //!
-//! [`read_config`] reads the settings, which are TOML; [`ConfigFault`] is what is wrong with a text
-//! of them. A [`Key`] is a setting's name. [`run_settings`] reads those that workers can run under,
-//! and [`print_refusal`] prints the line of any other. [`Escaped`] shows a text so that it stays
-//! one line.
+//! [`read_config`] reads the settings, which are TOML; a [`ConfigFault`] says what is wrong with
+//! them. A [`Key`] is a setting's name. [`run_settings`] reads settings under which workers can
+//! run, and [`print_refusal`] prints why any others are refused. [`Escaped`] shows a text so that
+//! it stays one line.
 //!
 //! [`play_to`] plays a schedule's text under a configuration's text and prints what became of each
 //! event, in two steps: [`read_and_play`], then [`print_outcome`]. [`draw_to`] prints a drawn

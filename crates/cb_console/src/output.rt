@@ -77,7 +77,7 @@ fn put_sent<O: Write>(out: &mut O, sent: &SentPackets) -> io::Result<()>
     Ok(())
 }
 
-/// The byte that all the bytes are, if they are all one.
+/// The byte that all of these are, if they are all the same.
 #[tactic(auto, unfolding(crate::specs::Output::only_byte))]
 pub fn only_byte(bytes: &[u8]) -> Option<u8>
     ensures { result ≡ only_byte bytes.now }

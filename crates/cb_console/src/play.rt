@@ -86,7 +86,7 @@ pub enum Play {
 ///
 /// The answer is the program's status. The configuration is checked first, then the schedule; a
 /// fault is said on `err`, and then nothing is on `out`. Where memory is refused in the play, the
-/// lines so far are printed and the last two are not. It fails only where a writer does.
+/// lines so far are printed and the last two are not. It fails only if a writer does.
 pub fn play_to<O: Write, E: Write>(
     alloc: Global,
     config: &[u8],
@@ -123,9 +123,9 @@ fn play_from_zeros(alloc: Global, limits: &Limits, events: &[Event]) -> Result<P
     }
 }
 
-/// Prints what came of a play, and says on `err` what it was refused for; the answer is the
-/// program's status. Of a play that memory ended, the lines of the events that were played are
-/// printed. It fails only where a writer does.
+/// Prints the outcome of a play, and to `err` why it was refused. Returns the program's status. If
+/// memory ended the play, it prints the lines of the events that were played. It fails only if a
+/// writer does.
 pub fn print_outcome<O: Write, E: Write>(
     alloc: Global,
     outcome: &Result<Play, ReadFault>,
@@ -192,7 +192,7 @@ fn print_part<O: Write, E: Write>(
     Ok(NO_MEMORY)
 }
 
-/// Says what a text was refused for, or that memory was.
+/// Prints why a text was refused, or that memory was.
 pub fn print_fault<E: Write>(fault: &ReadFault, err: &mut E) -> io::Result<u8>
     ensures { IfOk result
         (λ status. PrintsFault fault.now status (E.contents err.old) (E.contents err.new)) }

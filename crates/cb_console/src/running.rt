@@ -45,8 +45,7 @@ impl From<ConfigFault> for RunFault {
     }
 }
 
-/// The settings that a text means, if workers can run under them. Whatever is wrong with the text
-/// itself is told first.
+/// The settings of a text, if workers can run under them. A fault of the text itself is told first.
 pub fn run_settings(alloc: Global, text: &[u8]) -> Result<Config, RunFault>
     ensures ok { IfOk result (CanRun text.now) }
     ensures fault { IfErr result (λ e. e ≢ fault.Memory → IsRunRefusal text.now e) }
@@ -61,8 +60,7 @@ pub fn run_settings(alloc: Global, text: &[u8]) -> Result<Config, RunFault>
     Ok(config)
 }
 
-/// Says why no worker starts; the answer is the program's status. It fails only where the writer
-/// does.
+/// Prints why no worker starts. Returns the program's status. It fails only if the writer does.
 pub fn print_refusal<E: Write>(fault: &RunFault, err: &mut E) -> io::Result<u8>
     ensures { IfOk result
         (λ status. PrintsRefusal fault.now status (E.contents err.old) (E.contents err.new)) }

@@ -11,10 +11,9 @@ use cb_page::{ClientNo, ClientSet, GrantNo, Limits, PageNo, TxnNo};
 use std::alloc::{AllocError, Global};
 use std::marker::Model;
 
-/// The rows and the write holders of all pages, and the number of the next grant.
-///
-/// A page with a write holder has rows of no other client, and no two rows have the same grant.
-/// Only `new` takes memory.
+/// The rows and the write holders of all pages, and the number of the next grant. If a page has a
+/// write holder, no other client has a row of it. No two rows have the same grant. Only `new` takes
+/// memory.
 pub struct Directory {
     tables: RowTables,
     next_grant: u64,
@@ -44,7 +43,7 @@ impl Model for Directory {
 impl Directory {
     /// Nobody has a copy, and nobody may write.
     ///
-    /// `AllocError` only where memory was refused.
+    /// `AllocError` only if memory was refused.
     pub fn new(alloc: Global, limits: &Limits) -> Result<Directory, AllocError>
         ensures { IfOk result (IsNew limits.now) }
     {
@@ -54,7 +53,7 @@ impl Directory {
         })
     }
 
-    /// The grant of the client's copy of the page; `None` where it has none.
+    /// The grant of the client's copy of the page; `None` if it has none.
     pub fn row(&self, client: ClientNo, page: PageNo) -> Option<GrantNo>
         requires client { HasClient self.now client }
         requires page { HasPage self.now page }
@@ -91,7 +90,7 @@ impl Directory {
         self.tables.tag(page)
     }
 
-    /// The number that the next grant gets; `None` where all numbers are used up.
+    /// The number that the next grant gets; `None` if all numbers are used up.
     pub fn next_grant(&self) -> Option<GrantNo>
         ensures value { IfSome result (λ grant. grant ≡ self.now.next_grant) }
         ensures left { IsSome result ↔ HasGrantLeft self.now }
@@ -100,7 +99,7 @@ impl Directory {
         GrantNo::checked(self.next_grant)
     }
 
-    /// The client gets a copy of the page, with the next grant, which is answered.
+    /// The client gets a copy of the page by the next grant, which is returned.
     pub fn grant(&mut self, client: ClientNo, page: PageNo) -> GrantNo
         requires client { HasClient self.old client }
         requires page { HasPage self.old page }
@@ -156,8 +155,8 @@ impl Directory {
         }
     }
 
-    /// The client may write no page any more. It costs a step for each that it could, however many
-    /// copies it has.
+    /// The client may not write any page any more. It costs a step for each page that it could
+    /// write, however many copies it has.
     pub fn clear_writers(&mut self, client: ClientNo)
         requires { HasClient self.old client }
         ensures { ReleasesAll self.old client self.new }

@@ -16,8 +16,8 @@ use std::marker::Model;
 /// How many of the last packets a late one is drawn from.
 const LATE: u64 = 8;
 
-/// A generator of events for a world of some limits. In contracts it is these limits, and the
-/// generator of words as it stands.
+/// A generator of events for a world of some limits. In contracts it is these limits and the
+/// present state of the generator of words.
 #[derive(Drop)]
 pub struct Drawing {
     limits: Limits,
@@ -44,7 +44,7 @@ impl Drawing {
     }
 
     /// The next event of a world in which so many packets were sent. `AllocError` only for the
-    /// bytes of a write; its words are used up then too.
+    /// bytes of a write, whose words are then used up too.
     pub fn next_event(&mut self, alloc: Global, sent: u64) -> Result<Event, AllocError>
         ensures event { IfOk result (λ event. event ≡ drawn_event self.old sent) }
         ensures fails { OnErr result (drawn_kind self.old sent ≡ kinds.Write) }

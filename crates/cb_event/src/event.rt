@@ -36,7 +36,7 @@ pub enum Event {
 }
 
 impl Call {
-    /// The same call. It fails only where there is no memory for the bytes of a write.
+    /// A copy of the call. It fails only if there is no memory for the bytes of a write.
     pub fn copy(&self, alloc: Global) -> Result<Call, AllocError>
         ensures same { IfOk result (λ call. call ≡ self.now) }
         ensures fails { OnErr result (HasBytes self.now) }
@@ -59,7 +59,7 @@ impl Call {
 }
 
 impl Event {
-    /// The same event. It fails only where there is no memory for the bytes of a write.
+    /// A copy of the event. It fails only if there is no memory for the bytes of a write.
     pub fn copy(&self, alloc: Global) -> Result<Event, AllocError>
         ensures same { IfOk result (λ event. event ≡ self.now) }
         ensures fails { OnErr result (CallsWithBytes self.now) }

@@ -1,12 +1,12 @@
 //! Events, the schedules that are lists of them, and the pieces of a text: its lines, the words of
 //! a line, and the number that a word spells.
 //!
-//! An event is a call of a client, a packet that is taken by its addressee, a client's restart, or
-//! what is left to the server: to send again, and that commits are on the disk. [`read_schedule`]
-//! reads a list of them from its text, one on a line.
+//! An event is a call of a client, a packet that its addressee takes, a client's restart, or an
+//! event at the server: it resends, or hears that commits are on disk. [`read_schedule`] reads a
+//! list of events from its text, one a line.
 //!
-//! A [`Drawing`] takes the words of a PCG generator, and gives one event after another, for a world
-//! in which so many packets were sent so far.
+//! A [`Drawing`] takes the words of a PCG generator, and gives one event after another, each for a
+//! world in which so many packets were sent so far.
 #![tactic(auto)]
 
 mod arguments;

@@ -17,7 +17,7 @@ pub enum LivesEvent {
 }
 
 impl LivesEvent {
-    /// The same event. It fails only where there is no memory for the bytes of a write.
+    /// A copy of the event. It fails only if there is no memory for the bytes of a write.
     pub fn copy(&self, alloc: Global) -> Result<LivesEvent, AllocError>
         ensures same { IfOk result (λ event. event ≡ self.now) }
         ensures fails { OnErr result (CarriesBytes self.now) }

@@ -23,8 +23,8 @@ use std::alloc::{AllocError, AllocFailed, Global};
 use std::fmt;
 use thiserror::Error;
 
-/// Why a text is no schedule, lowest number first. Lines count from 1, skipped ones too. The text is
-/// the program's line of it.
+/// Why a text isn't a schedule, the lowest number first. Lines count from 1, skipped ones too. The
+/// text is the line that the program prints.
 #[derive(Clone, Copy, Debug, PartialEq, Eq, Error)]
 pub enum ScheduleFault {
     /// A byte that is neither a tab nor printable ASCII, in a skipped line too.
@@ -184,9 +184,9 @@ fn add_line(
     Ok(())
 }
 
-/// Reads a schedule: its events, in order. A text that is none is refused by its first faulty
-/// line's lowest fault. `Memory` comes only where there was no room for an event, or for the page
-/// that it writes, with no fault up to its line.
+/// Reads a schedule: its events, in order. A text that isn't a schedule is refused by the lowest
+/// fault of its first faulty line. `Memory` only if there was no room for an event, or for the page
+/// that it writes, and there is no fault up to its line.
 pub fn read_schedule(
     alloc: Global,
     limits: &Limits,

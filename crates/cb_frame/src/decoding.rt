@@ -29,14 +29,15 @@ use std::alloc::Global;
 /// The frame at the front of the bytes, and how many bytes it takes. Bytes may follow it; they are
 /// left unread.
 ///
-/// Where no frame is in front, the first fault whose cause stands is answered, in this order: fewer
-/// than 16 bytes are [`FrameFault::Short`]; a version other than 1 and 2, or 1 where pages have
-/// more than 4,096 bytes, is `Version`; a kind that the version doesn't have is `Kind`; a length
-/// that a body of this kind can't have is `Length`; fewer bytes than the header says are `Short`; a
-/// count or a size that isn't the one the length gives is `Length`; a number out of its range is
-/// `Range`; a commit whose pages don't rise is `Order`. All of this is looked at before memory is
-/// taken: once for each page's bytes, and once for a commit's list of them. `Memory` is answered
-/// where that is refused, so never where there are no page bytes: a commit of no pages takes none.
+/// If there is no frame in front, the first fault that applies is returned, in this order: fewer
+/// than 16 bytes are [`FrameFault::Short`]; a version other than 1 and 2, or 1 if pages have more
+/// than 4,096 bytes, is `Version`; a kind that the version doesn't have is `Kind`; a length that a
+/// body of this kind can't have is `Length`; fewer bytes than the header says are `Short`; a count
+/// or a size that contradicts the length is `Length`; a number out of its range is `Range`; a
+/// commit whose pages don't rise is `Order`. All of this is checked before any memory is taken.
+/// Memory is then taken once for each page's bytes, and once for a commit's list of pages. `Memory`
+/// is returned if that memory is refused. It never is for a frame without page bytes: a commit of
+/// no pages takes no memory.
 pub fn decode(alloc: Global, limits: &Limits, bytes: &[u8]) -> Result<(Frame, usize), FrameFault>
     // What is read is the one spelling of a frame in its version.
     ensures found { IfOk result (λ read. IsFrameInSome limits.now read.0 (take read.1 bytes.now)) }
@@ -48,7 +49,7 @@ pub fn decode(alloc: Global, limits: &Limits, bytes: &[u8]) -> Result<(Frame, us
     // A fault is the first whose cause stands; want of memory never stands in place of one.
     ensures fault { IfErr result (λ e.
         first_fault (causes limits.now bytes.now) ≡ fault_in_bytes e) }
-    // Memory is answered only where the kind is one whose frames can have page bytes.
+    // Memory is answered only if the kind is one whose frames can have page bytes.
     ensures memory { has_pages (kind_of (slice_index bytes.now 1)) ≡ false →
         result ≢ Err fault.Memory }
     // It isn't answered for a commit of no pages either: its body has 10 bytes.
@@ -57,9 +58,9 @@ pub fn decode(alloc: Global, limits: &Limits, bytes: &[u8]) -> Result<(Frame, us
     read(alloc, limits, bytes)
 }
 
-/// No two frames have one spelling, of whichever versions, and no spelling begins another: whatever
-/// follows them, two frames spelled at the front of the same bytes are one frame in one version.
-/// The function does nothing; its contract is this law.
+/// Two frames never have the same spelling, in whichever versions, and no spelling is the beginning
+/// of another. If two frames are both spelled at the front of the same bytes, they are therefore
+/// one frame in one version, whatever follows. The function does nothing; its contract is this law.
 pub fn one_spelling()
     ensures { (limits : Bounds) (version other : FrameVersion) (frame another : Frame)
         (spelled front rest more : List ℕ) →

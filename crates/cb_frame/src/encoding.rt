@@ -18,7 +18,8 @@ use std::alloc::{AllocError, Global};
 /// The length of a frame's header.
 const HEADER: usize = 16;
 
-/// The bytes of a frame. It is refused only where memory is; it takes what the bytes need, at once.
+/// The bytes of a frame. It is refused only if memory is, which it takes once, as much as the bytes
+/// need.
 #[tactic(auto, unfolding(cb_frame_types::specs::Spelling::spelling, cb_frame_types::specs::Spelling::spelling_in))]
 pub fn encode(alloc: Global, frame: &Frame) -> Result<Vec<u8>, AllocError>
     requires { FitsSome frame.now }
@@ -37,10 +38,10 @@ pub fn encode(alloc: Global, frame: &Frame) -> Result<Vec<u8>, AllocError>
     Ok(out)
 }
 
-/// The bytes of a frame that grants a page, whose own bytes are lent: what [`encode`] writes, with
-/// no copy of the page before it.
+/// The bytes of a frame that grants a page, made of the page's own bytes, which are lent. They are
+/// what [`encode`] writes, but the page isn't copied first.
 ///
-/// It is refused only where memory is; it takes what the bytes need, at once.
+/// It is refused only if memory is, which it takes once, as much as the bytes need.
 #[tactic(auto, using(crate::proofs::Sizes::granted_length, std::proofs::Common::append_assoc), unfolding(cb_frame_types::specs::Spelling::spelling, cb_frame_types::specs::Spelling::spelling_in))]
 pub fn encode_granted(
     alloc: Global,

@@ -54,7 +54,7 @@ impl From<AllocError> for FrameFault {
     }
 }
 
-/// Why bytes that came weren't taken. The text is the fault's number and name.
+/// Why received bytes weren't taken. The text is the fault's number and name.
 #[derive(Clone, Copy, Debug, PartialEq, Eq, Error)]
 #[error_bound(F: fmt::Display)]
 pub enum BytesFault<F> {

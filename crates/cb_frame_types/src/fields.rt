@@ -7,8 +7,8 @@ use crate::words::{put_u32, put_u64};
 use cb_page::{CommitNo, GrantNo, Limits, PageNo, TxnNo};
 use std::alloc::AllocError;
 
-/// The numbers that a body without page bytes has, in the order of its frame. Fifteen kinds have
-/// these seven shapes.
+/// The numbers of a body without page bytes, in the order of its frame. Fifteen kinds share these
+/// seven shapes.
 #[derive(Clone, Copy)]
 pub enum Fields {
     Nothing,
@@ -21,8 +21,7 @@ pub enum Fields {
 }
 
 impl Fields {
-    /// Whether the page is one of the store's. The other numbers are in range by their types, as
-    /// `get` says.
+    /// Whether the page is one of the store's. The other numbers are in range by their types.
     pub fn fit(self, limits: &Limits) -> bool
         ensures { IsTrue result ↔ FieldsFit limits.now self }
     {
@@ -71,8 +70,8 @@ impl Fields {
         }
     }
 
-    /// Puts them behind what is there. It is refused only where room for them is lacking and memory
-    /// for more is refused; some of them may have been put then.
+    /// Appends them to the bytes. It is refused only if there is no room for them and memory for
+    /// more is refused. Some of them may have been appended by then.
     #[tactic(auto, using(std::proofs::Common::append_assoc), unfolding(crate::specs::Fields::fields_spelling))]
     pub fn put(self, out: &mut Vec<u8>) -> Result<(), AllocError>
         ensures put { OnOk result (out.new.items ≡ out.old.items ++ fields_spelling self) }

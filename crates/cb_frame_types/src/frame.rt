@@ -195,8 +195,8 @@ impl Frame {
         self.body.kind()
     }
 
-    /// Whether the frame is one under these limits: its numbers are in range, its pages have the
-    /// store's size, and a commit's pages rise.
+    /// Whether the frame fits these limits: its numbers are in range, its pages have the store's
+    /// size, and a commit's pages rise.
     pub fn fits(&self, limits: &Limits) -> bool
         ensures value { IsTrue result ↔ Fits limits.now self.now }
         ensures range { AreInRange limits.now }

@@ -1,5 +1,5 @@
 //! Frames as values: the messages between a client and the server, their kinds, the versions of
-//! their format, and the numbers of their bodies. What their bytes are is said here too (`specs/`);
+//! their format, and the numbers of their bodies. Their bytes are defined here too (`specs/`);
 //! `cb_frame` reads and writes them.
 #![tactic(auto)]
 

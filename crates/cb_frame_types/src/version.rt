@@ -4,9 +4,9 @@ ghost use Rattle.cb_frame_types.specs.Versions.{has_kind, has_size, size_length,
 
 use crate::Kind;
 
-/// A version of the format. All frames of the first are frames of the second too; there the size
-/// before a page's bytes is wider, so that pages may have more than 4,096 bytes, and two kinds are
-/// new.
+/// A version of the format. The second version has every frame of the first, and adds two things: a
+/// wider size before a page's bytes, so that pages may have more than 4,096 bytes, and two new
+/// kinds.
 #[derive(Clone, Copy, Debug, PartialEq, Eq)]
 pub enum FrameVersion {
     One,

@@ -6,8 +6,8 @@ ghost use Rattle.cb_frame_types.specs.Fields.{word};
 
 use std::alloc::AllocError;
 
-/// Puts a number of two bytes behind what is there. It is refused only where room for them is
-/// lacking and memory for more is refused; then nothing is put.
+/// Puts a number of two bytes behind what is there. It is refused only if room for them is lacking
+/// and memory for more is refused; then nothing is appended.
 #[tactic(auto, unfolding(crate::specs::Fields::word))]
 pub fn put_u16(out: &mut Vec<u8>, n: u16) -> Result<(), AllocError>
     ensures put { OnOk result (out.new.items ≡ out.old.items ++ word w16 n) }
@@ -20,8 +20,8 @@ pub fn put_u16(out: &mut Vec<u8>, n: u16) -> Result<(), AllocError>
     out.extend_from_slice(&n.to_be_bytes())
 }
 
-/// Puts a number of four bytes behind what is there. It is refused only where room for them is
-/// lacking and memory for more is refused; then nothing is put.
+/// Puts a number of four bytes behind what is there. It is refused only if room for them is lacking
+/// and memory for more is refused; then nothing is appended.
 #[tactic(auto, unfolding(crate::specs::Fields::word))]
 pub fn put_u32(out: &mut Vec<u8>, n: u32) -> Result<(), AllocError>
     ensures put { OnOk result (out.new.items ≡ out.old.items ++ word w32 n) }
@@ -34,8 +34,8 @@ pub fn put_u32(out: &mut Vec<u8>, n: u32) -> Result<(), AllocError>
     out.extend_from_slice(&n.to_be_bytes())
 }
 
-/// Puts a number of eight bytes behind what is there. It is refused only where room for them is
-/// lacking and memory for more is refused; then nothing is put.
+/// Puts a number of eight bytes behind what is there. It is refused only if room for them is
+/// lacking and memory for more is refused; then nothing is appended.
 #[tactic(auto, unfolding(crate::specs::Fields::word))]
 pub fn put_u64(out: &mut Vec<u8>, n: u64) -> Result<(), AllocError>
     ensures put { OnOk result (out.new.items ≡ out.old.items ++ word w64 n) }

@@ -40,7 +40,7 @@ impl Model for Writes {
 }
 
 impl Writes {
-    /// These pages, which are not copied.
+    /// Makes the list of these pages, which aren't copied.
     pub fn from_vec(items: Vec<Write>) -> Writes
         ensures { result ≡ items.items }
     {
@@ -55,7 +55,7 @@ impl Writes {
         items
     }
 
-    /// Puts one more page behind the others. It is refused only where memory is.
+    /// Appends a page. It is refused only if memory is.
     pub fn push(&mut self, write: Write) -> Result<(), AllocError>
         ensures ok { OnOk result (self.new ≡ self.old ++ write ∷ []) }
         ensures err { OnErr result (self.new ≡ self.old) }

@@ -1,11 +1,11 @@
-//! A server and a client as a host holds them that isn't written in Rattle: bytes come in, and what
-//! they say is fetched frame by frame.
+//! A server and a client for a host that isn't written in Rattle. The host hands bytes in, and
+//! fetches the frames that they send one by one.
 //!
 //! An [`Object`] is what one handle holds: nothing, the rows of a store that is to be opened, a
-//! server or a client. Each call of it is refused by a [`Refusal`] where there is no such call of
-//! what it holds, and no call asks anything of its caller. What a call says is kept until it is
-//! fetched: until then no call is made that would say more. So a call that succeeds takes no memory
-//! for what it said, and nothing is lost where a growth is refused.
+//! server or a client. A call that doesn't exist for what it holds is refused by a [`Refusal`], and
+//! no call asks anything of its caller. The frames that a call sends are kept until they are
+//! fetched; until then, calls that would send more are refused. A call that succeeds therefore
+//! needs no memory to keep its frames, and nothing is lost if a growth is refused.
 #![tactic(auto)]
 
 mod object;

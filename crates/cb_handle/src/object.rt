@@ -28,7 +28,7 @@ pub enum Object {
     Client(PolledClient),
 }
 
-/// The page of this number; `Range` where no store has one.
+/// The page of this number; `Range` if no store has one.
 fn page_of(page: u32) -> Result<PageNo, Refusal>
     ensures page { IfOk result (λ no. no ≡ page) }
     ensures why { Decides (past_pages page) never result }
@@ -41,7 +41,7 @@ fn page_of(page: u32) -> Result<PageNo, Refusal>
 }
 
 impl Object {
-    /// Takes the frame that the bytes begin with, and says how many bytes it has.
+    /// Takes the frame at the front of the bytes, and returns how many bytes it has.
     pub fn take(&mut self, alloc: Global, bytes: &[u8], used: &mut usize) -> Result<(), Refusal>
         ensures ok { IfOk result (λ _. Takes self.old bytes.now used.new self.new) }
         ensures why { Decides (take_cause self.old bytes.now) (take_may self.old bytes.now) result }
@@ -61,7 +61,7 @@ impl Object {
         }
     }
 
-    /// Fetches the oldest frame that was said; the client that it is of or for.
+    /// Fetches the oldest frame that was sent. Returns the client that it comes from or goes to.
     pub fn fetch(
         &mut self,
         alloc: Global,
@@ -93,7 +93,7 @@ impl Object {
         }
     }
 
-    /// What may be lost is said again.
+    /// Resends what may be lost.
     pub fn again(&mut self, alloc: Global) -> Result<(), Refusal>
         ensures ok { IfOk result (λ _. SaysAgain self.old self.new) }
         ensures why { Decides (again_cause self.old) (again_may self.old) result }

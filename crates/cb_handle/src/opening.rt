@@ -12,7 +12,7 @@ use cb_page::{Incarnation, Limits, MAX_NUMBER, Page, Version};
 use std::alloc::Global;
 use std::marker::Model;
 
-/// The first rows of a store of these limits, whose last commit has this number.
+/// The first rows of a store with these limits, whose last commit has this number.
 pub struct Opening {
     limits: Limits,
     number: u64,
@@ -53,7 +53,7 @@ impl Model for Opening {
     }) };
 }
 
-/// The floor that a host tells by a number: 0 is none. `Range` where no incarnation has it.
+/// The floor that a host tells by a number; 0 means none. `Range` if no incarnation can have it.
 fn told(floor: u64) -> Result<Option<Incarnation>, Refusal>
     ensures floor { IfOk result (λ told. told ≡ told_floor floor) }
     ensures why { Decides (refused_if (nat_lt max_number floor) refusal.Range) never result }
@@ -68,8 +68,9 @@ fn told(floor: u64) -> Result<Option<Incarnation>, Refusal>
 }
 
 impl Opening {
-    /// No rows yet, for a server in the life of this floor; where that is 0, in none. `Range` where
-    /// no commit has this number, which is 0 before the first, or no incarnation is the floor.
+    /// No rows yet, for a server in the life with this floor. A floor of 0 means that the server
+    /// keeps no lives. `Range` if no commit can have this number (0 stands for the time before the
+    /// first), or no incarnation can be the floor.
     pub fn new(alloc: Global, limits: &Limits, number: u64, floor: u64) -> Result<Opening, Refusal>
         ensures rows { IfOk result (λ opening. opening ≡ no_rows limits.now number floor) }
         ensures why { Decides (no_opening number floor) never result }
@@ -85,11 +86,11 @@ impl Opening {
         })
     }
 
-    /// The row of the next page: the number of the commit that wrote it last, 0 where none did, and
+    /// The row of the next page: the number of the commit that wrote it last, 0 if none did, and
     /// its bytes.
     ///
-    /// `Room` where each page has its row already, or the bytes aren't as long as a page; `Range`
-    /// where the version is above the last commit's number; `Memory` where a growth was refused.
+    /// `Room` if each page has its row already, or the bytes aren't as long as a page; `Range` if
+    /// the version is above the last commit's number; `Memory` if a growth was refused.
     pub fn row(&mut self, alloc: Global, version: u64, bytes: &[u8]) -> Result<(), Refusal>
         ensures ok { IfOk result (λ _. self.new ≡ with_row self.old version bytes.now) }
         ensures why { Decides (no_row self.old version (length bytes.now)) memory result }
@@ -111,8 +112,8 @@ impl Opening {
         }
     }
 
-    /// The limits, the store of the rows, which are moved, and the floor. The rows come back where
-    /// there isn't one of each page.
+    /// The limits, the store of the rows, which are moved, and the floor. The rows come back if
+    /// there isn't one for each page.
     pub fn into_store(self) -> Result<(Limits, Store, Option<Incarnation>), Opening>
         ensures limits { IfOk result (λ opened. opened.0 ≡ self.limits) }
         ensures store { IfOk result (λ opened. opened.1 ≡ store_of self) }

@@ -29,7 +29,7 @@ use cb_page::{ClientNo, Incarnation, Limits, PageNo};
 use cb_twoq::{Chooser, TwoQ};
 use std::alloc::Global;
 
-/// A client, and what it said and nobody fetched yet.
+/// A client, and the frames that it sent and nobody has fetched yet.
 #[derive(Drop)]
 pub struct PolledClient {
     pub client: Client<TwoQ>,
@@ -37,8 +37,7 @@ pub struct PolledClient {
 }
 
 impl PolledClient {
-    /// A client at the start of an incarnation. `Range` where there is no such client or
-    /// incarnation.
+    /// A client at the start of an incarnation. `Range` if there is no such client or incarnation.
     pub fn new(
         alloc: Global,
         no: u32,
@@ -63,7 +62,7 @@ impl PolledClient {
         })
     }
 
-    /// Takes the frame that the bytes begin with; how many bytes it has.
+    /// Takes the frame at the front of the bytes. Returns how many bytes it has.
     pub fn take(&mut self, alloc: Global, bytes: &[u8]) -> Result<usize, Refusal>
         ensures ok { IfOk result (λ used. (capacity : ℕ) × TakesBytes self.old.client
             bytes.now used (messages_of self.new.said) capacity self.new.client) }
@@ -87,7 +86,7 @@ impl PolledClient {
         }
     }
 
-    /// What may be lost is said again.
+    /// Resends what may be lost.
     pub fn again(&mut self, alloc: Global) -> Result<(), Refusal>
         ensures ok { IfOk result (λ _. Calls self.old.client CallAgain AnsweredOk
             (messages_of self.new.said) as_before self.new.client) }
@@ -119,7 +118,7 @@ impl PolledClient {
         Ok(())
     }
 
-    /// Begins a transaction; its number.
+    /// Begins a transaction, and returns its number.
     #[tactic(auto, using(crate::proofs::Deciding::refused_so, crate::proofs::Deciding::called_free))]
     pub fn begin(&mut self) -> Result<u64, Refusal>
         ensures ok { IfOk result (λ txn. Calls self.old.client CallBegin AnsweredOk []
@@ -148,9 +147,10 @@ impl PolledClient {
         }
     }
 
-    /// Reads a page: true where its bytes are in the room then, false where it is asked for.
+    /// Reads a page. Returns true if its bytes are in the room then, and false if the page is asked
+    /// for.
     ///
-    /// `Room` where the room isn't as long as a page.
+    /// `Room` if the room isn't as long as a page.
     #[tactic(auto, using(crate::proofs::Reading::read_sized, crate::proofs::Reading::read_refused, crate::proofs::Deciding::refused_so, crate::proofs::Deciding::answered_free))]
     pub fn read(&mut self, page: PageNo, room: &mut [u8]) -> Result<bool, Refusal>
         ensures bytes { IfOk result (λ here. here ≡ true →
@@ -184,7 +184,8 @@ impl PolledClient {
         Ok(false)
     }
 
-    /// Wants to write a page: true where it may at once, false where that is asked for.
+    /// Asks to write a page. Returns true if it may be written at once, and false if the permission
+    /// is asked for.
     #[tactic(auto, using(crate::proofs::Deciding::refused_so, crate::proofs::Deciding::called_free))]
     pub fn want(&mut self, page: PageNo) -> Result<bool, Refusal>
         ensures granted { IfOk result (λ may. may ≡ true → Calls self.old.client (CallWant page)
@@ -266,7 +267,8 @@ impl PolledClient {
         }
     }
 
-    /// What the client says of itself: 1 not welcome, 2 idle, 3 open, 4 waiting, 5 committing.
+    /// What the client reports about itself: 1 not welcome, 2 idle, 3 open, 4 waiting, 5
+    /// committing.
     pub fn status(&self) -> u32
         ensures { IsStatus self.now.client result }
     {
@@ -287,8 +289,8 @@ impl PolledClient {
         numbers_of(self.client.last())
     }
 
-    /// The bytes of the client's copy of a page, which is no reference to it. `Nothing` where it
-    /// has none; `Room` where the room isn't as long as a page.
+    /// The bytes of the client's copy of a page. This doesn't count as a reference to the page.
+    /// `Nothing` if it has none; `Room` if the room isn't as long as a page.
     #[tactic(auto, using(crate::proofs::Deciding::peeked))]
     pub fn peek(&self, page: PageNo, room: &mut [u8]) -> Result<(), Refusal>
         ensures ok { IfOk result (λ _. Calls self.now.client (CallPeek page)
@@ -309,7 +311,7 @@ impl PolledClient {
         }
     }
 
-    /// Whether the client may write the page now; never where no store has such a page.
+    /// Whether the client may write the page now. `false` if no store can have such a page.
     pub fn may_write(&self, page: u32) -> bool
         ensures within { page < 4096 → MayWrite self.now.client page result }
         ensures past { 4096 ≤ page → result ≡ false }
@@ -320,7 +322,7 @@ impl PolledClient {
         self.client.may_write(PageNo::new(page))
     }
 
-    /// Fetches what was said: `Said::fetch`.
+    /// Fetches what was sent: `Said::fetch`.
     pub fn fetch(
         &mut self,
         alloc: Global,

@@ -23,7 +23,8 @@ use cb_page::{ClientNo, CommitNo, Incarnation, Limits};
 use cb_server::Server;
 use std::alloc::{AllocError, Global};
 
-/// A server, what it said and nobody fetched yet, and the batch that is being written.
+/// A server, the frames that it sent and nobody has fetched yet, and the batch that is being
+/// written.
 #[derive(Drop)]
 pub struct PolledServer {
     pub server: Server,
@@ -48,7 +49,7 @@ fn begun(
 }
 
 impl PolledServer {
-    /// A server over this store, in the life of that floor; without one, a new server.
+    /// A server over this store, in the life with that floor. Without a floor it is a new server.
     pub fn over(
         alloc: Global,
         limits: &Limits,
@@ -79,7 +80,7 @@ impl PolledServer {
         PolledServer::over(alloc, limits, store, None)
     }
 
-    /// Takes the frame that the bytes begin with; how many bytes it has.
+    /// Takes the frame at the front of the bytes. Returns how many bytes it has.
     pub fn take(&mut self, alloc: Global, bytes: &[u8]) -> Result<usize, Refusal>
         ensures ok { IfOk result (λ used. TakesBytes self.old.server bytes.now used
             (messages_of self.new.said) self.new.server) }
@@ -105,7 +106,7 @@ impl PolledServer {
         }
     }
 
-    /// What may be lost is said again.
+    /// Resends what may be lost.
     pub fn again(&mut self, alloc: Global) -> Result<(), Refusal>
         ensures ok { IfOk result (λ _. Does self.old.server SendsAgain
             (messages_of self.new.said) self.new.server) }
@@ -122,7 +123,7 @@ impl PolledServer {
         Ok(())
     }
 
-    /// The client of this number, and the incarnation that it may greet with next. `Range` where
+    /// The client with this number, and the incarnation with which it may greet next. `Range` if
     /// there is no such client, or no incarnation is left for it.
     pub fn next_incarnation(&self, client: u32) -> Result<(ClientNo, Incarnation), Refusal>
         ensures client { IfOk result (λ found. found.0 ≡ client) }
@@ -140,8 +141,8 @@ impl PolledServer {
         }
     }
 
-    /// A client went away: at the server its next incarnation begins, which nobody is, so that
-    /// nobody waits for it. The Welcome to it is among what is said.
+    /// A client went away. At the server its next incarnation begins, which belongs to nobody, so
+    /// that nobody waits for it. The frames sent have a Welcome to it.
     #[tactic(auto, using(crate::proofs::Left::left_by))]
     pub fn leave(&mut self, alloc: Global, client: u32) -> Result<(), Refusal>
         ensures ok { IfOk result (λ _. Leaves self.old.server client
@@ -172,8 +173,8 @@ impl PolledServer {
         }
     }
 
-    /// Makes the batch that is to be written next; the number of its last commit, and how many
-    /// pages it has. `Nothing` where every commit is on disk.
+    /// Makes the batch that is to be written next. Returns the number of its last commit, and how
+    /// many pages it has. `Nothing` if every commit is on disk.
     pub fn make_batch(&mut self, alloc: Global) -> Result<(CommitNo, usize), Refusal>
         ensures server { self.new.server ≡ self.old.server }
         ensures said { self.new.said ≡ self.old.said }
@@ -192,8 +193,9 @@ impl PolledServer {
         }
     }
 
-    /// Writes the bytes of a page of the batch to the room; its number and version. `Nothing` where
-    /// there is no batch or no such place in it; `Room` where the room isn't as long as the page.
+    /// Writes the bytes of a page of the batch to the room. Returns its number and version.
+    /// `Nothing` if there is no batch or no such place in it; `Room` if the room isn't as long as
+    /// the page.
     #[tactic(auto, using(crate::proofs::Shown::page_shown))]
     pub fn batch_page(&self, at: usize, room: &mut [u8]) -> Result<(u32, u64), Refusal>
         ensures ok { IfOk result (λ shown. page_of_batch self.now.batch at ≡ Some (record {
@@ -228,7 +230,7 @@ impl PolledServer {
         }
     }
 
-    /// The commits up to this number are on disk now: Done is said for each that wasn't before.
+    /// The commits up to this number are on disk now. A Done is sent for each that wasn't before.
     pub fn flushed(&mut self, alloc: Global, number: u64) -> Result<(), Refusal>
         ensures ok { IfOk result (λ _. Does self.old.server (ReachesDisk number)
             (messages_of self.new.said) self.new.server) }
@@ -255,8 +257,8 @@ impl PolledServer {
         Ok(())
     }
 
-    /// The commits up to this number leave memory. `Range` where no commit has it, or not all of
-    /// them are on disk.
+    /// Forgets the commits up to this number: they leave memory. `Range` if no commit has this
+    /// number, or not all of them are on disk.
     pub fn forget(&mut self, number: u64) -> Result<(), Refusal>
         ensures ok { IfOk result (λ _. self.new.server ≡ forgot self.old.server number) }
         ensures on_disk { IsOk result → number ≤ (server_of self.old.server).flushed }
@@ -275,7 +277,7 @@ impl PolledServer {
         Ok(())
     }
 
-    /// Fetches what was said: `Said::fetch`.
+    /// Fetches what was sent: `Said::fetch`.
     pub fn fetch(
         &mut self,
         alloc: Global,
@@ -296,7 +298,7 @@ impl PolledServer {
     }
 }
 
-/// The incarnation after the current one, 1 after none; `None` where all numbers are used up.
+/// The incarnation after the current one; 1 if there is none. `None` if all numbers are used up.
 fn next_of(current: Option<Incarnation>) -> Option<Incarnation>
     ensures next { IfSome result (λ next. next ≡ or_zero current + 1) }
     ensures left { IsSome result ↔ (or_zero current + 1 ≤ max_number) }

@@ -9,7 +9,7 @@ use cb_page::LimitFault;
 use cb_server::ServerFault;
 use std::alloc::AllocError;
 
-/// Why a call is refused; nothing changes then, but where the call says so.
+/// Why a call is refused. Nothing changes then, unless the call says so.
 #[derive(Clone, Copy, Debug, PartialEq, Eq)]
 pub enum Refusal {
     /// By the client.

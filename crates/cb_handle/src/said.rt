@@ -15,10 +15,8 @@ use cb_page::{ClientNo, Limits};
 use std::alloc::Global;
 use std::marker::Model;
 
-/// Frames that are still to be fetched, the oldest first. Each is one under some limits, so it can
-/// be spelled.
-///
-/// A frame that is said alone has a place of its own: so it takes no memory.
+/// Frames that are still to be fetched, the oldest first. Each fits some limits, so it can be
+/// encoded. A frame that is sent alone has a place of its own, and takes no memory.
 pub struct Said {
     /// The newest first.
     frames: Vec<Frame>,
@@ -61,7 +59,7 @@ impl Said {
         }
     }
 
-    /// These frames, of which the first was said first.
+    /// These frames, in the order in which they were sent.
     pub fn of(limits: &Limits, mut frames: Vec<Frame>) -> Said
         requires { AllByRecursion (Fits limits.now) frames.items }
         ensures { result ≡ frames.items }
@@ -86,7 +84,7 @@ impl Said {
         self.single = Some(frame);
     }
 
-    /// That all is fetched.
+    /// Refuses if something is still to be fetched.
     pub fn check_fetched(&self) -> Result<(), Refusal>
         ensures first { IfErr result (λ refused. (rest : Option Why)
             → after_fetch self.now rest ≡ Some refused) }
@@ -129,11 +127,11 @@ impl Said {
 }
 
 impl Said {
-    /// Writes the bytes of the oldest frame to the beginning of the room, says how many they are,
-    /// and lets it go; the client that it is of or for.
+    /// Writes the bytes of the oldest frame to the front of the room, puts their count into `size`,
+    /// and lets the frame go. Returns the client that it comes from or goes to.
     ///
-    /// `Nothing` where nothing is left; `Room` where they are more than there is room for: `size`
-    /// says how many they are. `Memory` where a growth was refused for them.
+    /// `Nothing` if nothing is left. `Room` if the bytes don't fit into the room; `size` has their
+    /// count then too. `Memory` if a growth was refused for them.
     #[tactic(auto, using(crate::proofs::Kept::oldest_first))]
     pub fn fetch(
         &mut self,
@@ -165,7 +163,7 @@ impl Said {
     }
 }
 
-/// Copies the bytes to the beginning of the room.
+/// Copies the bytes to the front of the room.
 #[tactic(auto, using(std::proofs::lemmas::List::take_at))]
 fn put_front(bytes: &[u8], room: &mut [u8])
     requires { length bytes.now ≤ length room.old }

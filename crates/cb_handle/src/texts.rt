@@ -3,8 +3,8 @@ ghost use Rattle.std.specs.Prelude.{◌≡◌};
 ghost use Rattle.cb_handle.specs.Faults.{call_text, fault_text, frame_text, handle_text};
 ghost use Rattle.cb_handle.specs.Faults.{limit_text};
 
-/// What a number that a call answered means, in English: what `Refusal::number` says of a fault,
-/// and `done` for 0. Any other number is no such fault.
+/// What the number that a call returned means, in English: the text of the fault with that
+/// `Refusal::number`, or `done` for 0. For any other number it is `no such fault`.
 #[tactic(auto, unfolding(crate::specs::Faults::fault_text))]
 pub fn fault_text(number: u32) -> &'static str
     ensures { result.now ≡ fault_text number }

@@ -11,30 +11,32 @@ pub fn hands_meet()
     ensures law { HandsMeet }
 {}
 
-/// A hand goes on agreeing while another client's message, resending or a flush changes the server:
-/// where no commit is applied, and where one is of pages that its client alone may write.
+/// A hand goes on agreeing while another client's message, resending or a flush changes the server.
+/// This holds if no commit is applied, and if one is applied to pages that its client alone may
+/// write.
 pub fn others_stay()
     ensures stay { OthersStay }
     ensures commit { CommitLeavesOthers }
 {}
 
-/// At a server that doesn't keep write permissions a message other than Hello leaves its own client
-/// its rows, but one that it gives back, and its permissions while its transaction lasts.
+/// At a server that doesn't keep write permissions, a message other than Hello leaves its own
+/// client its rows, except one that it gives back. It leaves the client's permissions while the
+/// transaction lasts.
 pub fn own_stays()
     ensures law { OwnStays }
 {}
 
-/// A hand goes on agreeing by its own client's messages: by one that gives back nothing that it
-/// holds, while its transaction lasts, and by a commit, once its written pages are restamped and
-/// its permissions ended.
+/// A hand goes on agreeing through its own client's messages. A message does so if it gives back
+/// nothing that the hand holds, while the transaction lasts. A commit does so once the written
+/// pages are restamped and the permissions ended.
 pub fn own_hand_stays()
     ensures message { OwnMessage }
     ensures commit { OwnCommit }
 {}
 
-/// A hand agrees that holds nothing; that gets a copy of which the server has the row; that gives
-/// one back; that is told to write a page of which its client has the permission; and that loses
-/// all permissions.
+/// A hand that holds nothing agrees. A hand goes on agreeing if it gets a copy whose row the server
+/// has, gives a copy back, is told that it may write a page for which its client has the
+/// permission, or loses all permissions.
 pub fn own_changes()
     ensures empty { EmptyHand }
     ensures comes { CopyComes }

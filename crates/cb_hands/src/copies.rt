@@ -54,7 +54,7 @@ impl Copies {
         Ok(Copies { packed, places })
     }
 
-    /// What is held of a page; nothing of one past the end.
+    /// What is held of a page; nothing for a page past the end.
     pub(crate) fn at(&self, page: PageNo) -> Option<Held>
         ensures { result ≡ held_at self.now page }
     {
@@ -106,8 +106,8 @@ impl Copies {
         }
     }
 
-    /// Whether both say the same of each page. Where they changed alike, it is one pass over what
-    /// they hold.
+    /// Whether both say the same of each page. If they changed alike, it is one pass over what they
+    /// hold.
     pub(crate) fn say_as(&self, others: &Copies) -> bool
         ensures { IsTrue result ↔ (self.now ≡ others.now) }
     {

@@ -28,7 +28,7 @@ impl From<Shown> for (GrantNo, Version, bool) {
     }
 }
 
-/// The permission to read one page. It can't be copied or let go: a hand gets it when the server's
+/// The permission to read one page. It can't be copied or dropped. A hand gets it when the server's
 /// grant comes, and spends it when the copy goes.
 pub struct Grant {
     held: Held,

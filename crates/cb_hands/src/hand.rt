@@ -10,11 +10,11 @@ use cb_page::{ClientNo, Incarnation, PageNo, PageSet, TxnNo, Version};
 use std::alloc::{AllocError, Global};
 use std::marker::Model;
 
-/// What a client holds: a grant of each page of which it has a copy, and which of them its
+/// What a client holds: a grant for each page of which it has a copy, and which of these pages its
 /// transaction was told that it may write.
 ///
-/// It can't be copied or let go. [`JoinedHands`](crate::JoinedHands) alone makes and changes it,
-/// with what is stored of it; `abandon` ends it. No call takes memory.
+/// It can't be copied or dropped. Only [`JoinedHands`](crate::JoinedHands) makes it and changes it,
+/// together with what is stored of it; `abandon` ends it. No call takes memory.
 pub struct Hand {
     client: ClientNo,
     incarnation: Incarnation,
@@ -43,7 +43,7 @@ impl Model for Hand {
 impl Hand {
     /// The hand of a client's incarnation over a store of so many pages. It holds nothing.
     ///
-    /// `AllocError` only where memory was refused.
+    /// `AllocError` only if memory was refused.
     pub(crate) fn new(
         alloc: Global,
         client: ClientNo,
@@ -91,14 +91,14 @@ impl Hand {
         self.grants.len()
     }
 
-    /// What is held of a page; nothing of one past the end.
+    /// What is held of a page; nothing for a page past the end.
     pub fn held(&self, page: PageNo) -> Option<Held>
         ensures { result ≡ held_at self.now.held page }
     {
         self.grants.at(page)
     }
 
-    /// What the hand shows of a page; nothing of one past the end.
+    /// What the hand shows of a page; nothing for a page past the end.
     pub fn shows(&self, page: PageNo) -> Option<Shown>
         ensures { result ≡ shown self.now page }
     {

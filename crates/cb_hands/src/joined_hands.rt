@@ -13,9 +13,9 @@ use cb_page::{ClientNo, GrantNo, Incarnation, PageNo, TxnNo, Version};
 use std::alloc::{AllocError, Global};
 use std::marker::Model;
 
-/// What is stored of each client's hand, by client. Only `new` and `join` take memory.
-///
-/// A change of a hand costs what it changes, and a comparison the pages that it holds.
+/// What is stored of each client's hand, by client. Only `new` and `join` take memory. The cost of
+/// a change grows with what it changes, and that of a comparison with the pages that the hand
+/// holds.
 pub struct JoinedHands {
     entries: Vec<Option<StoredHand>>,
 }
@@ -37,9 +37,9 @@ impl Model for JoinedHands {
 }
 
 impl JoinedHands {
-    /// Of so many clients, none of which has joined.
+    /// A table for so many clients, none of which has joined.
     ///
-    /// `AllocError` only where memory was refused.
+    /// `AllocError` only if memory was refused.
     pub fn new(alloc: Global, clients: u16) -> Result<JoinedHands, AllocError>
         ensures { IfOk result (λ joined. joined ≡ replicate clients None) }
     {
@@ -50,7 +50,7 @@ impl JoinedHands {
         Ok(JoinedHands { entries })
     }
 
-    /// Whether the client has joined; `false` for one past the end.
+    /// Whether the client has joined; `false` for a client past the end.
     pub fn has(&self, client: ClientNo) -> bool
         ensures { result ≡ is_some (stored_at self.now client) }
     {
@@ -73,10 +73,10 @@ impl JoinedHands {
         }
     }
 
-    /// The client joins, in that incarnation, over a store of so many pages: its hand, which holds
-    /// nothing, and what is stored of it. What was stored before goes.
+    /// The client joins, in that incarnation, over a store of so many pages. Returns its hand,
+    /// which holds nothing, and stores as much. What was stored before goes.
     ///
-    /// `AllocError` only where memory was refused; nothing changes then.
+    /// `AllocError` only if memory was refused; nothing changes then.
     pub fn join(
         &mut self,
         alloc: Global,
@@ -97,7 +97,7 @@ impl JoinedHands {
         Ok(hand)
     }
 
-    /// The client leaves: its hand is spent, and nothing is stored of it any more.
+    /// The client leaves: its hand is spent, and nothing is stored of that hand any more.
     pub fn leave(&mut self, hand: Hand)
         requires { IsHeld self.old hand }
         ensures { self.new ≡ slice_set self.old hand.client None }
@@ -158,7 +158,7 @@ impl JoinedHands {
         }
     }
 
-    /// What the hand holds of the page is of that version now.
+    /// Sets the version of the page that the hand holds.
     pub fn restamp(&mut self, hand: &mut Hand, page: PageNo, version: Version)
         requires held { IsHeld self.old hand.old }
         requires page { page < length hand.old.held }

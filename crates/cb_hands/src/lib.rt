@@ -1,28 +1,28 @@
-//! What the clients of a running server hold, as types; what the owner of that server stores of it;
-//! and the history of commits.
+//! What the clients of a running server hold, as types; what the server's owner stores of that; and
+//! the history of commits.
 //!
 //! A cached copy is the permission to read it (Franklin, Carey and Livny, TODS 1997). A [`Grant`]
-//! is that permission of one page, a [`Hand`] all those of one client: neither can be copied or let
-//! go. [`JoinedHands`] alone makes hands and changes them. It stores what each joined client's hand
-//! shows and changes both together, so the owner of one knows it also while the hand is away; and
-//! it tells whether a hand that is lent equals the one that is stored.
+//! is that permission for one page, and a [`Hand`] has all grants of one client. Neither can be
+//! copied or dropped. Only [`JoinedHands`] makes hands and changes them. It stores what each joined
+//! client's hand shows, and changes both together, so its owner knows a hand even while the hand is
+//! away. It also tells whether a hand that is lent equals the stored one.
 //!
-//! So each grant in a hand stands for one row of the server's directory, where the owner asks for
-//! no other. A table tells hands by what they show: one that another table made and that shows the
-//! same is taken for its own.
+//! Each grant in a hand therefore stands for one row of the server's directory, if the owner
+//! receives no other grants. A table knows hands by what they show. If another table made a hand
+//! that shows the same, it is taken for one of its own.
 //!
 //! An [`Entry`] of the history tells what a transaction read, at which versions, and what it wrote.
-//! It is legal where each version read is that of the last earlier commit which wrote the page, and
-//! it replays to a server where that server's commits and its store are what it says: both stay so
-//! by what the protocol's server does, whatever comes ([`commits_are_noted`]).
+//! A history is legal if each version read is that of the last earlier commit which wrote the page.
+//! It replays to a server if it tells that server's commits and store. Both stay so through all
+//! that the protocol's server does, whatever comes ([`commits_are_noted`]).
 //!
-//! The laws of agreement are over the protocol's definitions, for whoever keeps hands beside a
-//! server: two hands that agree never clash ([`hands_meet`]); a step of another client leaves a
-//! hand agreeing ([`others_stay`]); and so does each change of a hand where the server has what
-//! comes ([`own_changes`], [`own_stays`], [`own_hand_stays`]).
+//! The laws of agreement are about the protocol's definitions, for whoever keeps hands beside a
+//! server. Two hands that agree with a server never clash ([`hands_meet`]). A hand goes on agreeing
+//! through the steps of other clients ([`others_stay`]). It does so through its own changes, too,
+//! if the server has what comes ([`own_changes`], [`own_stays`], [`own_hand_stays`]).
 //!
-//! Each change of a hand costs what it changes; clearing a hand costs the pages that it holds. Both
-//! sides keep what is held side by side, in the same order, so comparing them is one pass over it.
+//! The cost of a change grows with what it changes, and that of clearing a hand with the pages that
+//! it holds. Hand and table list the held pages in the same order, so comparing them is one pass.
 #![tactic(auto)]
 
 mod agreement;

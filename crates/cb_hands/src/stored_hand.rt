@@ -54,7 +54,7 @@ impl Model for StoredHand {
 impl StoredHand {
     /// What is stored of a hand that holds nothing, of a client's incarnation over so many pages.
     ///
-    /// `AllocError` only where memory was refused.
+    /// `AllocError` only if memory was refused.
     pub(crate) fn new(
         alloc: Global,
         client: ClientNo,

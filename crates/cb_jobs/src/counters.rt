@@ -7,7 +7,7 @@ use byteorder::{BigEndian, ByteOrder};
 use cb_commit::Store;
 use cb_page::PageNo;
 
-/// The counter that bytes begin with: the first eight, the highest first; 0 where there are fewer.
+/// The counter at the front of the bytes: the first eight, the highest first. 0 if there are fewer.
 pub fn counter(bytes: &[u8]) -> u64
     ensures { result ≡ counter_of bytes.now }
 {
@@ -17,8 +17,8 @@ pub fn counter(bytes: &[u8]) -> u64
     BigEndian::read_u64(bytes)
 }
 
-/// Adds one to the counter that bytes begin with, modulo 2^64. Fewer than eight bytes stay as they
-/// are.
+/// Adds one to the counter at the front of the bytes, modulo 2^64. Fewer than eight bytes stay as
+/// they are.
 pub fn count_up(bytes: &mut [u8])
     ensures counts { 8 ≤ length bytes.old
         → counter_of bytes.new ≡ (counter_of bytes.old + 1) % 2 ^ 64 }
@@ -33,7 +33,7 @@ pub fn count_up(bytes: &mut [u8])
     BigEndian::write_u64(bytes, next);
 }
 
-/// The counter of a page; 0 where there is no such page.
+/// The counter of a page; 0 if there is no such page.
 fn counter_at(store: &Store, page: PageNo) -> u64
     ensures { result ≡ counter_of (bytes_at store.now page) }
 {
@@ -43,7 +43,7 @@ fn counter_at(store: &Store, page: PageNo) -> u64
     counter(store.bytes(page))
 }
 
-/// The sum of the counters of pages 0 and 1, modulo 2^64; a page that there isn't counts 0.
+/// The sum of the counters of pages 0 and 1, modulo 2^64. A page that doesn't exist counts as 0.
 pub fn counter_sum(store: &Store) -> u64
     ensures { result ≡ sum_of_counters store.now }
 {

@@ -53,8 +53,8 @@ pub struct ClientEnding {
     pub ending: Ending,
 }
 
-/// Says that a client's ending was noted in its run's [`FirstEnding`]: nobody but
-/// [`FirstEnding::note`] makes one, and nobody copies it. In contracts it is that ending.
+/// Says that a client's ending was noted in its run's [`FirstEnding`]. Only [`FirstEnding::note`]
+/// makes one, and nobody can copy it. In contracts it is that ending.
 #[derive(Drop)]
 pub struct Noted<N> {
     told: ClientEnding,
@@ -88,8 +88,8 @@ impl<N> Noted<N> {
 }
 
 /// The ending of the lowest client of a run that has one. It holds the run's name, a value of some
-/// type `N`. Code that is written for any `N` can make no such value, and so no `FirstEnding` of its
-/// own: it notes in the one that it was lent.
+/// type `N`. Code that is generic over `N` can't make such a value, and so can't make a
+/// `FirstEnding` of its own: it notes in the one that it was lent.
 #[derive(Drop)]
 pub struct FirstEnding<N> {
     pub told: Option<ClientEnding>,
@@ -97,7 +97,7 @@ pub struct FirstEnding<N> {
 }
 
 impl<N> FirstEnding<N> {
-    /// Nothing was told yet of the run of this name.
+    /// The run of this name, of which nothing was noted yet.
     pub fn none(run: N) -> FirstEnding<N>
         ensures { result.told ≡ None }
     {

@@ -13,8 +13,8 @@ pub struct Counted {
     pub sum: u64,
 }
 
-/// Prints the counts of a run on `out`, or on `err` why it ended before all was done; the answer is
-/// the program's status. It fails only where a writer does.
+/// Prints the counts of a run to `out`, or to `err` why it ended before all was done. Returns the
+/// program's status. It fails only if a writer does.
 pub fn print_run<O: Write, E: Write>(
     outcome: Result<Counted, Ending>,
     out: &mut O,

@@ -14,8 +14,8 @@ const PAUSE: u128 = 500_000_000;
 /// Shows on a writer how many jobs are committed of how many, and how many commits a batch carries,
 /// on average since the line before.
 ///
-/// A line comes when a batch was written, at most twice a second. Where it can't be written, or the
-/// clock can't be read, there is none.
+/// It prints a line when a batch was written, at most twice a second, but none if the line can't be
+/// written or the clock can't be read.
 #[derive(Drop)]
 pub struct Progress<'a, C, W> {
     clock: &'a C,
@@ -54,7 +54,7 @@ impl<'a, C: Clock, W: Write> Progress<'a, C, W> {
         if self.is_early(now) {
             return;
         }
-        // Where the line can't be written there is nobody else to tell.
+        // If the line can't be written there is nobody else to tell.
         let _ = self.write_line(number.get());
         self.shown = Some(now);
         self.told = number.get();

@@ -114,7 +114,7 @@ impl Model for Tally {
 }
 
 impl Tally {
-    /// Of so many clients with so many jobs each, none is done.
+    /// A tally for so many clients with so many jobs each, none of which is done.
     pub fn new(alloc: Global, clients: u16, jobs: u32) -> Result<Tally, AllocError>
         ensures { IfOk result (λ tally. tally ≡ replicate clients (replicate jobs false)) }
     {
@@ -151,7 +151,7 @@ impl Tally {
     }
 }
 
-/// Of so many clients with so many jobs each, none is done.
+/// A tally for so many clients with so many jobs each, none of which is done.
 fn none_done(alloc: Global, clients: u16, jobs: u32) -> Result<Vec<Jobs>, AllocError>
     ensures { IfOk result (λ made. made.items ≡ replicate clients (replicate jobs false)) }
 {

@@ -3,7 +3,7 @@ ghost use Rattle.std.specs.Prelude.{◌≡◌, ℕ};
 
 use cb_page::CommitNo;
 
-/// Told of a run while it goes on.
+/// Is told of a run while it goes on.
 pub trait Watch {
     /// What is made of who is told of a batch that ends with the commit of this number.
     ghost tells: { Self → ℕ → Self → Type 0 };
@@ -16,11 +16,11 @@ pub trait Watch {
         ensures { tells self.old number self.new };
 
     /// Nothing is left to write, and the flusher waits for more. It has the office's lock, which it
-    /// lets go only by waiting: so this call may not take it.
+    /// releases only by waiting, so this call may not take the lock.
     fn waits(&mut self);
 }
 
-/// Nobody looks on.
+/// A watch that shows nothing.
 #[derive(Drop)]
 pub struct Unwatched;
 

@@ -9,7 +9,7 @@ use cb_page::{ClientNo, CommitNo, Incarnation, Limits, TxnNo};
 use std::alloc::{AllocError, Global};
 use std::marker::Model;
 
-/// What a frame's incarnation is to the server.
+/// How a frame's incarnation compares with the current one.
 #[derive(Clone, Copy, Debug, PartialEq, Eq)]
 pub enum Admission {
     /// The client has restarted since: the frame is ignored.
@@ -20,7 +20,7 @@ pub enum Admission {
     Unknown,
 }
 
-/// What a transaction is to the server, of a client's current incarnation.
+/// How a transaction of a client's current incarnation stands at the server.
 #[derive(Clone, Copy, Debug, PartialEq, Eq)]
 pub enum Standing {
     /// It has ended, or a later one has begun.
@@ -51,7 +51,7 @@ pub enum Transaction {
 }
 
 impl Transaction {
-    /// Its number; `None` where none has begun.
+    /// Its number; `None` if none has begun.
     pub fn txn(self) -> Option<TxnNo>
         ensures { result ≡ txn_of self }
     {
@@ -61,7 +61,7 @@ impl Transaction {
         }
     }
 
-    /// The commit by which it ended; `None` where it lives or was dropped.
+    /// The commit by which it ended; `None` if it lives or was dropped.
     pub fn commit(self) -> Option<CommitNo>
         ensures { result ≡ commit_of self }
     {
@@ -167,7 +167,7 @@ impl Model for Sessions {
 impl Sessions {
     /// No client of these limits has greeted the server.
     ///
-    /// `AllocError` only where memory was refused.
+    /// `AllocError` only if memory was refused.
     pub fn new(alloc: Global, limits: &Limits) -> Result<Sessions, AllocError>
         ensures { IfOk result (λ s. s ≡ replicate limits.now.clients unknown) }
     {
@@ -187,8 +187,8 @@ impl Sessions {
         self.sessions[client.index()]
     }
 
-    /// What an incarnation is to the server: `Stale` where it is less than the current one,
-    /// `Unknown` where it is greater or there is none.
+    /// How an incarnation compares with the client's current one: `Stale` if it is less, `Unknown`
+    /// if it is greater or there is no current one.
     pub fn admit(&self, client: ClientNo, incarnation: Incarnation) -> Admission
         requires { client < length self.now }
         ensures { result ≡ admission_of (session_of self.now client).incarnation incarnation }
@@ -207,7 +207,7 @@ impl Sessions {
         }
     }
 
-    /// What a transaction of the client's current incarnation is to the server.
+    /// How a transaction of the client's current incarnation stands at the server.
     pub fn standing(&self, client: ClientNo, txn: TxnNo) -> Standing
         requires { client < length self.now }
         ensures { result ≡ standing_of (session_of self.now client).transaction txn }
@@ -215,8 +215,8 @@ impl Sessions {
         self.session(client).transaction.standing(txn)
     }
 
-    /// A Hello of an incarnation that the server didn't know: it becomes current, with no
-    /// transaction.
+    /// A Hello came of an incarnation that the server didn't know: it becomes the current one, with
+    /// no transaction.
     pub fn hello(&mut self, client: ClientNo, incarnation: Incarnation)
         requires client { client < length self.old }
         requires newer { IsNewer (session_of self.old client).incarnation incarnation }
@@ -243,7 +243,7 @@ impl Sessions {
         );
     }
 
-    /// The live transaction is the victim of a deadlock.
+    /// The live transaction becomes the victim of a deadlock.
     pub fn doom(&mut self, client: ClientNo)
         requires client { client < length self.old }
         requires live { is_live (session_of self.old client) }

@@ -1,10 +1,10 @@
-//! What holds of the world over all lives of the server, beside its promise.
+//! Laws of the world over all lives of the server, beside its promise.
 //!
-//! A life of the server is from one start of it to the next. The world over all lives and its
-//! promise are in `cb_protocol` (`specs/LivesWorld`, `specs/Lives`). Here is what each event leaves
-//! and sends, what stands whatever comes after, that each event can happen, and how the server of
-//! a new life arises. The crate has no code: each function carries laws in its contract, and its
-//! lists of several lives are computed by the definitions (`proofs/WorkedLives`).
+//! A life of the server is the time from one start of it to the next. The world over all lives and
+//! its promise are in `cb_protocol` (`specs/LivesWorld`, `specs/Lives`). The laws here say what
+//! each event leaves and sends, what stands whatever comes after, that each event can happen, and
+//! how the server of a new life arises. The crate has no code: each function carries laws in its
+//! contract, and its lists of several lives are computed by the definitions (`proofs/WorkedLives`).
 #![tactic(auto)]
 
 ghost use Rattle.cb_lives.specs.LifeLaws.{FloorsInRange, IncarnationsStayInRange};
@@ -16,15 +16,21 @@ ghost use Rattle.cb_lives.specs.Outcomes.{ClientsAreToldTheTruth, OutcomesNameTr
 ghost use Rattle.cb_protocol.specs.Basics.{Limits};
 ghost use Rattle.cb_protocol.specs.Server.{DeadlockTest};
 
-/// What each event leaves, and what stands for ever. A restart of the server leaves all that was
-/// sent, the clients, the transcript, and of the commits exactly those that are on disk; its server
-/// has nothing of any client but the floor, and from the floor on nothing was sent yet but Hellos.
-/// An event within a life is that of the world of one life: it leaves floor, opening store and
-/// former commits as they were, and puts new commits in front of those of the life, each of an
-/// incarnation that the life had welcomed before, and that had sent it. What is on disk stands,
-/// whatever comes after: each Done that was sent, and each outcome that a client was told, names a
-/// commit that counts. And at each moment the server can restart, with any floor above the present
-/// one and above each incarnation that it admitted, and any other event can happen.
+/// What each event leaves, and what stands for ever.
+///
+/// A restart of the server leaves everything that was sent, the clients, the transcript, and of the
+/// commits exactly those on disk. The new server knows nothing of any client but the floor. From
+/// the floor on, nothing but Hellos was sent yet.
+///
+/// An event within a life is an event of the world of one life. It leaves the floor, the opening
+/// store and former commits as they were. It puts new commits in front of those of the life; each
+/// was sent by an incarnation that the life had welcomed before.
+///
+/// What is on disk stands, whatever comes after: each Done that was sent, and each outcome that a
+/// client was told, names a commit that counts.
+///
+/// At each moment the server can restart, with any floor above the present one and above each
+/// incarnation that it admitted, and any other event can happen.
 pub fn lives_keep_the_disk()
     ensures restarts { (L : Limits) (cycle : DeadlockTest) → RestartsLeaveTheDisk L cycle }
     ensures keeps { (L : Limits) (cycle : DeadlockTest) → EventsKeepTheirLife L cycle }
@@ -32,37 +38,37 @@ pub fn lives_keep_the_disk()
     ensures goes_on { (L : Limits) (cycle : DeadlockTest) → LivesGoOn L cycle }
 {}
 
-/// What each event within a life sends. A client speaks as the incarnation that it has. The server
-/// speaks to incarnations of its own life alone. It answers each Hello of the current incarnation
-/// or a greater one by a Welcome at once, so the first client that comes to the floor is welcomed;
-/// an older Hello by nothing; and no other message by a Welcome.
+/// What each event within a life sends. A client sends as its present incarnation. The server sends
+/// to incarnations of its own life alone. It answers each Hello of the current incarnation or a
+/// greater one by a Welcome at once, so that the first client that comes to the floor is welcomed.
+/// It doesn't answer an older Hello, and answers no other message by a Welcome.
 pub fn lives_speak_to_their_own()
     ensures sends { (L : Limits) (cycle : DeadlockTest) → EventsSendInTheirLife L cycle }
 {}
 
-/// A client's last outcome is how the transaction ended that it names: by a Done or an AbortNow
-/// with the very number of the transaction, or by its own drop. And it is true over all lives,
-/// whether pages were written or not: who was told that it committed has that transaction's commit,
-/// by that number, among those that count; who was told otherwise has none there. The transaction
-/// is the one whose operations the transcript has under that number.
+/// A client's last outcome tells how the transaction that it names ended: by a Done or an AbortNow
+/// with the very number of the transaction, or by the client's own drop. The outcome is true over
+/// all lives, whether pages were written or not. If the client was told that the transaction
+/// committed, its commit, by that number, is among those that count. If it was told otherwise, none
+/// is. The transaction is the one whose operations the transcript has under that number.
 pub fn clients_are_told_the_truth()
     ensures names { (L : Limits) → OutcomesNameTransactions L }
     ensures told { (L : Limits) (cycle : DeadlockTest) → ClientsAreToldTheTruth L cycle }
 {}
 
-/// The server of a new life is one that a new server becomes by a Hello of the life's floor from
-/// each client. So what holds of every server that is reached, by honest messages or not, holds of
-/// it and of what it becomes.
+/// A new server becomes the server of a new life by a Hello of the life's floor from each client.
+/// Whatever holds of every server that is reached, by honest messages or not, therefore holds of
+/// that server and of what it becomes.
 pub fn lives_begin_as_servers_do()
     ensures reached { LivesAreReached }
 {}
 
-/// All lives have the same limits: at each moment the server has as many clients and pages, and
-/// keeps write permission, as they say. Each client's incarnation is from 1 to 2^62 - 1. Where each
-/// life has a range of 2^32 incarnations, and the server admitted none beyond the present life's,
-/// the floor of each later life is a new one; of those behind the first, the lives below number
-/// 2^30 have a floor that is an incarnation. To a floor above 2^62 - 1 nobody comes: then nothing
-/// commits any more, and what is on disk stands.
+/// All lives have the same limits: at each moment the server has the clients and pages that they
+/// say, and keeps write permission if they say so. Each client's incarnation is from 1 to 2^62 - 1.
+/// Suppose that each life has a range of 2^32 incarnations, and that the server admitted none
+/// beyond the present life's. Then the floor of each later life is a new one. For the lives from
+/// the second to number 2^30 - 1 the floor is an incarnation. Nobody comes to a floor above 2^62 -
+/// 1: then nothing commits any more, and what is on disk stands.
 pub fn lives_stay_in_range()
     ensures limits { (L : Limits) (cycle : DeadlockTest) → ServersHaveLimits L cycle }
     ensures incarnations { (L : Limits) (cycle : DeadlockTest) → IncarnationsStayInRange L cycle }

@@ -9,12 +9,12 @@ use crate::ReadLocks;
 use cb_frame::{Frame, ShortBody, ShortFrame};
 use cb_page::{ClientNo, GrantNo, Incarnation, PageNo, TxnNo};
 
-/// A callback that was taken and has no answer yet: of a copy, or of the permission to write a page
-/// alone, whose copy stays (Downgrade, of kept write permission).
+/// A callback that was taken and has no answer yet. It asks for a copy, or for the permission to
+/// write a page alone, whose copy stays (Downgrade, under kept write permission).
 ///
-/// It can't be copied or let go. Its answer is the frame by which it is spent: `give_back`,
-/// `in_use`, or `give_down` for a permission alone. One of a permission alone can also be spent
-/// without a frame, by `dropped`.
+/// It can't be copied or dropped. It is spent by one of the calls that answer it with a frame:
+/// `give_back`, `in_use`, or `give_down` for a permission alone. For a permission alone, `dropped`
+/// spends it without a frame.
 #[derive(Debug)]
 pub struct CallbackDue {
     pub(crate) client: ClientNo,
@@ -33,15 +33,15 @@ impl CallbackDue {
         self.page
     }
 
-    /// The transaction for which the permission was given that is called back alone; `None` where
-    /// the copy is.
+    /// If a permission alone is called back, the transaction for which it was given; `None` if the
+    /// copy is called back.
     pub fn tag(&self) -> Option<TxnNo>
         ensures { result ≡ self.now.tag }
     {
         self.tag
     }
 
-    /// Answers it by giving the copy back, and with it a permission to write the page.
+    /// Answers by giving the copy back, and with it any permission to write the page.
     pub fn give_back(self) -> Frame
         ensures { result ≡ saying self (GiveBack self.page self.grant) }
     {
@@ -52,7 +52,7 @@ impl CallbackDue {
         self.say(body)
     }
 
-    /// Answers a permission that is called back alone by giving it up; the copy stays.
+    /// Answers by giving up the permission that is called back alone; the copy stays.
     pub fn give_down(self) -> Frame
         requires { IsSome self.tag }
         ensures { IfSome self.tag (λ tag.
@@ -67,8 +67,8 @@ impl CallbackDue {
         self.say(body)
     }
 
-    /// Answers it with the current transaction that uses the page: it is due until that one's end,
-    /// as [`ReadLocks::end`] says.
+    /// Answers that the current transaction uses the page. The page is then due until that
+    /// transaction ends ([`ReadLocks::end`]).
     pub fn in_use(self, locks: &mut ReadLocks) -> Frame
         requires begun { IsSome locks.old.txn }
         requires page { self.page < length locks.old.locked }
@@ -85,9 +85,9 @@ impl CallbackDue {
         self.say(body)
     }
 
-    /// Spends a callback of a permission alone without a frame: for one that has ended with the
-    /// Drop of the transaction that used it, of which there is nothing to answer. That it has, the
-    /// caller knows; all that is asked for here is the tag.
+    /// Spends the callback of a permission alone without a frame. This is for a permission that has
+    /// ended with the Drop of the transaction that used it, so there is nothing to answer. The
+    /// caller sees to that; the contract asks for the tag alone.
     pub fn dropped(self)
         requires { IsSome self.tag }
     {

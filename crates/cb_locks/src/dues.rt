@@ -37,7 +37,7 @@ impl PageDue {
         self.callback.is_some() || self.downgrade.is_some()
     }
 
-    /// The grant to name at the transaction's end, and the tag where the permission alone is due.
+    /// The grant to name at the transaction's end, and the tag if the permission alone is due.
     pub(crate) fn called_by(self) -> Option<(GrantNo, Option<TxnNo>)>
         ensures { result ≡ called_by self }
     {
@@ -48,7 +48,7 @@ impl PageDue {
         }
     }
 
-    /// This callback is due too: of the permission alone where it has a tag.
+    /// This callback is due too: of the permission alone if it has a tag.
     pub(crate) fn noted(self, grant: GrantNo, tag: Option<TxnNo>) -> PageDue
         ensures { result ≡ noted self grant tag }
     {

@@ -15,11 +15,11 @@ use cb_page::{ClientNo, GrantNo, Incarnation, Limits, PageNo, PageSet, TxnNo};
 use std::alloc::{AllocError, Global};
 use std::marker::Model;
 
-/// The pages that a client's transaction reads, and what is due of each page at its end.
+/// The pages that a client's transaction reads, and what is due for each page at its end.
 ///
-/// Only `new` and `end` take memory. `end` and `restart` cost the pages that are due, and what
-/// [`PageSet`] says of a walk; a caller that has more to say of each page ends the transaction by a
-/// walk over `locked` and `unlock` of each page.
+/// Only `new` and `end` take memory. `end` and `restart` cost a walk over the pages that are due
+/// ([`PageSet`]). A caller with more to do for each page walks over `locked` instead, and calls
+/// `unlock` for each page.
 pub struct ReadLocks {
     client: ClientNo,
     incarnation: Incarnation,
@@ -60,7 +60,7 @@ impl Model for ReadLocks {
 }
 
 impl ReadLocks {
-    /// No transaction has begun and nothing is locked or due. `AllocError` only where memory was
+    /// No transaction has begun and nothing is locked or due. `AllocError` only if memory was
     /// refused.
     pub fn new(
         alloc: Global,
@@ -80,14 +80,14 @@ impl ReadLocks {
         })
     }
 
-    /// A transaction begins: it is the one that uses the pages from now on.
+    /// A transaction begins, which uses the pages from now on.
     pub fn begin(&mut self, txn: TxnNo)
         ensures { self.new ≡ record self.old { txn = Some txn } }
     {
         self.txn = Some(txn);
     }
 
-    /// The transaction reads the page.
+    /// Notes that the transaction reads the page.
     pub fn lock(&mut self, page: PageNo)
         requires { page < length self.old.locked }
         ensures { self.new ≡ record self.old { locked = slice_set self.old.locked page true } }
@@ -109,29 +109,29 @@ impl ReadLocks {
         &self.locked
     }
 
-    /// A Callback was taken: the server calls the copy back. It is not due yet.
+    /// A Callback was taken: the server calls the copy back. Nothing is due yet.
     pub fn called(&self, page: PageNo, grant: GrantNo) -> CallbackDue
         ensures { result ≡ callback self.now page grant None }
     {
         self.callback(page, grant, None)
     }
 
-    /// A Downgrade was taken: the server calls the permission to write the page back that was given
-    /// for that transaction, and not the copy. It is not due yet.
+    /// A Downgrade was taken: the server calls back the permission to write the page that was given
+    /// for that transaction, and not the copy. Nothing is due yet.
     pub fn permission_called(&self, page: PageNo, grant: GrantNo, tag: TxnNo) -> CallbackDue
         ensures { result ≡ callback self.now page grant (Some tag) }
     {
         self.callback(page, grant, Some(tag))
     }
 
-    /// The pages of which something is due at the transaction's end.
+    /// The pages for which something is due at the transaction's end.
     pub fn due(&self) -> &PageSet
         ensures { result.now ≡ map is_due self.now.dues }
     {
         self.dues.pages()
     }
 
-    /// Whether the page's copy is due at the transaction's end, whatever is due of its permission.
+    /// Whether the page's copy is due at the transaction's end, whether its permission is or not.
     pub fn is_copy_due(&self, page: PageNo) -> bool
         requires { page < length self.now.locked }
         ensures { result ≡ is_some (due_at self.now page).callback }
@@ -139,16 +139,16 @@ impl ReadLocks {
         self.dues.at(page).callback.is_some()
     }
 
-    /// How many pages there are of which something is due.
+    /// How many pages there are for which something is due.
     pub fn due_count(&self) -> usize
         ensures { result ≡ count_by is_due self.now.dues }
     {
         self.dues.count()
     }
 
-    /// The transaction uses the page no more: it is not locked, nothing is due of it, and what was
-    /// due is answered. Where both the copy and the permission were called back, the copy is due,
-    /// and the permission with it.
+    /// The transaction uses the page no more. It isn't locked any longer, and what was due for it
+    /// is returned. If both the copy and the permission were called back, the copy is due, and the
+    /// permission goes with it.
     pub fn unlock(&mut self, page: PageNo) -> Option<CallbackDue>
         requires { page < length self.old.locked }
         ensures due { result ≡ owed_at self.old page }
@@ -160,10 +160,11 @@ impl ReadLocks {
         due
     }
 
-    /// The transaction ends: nothing is locked or due any more. What was due of each page is
-    /// answered once; the greatest page is the first of the list, so `pop` gives them rising.
+    /// The transaction ends: nothing is locked or due any more. What was due for each page is
+    /// returned once. The greatest page comes first in the list, so `pop` gives the pages in rising
+    /// order.
     ///
-    /// `AllocError` only where memory for the pages due was refused; nothing changes then.
+    /// `AllocError` only if memory for the pages due was refused; nothing changes then.
     pub fn end(&mut self, alloc: Global) -> Result<Vec<CallbackDue>, AllocError>
         ensures handed { IfOk result (λ dues.
             reverse dues.items ≡ owed_below self.old (length self.old.locked)) }
@@ -180,8 +181,8 @@ impl ReadLocks {
         Ok(handed)
     }
 
-    /// Another incarnation of the client begins: of no transaction, and nothing is locked or due.
-    /// What was due of the one that ended is owed by nobody.
+    /// Another incarnation of the client begins, with no transaction, and with nothing locked or
+    /// due. Nobody owes what was due in the incarnation that ended.
     pub fn restart(&mut self, incarnation: Incarnation)
         ensures { self.new ≡ no_locks self.old.client incarnation (length self.old.locked) }
     {

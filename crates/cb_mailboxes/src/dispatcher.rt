@@ -27,7 +27,8 @@ use std::marker::Model;
 
 /// A server, and a mailbox for each of its clients.
 ///
-/// Every call but `server`, `has_frame_for`, `forget` and those of who is to be told takes memory.
+/// Every call takes memory, except `server`, `has_frame_for`, `forget`, and the calls about who is
+/// to be told.
 pub struct Dispatcher {
     server: Server,
     mailboxes: Mailboxes,
@@ -57,10 +58,10 @@ impl Model for Dispatcher {
 }
 
 impl Dispatcher {
-    /// A server over a store, all of which counts as on disk. No client is known, and nothing is to
+    /// A server over a store, all of which counts as on disk. It knows no client, and nothing is to
     /// be sent.
     ///
-    /// The store isn't copied. `AllocError` only where memory was refused.
+    /// The store isn't copied. `AllocError` only if memory was refused.
     pub fn new(alloc: Global, limits: &Limits, store: Store) -> Result<Dispatcher, AllocError>
         requires { IsOf limits.now store }
         ensures new { IfOk result (λ d. IsNew limits.now store d.server) }
@@ -77,10 +78,10 @@ impl Dispatcher {
         Ok(Dispatcher { server, mailboxes })
     }
 
-    /// The same with the server of a later life, as [`Server::resume`] makes it: of each client the
-    /// floor is known, and nothing else.
+    /// The same with the server of a later life, as [`Server::resume`] makes it: it knows the floor
+    /// of each client, and nothing else.
     ///
-    /// The store isn't copied. `AllocError` only where memory was refused.
+    /// The store isn't copied. `AllocError` only if memory was refused.
     pub fn resume(
         alloc: Global,
         limits: &Limits,
@@ -103,8 +104,9 @@ impl Dispatcher {
         Ok(Dispatcher { server, mailboxes })
     }
 
-    /// The server. Since it began it said each frame in a mailbox, to that mailbox's client. A copy
-    /// of a row that stands is as the store has the page, save where its client wrote it since.
+    /// The server. It sent each frame in a mailbox since it began, to that mailbox's client. If the
+    /// row of a copy in a mailbox stands, the copy has the store's bytes and version, unless its
+    /// client wrote the page since.
     pub fn server(&self) -> &Server
         ensures value { result.now ≡ self.now.server }
         ensures mail { HasMail self.now }
@@ -112,8 +114,8 @@ impl Dispatcher {
         &self.server
     }
 
-    /// The server takes a frame. `Exhausted` exactly where the server has no number left for it,
-    /// also where a growth is refused; `Memory` only where a growth was refused.
+    /// The server takes a frame. `Exhausted` exactly if the server has no number left for it,
+    /// whether a growth is refused or not. `Memory` only if a growth was refused.
     pub fn take(&mut self, alloc: Global, frame: &Frame) -> Result<(), ServerFault>
         requires { Fits self.old.server.limits frame.now }
         ensures ok { OnOk result
@@ -133,7 +135,7 @@ impl Dispatcher {
         Ok(())
     }
 
-    /// As `take`, of a frame that is handed over: a commit's pages are moved, and the frame comes
+    /// As `take`, but the frame is handed over: a commit's pages are moved, and the frame comes
     /// back with the fault.
     pub fn take_owned(&mut self, alloc: Global, frame: Frame) -> Result<(), (ServerFault, Frame)>
         requires { Fits self.old.server.limits frame }
@@ -179,10 +181,10 @@ impl Dispatcher {
         }
     }
 
-    /// The server takes the Hello of a client's incarnation. What was to be sent to the client goes
-    /// before.
+    /// The server takes the Hello of a client's incarnation. What was to be sent to the client is
+    /// dropped first.
     ///
-    /// `AllocError` only where memory was refused.
+    /// `AllocError` only if memory was refused.
     pub fn greet(
         &mut self,
         alloc: Global,
@@ -204,9 +206,9 @@ impl Dispatcher {
         Ok(())
     }
 
-    /// As `greet`, and nothing is sent to the client: nobody is that incarnation.
+    /// As `greet`, but nothing is sent to the client, since nobody is that incarnation.
     ///
-    /// `AllocError` only where memory was refused.
+    /// `AllocError` only if memory was refused.
     pub fn dismiss(
         &mut self,
         alloc: Global,
@@ -238,15 +240,15 @@ impl Dispatcher {
         self.mailboxes.has_frame_for(self.server.state(), client)
     }
 
-    /// Who is to be told that there is something for it: each client to which the server said
-    /// something since it was told, or that was noticed.
+    /// The clients that are to be told that there is something for them: each to which the server
+    /// sent something since it was last told, or that was noticed.
     pub fn untold(&self) -> ClientSet
         ensures { result ≡ untold_in self.now }
     {
         self.mailboxes.untold()
     }
 
-    /// The client is to be told too.
+    /// Notes that the client is to be told too.
     pub fn notice(&mut self, client: ClientNo)
         ensures rest { self.new ≡ with_untold self.old (untold_in self.new) }
         ensures noticed { (other : ℕ) → has (untold_in self.new) other
@@ -255,7 +257,7 @@ impl Dispatcher {
         self.mailboxes.notice(client);
     }
 
-    /// Everybody is to be told.
+    /// Notes that everybody is to be told.
     pub fn notice_all(&mut self)
         ensures rest { self.new ≡ with_untold self.old (untold_in self.new) }
         ensures all { (client : ℕ) → client < 32 → has (untold_in self.new) client ≡ true }
@@ -272,9 +274,9 @@ impl Dispatcher {
         self.mailboxes.told(client);
     }
 
-    /// The oldest frame to the client; `None` exactly where its mailbox is empty.
+    /// Takes the oldest frame to the client; `None` exactly if its mailbox is empty.
     ///
-    /// `AllocError` only where memory was refused; nothing is taken then.
+    /// `AllocError` only if memory was refused; nothing is taken then.
     pub fn collect(&mut self, client: ClientNo) -> Result<Option<Frame>, AllocError>
         requires { client < self.old.server.limits.clients }
         ensures oldest { IfOk result (λ frame.
@@ -293,7 +295,7 @@ impl Dispatcher {
 
     /// The commits up to this number are on disk now.
     ///
-    /// `AllocError` only where memory was refused.
+    /// `AllocError` only if memory was refused.
     pub fn flushed(&mut self, alloc: Global, number: CommitNo) -> Result<(), AllocError>
         requires { can_flush (server_of self.old) number ≡ true }
         ensures ok { OnOk result
@@ -309,8 +311,8 @@ impl Dispatcher {
         Ok(())
     }
 
-    /// The commits up to this number, which are on disk, are forgotten: they leave memory. What is
-    /// to be sent stays.
+    /// Forgets the commits up to this number, which are on disk: they leave memory. What is to be
+    /// sent stays.
     pub fn forget(&mut self, number: CommitNo)
         requires on_disk { number ≤ (server_of self.old).flushed }
         ensures { self.new ≡ forgot self.old number }

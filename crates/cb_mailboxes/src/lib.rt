@@ -1,8 +1,8 @@
 //! A page server with a mailbox for each of its clients.
 //!
-//! What the server says at a frame is put behind what its clients have not collected yet: to each
-//! client what is for its current incarnation, in order. A step costs what it says, whatever the
-//! mailboxes hold.
+//! The server's answers to a frame go into its clients' mailboxes, behind what they haven't
+//! collected yet: to each client what is for its current incarnation, in order. The cost of a step
+//! grows with what it sends alone, whatever the mailboxes hold.
 #![tactic(auto)]
 
 mod dispatcher;

@@ -35,7 +35,7 @@ impl Mailbox {
 
     /// Moves the last of those frames behind its own.
     ///
-    /// `AllocError` only where memory was refused; nothing is moved then.
+    /// `AllocError` only if memory was refused; nothing is moved then.
     pub(crate) fn take_last(&mut self, late: &mut Vec<Frame>) -> Result<(), AllocError>
         requires { 0 < length late.old.items }
         ensures ok { OnOk result (Moves late.old.items self.old late.new.items self.new) }

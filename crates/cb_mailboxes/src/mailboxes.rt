@@ -66,7 +66,7 @@ impl Mailboxes {
     /// Puts what was said last into the mailboxes: to each client what is for its current
     /// incarnation.
     ///
-    /// `AllocError` only where memory was refused: some of it may still be late.
+    /// `AllocError` only if memory was refused: some of it may still be late.
     pub(crate) fn make_ready(&mut self, state: &ServerState) -> Result<(), AllocError>
         requires { length self.old.boxes ≤ length state.now.sessions }
         ensures as_before { AsBefore (current_in (server_of state.now)) self.old self.new }
@@ -77,7 +77,7 @@ impl Mailboxes {
     }
 
     /// Puts the oldest of the late frames into its mailbox, if it is for its client's current
-    /// incarnation; `false` where none is late.
+    /// incarnation; `false` if none is late.
     fn place_next(&mut self, state: &ServerState) -> Result<bool, AllocError>
         requires { length self.old.boxes ≤ length state.now.sessions }
         ensures as_before { AsBefore (current_in (server_of state.now)) self.old self.new }
@@ -140,7 +140,7 @@ impl Mailboxes {
         self.untold
     }
 
-    /// The client is to be told too.
+    /// Notes that the client is to be told too.
     pub(crate) fn notice(&mut self, client: ClientNo)
         ensures rest { self.new ≡ record self.old { untold = self.new.untold } }
         ensures noticed { (other : ℕ) → has self.new.untold other
@@ -149,7 +149,7 @@ impl Mailboxes {
         self.untold.insert(client);
     }
 
-    /// Everybody is to be told.
+    /// Notes that everybody is to be told.
     pub(crate) fn notice_all(&mut self)
         ensures rest { self.new ≡ record self.old { untold = self.new.untold } }
         ensures all { (client : ℕ) → client < 32 → has self.new.untold client ≡ true }

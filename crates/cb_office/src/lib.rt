@@ -1,10 +1,10 @@
-//! A page server that threads share: the names that a program needs, from where they stand.
+//! A page server that threads share: the names that a program needs, gathered from their crates.
 //!
-//! An [`Office`] is a [`Station`] under one lock: the server, what is to be sent to each client,
-//! what each client holds, and the history of commits. A [`Worker`] is a client with its [`Hand`]
-//! of [`Grant`]s. It reads pages that it holds without the lock ([`Worker::hit`]) and takes the
-//! office for all else. [`flush_loop`] writes what is committed to a shelf, many commits by one
-//! write, and answers each commit once it is on disk.
+//! An [`Office`] is a [`Station`] under one lock: the server, the frames that are to be sent to
+//! each client, what each client holds, and the history of commits. A [`Worker`] is a client with
+//! its [`Hand`] of [`Grant`]s. It reads pages that it holds without the lock ([`Worker::hit`]), and
+//! takes the office for all else. [`flush_loop`] writes what is committed to a shelf, many commits
+//! in one write, and answers each commit once it is on disk.
 //!
 //! [`work`] does the jobs of a client: each adds one to two counters, by a transaction of its own.
 //! A [`Gate`] says when a job may begin, and a [`Tally`] counts each job that was done once.
@@ -13,8 +13,9 @@
 //! and need not. Where a client can't join that the office expects at `work`, its program calls
 //! [`Office::skip_work`], so that the flusher doesn't wait for it.
 //!
-//! What each call promises stands where it is made: `cb_hands`, `cb_admission`, `cb_station`,
-//! `cb_worker`, `cb_jobs` and `cb_run`. What an office and a worker are made of is handed on too.
+//! The promise of each call stands in the call's own crate: `cb_hands`, `cb_admission`,
+//! `cb_station`, `cb_worker`, `cb_jobs` and `cb_run`. The types of which an office and a worker are
+//! made are exported too.
 //!
 //! An example, which is compiled and run as the test `example` of `cb_tests`. A client reads a page,
 //! writes it and commits:

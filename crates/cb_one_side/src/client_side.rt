@@ -2,8 +2,7 @@
 //! a line is over any chooser, which is cheaper to prove.
 //!
 //! A call that memory was refused for is made once more, as is the client itself: it changed
-//! nothing, so that where one growth of the client's is refused the same is printed as where none
-//! is.
+//! nothing, so that if one growth of the client's is refused the same is printed as if none is.
 //!
 //! At its end the references that the pool's chooser was called for are compared with those that
 //! the answers tell of: each read that was answered with bytes, and each copy that came of a page
@@ -145,7 +144,7 @@ fn take<Q: Chooser, O: Write>(
     }
 }
 
-/// A frame of these bytes comes, which are of that page. Answers it where its bytes came into the
+/// A frame of these bytes comes, which are of that page. Answers it if its bytes came into the
 /// pool.
 fn take_at<Q: Chooser, O: Write>(
     alloc: Global,

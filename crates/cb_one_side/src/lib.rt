@@ -1,6 +1,6 @@
-//! Plays lists of frames and calls to one side alone: prints each line of a list with what that
-//! side, a client or a server, answers, in the form of the lists themselves (`docs/FORMATS.md`).
-//! So whoever writes a client or a server of their own has the bytes to compare theirs with.
+//! Plays lists of frames and calls to one side alone, a client or a server. It prints each line of
+//! a list with that side's answers, in the form of the lists themselves (`docs/FORMATS.md`).
+//! Whoever writes a client or a server of their own can compare its bytes with these.
 #![tactic(auto)]
 
 mod client_side;
@@ -14,10 +14,10 @@ use std::alloc::Global;
 use std::io;
 use std::io::Write;
 
-/// Plays all lists of a text, one after another. A list begins with its side and its limits; lines
-/// that begin with `<` or with the words of an answer are not read: they are printed anew. A list of
-/// a server passes over any other line whose first word it doesn't know. It fails with
-/// `InvalidData` at a line that lacks a word, or has one that can't be read.
+/// Plays all lists of a text, one after another. A list begins with its side and its limits. Lines
+/// that begin with `<` or with the words of an answer aren't read, but printed anew. A server's
+/// list passes over any other line whose first word it doesn't know. It fails with `InvalidData` at
+/// a line that lacks a word, or has a word that can't be read.
 pub fn play_lists<O: Write>(alloc: Global, text: &str, out: &mut O) -> io::Result<()> {
     let lines: Vec<&str> = text.lines().collect(alloc)?;
     let mut rest = lines.as_slice();

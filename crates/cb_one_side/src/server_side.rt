@@ -1,8 +1,7 @@
 //! A server alone, as a list plays it, over a store of zeros.
 //!
 //! A call that memory was refused for is made once more, as is the server itself: it changed
-//! nothing, so that where one growth of the server's is refused the same is printed as where none
-//! is.
+//! nothing, so that if one growth of the server's is refused the same is printed as if none is.
 
 use crate::frames::{put_digits, put_frames};
 use crate::words::{bytes, is_opening, limits, next_word, number};

@@ -1,5 +1,5 @@
-//! What a page server sends while it takes a step: frames in order, with all memory for them taken
-//! beforehand, and the laws by which the protocol's steps are done one after another.
+//! What a page server sends while it takes a step: frames in order, for which all memory is taken
+//! beforehand. The laws here say how the protocol's steps follow one another.
 #![tactic(auto)]
 
 mod laws;

@@ -50,7 +50,7 @@ impl Model for Outbox {
 }
 
 impl Outbox {
-    /// Nothing is sent, and there is no room. It takes no memory.
+    /// Nothing to be sent, and no room. It takes no memory.
     pub fn new(alloc: Global, limits: &Limits) -> Outbox
         ensures sent { result.sent ≡ [] }
         ensures room { result.room ≡ 0 }
@@ -64,12 +64,12 @@ impl Outbox {
         }
     }
 
-    /// Room for so many frames more, and at least so many spare pages. Room for no more frames is
-    /// taken than is asked for. Spare pages that no step used are there the next time: no more are
-    /// made than lack, so there are never more than the most that were asked for at once.
+    /// Makes room for so many more frames, and for no more, and sees to at least so many spare
+    /// pages. Spare pages that no step used are there the next time, so only the lacking ones are
+    /// made. There are never more than the most that were asked for at once.
     ///
-    /// `AllocError` only where memory was refused, so never where that room and these pages are
-    /// there; what is sent is as before.
+    /// `AllocError` only if memory was refused, so never if that room and these pages are there;
+    /// what is sent is as before.
     pub fn reserve(&mut self, alloc: Global, frames: usize, copies: usize) -> Result<(), AllocError>
         ensures sent { self.new.sent ≡ self.old.sent }
         ensures page_size { self.new.page_size ≡ self.old.page_size }
@@ -88,7 +88,7 @@ impl Outbox {
         Ok(())
     }
 
-    /// A message without page bytes.
+    /// Sends a message without page bytes.
     pub fn say(&mut self, client: ClientNo, incarnation: Incarnation, body: ShortBody)
         requires { length self.old.sent < self.old.room }
         ensures { self.new ≡ record self.old {
@@ -103,7 +103,7 @@ impl Outbox {
         });
     }
 
-    /// A grant, with a copy of these bytes in a spare page.
+    /// Sends a grant, with a copy of these bytes in a spare page.
     pub fn grant(
         &mut self,
         client: ClientNo,
@@ -141,7 +141,7 @@ impl Outbox {
         });
     }
 
-    /// Hands out what is sent, with the room that it has; nothing is left.
+    /// Hands out the frames, with their room, and leaves nothing.
     pub fn take(&mut self, alloc: Global) -> Vec<Frame>
         ensures frames { messages_of result.items ≡ self.old.sent }
         ensures room { vec_capacity result ≡ self.old.room }

@@ -4,12 +4,12 @@ ghost use Rattle.cb_page.specs.Clients.{IsLeast, IsNext, has, left_out, with, wi
 use crate::numbers::ClientNo;
 use std::marker::Model;
 
-/// A set of clients. In contracts it is asked of each client whether it is in.
+/// A set of clients. In contracts, `has` says of each client whether it is a member.
 ///
 /// No call costs more than a few machine steps, and none takes memory.
 #[derive(Clone, Copy, PartialEq, Eq)]
 pub struct ClientSet {
-    /// Bit `client` is 1 where the client is in the set.
+    /// Bit `client` is 1 if the client is in the set.
     bits: u32,
 }
 
@@ -56,7 +56,7 @@ impl ClientSet {
         self.bits &= !(1 << client.get());
     }
 
-    /// Those that are in one of the sets.
+    /// The clients that are in either set.
     pub fn union(self, other: ClientSet) -> ClientSet
         ensures { (client : ℕ) → has result client ≡ (has self client || has other client) }
     {
@@ -65,7 +65,7 @@ impl ClientSet {
         }
     }
 
-    /// Those that are in this set and not in the other.
+    /// The clients of this set that aren't in the other.
     pub fn difference(self, other: ClientSet) -> ClientSet
         ensures { (client : ℕ) → has result client ≡ (has self client && not (has other client)) }
     {
@@ -74,7 +74,7 @@ impl ClientSet {
         }
     }
 
-    /// The client of the least number from this one on; `None` where there is none.
+    /// The member with the least number at or above this one; `None` if there is none.
     pub fn next(self, from: usize) -> Option<ClientNo>
         ensures { MatchOption result
             ((client : ℕ) → from ≤ client → has self client ≡ false) (IsNext self from) }
@@ -91,7 +91,7 @@ impl ClientSet {
         }
     }
 
-    /// The client of the least number; `None` of the empty set.
+    /// The member with the least number; `None` if the set is empty.
     pub fn first(self) -> Option<ClientNo>
         ensures { MatchOption result ((client : ℕ) → has self client ≡ false) (IsLeast self) }
     {

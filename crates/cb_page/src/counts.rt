@@ -2,8 +2,8 @@
 ghost use Rattle.std.specs.Prelude.{◌≡◌, ◌+◌, ◌<◌, ◌≤◌, ◌^◌};
 ghost use Rattle.cb_page.specs.Counting.{bit};
 
-/// How many entries are counted once one of them changed, which was counted or not before, and is
-/// counted or not now.
+/// The new count of entries after one of them changed. `was` says whether that entry was counted
+/// before, `is` whether it is counted now.
 pub fn recount(count: usize, was: bool, is: bool) -> usize
     requires some { bit was ≤ count }
     requires most { count < 2 ^ 63 }

@@ -1,8 +1,8 @@
-//! What every layer of the page server speaks of: numbered things, pages, sets of pages and of
+//! The types that every layer of the page server uses: numbers, pages, sets of pages and of
 //! clients, and the limits of a store.
 //!
-//! A store has a fixed count of clients and of pages, and one page size. [`Limits`] says which; all
-//! other types here hold values that lie within the ranges that some limits allow.
+//! A store has a fixed count of clients and of pages, and one page size. [`Limits`] has these
+//! numbers. A value of any other type here is in the range that some limits allow.
 #![tactic(auto)]
 
 mod client_set;

@@ -10,8 +10,8 @@ use std::fmt;
 use std::marker::Model;
 use thiserror::Error;
 
-/// What is wrong with proposed limits. The text is the fault's number and name; where several are
-/// wrong, the lowest number is answered.
+/// What is wrong with proposed limits. The text is the fault's number and name. If several limits
+/// are wrong, the fault with the lowest number is returned.
 #[derive(Clone, Copy, Debug, PartialEq, Eq, Error)]
 pub enum LimitFault {
     /// The number of clients isn't from 1 to 32.
@@ -97,8 +97,8 @@ impl Model for Limits {
 }
 
 impl Limits {
-    /// The limits of these numbers, or the first fault. Write permission isn't kept:
-    /// [`Limits::keeping`] changes that.
+    /// Limits with these numbers, or the first fault. They don't keep write permission:
+    /// [`Limits::keeping`] does.
     pub fn new(
         clients: u64,
         pages: u64,
@@ -215,8 +215,8 @@ impl Limits {
         self.page_size as usize
     }
 
-    /// The same limits, under which a client keeps its permission to write a page after the
-    /// transaction that it was given for, until the server asks for it.
+    /// The same limits, but with kept write permission: a client keeps a permission after the
+    /// transaction that it was given for, until the server asks for it back.
     pub fn keeping(self) -> Limits
         ensures value { result ≡ record self { keep_write = true } }
         ensures in_range { AreInRange result }

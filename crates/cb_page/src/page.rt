@@ -6,7 +6,8 @@ use std::marker::Model;
 
 /// The bytes of a page. In contracts it is the list of its bytes.
 ///
-/// A page doesn't know the store's page size: what takes a page says which length it wants.
+/// A page doesn't know the store's page size. Each call that takes a page says which length it
+/// wants.
 #[derive(Debug)]
 pub struct Page {
     bytes: Vec<u8>,
@@ -33,7 +34,7 @@ impl Page {
         Page { bytes }
     }
 
-    /// A page of zero bytes. It is refused only where memory is.
+    /// A page of so many bytes, all of them 0. It is refused only if memory is.
     pub fn zeros(alloc: Global, size: usize) -> Result<Page, AllocError>
         ensures { IfOk result (λ p. p ≡ replicate size 0) }
     {
@@ -42,7 +43,7 @@ impl Page {
         })
     }
 
-    /// A page with a copy of these bytes. It is refused only where memory is.
+    /// A page with a copy of these bytes. It is refused only if memory is.
     pub fn copy_of(alloc: Global, bytes: &[u8]) -> Result<Page, AllocError>
         ensures { IfOk result (λ p. p ≡ bytes.now) }
     {

@@ -12,13 +12,14 @@ use std::marker::Model;
 /// A set of the pages below a number that is fixed when the set is made. In contracts it is a list
 /// with one flag for each of these pages.
 ///
-/// Only `new` takes memory. A walk by `next` costs what the members are, wherever they lie: no call
-/// of it looks at more than two words. `clear` goes over those words alone that have members.
+/// Only `new` takes memory. The cost of a walk by `next` grows with the number of members alone,
+/// wherever they lie: each call looks at two words at most. `clear` visits only the words that have
+/// members.
 #[derive(Debug)]
 pub struct PageSet {
-    /// Bit `page % 64` of word `page / 64` is 1 where the page is in the set.
+    /// Bit `page % 64` of word `page / 64` is 1 if the page is in the set.
     words: Vec<u64>,
-    /// Bit `at` is 1 where word `at` isn't 0.
+    /// Bit `at` is 1 if word `at` isn't 0.
     filled: u64,
     pages: usize,
 }
@@ -47,7 +48,7 @@ impl Model for PageSet {
 }
 
 impl PageSet {
-    /// The empty set over the pages below a number. It is refused only where memory is.
+    /// The empty set over the pages below a number. It is refused only if memory is.
     pub fn new(alloc: Global, pages: usize) -> Result<PageSet, AllocError>
         requires { pages ≤ 4096 }
         ensures { IfOk result (λ s. s ≡ replicate pages false) }
@@ -59,7 +60,7 @@ impl PageSet {
         })
     }
 
-    /// How many pages the set may hold: those below this number.
+    /// The set may hold the pages below this number.
     pub fn pages(&self) -> usize
         ensures value { result ≡ length self.now }
         ensures greatest { result ≤ 4096 }
@@ -109,8 +110,8 @@ impl PageSet {
         }
     }
 
-    /// The least member at or after a place: with `from` one past the last answer this walks
-    /// through the set, rising.
+    /// The least member at or above `from`. Calls with one more than the last answer walk through
+    /// the set in rising order.
     pub fn next(&self, from: usize) -> Option<PageNo>
         ensures { MatchOption result
             ((k : ℕ) → from ≤ k → has self.now k ≡ false)

@@ -6,13 +6,13 @@ use http_server::Log;
 use std::alloc::{AllocError, Global};
 use std::marker::Model;
 
-/// What can let its memory go.
+/// A value that can let its memory go.
 pub trait Hollow {
-    /// Lets go of the memory that it has. It takes none. What it is then is never read.
+    /// Lets its memory go, and takes none. Its content is never read after that.
     fn hollow(&mut self, alloc: Global);
 }
 
-/// Items, the first one first, of which the first may be forgotten.
+/// Items in order, of which the first ones may be forgotten.
 pub struct Past<T> {
     /// The items that were forgotten, for proofs alone.
     forgotten: Log<T, ()>,
@@ -58,7 +58,7 @@ impl<T: Hollow + Drop> Past<T> {
         }
     }
 
-    /// Makes room for one more item. `AllocError` only where memory was refused.
+    /// Makes room for one more item. `AllocError` only if memory was refused.
     pub fn reserve_one(&mut self) -> Result<(), AllocError>
         ensures items { self.new.items ≡ self.old.items }
         ensures forgotten { self.new.forgotten ≡ self.old.forgotten }
@@ -67,7 +67,7 @@ impl<T: Hollow + Drop> Past<T> {
         self.places.reserve(1)
     }
 
-    /// One more item, for which there is room.
+    /// Appends an item, for which there is room.
     pub fn push_reserved(&mut self, item: T)
         requires { 0 < self.old.room }
         ensures items { self.new.items ≡ self.old.items ++ item ∷ [] }
@@ -76,7 +76,7 @@ impl<T: Hollow + Drop> Past<T> {
         self.places.push_reserved(item);
     }
 
-    /// The items that weren't forgotten, the first one first: all, where none was.
+    /// The items that weren't forgotten, in order.
     pub fn remembered(&self) -> &[T]
         ensures value { result.now ≡ remembered self.now }
         ensures within { self.now.forgotten ≤ length self.now.items }
@@ -84,8 +84,8 @@ impl<T: Hollow + Drop> Past<T> {
         &self.places[self.vacant..]
     }
 
-    /// The first items that weren't forgotten are, so many of them: they leave memory. It costs no
-    /// more than they are, whatever is left.
+    /// Forgets the first so many of the items that weren't forgotten yet: they leave memory. Its
+    /// cost grows with their number alone, however many are left.
     pub fn forget(&mut self, count: usize)
         requires { self.old.forgotten + count ≤ length self.old.items }
         ensures items { self.new.items ≡ self.old.items }
@@ -110,8 +110,8 @@ impl<T: Hollow + Drop> Past<T> {
         self.vacant += 1;
     }
 
-    /// The vacant places go, where they are more than the others. So no more items are moved than
-    /// were forgotten.
+    /// The vacant places go, if they are more than the others. So no more items are moved than were
+    /// forgotten.
     fn close_up(&mut self)
         ensures items { self.new.items ≡ self.old.items }
         ensures forgotten { self.new.forgotten ≡ self.old.forgotten }

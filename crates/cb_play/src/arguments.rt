@@ -410,13 +410,13 @@ fn asked<'a>(matches: &ArgMatches<'a>) -> Option<Request<'a>>
     }
 }
 
-/// What to print where there is nothing to do.
+/// What to print if there is nothing to do.
 fn nothing_to_do(alloc: Global) -> Result<Error, AllocError> {
     command(alloc)?.error(ErrorKind::MissingSubcommand, "there is nothing to do")
 }
 
 /// What these words ask for; the first is the program's name. Else what to print, as clap has it:
-/// help or the version, where it was asked for, or what is wrong with the words.
+/// help or the version, if it was asked for, or what is wrong with the words.
 pub(crate) fn request_of<'a, S: AsStr>(
     alloc: Global,
     words: &'a [S],

@@ -1,4 +1,4 @@
-//! How the program ends where a writer fails, or memory is wanted.
+//! How the program ends if a writer fails, or memory is wanted.
 ghost use Rattle.std.specs.IoError.{error_kind};
 ghost use Rattle.cb_play.specs.Endings.{IsFailed};
 
@@ -27,7 +27,7 @@ pub(crate) fn end_by<E: Write>(error: &io::Error, err: &mut E) -> u8
     }
 }
 
-/// Says a line. Where it can't be written there is nobody else to tell.
+/// Says a line. If it can't be written there is nobody else to tell.
 fn say<E: Write>(err: &mut E, line: &str) {
     let _ = writeln!(err, "{line}");
 }

@@ -7,8 +7,8 @@ use cb_console::Escaped;
 use std::io::Write;
 use std::{fs, io};
 
-/// The bytes of a file. Where it can't be read that is said, and there are none; it fails where
-/// memory is refused.
+/// The bytes of a file. If it can't be read that is said, and there are none; it fails if memory is
+/// refused.
 pub(crate) fn read_file<E: Write>(
     rt: &HostRuntime,
     path: &str,
@@ -30,7 +30,7 @@ pub(crate) fn read_file<E: Write>(
     }
 }
 
-/// The text of a file. Where it can't be read, or isn't text, that is said, and there is none.
+/// The text of a file. If it can't be read, or isn't text, that is said, and there is none.
 pub(crate) fn read_text<E: Write>(
     rt: &HostRuntime,
     command: &str,

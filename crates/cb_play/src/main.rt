@@ -1,10 +1,10 @@
-//! The program: plays a page server with callback locking and its clients from a schedule of
+//! The program. It plays a page server with callback locking and its clients from a schedule of
 //! events, or runs them on threads over a store on disk.
 //!
-//! `cb_console` reads configurations, plays and draws, `cb_svg` makes pictures, `cb_run` runs
-//! workers, `cb_serve` serves frames, `cb_one_side` plays at one side alone. Here are the words of
-//! the command line, which files are read for them, a script of such words, and how the program
-//! ends.
+//! `cb_console` reads configurations, plays and draws; `cb_svg` makes pictures; `cb_run` runs
+//! workers; `cb_serve` serves frames; `cb_one_side` plays at one side alone. This crate has the
+//! words of the command line, the files that are read for them, scripts of such words, and how the
+//! program ends.
 #![tactic(auto)]
 
 mod arguments;

@@ -22,8 +22,8 @@ use std::thread::Threads;
 use std::time::Clock;
 use std::{env, io};
 
-/// The words of the process's command line; the first is the program's name. `InvalidData` where
-/// one isn't text.
+/// The words of the process's command line; the first is the program's name. `InvalidData` if one
+/// isn't text.
 pub(crate) fn command_line(rt: &HostRuntime) -> io::Result<Vec<String>> {
     Ok(env::args(rt)?.collect(rt.alloc())?)
 }
@@ -31,8 +31,8 @@ pub(crate) fn command_line(rt: &HostRuntime) -> io::Result<Vec<String>> {
 /// Does what the words ask for, and leaves nothing of it in the buffer of `out`. The answer is the
 /// program's status.
 ///
-/// Help and the version, where asked for, go to `out`; what is wrong with the words, or with a
-/// file, goes to `err`, as does the line of a writer that failed. Only workers use `threads`.
+/// Help and the version, if asked for, go to `out`; what is wrong with the words, or with a file,
+/// goes to `err`, as does the line of a writer that failed. Only workers use `threads`.
 pub(crate) fn run<R: Threads + Wait + Clock + Sync, O: Write, E: Write>(
     rt: &HostRuntime,
     threads: &R,
@@ -87,7 +87,7 @@ fn answer_words<R: Threads + Wait + Clock + Sync, O: Write, E: Write>(
     }
 }
 
-/// Does one request that is no script. The answer has the program's status and, where the request
+/// Does one request that is no script. The answer has the program's status and, if the request
 /// names a store, which file was opened.
 pub(crate) fn do_request<'a, R: Threads + Wait + Clock + Sync, O: Write, E: Write>(
     rt: &HostRuntime,
@@ -191,8 +191,8 @@ fn chart_files<O: Write, E: Write>(
     chart_to(rt.alloc(), config.as_slice(), schedule.as_slice(), out, err)
 }
 
-/// The bytes of a configuration and of a schedule, read in this order. Where one can't be read that
-/// is said, and there are none.
+/// The bytes of a configuration and of a schedule, read in this order. If one can't be read that is
+/// said, and there are none.
 fn read_both<E: Write>(
     rt: &HostRuntime,
     config: &str,
@@ -224,8 +224,8 @@ fn draw_file<O: Write, E: Write>(
     draw_to(rt.alloc(), config.as_slice(), seed, count, out, err)
 }
 
-/// Runs workers under the configuration of a file. Where it is asked for, the process's standard
-/// error shows how far they are; `err` has the same as without it.
+/// Runs workers under the configuration of a file. If it is asked for, the process's standard error
+/// shows how far they are; `err` has the same as without it.
 fn run_workers<'a, R: Threads + Wait + Clock + Sync, O: Write, E: Write>(
     rt: &HostRuntime,
     threads: &R,

@@ -19,7 +19,7 @@ use std::io;
 use std::io::{Read, Write};
 
 /// Serves the frames of `input` under a configuration's text, over the store in a file, which is
-/// made where it isn't there; what is said goes to `out`, behind the life's announcement, if it
+/// made if it isn't there; what is said goes to `out`, behind the life's announcement, if it
 /// `announces`. Why it ended before the input did is said on `err`; the answer has the program's
 /// status, and which file was opened.
 ///

@@ -37,7 +37,7 @@ pub(crate) struct StoreFile<'a> {
 }
 
 /// How a command over a store ended: the program's status, and the file that it opened. There is
-/// none where it came to no file.
+/// none if it came to no file.
 #[derive(Drop)]
 pub(crate) struct StoreEnd<'a> {
     pub(crate) status: u8,
@@ -64,7 +64,7 @@ impl<'a> StoreEnd<'a> {
 }
 
 impl<'a> StoreFile<'a> {
-    /// Opens the file of a path as a database; it is made where it isn't there.
+    /// Opens the file of a path as a database; it is made if it isn't there.
     pub(crate) fn open(
         rt: &HostRuntime,
         path: &'a str,

@@ -33,10 +33,10 @@ impl Gate for AnyTime {
     fn after_commit(&self, _client: ClientNo, _job: u64) {}
 }
 
-/// Runs workers under a configuration's text, over the store in a file, which is made where it
-/// isn't there. It says on `out` how many jobs were committed and the sum of the counters, else on
-/// `err` why not; the answer has the program's status, and which file was opened. Meanwhile `watch`
-/// is told how far it is.
+/// Runs workers under a configuration's text, over the store in a file, which is made if it isn't
+/// there. It says on `out` how many jobs were committed and the sum of the counters, else on `err`
+/// why not; the answer has the program's status, and which file was opened. Meanwhile `watch` is
+/// told how far it is.
 ///
 /// The file isn't opened before the configuration was checked. That the store is closed at the end
 /// is said by no clause: what was committed is on disk before that, beside the file if not in it.

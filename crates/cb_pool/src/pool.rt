@@ -19,7 +19,7 @@ use std::fmt;
 use std::marker::Model;
 use thiserror::Error;
 
-/// Why a page was not installed. Nothing changed then. It is printed as its number and its name.
+/// Why a page wasn't installed. Nothing has changed then. The text is the fault's number and name.
 #[derive(Clone, Copy, Debug, PartialEq, Eq, Error)]
 pub enum PoolFault {
     /// The page isn't here, and each slot has a fixed page.
@@ -57,10 +57,10 @@ impl From<ChooseFault> for PoolFault {
 /// A client's copies of pages, of which a chooser picks the one to let go.
 ///
 /// In contracts a pool is its count of slots, the page size, a flag for each page of the store that
-/// is fixed, the bytes of each page that is here, and the calls that its chooser had since the pool
-/// or its client's incarnation began: its references, and the pages taken out. It doesn't show the
-/// chooser, which came by these calls from one with no members. A page's bytes are moved in and
-/// lent out, and never copied save by `write`, which overwrites them.
+/// is fixed, the bytes of each page that is here, and its chooser's calls. These are the references
+/// and removals since the pool, or its client's incarnation, began. The chooser itself isn't shown:
+/// these calls made it of one with no members. A page's bytes are moved in and lent out. Only
+/// `write` copies bytes: it overwrites them.
 pub struct Pool<Q: Chooser> {
     chooser: Q,
     /// The calls that the chooser had, with the pages that were fixed then, for proofs alone.
@@ -109,8 +109,8 @@ impl<Q: Chooser> Model for Pool<Q> {
 }
 
 impl<Q: Chooser> Pool<Q> {
-    /// An empty pool over an empty chooser of as many slots as the limits say. It is refused only
-    /// where memory is.
+    /// An empty pool with an empty chooser that has as many slots as the limits say. It is refused
+    /// only if memory is.
     pub fn new(alloc: Global, chooser: Q, limits: &Limits) -> Result<Pool<Q>, AllocError>
         requires members { Q.members chooser ≡ [] }
         requires slots { Q.slots chooser ≡ limits.now.slots }
@@ -126,8 +126,8 @@ impl<Q: Chooser> Pool<Q> {
         })
     }
 
-    /// Lends the chooser, whose members are the pages that are here. The calls in the pool's history
-    /// made it of one with no members.
+    /// Lends the chooser, whose members are the pages that are here. The calls in the pool's
+    /// history made it, from a chooser with no members.
     pub fn chooser(&self) -> &Q
         ensures members { (page : ℕ) →
             has (Q.members result.now) page ≡ is_some (copy_of self.now page) }
@@ -155,7 +155,7 @@ impl<Q: Chooser> Pool<Q> {
 
     /// Lends the bytes of a page, if it is here, and counts as a reference to it.
     ///
-    /// The pool is the same once the loan is over, save for that reference.
+    /// The pool is the same once the loan is over, but for that reference.
     pub fn hit(&mut self, page: PageNo) -> Option<&[u8]>
         ensures* ends { sem 𝓛 (pool_ends_as Q.row Q.Chooser self.entry (referred self.old page)) }
         ensures bytes { option_copied result ≡ copy_of self.old page }
@@ -170,7 +170,7 @@ impl<Q: Chooser> Pool<Q> {
 
     /// Refers to a page, if it is here, and says whether it is.
     ///
-    /// The pool is the same, save for that reference.
+    /// The pool is the same, but for that reference.
     pub fn touch(&mut self, page: PageNo) -> bool
         ensures here { result ≡ is_some (copy_of self.old page) }
         ensures same { self.new ≡ referred self.old page }
@@ -193,12 +193,12 @@ impl<Q: Chooser> Pool<Q> {
         self.calls = self.calls.and(&ChooserCall::Reference(page), fixed);
     }
 
-    /// Takes in a page's bytes, which counts as a reference to it, and answers the page let go for
-    /// it, if any.
+    /// Takes in a page's bytes, which counts as a reference to it, and returns the page that was
+    /// let go for it, if any.
     ///
-    /// Bytes that are here already are replaced. `Full` comes where the page isn't here and there
-    /// is no room, and `Memory` only where a growth of the chooser was refused; the bytes handed in
-    /// are dropped then.
+    /// Bytes that are here already are replaced. `Full` comes if the page isn't here and there is
+    /// no room, and `Memory` only if a growth of the chooser was refused; the bytes handed in are
+    /// dropped then.
     pub fn install(&mut self, page: PageNo, bytes: Page) -> Result<Option<PageNo>, PoolFault>
         requires below { page < length self.old.fixed }
         requires size { length bytes ≡ self.old.page_size }
@@ -218,7 +218,7 @@ impl<Q: Chooser> Pool<Q> {
         }
     }
 
-    /// As `install`, and the bytes come back with the fault.
+    /// As `install`, but the bytes come back with the fault.
     pub fn install_or_return(
         &mut self,
         page: PageNo,
@@ -265,7 +265,7 @@ impl<Q: Chooser> Pool<Q> {
         self.has_free_slot() || self.copies.has_loose()
     }
 
-    /// Keeps a page from being let go. It needn't be here: it is fixed once it is installed.
+    /// Keeps a page from being let go. A page that isn't here yet is fixed once it is installed.
     pub fn fix(&mut self, page: PageNo)
         requires { page < length self.old.fixed }
         ensures { self.new ≡ record self.old { fixed = slice_set self.old.fixed page true } }
@@ -291,7 +291,8 @@ impl<Q: Chooser> Pool<Q> {
         self.copies.write(page, bytes);
     }
 
-    /// Takes a page out, here or not, fixed or not; it stays fixed. The chooser forgets it.
+    /// Removes a page, if it is here, and the chooser forgets it. A fixed page can be removed, and
+    /// stays fixed.
     pub fn remove(&mut self, page: PageNo)
         requires { page < length self.old.fixed }
         ensures { self.new ≡ record self.old {
@@ -306,11 +307,10 @@ impl<Q: Chooser> Pool<Q> {
         self.copies.put(page, None);
     }
 
-    /// Begins the client's next incarnation, with an empty chooser of as many slots in place of the
-    /// one before, and no calls of it. The pages handed in are those that may be here.
-    ///
-    /// It takes no memory, and costs these pages and what [`PageSet`] says of a walk, beside the
-    /// drop of the chooser before, which isn't told of the pages that go.
+    /// Begins the client's next incarnation with an empty chooser of as many slots, which replaces
+    /// the one before, and with no calls. The pages handed in are those that may be here. It takes
+    /// no memory. It costs a walk over these pages ([`PageSet`]) and the drop of the former
+    /// chooser, which isn't told of the pages that go.
     pub fn restart(&mut self, chooser: Q, pages: &PageSet)
         requires members { Q.members chooser ≡ [] }
         requires slots { Q.slots chooser ≡ self.old.slots }

@@ -21,14 +21,14 @@ ghost use Rattle.cb_protocol.specs.Laws.{DonesAlwaysNameCommits, DonesAlwaysOnDi
 ghost use Rattle.cb_protocol.specs.Laws.{EachCommitsOnce, RulesHoldUnderAnyMessages, WholePromise};
 ghost use Rattle.cb_protocol.specs.Laws.{WriterAlwaysAlone};
 
-/// Whatever is called, sent, lost, repeated or reordered, whoever restarts, and whatever pages are
-/// let go: at every moment all the laws below hold, with kept write permission and without it, and
-/// whoever is picked as the victim of a deadlock.
+/// At every moment all the laws below hold. They hold whatever is called, sent, lost, repeated or
+/// reordered, whichever clients restart, and whichever pages are let go; with kept write permission
+/// and without it; and whoever is picked as the victim of a deadlock.
 pub fn callback_read()
     ensures promise { WholePromise }
 {}
 
-/// At every moment two readable copies of one page have the same bytes, also while their clients
+/// At every moment two readable copies of one page have the same bytes, even while their clients
 /// commit.
 pub fn readable_copies_agree()
     ensures law { CopiesAlwaysAgree }
@@ -39,9 +39,10 @@ pub fn writer_is_alone()
     ensures law { WriterAlwaysAlone }
 {}
 
-/// At every moment the answered reads and writes of the committed transactions, one transaction
-/// after another in commit order, are what a serial page store would answer, and they leave the
-/// server's store. This includes a commit that was applied after its client restarted.
+/// At every moment the answered reads and writes of the committed transactions are a serial
+/// history: one transaction after another, in commit order, they are what a serial page store would
+/// answer, and they leave the server's store. This includes a commit that was applied after its
+/// client restarted.
 pub fn committed_transactions_are_serial()
     ensures law { CommittedAlwaysSerial }
 {}
@@ -66,9 +67,9 @@ pub fn copies_are_backed_by_rows()
     ensures directory { DirectoryAlwaysKept }
 {}
 
-/// The server alone, whatever messages come, from honest clients or not: a page with a write holder
-/// has rows of no other client, no two rows have the same grant, commits are numbered one by one,
-/// and the store is the opening store with them written over it.
+/// The server alone keeps these rules, whatever messages come, from honest clients or not. If a
+/// page has a write holder, no other client has a row of it. No two rows have the same grant.
+/// Commits are numbered one by one, and the store is the opening store with them written over it.
 pub fn rules_hold_under_any_messages()
     ensures law { RulesHoldUnderAnyMessages }
 {}

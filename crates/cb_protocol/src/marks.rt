@@ -4,16 +4,16 @@ ghost use Rattle.cb_protocol.specs.Downgrades.{DowngradesRise, HolderStaysWhileR
 ghost use Rattle.cb_protocol.specs.Marks.{DroppedHoldNothing, KeptHoldersHaveRows, KeptHoldsUp};
 ghost use Rattle.cb_protocol.specs.Marks.{MarksLive, MarksSetAndTaken};
 
-/// A mark is of a client with a copy of the page and a live transaction. It is there exactly from
-/// the client's InUse on until it gives the copy back or its transaction ends; a step for one page
-/// or client touches no other mark.
+/// A mark belongs to a client with a copy of the page and a live transaction. It is there from the
+/// client's InUse until the client gives the copy back or the transaction ends, and at no other
+/// time. A step for one page or client touches no other mark.
 pub fn marks_are_live()
     ensures live { MarksLive }
     ensures set_and_taken { MarksSetAndTaken }
 {}
 
-/// A transaction that ends as dropped, by its Drop, by a message of a later one or by a greater
-/// Hello, leaves its client no write permission.
+/// A transaction that ends as dropped leaves its client no write permission, whether its Drop, a
+/// message of a later transaction or a greater Hello ends it.
 pub fn dropped_hold_nothing()
     ensures law { DroppedHoldNothing }
 {}
@@ -25,8 +25,8 @@ pub fn kept_permissions_have_rows()
     ensures holds_up { KeptHoldsUp }
 {}
 
-/// Downgrades for one ask are of rising tags, so each permission is called down once for it: while
-/// a read ask waits as first, the page's holder stays the same, and its tag rises.
+/// Downgrades for one ask have rising tags, so each permission is called back once for it: while a
+/// read ask waits as the first, the page's holder stays the same, and its tag rises.
 pub fn downgrades_rise()
     ensures once { DowngradesRise }
     ensures holder_stays { HolderStaysWhileReadWaits }

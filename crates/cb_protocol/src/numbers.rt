@@ -9,9 +9,9 @@ ghost use Rattle.cb_protocol.specs.Numbers.{SettlingSendsAtMost, SettlingTakesKe
 ghost use Rattle.cb_protocol.specs.Numbers.{StepSendsAtMost};
 ghost use Rattle.cb_protocol.specs.Server.{DeadlockTest, Server};
 
-/// Settling takes no grant number but those kept for the read asks that wait. So a server that
-/// takes what is not refused as exhausted, whatever it is, from a new one on, gives grants in range
-/// alone, and each ask that waits can still have one.
+/// Settling takes only grant numbers that are kept for the read asks that wait. Take a new server
+/// to which anything is handed that isn't refused as exhausted. All grants that it gives are in
+/// range, and each ask that waits can still have one.
 pub fn grants_never_run_out()
     ensures settling { (cycle : DeadlockTest) (server : Server)
         → SettlingTakesKeptGrants cycle server }
@@ -20,9 +20,9 @@ pub fn grants_never_run_out()
         → GrantsNeverRunOut cycle server input }
 {}
 
-/// Settling sends at most so many messages, by the asks that wait as it begins, and a copy of a
-/// page at most for each read ask. As a client has one ask at most, a step sends no more than the
-/// number of clients allows.
+/// The asks that wait when settling begins bound the messages that it sends, and there is at most
+/// one copy of a page for each read ask. Since a client has at most one ask, the number of clients
+/// bounds what a step sends.
 pub fn messages_are_bounded()
     ensures settling { (cycle : DeadlockTest) (server : Server)
         → SettlingSendsAtMost cycle server }

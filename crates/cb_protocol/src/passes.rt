@@ -29,17 +29,17 @@ pub fn writers_have_permission()
     ensures law { Always (λ opening world. WritersHavePermission world) }
 {}
 
-/// At every moment a page that a client holds has the store's version and, unless it is bare, the
-/// store's bytes, save where the open or committing transaction wrote it.
+/// At every moment a page that a client holds has the store's version and, if it isn't bare, the
+/// store's bytes. The exception is a page that the open or committing transaction wrote.
 pub fn held_pages_are_the_stores()
     ensures law { Always (λ opening world. HeldPagesAreTheStores world) }
 {}
 
-/// What a transaction had locked at its finish, written pages included, keeps its rows at the
-/// server, and the store keeps the versions that were read, until its commit is applied or the
-/// server takes a greater Hello of its client; so also after the client restarted, while the Commit
-/// is still on its way. In particular each Commit that was sent finds, until then, the rows and the
-/// permissions of the pages that it writes.
+/// The pages that a transaction had locked at its finish, written ones included, keep their rows at
+/// the server, and the store keeps the versions that were read. This lasts until the commit is
+/// applied or the server takes a greater Hello of the client, even if the client restarts while the
+/// Commit is still on its way. In particular, each Commit that was sent finds until then the rows
+/// and permissions of the pages that it writes.
 pub fn commits_on_their_way_keep_their_rows()
     ensures law { (L : Limits) (cycle : DeadlockTest) → CommitsKeepTheirRows L cycle }
     ensures writes { Always (λ opening world. CommitsFindTheirRows world) }

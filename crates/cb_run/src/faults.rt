@@ -8,7 +8,7 @@ use cb_shelf::ShelfFault;
 use cb_station::OfficeFault;
 use cb_worker::WorkerFault;
 
-/// By a fault of the flusher or of the tables.
+/// The ending of a run by a fault of the flusher or of the tables.
 pub fn of_shelf(fault: ShelfFault) -> Ending
     ensures { result ≡ ending_of_shelf fault }
 {
@@ -34,8 +34,8 @@ pub(crate) fn of_worker(fault: WorkerFault) -> Option<Ending>
     }
 }
 
-/// By the flusher's fault, else by that of the lowest client that told of one: how a run ends whose
-/// threads have all ended. What the flusher ended with is handed on.
+/// The ending of a run whose threads have all ended: by the flusher's fault, or else by that of the
+/// lowest client that told of one. What the flusher ended with is handed on.
 pub fn of_run<T: Drop>(
     flushed: Result<T, ShelfFault>,
     told: Option<ClientEnding>,

@@ -1,9 +1,9 @@
 //! Runs of workers over a store: their jobs, the flusher, and a whole run.
 //!
 //! - [`work`] does a worker's jobs, each a transaction that counts up pages 0 and 1.
-//! - [`flush_loop`] waits on the office until there is a batch, lets the lock go, writes the batch,
-//!   and takes the lock to report it: so one write serves all commits since the last. A batch that
-//!   is refused comes with the stop, and [`flush_again`] writes it before any other;
+//! - [`flush_loop`] waits on the office until there is a batch, releases the lock, writes the
+//!   batch, and takes the lock to report it. One write therefore serves all commits since the last.
+//!   A batch that is refused comes with the stop, and [`flush_again`] writes it before any other;
 //!   [`flush_in_tries`] tries it three times in all.
 //! - [`run_on`] is the body of `run`: workers on threads of their own, the flusher on the calling
 //!   one. Results are counted as batches are written. All jobs are committed where it says that the

@@ -19,13 +19,13 @@ use std::sync::Wait;
 use std::time::Clock;
 
 /// Writes what is committed, a batch at a time, until nothing is left and no call of `work` commits
-/// any more: the office is halted, or it is closed and none is going on. So what a call of `work`
-/// commits in a closed office is written too. Where nobody works, an office that is closed is
-/// enough.
+/// any more: the office is halted, or it is closed and none is going on. What a call of `work`
+/// commits in a closed office is therefore written too. If nobody works, it is enough that the
+/// office is closed.
 ///
-/// It holds no lock while it writes. Which batches those are no contract says, since it takes the
-/// lock itself. Who ends well holds that it was so at a moment while nobody had the lock ([`Over`]),
-/// and whether the run was cut off then.
+/// It holds no lock while it writes. No contract says which batches those are, since it takes the
+/// lock itself. If it ends well, it returns an [`Over`], which says that this was so at a moment
+/// while nobody had the lock, and whether the run was cut off then.
 pub fn flush_loop<R: Wait + Clock, S: Alter>(
     rt: &R,
     alloc: Global,
@@ -73,8 +73,8 @@ pub fn flush_loop_watched<R: Wait + Clock, S: Alter, W: Watch>(
     }
 }
 
-/// Writes the batch of a stop first, if there is one, and goes on as [`flush_loop`]. Where it ends
-/// well that batch fits, so it was not passed over.
+/// Writes the batch of a stop first, if there is one, and goes on as [`flush_loop`]. If it ends
+/// well, that batch fits, so it wasn't passed over.
 pub fn flush_again<R: Wait + Clock, S: Alter>(
     rt: &R,
     alloc: Global,

@@ -10,9 +10,9 @@ use cb_station::Station;
 use std::alloc::Global;
 use std::marker::Model;
 
-/// Says that a run was over: no call of `work` commits any more, and each commit is on disk. Nobody
-/// makes one but the flusher, at the station that lies under the office's lock (`next_at`), and
-/// nobody copies it. In contracts it is whether the run was cut off then.
+/// Says that a run was over: no call of `work` commits any more, and each commit is on disk. Only
+/// the flusher makes one, at the station that lies under the office's lock (`next_at`), and nobody
+/// can copy it. In contracts it is whether the run was cut off then.
 #[derive(Drop)]
 pub struct Over {
     cut_off: bool,

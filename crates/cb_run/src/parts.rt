@@ -87,8 +87,8 @@ impl<N> Parts<N> {
     }
 }
 
-/// Says that a run was over, and that as many parts as it has clients had nothing to tell: nobody
-/// but `Parts::end` makes one, of the [`Over`] that its flusher ended with, and nobody copies it. In
+/// Says that a run was over, and that as many parts as it has clients had nothing to tell. Only
+/// `Parts::end` makes one, of the [`Over`] that the flusher returned, and nobody can copy it. In
 /// contracts it is whether the run was cut off then.
 #[derive(Drop)]
 pub struct RunOver {

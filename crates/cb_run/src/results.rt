@@ -19,8 +19,8 @@ pub(crate) struct UntoldJob {
     done: JobDone,
 }
 
-/// What is told of a job that was done: [`Results::send`] alone makes one, of an [`UntoldJob`], and
-/// nobody copies it.
+/// What is told of a job that was done. Only [`Results::send`] makes one, of an [`UntoldJob`], and
+/// nobody can copy it.
 #[derive(Drop)]
 pub struct DoneJob {
     done: JobDone,
@@ -58,8 +58,8 @@ pub(crate) fn do_job<R: Wait, Q: Chooser>(
     Ok(UntoldJob { done })
 }
 
-/// The results of jobs, which any number of workers send. Its two ends stay together until all have
-/// ended, so that only want of memory keeps a result from being sent.
+/// The results of jobs, which any number of workers send. Its two ends stay together until all
+/// workers have ended, so only want of memory can keep a result from being sent.
 #[derive(Drop)]
 pub struct Results {
     to: Sender<DoneJob>,
@@ -67,9 +67,7 @@ pub struct Results {
 }
 
 impl Results {
-    /// None was sent yet.
-    ///
-    /// `AllocError` only where memory was refused.
+    /// No results yet. `AllocError` only if memory was refused.
     pub fn new(alloc: Global) -> Result<Results, AllocError> {
         let (to, from) = crossbeam_channel::unbounded(alloc)?;
         Ok(Results { to, from })
@@ -85,12 +83,12 @@ impl Results {
         Ok(())
     }
 
-    /// Those that were sent and nobody took yet; each is taken as it is drawn.
+    /// The results that were sent and nobody took yet. Each is taken as it is drawn.
     pub fn so_far<'a, R: Wait>(&'a self, rt: &'a R) -> TryIter<'a, DoneJob, R> {
         self.from.try_iter(rt)
     }
 
-    /// Those that were sent and nobody took; no more come.
+    /// The results that were sent and nobody took. No more come.
     pub fn into_receiver(self) -> Receiver<DoneJob> {
         let Results { to, from } = self;
         drop(to);

@@ -23,11 +23,9 @@ use std::thread::Threads;
 use std::time::Clock;
 use std::{io, thread};
 
-/// Starts a worker for each client, with so many jobs each, runs the flusher, and says what came of
-/// it: on `out` how many jobs were committed and the sum of the counters, else on `err` why not.
-/// The answer is the status.
-///
-/// The office is halted when it returns.
+/// Starts a worker for each client, with so many jobs each, and runs the flusher. It prints to
+/// `out` how many jobs were committed and the sum of the counters, or to `err` why not. Returns the
+/// status. The office is halted when it returns.
 pub fn run_on<R, G, S, O, E>(
     rt: &R,
     alloc: Global,
@@ -55,7 +53,7 @@ where
     )
 }
 
-/// As [`run_on`]; meanwhile `watch` is told of each batch that is on disk, and when the flusher
+/// As [`run_on`]. Meanwhile `watch` is told of each batch that is on disk, and when the flusher
 /// waits.
 pub fn run_on_watched<R, G, S, W, O, E>(
     rt: &R,
@@ -88,11 +86,11 @@ where
     print_run(outcome, out, err)
 }
 
-/// Starts a worker for each client, with so many jobs each, and runs the flusher to the end of all:
-/// how many jobs were committed, the sum of the counters as the tables have them, and that the run
-/// was over. Fewer than all jobs are committed only where it says that this run was cut off.
+/// Starts a worker for each client, with so many jobs each, and runs the flusher to the end.
+/// Returns how many jobs were committed, the sum of the counters as the tables have them, and that
+/// the run was over. Fewer than all jobs are committed only if it says that this run was cut off.
 ///
-/// The office is halted when it returns, but where memory was refused before any thread started.
+/// The office is halted when it returns, unless memory was refused before any thread started.
 pub fn run_and_count<R, G, S, W>(
     rt: &R,
     alloc: Global,

@@ -54,8 +54,8 @@ fn pause(left: u64) -> Duration {
 }
 
 /// Runs the flusher. A batch that is refused is tried again, three times in all, and so is one for
-/// which there is no memory; then the office is halted, and the last fault answered. A batch that
-/// is written in between ends the count. Who ends well holds that the run is over.
+/// which there is no memory. Then the office is halted, and the last fault returned. A batch that
+/// is written in between restarts the count. If it ends well, it returns that the run is over.
 pub fn flush_in_tries<R: Wait + Clock, S: Alter, W: Watch>(
     rt: &R,
     alloc: Global,

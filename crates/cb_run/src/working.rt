@@ -20,14 +20,14 @@ use std::time::{Clock, Duration};
 /// A gate is asked again after so many milliseconds at the latest.
 const MOMENT: u64 = 1;
 
-/// Takes each job from the channel, and sends a result for each once it is on disk. Where no job is
-/// left the worker leaves; after a fault it is abandoned. Whatever happened, the office is told
+/// Takes each job from the channel, and sends a result for each once it is on disk. If no job is
+/// left, the worker leaves; after a fault it is abandoned. Whatever happened, the office is told
 /// that one call of `work` has ended.
 ///
 /// Where a client can't join, [`Office::skip_work`] is called in place of this.
 ///
-/// In an office that is closed already it takes no job, and the worker leaves. One that is closed
-/// meanwhile waits for it: it does all its jobs, and the flusher writes them.
+/// In an office that is closed already it takes no job, and the worker leaves. An office that is
+/// closed meanwhile waits for this call, which does all its jobs; the flusher writes them.
 pub fn work<R: Wait + Clock, Q: Chooser, G: Gate>(
     rt: &R,
     alloc: Global,

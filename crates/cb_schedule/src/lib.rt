@@ -1,4 +1,5 @@
-//! Schedules and the worlds that play them: the names that a caller needs, from where they stand.
+//! Schedules and the worlds that play them: the names that a caller needs, gathered from their
+//! crates.
 //!
 //! A schedule is a list of [`Event`]s: calls of clients, packets that are taken in any order, lost
 //! or repeated, restarts, and what is left to the server. [`read_schedule`] reads one from a text,
@@ -8,9 +9,9 @@
 //! such a world whose server restarts too: it plays [`LivesEvent`]s, and gives a
 //! [`LivesTranscript`].
 //!
-//! What each call promises stands where it is made: `cb_event`, `cb_transcript` and `cb_world`.
-//! The limits, the store and the chooser that a world is made of are handed on too. So are the laws
-//! of worlds: [`copies_are_backed_by_rows`], [`written_pages_are_alone`],
+//! The promise of each call stands in the call's own crate: `cb_event`, `cb_transcript` and
+//! `cb_world`. The limits, the store and the chooser of which a world is made are exported too. So
+//! are the laws of worlds: [`copies_are_backed_by_rows`], [`written_pages_are_alone`],
 //! [`readable_copies_agree`], [`writer_is_alone`] and [`committed_transactions_are_serial`].
 //!
 //! An example, which is compiled and run as the test `example` of `cb_layer_tests`:

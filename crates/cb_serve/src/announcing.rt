@@ -11,8 +11,8 @@ use cb_shelf::Life;
 use std::alloc::{AllocError, Global};
 use std::io::Write;
 
-/// Says that a life is served from now on: a header of version 2 and kind 0, whose incarnation is
-/// the life's floor. A gateway that is told so serves the store from then on, and gives its clients
+/// Announces that a life is served from now on, by a header of version 2 and kind 0 whose
+/// incarnation is the life's floor. From then on a gateway serves the store, and gives its clients
 /// incarnations above the floor.
 pub fn announce<W: Write>(alloc: Global, life: &Life, output: &mut W) -> Result<(), RoundFault>
     ensures ok { OnOk result (Appends (W.contents output.old) (W.contents output.new)

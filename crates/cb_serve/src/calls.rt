@@ -1,4 +1,4 @@
-//! Calls of a service's input and output, each made again where a signal interrupted it.
+//! Calls of a service's input and output, each made again if a signal interrupted it.
 ghost use Rattle.std.specs.Prelude.{◌≡◌, ◌≤◌, ◌<◌, ◌+◌, [], length, take, true, false, IfErr, IfOk, IfSome};
 ghost use Rattle.std.specs.Prelude.{OnErr, OnOk};
 ghost use Rattle.std.specs.IoError.{error_kind};
@@ -9,9 +9,9 @@ ghost use Rattle.cb_serve.specs.Calls.{IsFinal, IsPassing, Reads, calls_of, lack
 use std::io;
 use std::io::{ErrorKind, Read, Write};
 
-/// Says that a call of an input or output was refused, and by which error: the calls of this module
-/// alone make one, and nobody copies it. A call that a signal interrupted is made again, and hands
-/// the refusal in.
+/// Says that a call of an input or output was refused, and by which error. Only the calls of this
+/// module make one, and nobody can copy it. A call that a signal interrupted is made again, and
+/// takes the refusal.
 #[derive(Debug, Drop)]
 pub struct Refusal {
     error: io::Error,
@@ -80,7 +80,7 @@ fn behind(before: Option<Refusal>, error: io::Error) -> Refusal
     Refusal { error, calls }
 }
 
-/// One read into the room: how many bytes came, none where the input has ended.
+/// One read into the room: how many bytes came, none if the input has ended.
 fn read_once<R: Read>(
     input: &mut R,
     room: &mut [u8],
@@ -100,7 +100,7 @@ fn read_once<R: Read>(
     }
 }
 
-/// Reads what is there: how many bytes came, none where the input has ended.
+/// Reads what is there: how many bytes came, none if the input has ended.
 pub(crate) fn read_some<R: Read>(input: &mut R, room: &mut [u8]) -> Result<usize, Refusal>
     requires { 0 < length room.old }
     ensures ok { IfOk result (λ count. Reads (R.remaining input.old) (R.remaining input.new)

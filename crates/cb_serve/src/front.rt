@@ -12,7 +12,7 @@ use std::alloc::{AllocError, Global};
 /// The length of a frame's header.
 const HEADER: usize = 16;
 
-/// The header that stands alone and asks that what may be lost is said again.
+/// The header that stands alone and asks the server to resend what may be lost.
 const AGAIN: [u8; 16] = [2, 0, 0, 0, 0, 0, 0, 0, 0, 0, 0, 0, 0, 0, 0, 0];
 
 /// What the bytes of a stream begin with.
@@ -20,7 +20,7 @@ const AGAIN: [u8; 16] = [2, 0, 0, 0, 0, 0, 0, 0, 0, 0, 0, 0, 0, 0, 0, 0];
 pub(crate) enum Front {
     /// A frame, of that many bytes.
     Frame(Frame, usize),
-    /// The header that asks that what may be lost is said again.
+    /// The header that asks the server to resend what may be lost.
     Again,
     /// As many bytes as their header says, but no frame.
     Unread(usize),
@@ -64,7 +64,7 @@ fn is_no_header(alloc: Global, limits: &Limits, header: &[u8]) -> bool
     is_of_header(fault)
 }
 
-/// Whether the header asks that what may be lost is said again.
+/// Whether the header asks the server to resend what may be lost.
 fn asks_again(header: &[u8]) -> bool
     ensures { IsTrue result ↔ (header.now ≡ again_header) }
 {

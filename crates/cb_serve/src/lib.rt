@@ -1,8 +1,8 @@
-//! A server of frames that come on one stream and go out on another, over a store on disk.
+//! A server over a store on disk, whose frames come in on one stream and go out on another.
 //!
-//! [`serve`] works in rounds: it reads what is there, takes each whole frame, puts out what is said
-//! to them, writes all that they committed in one transaction, and then puts the Dones out. So many
-//! commits share a sync, and none is answered before it is on disk.
+//! [`serve`] works in rounds. It reads what is there, takes each whole frame, puts out the answers,
+//! writes all that was committed in one transaction, and then puts the Dones out. Many commits
+//! therefore share a sync, and none is answered before it is on disk.
 #![tactic(auto)]
 
 mod announcing;

@@ -12,8 +12,8 @@ use cb_server::Server;
 use cb_shelf::{Life, Shelf};
 use sqlite::Alter;
 
-/// Gives a life room for all that its server knows. It comes before what is said goes out: so who
-/// was welcomed is below the number that the tables tell.
+/// Gives a life room for all incarnations that its server knows. It comes before any answer goes
+/// out, so that whoever was welcomed is below the number that the tables tell.
 pub(crate) fn keep_room<S: Alter>(
     server: &Server,
     shelf: &mut Shelf<S>,

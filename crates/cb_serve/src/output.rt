@@ -31,8 +31,8 @@ pub(crate) fn append_frames(
     Ok(())
 }
 
-/// Puts bytes out, and leaves none of them in a buffer of the writer's. Where that is refused, a
-/// front of them was put out.
+/// Puts bytes out, and leaves none of them in a buffer of the writer's. If that is refused, the
+/// first ones of them went out.
 pub(crate) fn put_out<W: Write>(output: &mut W, bytes: &[u8]) -> Result<(), Refusal>
     ensures ok { OnOk result
         (Appends (W.contents output.old) (W.contents output.new) bytes.now) }

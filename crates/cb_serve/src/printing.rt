@@ -9,8 +9,9 @@ use crate::serving::Served;
 use std::io;
 use std::io::Write;
 
-/// Says on `err` how many frames were passed over, if any were, and why it ended before the input
-/// did; the answer is the program's status. It fails where a writer did, the output among them.
+/// Prints to `err` how many frames were passed over, if any were, and why serving ended, if it
+/// ended before the input. Returns the program's status. It fails if a writer did, the output among
+/// them.
 pub fn print_served<E: Write>(served: Served, err: &mut E) -> io::Result<u8>
     ensures prints { IfOk result (λ status. PrintsEnding served.passed_over served.ending status
         (E.contents err.old) (E.contents err.new)) }
@@ -27,7 +28,7 @@ pub fn print_served<E: Write>(served: Served, err: &mut E) -> io::Result<u8>
     }
 }
 
-/// Says how many frames were passed over, if any were.
+/// Prints how many frames were passed over, if any were.
 fn put_passed_over<E: Write>(passed_over: u64, err: &mut E) -> io::Result<()>
     ensures { OnOk result
         (Appends (E.contents err.old) (E.contents err.new) (passed_line passed_over)) }
@@ -38,8 +39,8 @@ fn put_passed_over<E: Write>(passed_over: u64, err: &mut E) -> io::Result<()>
     writeln!(err, "passed over {passed_over}")
 }
 
-/// Says why it ended; the answer is the program's status. Where the output couldn't be written, that
-/// fault is handed on.
+/// Prints why it ended, and returns the program's status. Where the output couldn't be written,
+/// that fault is handed on.
 fn print_fault<E: Write>(fault: ServeFault, err: &mut E) -> io::Result<u8>
     ensures prints { IfOk result (λ status. PrintsFault fault status
         (E.contents err.old) (E.contents err.new)) }
@@ -54,8 +55,8 @@ fn print_fault<E: Write>(fault: ServeFault, err: &mut E) -> io::Result<u8>
     }
 }
 
-/// Says why a round wasn't finished; the answer is the program's status. Where the output couldn't
-/// be written, that fault is handed on.
+/// Prints why a round wasn't finished, and returns the program's status. If the output couldn't be
+/// written, that fault is handed on.
 fn print_round<E: Write>(fault: RoundFault, err: &mut E) -> io::Result<u8>
     ensures line { OnOk result (Appends (E.contents err.old) (E.contents err.new)
         (round_line fault ++ 10 ∷ [])) }

@@ -35,7 +35,7 @@ use std::io::{Read, Write};
 /// The bytes of a service, whose memory each round uses again.
 #[derive(Drop)]
 pub(crate) struct Desk {
-    /// What came and isn't taken: less than a whole piece, between two rounds.
+    /// The bytes that came and aren't taken yet: less than a whole piece, between two rounds.
     pub(crate) pending: Vec<u8>,
     /// What is to go out.
     pub(crate) said: Vec<u8>,
@@ -54,8 +54,8 @@ pub(crate) enum RoundEnd {
     NoFrame,
 }
 
-/// Reads what is there, behind what came before; whether the input goes on. It goes on only where
-/// something was read, and a read that is refused ends the round.
+/// Reads what is there, and appends it to the bytes that wait. Returns whether the input goes on,
+/// which it does only if something was read. A refused read ends the round.
 fn read_more<R: Read>(
     input: &mut R,
     room: &mut [u8],
@@ -90,8 +90,8 @@ fn drop_front(bytes: &mut Vec<u8>, count: usize)
     bytes.truncate(left);
 }
 
-/// Takes all whole pieces, and puts out what is said to them, once the shelf has room for whom the
-/// server knows then.
+/// Takes all whole pieces and puts out the answers, once the shelf has room for the incarnations
+/// that the server knows by then.
 fn answer<S: Alter, W: Write>(
     alloc: Global,
     server: &mut Server,
@@ -155,8 +155,8 @@ fn write_batch<S: Alter>(
     }
 }
 
-/// Reports a batch that was written to the server, and forgets its commits; what the server says to
-/// that.
+/// Reports to the server that a batch was written, and forgets its commits. Returns the server's
+/// answers.
 fn report(alloc: Global, server: &mut Server, written: Written) -> Result<Vec<Frame>, RoundFault>
     requires { can_flush (server_of server.old) written ≡ true }
     ensures ok { IfOk result (λ dones. ReportsWritten server.old written dones.items

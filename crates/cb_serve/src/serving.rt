@@ -19,17 +19,17 @@ use std::io::{Read, Write};
 /// How many bytes are read at once.
 const ROOM: usize = 1_048_576;
 
-/// What came of serving.
+/// The outcome of serving.
 #[derive(Debug, Drop)]
 pub struct Served {
     /// How many frames couldn't be read and were passed over.
     pub passed_over: u64,
-    /// Whether it ended with the input, or why before.
+    /// Whether it ended with the input, or why it ended before.
     pub ending: Result<(), ServeFault>,
 }
 
 impl Served {
-    /// It was refused before any round.
+    /// Serving was refused before any round.
     pub fn refused(fault: RoundFault) -> Served
         ensures { result ≡ record { passed_over = 0; ending = Err (ServeFault.Round fault) } }
     {
@@ -75,7 +75,7 @@ fn serve_rounds<S: Alter, R: Read, W: Write>(
     Err(ServeFault::Endless)
 }
 
-/// How it ends with the input: within a frame, where something waits.
+/// How it ends when the input does: within a frame, if bytes are left.
 fn ended(pending: &[u8]) -> Result<(), ServeFault>
     ensures ok { OnOk result (pending.now ≡ []) }
     ensures cut { IfErr result (λ fault. (fault ≡ ServeFault.Cut) × (pending.now ≢ [])) }
@@ -87,19 +87,20 @@ fn ended(pending: &[u8]) -> Result<(), ServeFault>
     }
 }
 
-/// Serves the frames of the input over a store, as a life of the server, until the input ends: each
-/// frame is taken by the protocol's server in order, and what is said to it goes to the output. What
-/// was committed by the frames that were read at once is written in one transaction, and answered
-/// then. What can't be read is passed over. A Hello for which the life can't be given room is let
-/// go; of any other incarnation the tables tell a number above it before it is welcomed.
+/// Serves the frames of the input over a store, as one life of the server, until the input ends.
+/// The protocol's server takes each frame in order, and its answers go to the output. What the
+/// frames of one read committed is written in one transaction, and answered after that. A frame
+/// that can't be read is passed over. A Hello for which the life can't be given room is ignored.
+/// Before any other Hello is welcomed, the tables tell a number above its incarnation.
 ///
-/// It ends with the input, or for a cause: the input goes on with no frame, or ends within one; a
-/// read, a write or a flush was refused ([`Refusal`](crate::Refusal)), and by no interruption;
-/// behind something that was read the tables refused, no number was left, or memory was refused; or
-/// 2^64 - 1 rounds were done. In each round something was read.
+/// It ends with the input, or for one of these causes. The input goes on with a header that no
+/// frame has, or ends within a frame. A read, a write or a flush was refused
+/// ([`Refusal`](crate::Refusal)), and not because a signal interrupted it. After something was
+/// read, the tables refused, no number was left, or memory was refused. Or 2^64 - 1 rounds were
+/// done. Each round reads something.
 ///
-/// The shelf's tables hold the store, as a load of them says, so what each round writes goes over
-/// that store. It is refused before any round only for want of memory.
+/// The shelf's tables have to hold the store, as a load of them says; each round writes over it.
+/// Before any round, only want of memory refuses it.
 pub fn serve<S: Alter, R: Read, W: Write>(
     alloc: Global,
     limits: &Limits,

@@ -56,7 +56,7 @@ fn greets_from(end: u64, frame: &Frame) -> bool
     end <= frame.incarnation.get() && is_hello(frame.kind())
 }
 
-/// Takes a frame, and appends what is said to it. A Hello from `end` on is let go.
+/// Takes a frame, and appends the answers to it. A Hello from `end` on is ignored.
 fn take_frame(
     alloc: Global,
     server: &mut Server,
@@ -83,7 +83,7 @@ fn take_frame(
     }
 }
 
-/// Says again what may be lost, and appends that.
+/// Appends what may be lost, to be sent again.
 fn say_again(alloc: Global, server: &mut Server, said: &mut Vec<u8>) -> Result<(), RoundFault>
     ensures ok { OnOk result ((more : List ℕ) × (said.new.items ≡ said.old.items ++ more)
         × Answers server.old (SendsAgain ∷ []) more server.new) }
@@ -96,7 +96,7 @@ fn say_again(alloc: Global, server: &mut Server, said: &mut Vec<u8>) -> Result<(
     Ok(())
 }
 
-/// Takes the piece that the bytes begin with, and appends what is said to it.
+/// Takes the piece at the front of the bytes, and appends the answers to it.
 fn take_front(
     alloc: Global,
     server: &mut Server,
@@ -127,8 +127,8 @@ fn take_front(
     }
 }
 
-/// Takes all whole pieces of the bytes, and appends what is said to them. Hellos from `end` on are
-/// let go.
+/// Takes all whole pieces of the bytes, and appends the answers to them. Hellos from `end` on are
+/// ignored.
 pub(crate) fn take_all(
     alloc: Global,
     server: &mut Server,

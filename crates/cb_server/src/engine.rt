@@ -381,7 +381,7 @@ impl Engine {
         self.callbacks.settle(&mut self.outbox);
     }
 
-    /// What may be lost is said again. Where that is nothing, no room is asked for.
+    /// Resends what may be lost. Where that is nothing, no room is asked for.
     pub(crate) fn again(&mut self, alloc: Global, limits: &Limits) -> Result<(), AllocError>
         requires of { HasLimits self.old limits.now }
         ensures ok { OnOk result (Serves self.old server_again self.new) }

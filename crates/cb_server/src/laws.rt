@@ -5,9 +5,9 @@ ghost use Rattle.cb_server.specs.ServerLaws.{AsksAreFew, DoomedLayOnCycle, Frame
 ghost use Rattle.cb_server.specs.ServerLaws.{NewRowsAreAnswered, NoAskIsForgotten};
 ghost use Rattle.cb_server.specs.ServerLaws.{NobodyIsDeadlocked, NobodyWaitsInVain, RulesAreKept};
 
-/// A page with a write holder has rows of no other client, and grant numbers are distinct. No
-/// transaction commits twice; commits are numbered one by one, and the store is the opening store
-/// with them written over it, in order.
+/// If a page has a write holder, no other client has a row of it, and grant numbers are distinct.
+/// No transaction commits twice. Commits are numbered one by one, and the store is the opening
+/// store with them written over it, in order.
 pub fn rules_are_kept()
     ensures rules { RulesAreKept }
 {}
@@ -19,8 +19,8 @@ pub fn nobody_is_deadlocked()
     ensures asks { AsksAreFew }
 {}
 
-/// A transaction becomes doomed only where its client lay on a cycle of waits, as the server was
-/// just before the client's ask was taken away.
+/// A transaction becomes doomed only if its client lay on a cycle of waits just before the server
+/// removed the client's ask.
 pub fn doomed_lay_on_a_cycle()
     ensures dooms { DoomedLayOnCycle }
     ensures frames { FramesAreTaken }
@@ -32,15 +32,15 @@ pub fn no_ask_is_forgotten()
     ensures law { NoAskIsForgotten }
 {}
 
-/// A new grant is sent in the step in which its ask may have it. No page's first ask waits that may
-/// have what it asks for, and whatever row a call makes, its copy is among that call's messages.
+/// A new grant is sent in the step in which its ask may have it. No page's first ask waits if it
+/// may have what it asks for. Whatever row a call makes, its copy is among that call's messages.
 pub fn grants_come_at_once()
     ensures in_time { NobodyWaitsInVain }
     ensures sent { NewRowsAreAnswered }
 {}
 
-/// Where every incarnation that a server knows is below a number, it stays so by each input but
-/// a Hello of an incarnation from that number on. A server that was resumed knows the floor alone.
+/// If every incarnation that a server knows is below a number, it stays so at each input except a
+/// Hello of an incarnation from that number on. A resumed server knows the floor alone.
 pub fn hellos_alone_are_known()
     ensures known { HellosAloneAreKnown }
     ensures resumed { ResumedKnowTheFloor }

@@ -76,7 +76,7 @@ impl Model for Server {
 impl Server {
     /// A server over a store, all of which counts as on disk. No client is known.
     ///
-    /// The store isn't copied. `AllocError` only where memory was refused.
+    /// The store isn't copied. `AllocError` only if memory was refused.
     pub fn new(alloc: Global, limits: &Limits, store: Store) -> Result<Server, AllocError>
         requires { IsOf limits.now store }
         ensures { IfOk result (IsNew limits.now store) }
@@ -92,11 +92,11 @@ impl Server {
         })
     }
 
-    /// A server over the store that a former life of it left, all of which counts as on disk. Of
-    /// each client it knows the floor, as its current incarnation, and nothing else: so it ignores
-    /// what any incarnation below it sent, whenever that comes.
+    /// A server over the store that a former life of it left, all of which counts as on disk. It
+    /// knows the floor as the current incarnation of each client, and nothing else. It therefore
+    /// ignores what any lower incarnation sent, whenever that comes.
     ///
-    /// The store isn't copied. `AllocError` only where memory was refused.
+    /// The store isn't copied. `AllocError` only if memory was refused.
     pub fn resume(
         alloc: Global,
         limits: &Limits,
@@ -135,7 +135,7 @@ impl Server {
     }
 
     /// The limits of its store and its clients. The server arose by the protocol's steps, whatever
-    /// was called before: so all that the protocol says of such servers holds of it.
+    /// was called before. All that the protocol says of such servers therefore holds of it.
     pub fn limits(&self) -> &Limits
         ensures value { result.now ≡ self.now.limits }
         ensures arose { IsServer self.now }
@@ -143,19 +143,19 @@ impl Server {
         &self.limits
     }
 
-    /// Takes a frame, from an honest client or not, and answers what is said to it, in order: to
-    /// its client and to others. What is answered has room for no more frames than one message can
-    /// need by the asks that wait.
+    /// Takes a frame, from an honest client or not, and returns the frames that the server sends in
+    /// answer, in order, to that client and to others. The list has room for no more frames than
+    /// one message can need, by the asks that wait.
     ///
-    /// `Exhausted` exactly where no number is left for it: a grant number for an ask to read that
+    /// `Exhausted` exactly if no number is left for it: a grant number for an ask to read that
     /// would enter a queue, beyond one for each that waits, or a commit number for a commit that
-    /// would be applied. `Memory` only where a growth was refused, so never for a frame that is let
-    /// go: of another incarnation than the current one, but for a greater one's Hello, or of a kind
-    /// that goes to clients; and, where nobody waits, for no GiveBack, InUse, Drop or Downgraded.
-    /// Nothing changes then.
+    /// would be applied. `Memory` only if a growth was refused. Nothing changes after either fault.
+    /// `Memory` never comes for an ignored frame: one that isn't of the current incarnation (unless
+    /// it is the Hello of a greater one), or one of a kind that goes to clients. While nobody
+    /// waits, it never comes for a GiveBack, InUse, Drop or Downgraded.
     ///
-    /// The pages of a commit that is applied are copied, since the list of commits keeps them; no
-    /// others are.
+    /// The pages of a commit that is applied are copied, since the list of commits keeps them. No
+    /// other pages are.
     pub fn take(&mut self, alloc: Global, frame: &Frame) -> Result<Vec<Frame>, ServerFault>
         requires { Fits self.old.limits frame.now }
         ensures ok { IfOk result (λ said.
@@ -172,7 +172,7 @@ impl Server {
         Ok(self.engine.outbox.take(alloc))
     }
 
-    /// As `take`, of a frame that is handed over: the pages of a commit that is applied are moved,
+    /// As `take`, but the frame is handed over: the pages of a commit that is applied are moved,
     /// and the frame comes back with the fault.
     pub fn take_owned(
         &mut self,
@@ -208,7 +208,7 @@ impl Server {
         Err((fault, frame))
     }
 
-    /// Whether no number is left for the frame: exactly then `take` answers `Exhausted`.
+    /// Whether no number is left for the frame. Exactly then `take` returns `Exhausted`.
     pub fn is_exhausted_by(&self, frame: &Frame) -> bool
         requires { Fits self.now.limits frame.now }
         ensures { result ≡ lacks_number_for self.now frame.now }
@@ -217,10 +217,9 @@ impl Server {
             .is_exhausted_by(frame.client, frame.incarnation, &frame.body)
     }
 
-    /// Takes the frame that the bytes begin with, whatever follows it; answers what is said to it
-    /// and how many bytes the frame has.
-    ///
-    /// A fault of the taker is `take`'s, of that frame: so `Memory` of none that is let go.
+    /// Takes the frame at the front of the bytes, whatever follows it. Returns the frames that the
+    /// server sends in answer, and how many bytes the frame has. Its faults are those of `take` for
+    /// that frame, so `Memory` never comes for an ignored one.
     pub fn take_bytes(
         &mut self,
         alloc: Global,
@@ -247,10 +246,10 @@ impl Server {
         }
     }
 
-    /// What may be lost is said again: Callbacks for the first asks to write, Downgrades for the
-    /// first asks to read, AbortNow to the doomed. Nothing else changes.
+    /// Resends what may be lost: Callbacks for the first asks to write, Downgrades for the first
+    /// asks to read, AbortNow to the doomed. Nothing else changes.
     ///
-    /// `AllocError` only where memory was refused, so never where there is nothing to say.
+    /// `AllocError` only if memory was refused, so never if there is nothing to send.
     pub fn again(&mut self, alloc: Global) -> Result<Vec<Frame>, AllocError>
         ensures ok { IfOk result (λ said. Does self.old SendsAgain (messages_of said.items)
             self.new) }
@@ -263,10 +262,11 @@ impl Server {
         Ok(self.engine.outbox.take(alloc))
     }
 
-    /// What is to be written to disk next: each page that a commit changed which isn't on disk yet,
-    /// as it is now; `None` where every commit is on disk. It costs no more than those pages.
+    /// What is to be written to disk next: each page that was changed by a commit which isn't on
+    /// disk yet, as the page is now. `None` if every commit is on disk. It costs no more than those
+    /// pages.
     ///
-    /// `AllocError` only where memory was refused, so never where there is nothing to write.
+    /// `AllocError` only if memory was refused, so never if there is nothing to write.
     pub fn batch(&self, alloc: Global) -> Result<Option<Batch>, AllocError>
         ensures batch { IfOk result (λ batch.
             option_map batch_of batch ≡ next_batch (server_of self.now)) }
@@ -286,10 +286,10 @@ impl Server {
         self.engine.callbacks.state().commits.can_flush(number)
     }
 
-    /// The commits up to this number are on disk now: a Done for each that wasn't before, in order.
-    /// The list has room for these and no more.
+    /// The commits up to this number are on disk now. Returns a Done for each that wasn't before,
+    /// in order, in a list with no more room than that.
     ///
-    /// `AllocError` only where memory was refused; nothing changes then.
+    /// `AllocError` only if memory was refused; nothing changes then.
     pub fn flushed(&mut self, alloc: Global, number: CommitNo) -> Result<Vec<Frame>, AllocError>
         requires { can_flush (server_of self.old) number ≡ true }
         ensures ok { IfOk result (λ said. Does self.old (ReachesDisk number)
@@ -302,8 +302,9 @@ impl Server {
         Ok(dones)
     }
 
-    /// The commits up to this number, which is on disk, are forgotten: they leave memory. It costs
-    /// no more than they are. What is said, who waits and what is on disk stay as they are.
+    /// Forgets the commits up to this number, which is on disk: they leave memory. Its cost grows
+    /// with their number alone. What the server sends, who waits and what is on disk stay as they
+    /// are.
     pub fn forget(&mut self, number: CommitNo)
         requires on_disk { number ≤ (server_of self.old).flushed }
         ensures { self.new ≡ forgot self.old number }
@@ -311,7 +312,7 @@ impl Server {
         self.engine.callbacks.forget(number);
     }
 
-    /// The commits that weren't forgotten, the first one first: all, where none was.
+    /// The commits that weren't forgotten, in order.
     pub fn committed(&self) -> &[Commit]
         ensures value { result.now ≡ remembered (commits_of self.now) }
         ensures all { (commits_of self.now).forgotten ≡ 0 →
@@ -320,7 +321,7 @@ impl Server {
         self.engine.callbacks.state().commits.committed()
     }
 
-    /// What it has of its clients and pages, who waits, and who uses a page. Its parts agree.
+    /// What it knows of its clients and pages, who waits, and who uses a page. Its parts agree.
     ///
     /// The version of a row is the store's (`rows`): each row was sent to its client as a Granted,
     /// by what the calls of this server answered since it was made. Each such Granted is as the
@@ -334,7 +335,7 @@ impl Server {
         self.engine.callbacks.state()
     }
 
-    /// The greatest incarnation that is current for a client; `None` where no client is known.
+    /// The greatest current incarnation of any client; `None` if no client is known.
     pub fn greatest_known(&self) -> Option<Incarnation>
         ensures most { KnowsUpTo (server_of self.now) (or_zero result) }
         ensures least { (below : ℕ) → KnowsBelow (server_of self.now) below

@@ -26,8 +26,8 @@ use cb_links::Sessions;
 use cb_page::{ClientNo, Limits};
 use std::alloc::{AllocError, Global};
 
-/// What a server has of its clients and pages, who waits, and who uses a page that it was called
-/// back for.
+/// What a server knows of its clients and pages, who waits, and who uses a page that was called
+/// back.
 ///
 /// `new`, `apply_commit` and `commit_later` take memory; no other call does.
 pub struct ServerState {
@@ -59,7 +59,7 @@ impl ServerState {
     /// No client is known, nobody waits, and nothing is committed over the store, which counts as
     /// on disk.
     ///
-    /// The store isn't copied. `AllocError` only where memory was refused.
+    /// The store isn't copied. `AllocError` only if memory was refused.
     pub fn new(alloc: Global, limits: &Limits, store: Store) -> Result<ServerState, AllocError>
         requires { IsOf limits.now store }
         ensures agree { IfOk result PartsAgree }

@@ -18,8 +18,8 @@ use cb_frame::Frame;
 use sqlite::Alter;
 use std::alloc::{AllocError, Global};
 
-/// Who is told that a batch is in the tables, by a value that only its write makes ([`Written`]):
-/// the commits themselves, or what others share them by.
+/// Is told that a batch is in the tables, by a value that only its write makes ([`Written`]). This
+/// may be the commits themselves, or what others share them by.
 pub trait Reports {
     /// What a report answers.
     type Told;
@@ -30,9 +30,8 @@ pub trait Reports {
     /// What it answers, and what is made of the commits.
     ghost tells: { Self → ℕ → Self.Told → Self → Type 0 };
 
-    /// The commits up to this batch's number are on disk now.
-    ///
-    /// `AllocError` only where memory was refused.
+    /// The commits up to this batch's number are on disk now. `AllocError` only if memory was
+    /// refused.
     fn report(&mut self, alloc: Global, written: Written) -> Result<Self::Told, AllocError>
         requires { can_report self.old written }
         ensures told { IfOk result (λ told. tells self.old written told self.new) }
@@ -52,10 +51,9 @@ impl Reports for Commits {
 }
 
 /// Writes a batch in one transaction, and reports it once it is in the tables, and not before. Both
-/// [`flush_once`] and the loop of a running program go by it.
-///
-/// `Shape` exactly where the batch doesn't fit. `Memory` besides where the database answers it:
-/// where memory was refused for the report; the batch is in the tables then.
+/// [`flush_once`] and the loop of a running program use it. `Shape` exactly if the batch doesn't
+/// fit. `Memory` if the database says so, or if memory was refused for the report; the batch is in
+/// the tables in the second case.
 pub fn write_and_report<S: Alter, C: Reports>(
     alloc: Global,
     commits: &mut C,
@@ -101,11 +99,9 @@ fn hold(alloc: Global, commits: &Commits, held: &mut Option<Batch>) -> Result<()
 }
 
 /// Writes the batch that is held, or else the next one, and reports it: a Done for each commit in
-/// it that wasn't reported before. Where it is refused the batch stays held, and is written again
-/// before another is taken.
-///
-/// Where there is nothing to write it is not refused. `Shape` only where there is a batch and it
-/// doesn't fit. `Memory` besides where the database answers it: where memory was refused for the
+/// it that wasn't reported before. If it is refused, the batch stays held, and is written again
+/// before another is taken. It isn't refused if there is nothing to write. `Shape` only if there is
+/// a batch and it doesn't fit. `Memory` if the database says so, if memory was refused for the
 /// batch (then none is held), or for the Dones (then the batch is in the tables).
 pub fn flush_once<S: Alter>(
     alloc: Global,

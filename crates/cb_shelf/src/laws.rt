@@ -2,15 +2,15 @@
 //! that is held and of the tables.
 ghost use Rattle.cb_shelf.specs.Events.{TablesFollow};
 
-/// Whatever is committed, at whichever step of a flush, and however often a batch is written before
-/// it is reported, the tables are the store after some of the commits, at least those that were
-/// reported.
+/// The tables have the store after some of the commits, at least those that were reported. This
+/// holds whatever is committed, at whichever step of a flush, and however often a batch is written
+/// before it is reported.
 ///
 /// [`crate::flush_once`] says which steps each of its calls is, all in one. A running program takes
-/// the batch, writes it and reports it while others commit: each is a step of its own there, and
-/// the last two are those of [`crate::write_and_report`], which both go by. That the statements of
-/// a batch write it over the store in the tables is the premise, which `cb_shelf_rows` proves of a
-/// shelf's own tables.
+/// the batch, writes it and reports it while others commit. Each of these is a step of its own
+/// there; the last two are those of [`crate::write_and_report`], which both use. The premise is
+/// that the statements of a batch write it over the store in the tables. `cb_shelf_rows` proves
+/// that of a shelf's own tables.
 pub fn tables_follow_commits()
     ensures law { TablesFollow }
 {}

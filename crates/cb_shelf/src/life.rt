@@ -27,8 +27,8 @@ const UNKEPT: u64 = 1 << 61;
 /// From here on, 2^61 + 2^60, no incarnation is given room.
 const RAISE_END: u64 = 3 << 60;
 
-/// A life of a server over a shelf. [`Shelf::begin_life`](crate::Shelf::begin_life) alone makes it,
-/// and no copy of it can be made.
+/// A life of a server over a shelf. Only [`Shelf::begin_life`](crate::Shelf::begin_life) makes one,
+/// and nobody can copy it.
 #[derive(Drop)]
 pub struct Life {
     floor: Incarnation,
@@ -48,7 +48,7 @@ impl Model for Life {
 }
 
 impl Life {
-    /// The floor: its server ignores what any incarnation below it sent.
+    /// The floor. The life's server ignores what any incarnation below it sent.
     pub fn floor(&self) -> Incarnation
         ensures value { result ≡ self.now.floor }
         ensures below { result < self.now.below }
@@ -63,8 +63,8 @@ impl Life {
         incarnation.get() < self.below
     }
 
-    /// A Hello of this incarnation or a greater one can't be given room: 2^61 + 2^60, or the number
-    /// that the tables tell, where that is greater.
+    /// The least incarnation whose Hello can't be given room: 2^61 + 2^60, or the number that the
+    /// tables tell, if that is greater.
     pub fn end(&self) -> u64
         ensures value { result ≡ life_end self.now }
         ensures far { raise_end ≤ result }

@@ -35,10 +35,9 @@ pub struct Shelf<S: Alter> {
 }
 
 impl<S: Alter> Shelf<S> {
-    /// Opens the tables of a store of these limits. It makes them, with zeros, where there are
-    /// none, and copies what older ones hold; tables of any other shape are refused.
-    ///
-    /// What is refused comes with the connection.
+    /// Opens the tables of a store of these limits. It makes them, with zeros, if there are none,
+    /// and copies what older ones hold. Tables of any other shape are refused. A refusal comes with
+    /// the connection.
     pub fn open(
         alloc: Global,
         mut conn: Connection<S>,
@@ -82,7 +81,7 @@ impl<S: Alter> Shelf<S> {
         conn
     }
 
-    /// Lets each statement take this many steps and no more; 0 takes the limit away.
+    /// Lets each statement take at most this many steps; 0 removes the limit.
     pub fn limit_steps(&mut self, steps: u64)
         ensures { self.new ≡ record self.old {
           conn = record self.old.conn { step_limit = if steps == 0 then None else Some steps };
@@ -109,12 +108,11 @@ impl<S: Alter> Shelf<S> {
         read_back(alloc, &mut self.conn, &self.limits)
     }
 
-    /// Begins the next life of a server over the tables, in one transaction: its floor is the number
-    /// that the tables tell, below which all incarnations are that former lives' servers knew; from
-    /// then on they tell a greater one. Tables with no such row were served by servers that kept
-    /// none: those are taken to have known no incarnation from 2^61 on.
-    ///
-    /// `Shape` only where the tables tell no number, or one from which no life is left.
+    /// Begins the next life of a server over the tables, in one transaction. Its floor is the
+    /// number that the tables tell, which is above all incarnations that the servers of former
+    /// lives knew. From then on the tables tell a greater number. If the tables have no such row,
+    /// their servers kept no lives, and are taken to have known no incarnation from 2^61 on.
+    /// `Shape` only if the tables tell no number, or one from which no life is left.
     pub fn begin_life(&mut self) -> Result<Life, ShelfFault>
         ensures limits { self.new.limits ≡ self.old.limits }
         ensures follows { HasCleanDisk (state S.Store self.new.conn)
@@ -135,8 +133,8 @@ impl<S: Alter> Shelf<S> {
         begin(&mut self.conn)
     }
 
-    /// Gives the life room for a Hello of an incarnation, in one transaction: from then on the
-    /// tables tell a number above it. Where it is refused, the life is as before.
+    /// Gives the life room for a Hello of an incarnation, in one transaction. From then on the
+    /// tables tell a number above it. If it is refused, the life is as before.
     pub fn raise(&mut self, life: &mut Life, incarnation: Incarnation) -> Result<(), ShelfFault>
         requires beyond { life.old.below ≤ incarnation }
         requires room { incarnation < raise_end }

@@ -12,10 +12,10 @@ use cb_sql::{ShelfFault, put_mark, put_pages};
 use sqlite::{Alter, Connection, Transaction};
 use std::marker::Model;
 
-/// Says that a batch was written to the tables of a shelf, and committed:
-/// [`Shelf::write`](crate::Shelf::write) alone makes one, and nobody copies it. So who takes one by
-/// value can't report a batch that no shelf wrote, nor one twice. In contracts it is the number of
-/// the batch.
+/// Says that a batch was written to the tables of a shelf, and committed. Only
+/// [`Shelf::write`](crate::Shelf::write) makes one, and nobody can copy it. Whoever takes one by
+/// value therefore can't report a batch that no shelf wrote, nor a batch twice. In contracts it is
+/// the number of the batch.
 #[derive(Drop)]
 pub struct Written {
     number: CommitNo,

@@ -18,6 +18,40 @@
 -- Unlived: what tables without lives hold stays when their first life begins.
 -- Answering: the store that tables answer is the one that their rows are.
 -- Following: what the tables answer after the open that made them, and the steps since.
+--
+-- The rows on disk
+--
+-- - the statements that make the tables and a store: `older_tables_are_made`, `tables_are_made`,
+--   `stores_are_laid`
+-- - one statement: `versions_are_put`, `parts_are_put`, `versions_are_set`, `parts_are_set`,
+--   `numbers_are_set`. Which rowid a row has that is put isn't said
+-- - a batch: `batches_are_written` of the rows, `batches_are_held` of the answers. With `both` and
+--   `settled` of `Shelf::write` the second says what the tables hold after a write, and what the
+--   next call begins with
+-- - from rows to answers: `answers_are_the_rows`. Its premise is that each page of both stores has
+--   its store's size (`HasFullPages`), as the invariant of `Store` says of each
+-- - from an open on: `first_loads_are_zeros`, `loads_follow_batches`, `loads_follow_copies`,
+--   `loads_follow_finds`. A batch is as `fits` and `both` of `Shelf::write` give it, an open as
+--   `laid_out`. The premises are full pages; where a store was copied, that the older tables were
+--   the only ones, as their statements make them; and of a file that was found, `IsShelf`
+--
+-- `older_tables_are_made`, `first_loads_are_zeros`, `loads_follow_batches` and
+-- `loads_follow_copies` begin with one certain schema. Each other law is of both: that of the four
+-- tables, and that in which the two older ones stand before them (`schema older`).
+--
+-- A row is of a page or a place as SQL compares numbers (`is_of_page`, `is_at`). What each text is
+-- to the schemas is by `refl` (`Texts`, `Schemas`). What stands above one statement goes by
+-- induction over the parts of a page, the pages of a batch, and the batches and opens after a first
+-- open (`Paging`, `Following`). The lemmas that carry most:
+--
+-- - `inserts` (`Replacing`): INSERT OR REPLACE of one row takes out the rows that conflict with it
+--   and no other (`taken_out`), and puts it in at a free rowid (`IsPut`)
+-- - `set_there` (`Setting`): UPDATE of the one row that passes a test takes out that row and no
+--   other, and puts the new one in at its rowid; a key that equals a number still does once it is
+--   cast (`cast_equal` of `Equal`)
+-- - `told_row`, `tells_row` (`Selecting`): an answer of one row is of the one row that passes the
+--   test, and back
+-- - `tells_count` (`Counting`): a count is told by the length alone
 pub mod Lists
 pub mod Texts
 pub mod Schemas

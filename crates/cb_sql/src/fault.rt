@@ -7,7 +7,7 @@ use std::alloc::{AllocError, AllocFailed};
 use std::fmt;
 use thiserror::Error;
 
-/// Why a shelf refuses. The text is the fault's number and name.
+/// Why a shelf refuses a call. The text is the fault's number and name.
 #[derive(Clone, Copy, Debug, PartialEq, Eq, Error)]
 pub enum ShelfFault {
     /// The tables, or the pages of a batch, aren't of a store of these limits.

@@ -1,9 +1,9 @@
 //! The statements that write pages of a store to the tables of an SQLite database, each run inside
 //! a transaction.
 //!
-//! [`run`], [`ask`] and [`is_there`] are single statements: in contracts each is a step
-//! (`Inside`), and what it makes of the database is what the statements make that ran (`MakesAll`).
-//! [`put_mark`], [`put_page`] and [`put_pages`] are made of them.
+//! [`run`], [`ask`] and [`is_there`] are single statements. In contracts each is a step (`Inside`),
+//! and changes the database as the statements do that ran (`MakesAll`). [`put_mark`], [`put_page`]
+//! and [`put_pages`] are made of them.
 #![tactic(auto)]
 
 mod fault;

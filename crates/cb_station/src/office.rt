@@ -20,10 +20,9 @@ use std::time::{Clock, Duration};
 const CLIENTS: usize = 32;
 
 /// A station under one lock. Each client waits by itself for a frame, so that nobody is woken for
-/// another's; whoever waits for anything else is told of commits, closing and halting.
-///
-/// What a call that takes the lock itself does with the station no contract can say: it is shown by
-/// tests. In contracts an office is how many calls of `work` it expects.
+/// another's. Whoever waits for anything else is told of commits, closing and halting. No contract
+/// can say what a call that takes the lock itself does with the station; tests show it. In
+/// contracts an office is how many calls of `work` it expects.
 #[derive(Drop)]
 pub struct Office {
     station: Mutex<Station>,
@@ -41,10 +40,10 @@ impl Model for Office {
 }
 
 impl Office {
-    /// An office over a station. So many are expected to work, each from `begin_work` to `end_work`
-    /// (as `work` does); the last to end closes it. For one that won't begin, since its client
-    /// couldn't join, [`Office::skip_work`] is called in place of these: else the office stays
-    /// open, and the flusher waits for that one for ever. With none it is closed.
+    /// An office over a station. It expects so many to work, each from `begin_work` to `end_work`,
+    /// as `work` does. The last to end closes it. For one that won't begin, since its client
+    /// couldn't join, call [`Office::skip_work`] instead; otherwise the office stays open, and the
+    /// flusher waits for that one for ever. If none is expected, it is closed.
     pub fn new(mut station: Station, workers: usize) -> Office
         ensures { result.expected ≡ workers }
     {
@@ -57,15 +56,15 @@ impl Office {
         }
     }
 
-    /// Takes the lock, and lends the station until the guard is let go, which tells all who are to
-    /// be told of what was done meanwhile. Whatever threads did before, the station is one: its
-    /// history is legal and is what its server did, what it has stored of each hand the server has,
-    /// and where it is halted it is closed. Each frame in a mailbox was said by the server to that
+    /// Takes the lock, and lends the station until the guard is dropped, which tells all who are to
+    /// be told of what was done meanwhile. The station's invariant holds, whatever threads did
+    /// before: its history is legal and is what its server did, the server has what is stored of
+    /// each hand, and a halted station is closed. The server sent each frame in a mailbox, to that
     /// mailbox's client.
     ///
-    /// Who has the guard makes no call that takes this lock itself: neither this one again, nor
-    /// another that is handed `rt`, nor a worker's that is handed this office. It would wait for
-    /// itself, for ever, and no clause refuses it.
+    /// Whoever has the guard must not make a call that takes this lock itself: this one again,
+    /// another one that is handed `rt`, or a worker's that is handed this office. It would wait for
+    /// itself for ever, and no clause refuses it.
     pub fn lock<R: Wait>(&self, rt: &R) -> LockedStation<'_>
         ensures sound { IsStation (lent_station result) }
         ensures mail { HasMail (lent_station result).dispatcher }
@@ -74,9 +73,9 @@ impl Office {
         LockedStation::new(self, self.lock_to_wait(rt))
     }
 
-    /// As [`Office::lock`], for whoever waits by this guard: [`Office::wait`] and the calls like it
-    /// take it, and tell as they let the lock go. The guard itself tells nobody, so who changes the
-    /// station and doesn't wait then calls [`Office::tell`] before it goes.
+    /// As [`Office::lock`], for whoever waits by this guard: [`Office::wait`] and similar calls
+    /// take it, and tell as they release the lock. The guard itself tells nobody. Whoever changes
+    /// the station and then doesn't wait calls [`Office::tell`] before the guard goes.
     pub fn lock_to_wait<R: Wait>(&self, rt: &R) -> MutexGuard<'_, Station>
         ensures sound { IsStation (mutex_guard_value result) }
         ensures mail { HasMail (mutex_guard_value result).dispatcher }
@@ -85,7 +84,7 @@ impl Office {
         self.sound(self.station.lock(rt))
     }
 
-    /// Lets the lock go until somebody tells of a commit or of the end of a call of `work`, closes
+    /// Releases the lock until somebody tells of a commit or of the end of a call of `work`, closes
     /// or halts the office, and takes it again. It may return for no reason.
     pub fn wait<'a, R: Wait>(
         &'a self,
@@ -99,7 +98,7 @@ impl Office {
         self.sound(self.changed.wait(rt, self.sound(station)))
     }
 
-    /// Lets the lock go until there may be a frame to that client, or the office is halted, and
+    /// Releases the lock until there may be a frame to that client, or the office is halted, and
     /// takes it again. It may return for no reason.
     pub fn wait_for_frame<'a, R: Wait>(
         &'a self,
@@ -114,7 +113,7 @@ impl Office {
         self.sound(self.condition_of(client).wait(rt, self.sound(station)))
     }
 
-    /// As [`Office::wait_for_frame`], and no longer than so long.
+    /// As [`Office::wait_for_frame`], but no longer than this.
     pub fn wait_for_frame_at_most<'a, R: Wait + Clock>(
         &'a self,
         rt: &R,
@@ -131,8 +130,8 @@ impl Office {
         self.sound(waited.0)
     }
 
-    /// As [`Office::wait`], until that commit is made or no call of `work` commits any more, and no
-    /// longer than so long.
+    /// As [`Office::wait`], until that commit is made or no call of `work` commits any more, but no
+    /// longer than this.
     pub fn wait_for_commit<'a, R: Wait + Clock>(
         &'a self,
         rt: &R,
@@ -151,7 +150,7 @@ impl Office {
         self.sound(waited.0)
     }
 
-    /// A try ends: it gives its ticket back, and who is to be let in next is told.
+    /// A try ends, and gives its ticket back. The client that is to be let in next is told.
     pub fn end_try<R: Wait>(&self, rt: &R, ended: EndedTry) {
         self.end_try_at(&mut self.lock(rt), ended);
     }
@@ -164,12 +163,12 @@ impl Office {
         self.tell(station);
     }
 
-    /// Tells all who are to be told of what was done under this lock: each client to which the
-    /// server said something, and the one that is to be let in next; and, of commits, of the end of
-    /// a call of `work`, of closing and of halting, whoever waits for these.
+    /// Tells all who are to be told of what was done under this lock. These are each client to
+    /// which the server sent something, and the one that is to be let in next. Commits, the end of
+    /// a call of `work`, closing and halting are told to whoever waits for them.
     ///
-    /// The guard of [`Office::lock`] calls this as it goes, and so does each call that waits. Who
-    /// is forgotten all the same is told by the next one that takes the lock.
+    /// The guard of [`Office::lock`] calls this as it goes, and so does each call that waits. A
+    /// client that is left out all the same is told by the next one that takes the lock.
     pub fn tell(&self, station: &mut Station)
         ensures { Tells station.old station.new }
     {
@@ -198,8 +197,8 @@ impl Office {
         &self.frames[client.index()]
     }
 
-    /// One call of `work` that began has ended, and who waits for that is told; the last one closes
-    /// the office.
+    /// One call of `work` that began has ended, and whoever waits for that is told. The last one
+    /// closes the office.
     pub fn end_work<R: Wait>(&self, rt: &R) {
         self.end_work_at(&mut self.lock(rt));
     }
@@ -212,8 +211,8 @@ impl Office {
         self.tell(station);
     }
 
-    /// One call of `work` that is expected won't begin, and who waits for that is told; the last
-    /// one closes the office. Calls that go on are still waited for.
+    /// One expected call of `work` won't begin, and whoever waits for that is told. The last one
+    /// closes the office. Calls that go on are still waited for.
     pub fn skip_work<R: Wait>(&self, rt: &R) {
         self.skip_work_at(&mut self.lock(rt));
     }
@@ -226,12 +225,11 @@ impl Office {
         self.tell(station);
     }
 
-    /// No call of `work` begins any more: one that would takes no job. Those that are going on do
-    /// all their jobs, and the flusher ends when none is left and all is written; at once, where
-    /// nobody works and all is.
-    ///
-    /// Whoever commits without `work`, and isn't counted by `begin_work`, isn't waited for: what he
-    /// commits after the flusher has ended is in memory alone.
+    /// No call of `work` begins any more: a later one takes no job. Those that are going on do all
+    /// their jobs, and the flusher ends when none is left and all is written. It ends at once if
+    /// nobody works and all is written. It doesn't wait for whoever commits without `work` and
+    /// isn't counted by `begin_work`: what they commit after the flusher has ended is in memory
+    /// alone.
     pub fn close<R: Wait>(&self, rt: &R) {
         self.close_at(&mut self.lock(rt));
     }

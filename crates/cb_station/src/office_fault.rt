@@ -8,8 +8,8 @@ use std::alloc::AllocError;
 use std::fmt;
 use thiserror::Error;
 
-/// Why a call is refused: the lowest number that stands. Nothing changes then. The text is the
-/// fault's number and name.
+/// Why a call is refused. Nothing changes then. If several faults apply, the lowest number is
+/// returned. The text is the fault's number and name.
 #[derive(Clone, Copy, Debug, PartialEq, Eq, Error)]
 pub enum OfficeFault {
     /// A frame or client outside the limits, or not the hand's; a frame of a kind that another call

@@ -41,19 +41,17 @@ use std::marker::Model;
 /// A server that several clients share, with what each joined client's hand shows, what is to be
 /// sent to each, the history of commits, and what the threads that share it tell each other:
 /// whether it is closed, whether it is halted, how many calls of `work` are still to end, how many
-/// are going on, and which tries of transactions are let in. And who is to be told of what was
-/// done, and wasn't yet: [`crate::Office::tell`] tells them, under the same lock.
+/// are going on, and which tries of transactions are let in. It also has who is still to be told of
+/// what was done; [`crate::Office::tell`] tells them, under the same lock.
 ///
-/// Once it is closed no call of `work` begins. Those that are going on do their jobs to the end,
-/// and the flusher ends when none is left and all is written. A halted one is closed, and every
-/// call that waits for it gives up.
+/// Once it is closed no call of `work` begins. Those that are going on do all their jobs, and the
+/// flusher ends when none is left and all is written. A halted station is closed, and every call
+/// that waits for it gives up. Whoever commits without `work` is counted by `begin_work` and
+/// `end_work`. A commit for which nobody was counted may come after the flusher has ended; then it
+/// is in memory alone, and never on disk.
 ///
-/// Who commits without `work` is counted in its place by `begin_work` and `end_work`. A commit that
-/// nobody was counted for may come after the flusher has ended; it is in memory then, and never on
-/// disk.
-///
-/// What holds of it whenever nobody has it, `history` says. Of the calls that take a frame, a hand,
-/// a client or a batch all but `meet` and `has_frame_for` take memory.
+/// `history` says what holds of it whenever nobody has it. The calls that take a frame, a hand, a
+/// client or a batch take memory, except `meet` and `has_frame_for`.
 pub struct Station {
     dispatcher: Dispatcher,
     hands: JoinedHands,
@@ -100,10 +98,9 @@ impl Model for Station {
 }
 
 impl Station {
-    /// A station over a store; nobody has joined. Write permissions may not be kept. It is open,
-    /// and one call of `work` will use it, where `Office::new` doesn't say how many.
-    ///
-    /// `AllocError` only where memory was refused.
+    /// A station over a store, which nobody has joined. Write permissions may not be kept. It is
+    /// open, and expects one call of `work`, unless `Office::new` says how many. `AllocError` only
+    /// if memory was refused.
     pub fn new(alloc: Global, limits: &Limits, store: Store) -> Result<Station, AllocError>
         requires store { IsOf limits.now store }
         requires plain { limits.now.keep_write ≡ false }
@@ -134,7 +131,7 @@ impl Station {
     }
 
     /// The same in a later life of the server, as [`Server::resume`](cb_server::Server::resume)
-    /// makes it: who joins has an incarnation above the floor. So the clients of former lives, and
+    /// makes it. Whoever joins has an incarnation above the floor. The clients of former lives, and
     /// what they sent, are ignored.
     pub fn resume(
         alloc: Global,
@@ -171,11 +168,11 @@ impl Station {
         })
     }
 
-    /// The commits that weren't forgotten, the first one first: all, where none was. With what is
-    /// stored of the hands, all that there were are as the server has it; a halted station is
-    /// closed. Each frame in a mailbox was said by the server since it began, to that mailbox's
-    /// client; a copy of a row that stands is as the store has the page, save where its client
-    /// wrote it since.
+    /// The commits that weren't forgotten, in order. A clause says that all commits that there
+    /// were, and what is stored of the hands, are as the server has it, and that a halted station
+    /// is closed. Another clause says that the server sent each frame in a mailbox since it began,
+    /// to that mailbox's client. If the row of a copy in a mailbox stands, the copy has the store's
+    /// bytes and version, unless its client wrote the page since.
     pub fn history(&self) -> &[Entry]
         ensures value { result.now ≡ remembered self.now }
         ensures sound { IsStation self.now }
@@ -193,7 +190,7 @@ impl Station {
         self.dispatcher.server().limits()
     }
 
-    /// Whether both hands are of two clients and each is what is stored of it. Then both show the
+    /// Whether the hands are of two clients, and each is what is stored of it. Then both show the
     /// same version of each page that both hold, and neither may write such a page.
     pub fn meet(&self, one: &Hand, other: &Hand) -> Result<(), OfficeFault>
         ensures ok { (result ≡ Ok tt) ↔ (IsHeld self.now.hands one.now
@@ -210,8 +207,8 @@ impl Station {
         }
     }
 
-    /// Whether a frame is to be sent to the client, so that `collect` answers one. Nothing is sent
-    /// to a client that isn't there.
+    /// Whether a frame is to be sent to the client, so that `collect` returns one. Nothing is sent
+    /// to a client that doesn't exist.
     pub fn has_frame_for(&self, client: ClientNo) -> bool
         ensures { IsTrue result ↔ ((client < self.now.dispatcher.server.limits.clients)
             × (mailbox_of self.now client ≢ [])) }
@@ -220,8 +217,8 @@ impl Station {
             && self.dispatcher.has_frame_for(client)
     }
 
-    /// Which clients are to be told that there is something for them: those to whom the server said
-    /// something, and who is to be let in next.
+    /// The clients that are to be told that there is something for them: those to which the server
+    /// sent something, and the one that is to be let in next.
     pub fn untold(&self) -> ClientSet
         ensures { result ≡ untold_in self.now }
     {
@@ -237,9 +234,8 @@ impl Station {
         self.dispatcher.told(client);
     }
 
-    /// What is to be written to disk next; `None` where every commit is on disk.
-    ///
-    /// `Memory` only where a growth was refused, so never where there is nothing to write.
+    /// What is to be written to disk next; `None` if every commit is on disk. `Memory` only if a
+    /// growth was refused, so never if there is nothing to write.
     pub fn batch(&self, alloc: Global) -> Result<Option<Batch>, OfficeFault>
         ensures batch { IfOk result (λ batch.
             option_map batch_of batch ≡ next_batch (server_of self.now)) }
@@ -261,9 +257,9 @@ impl Station {
         number.get() <= self.dispatcher.server().state().commits.last_flushed()
     }
 
-    /// The commits up to this number, which are on disk, are forgotten: they leave memory, and
-    /// their entries of the history with them. It costs no more than they are, whatever is left.
-    /// Nothing changes where they were forgotten before, or where no commit has a number as low.
+    /// Forgets the commits up to this number, which are on disk: they leave memory, and so do their
+    /// entries of the history. Its cost grows with their number alone, however many are left.
+    /// Nothing changes if they were forgotten before, or if no commit has a number as low.
     pub fn forget(&mut self, number: CommitNo)
         requires on_disk { number ≤ (server_of self.old).flushed }
         ensures { self.new ≡ forgot self.old number }
@@ -281,7 +277,7 @@ impl Station {
         self.dispatcher.server().can_flush(number)
     }
 
-    /// The number of the next commit; `None` where none is left.
+    /// The number of the next commit; `None` if none is left.
     pub fn next_commit(&self) -> Option<CommitNo>
         ensures value { IfSome result (λ number.
             number ≡ (server_of self.now).store.last_commit + 1) }

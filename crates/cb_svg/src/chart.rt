@@ -57,8 +57,8 @@ impl From<ChartFault> for PictureFault {
 /// Plays a schedule's text under a configuration's text over a store of zeros, as `play` does, and
 /// prints the picture of the run.
 ///
-/// The answer is the program's status. The configuration is checked first, then the schedule; a
-/// fault is said on `err`, and then nothing is on `out`. It fails only where a writer does.
+/// Returns the program's status. The configuration is checked first, then the schedule. A fault is
+/// printed to `err`, and then nothing to `out`. It fails only if a writer does.
 pub fn chart_to<O: Write, E: Write>(
     alloc: Global,
     config: &[u8],

@@ -22,7 +22,7 @@ struct Column {
 }
 
 /// Each bar in a column of its client's lane that is free: that in which its page stood last, else
-/// the first one. `AllocError` only where memory was refused.
+/// the first one. `AllocError` only if memory was refused.
 pub(crate) fn place_bars(alloc: Global, bars: &[Bar]) -> Result<Vec<PlacedBar>, AllocError>
     ensures { IfOk result (λ placed. map (λ one. one.bar) placed.items ≡ bars.now) }
 {

@@ -116,7 +116,7 @@ impl Drop for Layout {
 }
 
 impl Layout {
-    /// The layout of a chart. `AllocError` only where memory was refused.
+    /// The layout of a chart. `AllocError` only if memory was refused.
     pub(crate) fn new(alloc: Global, chart: &Chart) -> Result<Layout, AllocError>
         ensures { IfOk result
             (λ layout. map (λ placed. placed.bar) layout.bars.items ≡ chart.now.bars.items) }

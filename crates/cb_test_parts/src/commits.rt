@@ -18,7 +18,7 @@ pub fn commit_frame(txn: TxnNo, writes: Vec<Write>) -> Frame {
     }
 }
 
-/// Applies a commit; `false` where the frame is none that fits, or no number is left.
+/// Applies a commit; `false` if the frame isn't one that fits, or no number is left.
 pub fn apply(limits: &Limits, commits: &mut Commits, frame: Frame) -> Result<bool, AllocError>
     requires { IsOf limits.now commits.old.store }
     ensures { IsOf limits.now commits.new.store }

@@ -1,10 +1,10 @@
 //! Threads that share a station, as a world of the protocol.
 //!
-//! The crate has no code. `specs/Programs` says what a running program is, `specs/Steps` what its
-//! threads do to it, each step by the record that a call's contract has, and `specs/Worlds` which
-//! world of the protocol it is. The laws are in `specs/Laws`. Which calls are steps by what their
-//! contracts say is in `specs/ByContracts`; of the moves of a worker's call `specs/Moves` says which
-//! steps they are.
+//! The crate has no code. `specs/Programs` says what a running program is, and `specs/Steps` what
+//! its threads do to it: each step is the record of some call's contract. `specs/Worlds` says which
+//! world of the protocol the program is. The laws are in `specs/Laws`. `specs/ByContracts` says
+//! which calls are steps, by their contracts, and `specs/Moves` which steps the moves of a worker's
+//! call are.
 #![tactic(auto)]
 
 ghost use Rattle.cb_threads.specs.ByContracts.{BeginsAreSteps, CallsAreRuns, CallsGoBySteps};
@@ -21,14 +21,15 @@ ghost use Rattle.cb_threads.specs.Laws.{RunsAreSerial, RunsAreWorlds, RunsGoAlon
 ghost use Rattle.cb_threads.specs.Laws.{RunsKeepThePromise, WorkersHaveTheLimits};
 ghost use Rattle.cb_threads.specs.Laws.{WritersAreAlone};
 
-/// Whatever steps threads make of one station and its workers, each under the station's lock or on
-/// a worker of its own, a run of the protocol's world goes along with them. At each moment its
-/// world has this server, these clients and every frame that is on its way, and its transcript has
-/// what was read and written. So the whole promise holds of it. What committed transactions read
-/// and wrote is serial in commit order, and leaves the store. The bytes that `hit` lends are the
-/// store's, but where the worker's own transaction wrote the page; two workers are lent the same;
-/// and while a worker's transaction may write a page, no other is lent bytes of it. A copy in a
-/// mailbox that its client would take is of a row that stands, with the store's bytes.
+/// Threads make steps at one station and its workers, each under the station's lock or on a worker
+/// of its own. Whatever these steps are, a run of the protocol's world goes along with them. At
+/// each moment its world has this server, these clients and every frame that is on its way, and its
+/// transcript has what was read and written. The whole promise therefore holds of it. What
+/// committed transactions read and wrote is serial in commit order, and leaves the store. The bytes
+/// that `hit` lends are the store's, unless the worker's own transaction wrote the page. Two
+/// workers are lent the same bytes of a page. While a worker's transaction may write a page, no
+/// other worker is lent bytes of it. A copy in a mailbox that its client would take is of a row
+/// that stands, with the store's bytes.
 pub fn runs_are_worlds()
     ensures along { RunsGoAlong }
     ensures worlds { RunsAreWorlds }
@@ -40,9 +41,9 @@ pub fn runs_are_worlds()
     ensures mail { MailIsTheStores }
 {}
 
-/// What the contracts of these calls say makes each of them a step, whatever the program is: the
-/// calls of a station and an office that change it; of a worker `begin`, `write`, `hit`, `turn_at`
-/// and `commit_at`. A station that is new or resumed, of which nobody has a worker, has just opened.
+/// By their contracts these calls are steps, in whatever program: the calls of a station and an
+/// office that change the station, and a worker's `begin`, `write`, `hit`, `turn_at` and
+/// `commit_at`. A new or resumed station without workers has just opened.
 pub fn calls_are_steps()
     ensures opens { NewStationsHaveOpened }
     ensures resumes { ResumedStationsHaveOpened }
@@ -60,12 +61,12 @@ pub fn calls_are_steps()
     ensures refusals { RefusalsAreSteps }
 {}
 
-/// What the contracts of a worker's calls that take the lock say makes each of them a list of steps,
-/// also where it is refused. `join`, `restart` and `leave` are one step of the station, after which
-/// who is to be told is told. The worker of a new hand comes from there by moves, and so does that of
-/// each other call. Each move is a step of whatever program has the station that the move names; so a
-/// whole call is a run, whatever others do between its moves, and what `fetch` lends at its end is
-/// what `hit` would lend. In a run each worker has the station's limits.
+/// By their contracts a worker's calls that take the lock are lists of steps, even if they are
+/// refused. `join`, `restart` and `leave` are one step of the station, after which the clients are
+/// told that are to be told. From there the worker of a new hand goes on by moves, and so does the
+/// worker of each other call. Each move is a step of whatever program has the station that the move
+/// names. A whole call is therefore a run, whatever others do between its moves, and what `fetch`
+/// lends at its end is what `hit` would lend. In a run each worker has the station's limits.
 pub fn workers_go_by_steps()
     ensures joins { WorkersJoinBySteps }
     ensures restarts { WorkersRestartBySteps }

@@ -8,7 +8,7 @@ use cb_page::{ClientNo, CommitNo, Page};
 use std::alloc::{AllocError, Global};
 use std::marker::Model;
 
-/// What an event is answered, apart from the packets sent.
+/// The answer to an event, apart from the packets sent.
 #[derive(Debug, Drop)]
 pub enum AnswerWord {
     /// A call, a restart or a resend was accepted.
@@ -23,7 +23,7 @@ pub enum AnswerWord {
     Nothing,
     /// A flush up to this commit.
     Flushed(CommitNo),
-    /// A packet was taken, also where its addressee ignored it.
+    /// A packet was taken, even if its addressee ignored it.
     Taken,
     /// No packet of that number was sent yet.
     NoPacket,
@@ -36,7 +36,7 @@ pub enum AnswerWord {
 }
 
 impl AnswerWord {
-    /// The same word. It fails only where there is no memory for the bytes of a read.
+    /// The same word. It fails only if there is no memory for the bytes of a read.
     pub fn copy(&self, alloc: Global) -> Result<AnswerWord, AllocError>
         ensures same { IfOk result (λ word. word ≡ self.now) }
         ensures fails { OnErr result (IsBytes self.now) }
@@ -99,7 +99,7 @@ impl SentPackets {
         }
     }
 
-    /// One packet. `AllocError` only where memory was refused.
+    /// One packet. `AllocError` only if memory was refused.
     pub fn one(alloc: Global, sent: SentPacket) -> Result<SentPackets, AllocError>
         ensures { IfOk result (λ s. s ≡ sent ∷ []) }
     {
@@ -135,7 +135,7 @@ impl SentPackets {
     }
 }
 
-/// What became of an event: the answer, and the packets sent by it.
+/// What became of an event: its answer, and the packets that it sent.
 #[derive(Debug, Drop)]
 pub struct Answer {
     pub word: AnswerWord,
@@ -153,7 +153,7 @@ impl Answer {
         }
     }
 
-    /// The same answer. It fails only where there is no memory for its bytes or its packets.
+    /// The same answer. It fails only if there is no memory for its bytes or its packets.
     pub fn copy(&self, alloc: Global) -> Result<Answer, AllocError>
         ensures same { IfOk result (λ answer. answer ≡ self.now) }
         ensures fails { OnErr result (TakesMemory self.now) }

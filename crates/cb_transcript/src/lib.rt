@@ -1,9 +1,8 @@
-//! What became of the events of a world, and whether that is serial.
+//! What became of the events of a world, and whether its commits are serial.
 //!
 //! A [`Transcript`] lists each event with its [`Answer`], and the transactions that were committed.
-//! A [`LivesTranscript`] does so where the server restarts too.
-//! [`check_serial`] tells whether those of a transcript, whoever made it, are a serial history on
-//! its opening store.
+//! A [`LivesTranscript`] does so for a server that restarts. [`check_serial`] tells whether the
+//! commits of a transcript, whoever made it, are a serial history on its opening store.
 #![tactic(auto)]
 
 mod answer;

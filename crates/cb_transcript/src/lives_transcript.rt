@@ -20,8 +20,8 @@ pub enum LivesEntry {
 }
 
 /// What became of every event of a world over all lives of its server, and the transactions whose
-/// commits count: all of the present life, and those of former lives that were on disk when their
-/// life ended.
+/// commits count. These are all of the present life, and those of former lives that were on disk
+/// when their life ended.
 pub struct LivesTranscript {
     opening: Store,
     entries: Vec<LivesEntry>,
@@ -70,7 +70,7 @@ impl LivesTranscript {
         &self.opening
     }
 
-    /// Every event with its answer, in order, restarts of the server among them.
+    /// Every event with its answer, in order. Restarts of the server are among them.
     pub fn entries(&self) -> &[LivesEntry]
         ensures { result.now ≡ self.now.entries }
     {
@@ -84,8 +84,8 @@ impl LivesTranscript {
         self.commits.as_slice()
     }
 
-    /// Tells what happened, and the commits that it applied. `AllocError` only where memory was
-    /// refused; then nothing is told.
+    /// Adds what happened, and the commits that it applied. `AllocError` only if memory was
+    /// refused; then nothing is added.
     pub fn tell(&mut self, entry: LivesEntry, applied: &[Commit]) -> Result<(), AllocError>
         ensures ok { OnOk result (self.new ≡ record self.old {
           entries = self.old.entries ++ entry ∷ [];
@@ -99,8 +99,8 @@ impl LivesTranscript {
         Ok(())
     }
 
-    /// Only the first events stay, and the first commits, so many of each: what was told last is
-    /// taken back, or lost with the life that ends.
+    /// Keeps the first so many events and the first so many commits. What was told last is taken
+    /// back, or lost with the life that ends.
     pub fn keep(&mut self, entries: usize, commits: usize)
         ensures { self.new ≡ record self.old {
           entries = take entries self.old.entries;
@@ -111,8 +111,8 @@ impl LivesTranscript {
         self.commits.truncate(commits);
     }
 
-    /// The events within lives alone, as the transcript of one world, with the commits that count.
-    /// `AllocError` only where memory was refused.
+    /// The transcript of one world: the events without the server's restarts, and the commits that
+    /// count. `AllocError` only if memory was refused.
     pub fn into_transcript(self, alloc: Global) -> Result<Transcript, AllocError>
         ensures { IfOk result (λ transcript. transcript ≡ counted self) }
     {

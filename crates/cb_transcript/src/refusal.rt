@@ -6,7 +6,7 @@ use std::fmt;
 use thiserror::Error;
 
 /// Why a client refused a call; nothing changed then. The text is the refusal's number and name.
-/// Want of memory is no answer, so none of these is it.
+/// Want of memory isn't among them, since it isn't an answer.
 #[derive(Clone, Copy, Debug, PartialEq, Eq, Error)]
 pub enum Refusal {
     /// The server's Welcome has not come.

@@ -17,12 +17,12 @@ const PAGE_NUMBERS: u32 = 4096;
 /// A page store to which operations were done, over an opening store that stays as it was.
 #[derive(Drop)]
 pub(crate) struct Replay<'a> {
-    /// The bytes of each page number; none where the store has no such page and none were put.
+    /// The bytes of each page number; none if the store has no such page and none were put.
     pub(crate) pages: Vec<&'a [u8]>,
 }
 
 impl<'a> Replay<'a> {
-    /// The opening store. `AllocError` only where memory was refused.
+    /// The opening store. `AllocError` only if memory was refused.
     pub(crate) fn new(alloc: Global, opening: &'a Store) -> Result<Replay<'a>, AllocError>
         ensures shown { IfOk result (λ replay. shown replay ≡ bytes_at opening.now) }
         ensures pages { IfOk result HasEveryPage }
@@ -40,7 +40,7 @@ impl<'a> Replay<'a> {
     }
 
     /// Does the operations of the events at these places up to the first that the store would
-    /// answer otherwise: its place in them, from 0, or `None` where all are legal.
+    /// answer otherwise: its place in them, from 0, or `None` if all are legal.
     pub(crate) fn play(&mut self, entries: &'a [TranscriptEntry], places: &[usize]) -> Option<usize>
         requires pages { HasEveryPage self.old }
         requires places { AreDone entries.now places.now }

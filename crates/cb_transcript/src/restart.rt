@@ -1,4 +1,4 @@
-//! What a restart of the server is answered.
+//! The answer to a restart of the server.
 ghost use Rattle.std.specs.Prelude.{Some};
 ghost use Rattle.cb_transcript.specs.RefusalTexts.{restart_refusal_text};
 
@@ -7,7 +7,7 @@ use std::fmt;
 use thiserror::Error;
 
 /// Why a server isn't restarted; nothing changed then. The text is the refusal's number and name.
-/// The lower number is told where both hold.
+/// If both apply, the lower number is told.
 #[derive(Clone, Copy, Debug, PartialEq, Eq, Error)]
 pub enum RestartRefusal {
     /// The floor isn't above the present one and above each incarnation that the server admitted.
@@ -29,14 +29,14 @@ impl fmt::Display for RestartRefusal {
     }
 }
 
-/// What a restart of the server is answered.
+/// The answer to a restart of the server.
 #[derive(Clone, Copy, Debug, PartialEq, Eq)]
 pub enum RestartAnswer {
     Restarted,
     Refused(RestartRefusal),
 }
 
-/// A restart of the server, with the floor and the number of commits that it was asked for.
+/// A restart of the server, with the floor and the commit number that were asked for.
 #[derive(Clone, Copy, Debug, PartialEq, Eq)]
 pub struct RestartEntry {
     pub floor: Incarnation,

@@ -23,9 +23,9 @@ pub enum Verdict {
 }
 
 /// Whether the committed transactions of a transcript, in commit order, are a serial history on its
-/// opening store, with the operations that its events and their answers tell of: `Serial` exactly
-/// where they are, else the first operation that isn't legal. `AllocError` only where memory was
-/// refused. It costs a walk over the events, and one over the operations of the transactions.
+/// opening store. Their operations are those that the events and their answers tell. `Serial`
+/// exactly if they are, otherwise the first operation that isn't legal. `AllocError` only if memory
+/// was refused. It costs a walk over the events, and one over the operations of the transactions.
 pub fn check_serial(alloc: Global, transcript: &Transcript) -> Result<Verdict, AllocError>
     ensures serial { IfOk result (λ v. (v ≡ verdict.Serial) ↔ IsSerialOnOpening transcript.now) }
     ensures first { IfOk result (NamesFirst transcript.now) }

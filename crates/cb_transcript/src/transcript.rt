@@ -11,7 +11,7 @@ use cb_page::{ClientNo, Incarnation, TxnNo};
 use std::alloc::{AllocError, Global};
 use std::marker::Model;
 
-/// The name of a transaction: transactions are numbered by each incarnation of a client.
+/// The name of a transaction. Each incarnation of a client numbers its own.
 #[derive(Clone, Copy, Debug, PartialEq, Eq)]
 pub struct TransactionName {
     pub client: ClientNo,
@@ -58,7 +58,7 @@ impl Transcript {
     }
 
     /// A transcript that somebody else made: the store before any event, every event with its
-    /// answer, and the committed transactions in commit order. Nothing is checked of them.
+    /// answer, and the committed transactions in commit order. Nothing is checked.
     pub fn from_parts(
         opening: Store,
         entries: Vec<TranscriptEntry>,
@@ -95,8 +95,8 @@ impl Transcript {
         self.commits.as_slice()
     }
 
-    /// Tells an event, what became of it, and the commits that it applied. `AllocError` only where
-    /// memory was refused; then nothing is told.
+    /// Adds an event, what became of it, and the commits that it applied. `AllocError` only if
+    /// memory was refused; then nothing is added.
     pub fn tell(
         &mut self,
         event: Event,
@@ -115,8 +115,8 @@ impl Transcript {
         Ok(())
     }
 
-    /// Only the first events stay, and the first commits, so many of each: what was told last is
-    /// taken back.
+    /// Keeps the first so many events and the first so many commits. What was told last is taken
+    /// back.
     pub fn keep(&mut self, entries: usize, commits: usize)
         ensures { self.new ≡ record self.old {
           entries = take entries self.old.entries;

@@ -42,7 +42,7 @@ impl From<AllocError> for ChooseFault {
     }
 }
 
-/// A call that changes a chooser, as a history has it. A reference that was refused is none.
+/// A call that changes a chooser, as it stands in a history. A refused reference isn't one.
 #[derive(Clone, Copy)]
 pub enum ChooserCall {
     /// The page was referred to.
@@ -53,8 +53,9 @@ pub enum ChooserCall {
 
 /// Chooses which page leaves a pool for the page that comes in.
 ///
-/// The clauses are the whole law of a chooser: a pool, and all that stands on pools, holds for
-/// every type that keeps them, whatever pages it lets go. A type may promise more, as `TwoQ` does.
+/// The clauses are the whole law of a chooser. Whatever is proved of a pool, and of all that uses
+/// pools, holds for every type that keeps this law, whichever pages it lets go. A type may promise
+/// more, as `TwoQ` does.
 pub trait Chooser: Drop {
     /// The pages in slots, each once.
     ghost members: { Self → List ℕ };
@@ -62,23 +63,25 @@ pub trait Chooser: Drop {
     /// How many slots there are, which no call changes.
     ghost slots: { Self → ℕ };
 
-    /// What a reference to a page makes of it, with these pages fixed, where this one is let go or
-    /// none: as much of that as the type says.
+    /// What a reference to a page makes of the chooser, while these pages are fixed; the option is
+    /// the page that is let go. A type may say less than all of it.
     ghost refers: { Self → ℕ → List Bool → Option ℕ → Self → Type 0 };
 
-    /// What it is once a page was taken out: as much of that as the type says.
+    /// What the chooser is once a page was removed. A type may say less than all of it.
     ghost takes_out: { Self → ℕ → Self → Type 0 };
 
-    /// A chooser with no members and as many slots as the limits say, or the refusal of a growth.
+    /// Makes a chooser with no members and as many slots as the limits say. It is refused only if a
+    /// growth is.
     fn make(alloc: Global, limits: &Limits) -> Result<Self, AllocError>
     where
         Self: Sized,
         ensures members { IfOk result (λ chooser. members chooser ≡ []) }
         ensures slots { IfOk result (λ chooser. slots chooser ≡ limits.now.slots) };
 
-    /// Refers to a page, which is a member afterwards, and answers the page let go for it, if any.
+    /// Refers to a page, which is a member afterwards, and returns the page that was let go for it,
+    /// if any.
     ///
-    /// A reference to a member takes no memory, whatever the type, and lets nothing go.
+    /// A reference to a member takes no memory and lets nothing go.
     fn reference(&mut self, page: PageNo, fixed: &PageSet) -> Result<Option<PageNo>, ChooseFault>
         ensures ok { IfOk result (λ gone.
             Chooses (slots self.old) fixed.now (members self.old) page gone (members self.new)) }
@@ -91,7 +94,7 @@ pub trait Chooser: Drop {
         ensures refers { IfOk result (λ gone.
             refers self.old page fixed.now gone self.new) };
 
-    /// Takes a page out, where it is a member. No growth is needed.
+    /// Removes a page, if it is a member. It takes no memory.
     fn forget(&mut self, page: PageNo)
         ensures forgets { Forgets (members self.old) page (members self.new) }
         ensures slots { slots self.new ≡ slots self.old }

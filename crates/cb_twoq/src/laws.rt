@@ -7,8 +7,8 @@ use crate::chooser::Chooser;
 use crate::plain::PlainTwoQ;
 use crate::twoq::TwoQ;
 
-/// Calls that lead from one 2Q to another, in either form, make of its three lists what the
-/// published rules make of them, call by call.
+/// Calls that lead from one 2Q to another change its three lists as the published rules do, call by
+/// call. This holds of both forms.
 pub fn calls_make_the_lists()
     ensures indexed { (first now : TwoQState) (calls : Calls)
         → Leads ⟦<TwoQ as Chooser>⟧ first calls now → now ≡ lists_after calls first }

@@ -1,4 +1,5 @@
-//! The law of a chooser, which says what page may leave a pool, and 2Q in two forms that keep it.
+//! The law of a chooser, which says which page may leave a pool, and two forms of 2Q that keep the
+//! law.
 #![tactic(auto)]
 
 mod chooser;

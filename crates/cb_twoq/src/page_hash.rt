@@ -17,7 +17,8 @@ pub type PageCache = LruCache<PageNo, (), PageHash>;
 /// 2^64 divided by the golden ratio: it spreads numbers at equal distances evenly.
 const MULTIPLIER: u64 = 0x9E37_79B9_7F4A_7C15;
 
-/// What was written: its bytes are the digits of a number, of which 64 bits are kept.
+/// A hash of the bytes that were written: they are the digits of a number, of which 64 bits are
+/// kept.
 #[derive(Clone, Copy)]
 pub struct PageHasher {
     number: u64,
@@ -39,7 +40,7 @@ impl Hasher for PageHasher {
     }
 }
 
-/// Begins each hash with nothing written.
+/// Makes hashers to which nothing was written.
 #[derive(Clone, Copy)]
 pub struct PageHash;
 

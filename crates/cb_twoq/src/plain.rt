@@ -17,10 +17,10 @@ pub use queue::{is_on, oldest_unfixed, take_off};
 use std::alloc::{AllocError, Global};
 use std::marker::Model;
 
-/// 2Q, the full version, on three plain lists; fixed pages are passed over.
+/// The full version of 2Q on three plain lists. It passes over fixed pages.
 ///
-/// In contracts a `PlainTwoQ` is its settings and its three lists, newest first. It takes all its
-/// memory in `new`: no later call needs a growth. Each reference passes over the lists.
+/// In contracts a `PlainTwoQ` is its settings and its three lists, newest first. `new` takes all
+/// its memory; no later call takes any. Each reference walks through the lists.
 pub struct PlainTwoQ {
     queues: PlainQueues,
 }
@@ -43,8 +43,8 @@ impl Model for PlainTwoQ {
 }
 
 impl PlainTwoQ {
-    /// Empty lists, for so many slots; A1in may be reclaimed first while it is longer than `kin`,
-    /// and A1out has at most `kout` pages.
+    /// Empty lists, for so many slots. A1in gives up pages first while it is longer than `kin`, and
+    /// A1out has at most `kout` pages.
     pub fn new(
         alloc: Global,
         slots: usize,

@@ -10,11 +10,10 @@ use std::alloc::{AllocError, Global};
 /// What a reference answers: the page let go, if any, or why it was refused.
 pub type Answer = Result<Option<PageNo>, ChooseFault>;
 
-/// Refers to pages in turn, each with the pages that are fixed then, and answers what each
-/// reference answered.
+/// Refers to pages in turn, each with the pages that are fixed at that time, and returns what each
+/// reference returned.
 ///
-/// `AllocError` comes only where there is no memory for the answers, and then no reference was
-/// made.
+/// `AllocError` only if there is no memory for the answers; then no reference was made.
 pub fn run_refs<Q: Chooser>(
     alloc: Global,
     chooser: &mut Q,

@@ -34,11 +34,11 @@ pub struct Parts<'a> {
     pub a1out: &'a IndexSet<PageNo>,
 }
 
-/// 2Q, the full version, with look-ups by hash; fixed pages are passed over.
+/// The full version of 2Q, with look-ups by hash. It passes over fixed pages.
 ///
 /// In contracts a `TwoQ` is its settings and its three lists, newest first. A reference to a page
-/// in a slot passes over no list; any other shifts A1in and A1out once each at most, and takes the
-/// memory of one entry where the page goes to Am.
+/// in a slot walks through no list. Any other reference shifts A1in and A1out at most once each,
+/// and takes the memory of one entry if the page goes to Am.
 pub struct TwoQ {
     queues: IndexedQueues,
 }
@@ -66,8 +66,8 @@ impl Model for TwoQ {
 }
 
 impl TwoQ {
-    /// Empty lists, for so many slots; A1in may be reclaimed first while it is longer than `kin`,
-    /// and A1out has at most `kout` pages.
+    /// Empty lists, for so many slots. A1in gives up pages first while it is longer than `kin`, and
+    /// A1out has at most `kout` pages.
     pub fn new(alloc: Global, slots: usize, kin: usize, kout: usize) -> Result<TwoQ, AllocError>
         ensures { IfOk result (λ two_q. two_q ≡ empty slots kin kout) }
     {

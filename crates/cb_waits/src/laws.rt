@@ -8,8 +8,8 @@ ghost use Rattle.cb_protocol.specs.WaitsFor.{waits_for};
 ghost use Rattle.cb_waits.specs.Graph.{Edges, Waits};
 ghost use Rattle.cb_waits.specs.Follows.{Follows, waited_for};
 
-/// A client waits by the place of its ask in its queue, and for nobody without one. A view that has
-/// these edges answers as the protocol's deadlock test does.
+/// For whom a client waits follows from the place of its ask in the queue; without an ask it waits
+/// for nobody. A view that has these edges gives the same answers as the protocol's deadlock test.
 pub fn waits_by_place()
     ensures place { (server : Server) → OneAsk server.queue → (page : ℕ) → page < server.pages
         → (front back : List WaitingAsk) (ask : WaitingAsk)

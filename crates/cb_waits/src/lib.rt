@@ -5,8 +5,8 @@
 //! for each client the set of those that it waits for. Whoever owns the queues of asks keeps the
 //! [`View`] up to date, row by row, as asks enter and leave them.
 //!
-//! Its law is [`waits_by_place`]: a view with an edge for each place in a queue answers as the
-//! protocol's deadlock test. An example that is run as a test is `cycle_of_three` in
+//! Its law is [`waits_by_place`]: a view with an edge for each place in a queue gives the same
+//! answers as the protocol's deadlock test. An example that is run as a test is `cycle_of_three` in
 //! `cb_layer_tests`.
 #![tactic(auto)]
 

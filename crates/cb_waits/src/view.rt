@@ -33,7 +33,7 @@ impl View {
         }
     }
 
-    /// Those that the client waits for.
+    /// The clients that this one waits for.
     pub fn row(&self, client: ClientNo) -> ClientSet
         ensures { (other : ℕ) → has result other ≡ waits self.now client other }
     {
@@ -52,9 +52,9 @@ impl View {
         self.rows[client.index()] = row;
     }
 
-    /// Follows a change at a page: each ask of its queue waits for all ahead of it, and the first
-    /// for those who hold it up. A client whose ask has left the queue keeps its row: that is for
-    /// [`View::put_row`]. It costs as many steps as asks wait there.
+    /// Follows a change at a page: each ask in its queue waits for all asks ahead of it, and the
+    /// first ask for those who hold it up. A client whose ask has left the queue keeps its row,
+    /// which [`View::put_row`] changes. It costs as many steps as asks wait there.
     pub fn follow(&mut self, queue: &Queue, held_up_by: ClientSet)
         ensures { FollowsQueue self.old queue.now.asks held_up_by self.new }
     {

@@ -1,7 +1,7 @@
 //! What the calls that may wait are answered.
 use cb_page::CommitNo;
 
-/// What a fetch is answered.
+/// The answer to a fetch.
 #[derive(Clone, Copy, Debug, PartialEq, Eq)]
 pub enum Fetched<'a> {
     /// The page's bytes, which the pool lends.
@@ -10,7 +10,7 @@ pub enum Fetched<'a> {
     Aborted,
 }
 
-/// What a transaction that wants to write a page is answered.
+/// The answer to a transaction that wants to write a page.
 #[derive(Clone, Copy, Debug, PartialEq, Eq)]
 pub enum Wanted {
     /// It may write the page.

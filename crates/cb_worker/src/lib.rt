@@ -1,7 +1,7 @@
-//! A client of a running program: with its hand, over an office that it shares with others.
+//! A client of a running program, with its hand, over an office that it shares with others.
 //!
 //! A [`Worker`] reads pages that it holds without a lock, and takes the office for all else. While
-//! a call waits it takes what is sent to it, so that others get their pages back.
+//! one of its calls waits, it takes what is sent to it, so that others get their pages back.
 #![tactic(auto)]
 
 mod answers;

@@ -35,7 +35,7 @@ impl Said {
         Said::of(Vec::new(alloc))
     }
 
-    /// These frames, of which the first was said first.
+    /// These frames, in the order in which they were sent.
     pub(crate) fn of(mut frames: Vec<Frame>) -> Said
         ensures { result ≡ frames.items }
     {

@@ -26,7 +26,7 @@ use cb_twoq::Chooser;
 pub use entering::Left;
 use std::marker::Model;
 
-/// A client with its hand. It can't be copied or let go; `leave` and `abandon` end it.
+/// A client with its hand. It can't be copied or dropped; `leave` and `abandon` end it.
 ///
 /// A call that is handed the office takes its lock. Who has a guard of that lock lets it go first:
 /// the call would wait for its own thread, for ever, and no clause refuses it. What a worker does
@@ -53,8 +53,8 @@ impl<Q: Chooser> Model for Worker<Q> {
 }
 
 impl<Q: Chooser> Worker<Q> {
-    /// Which client it is. The client arose by the protocol's calls and messages, whatever was called
-    /// before: so all that the protocol says of such clients holds of it.
+    /// Which client it is. The client arose by the protocol's calls and messages, whatever was
+    /// called before. All that the protocol says of such clients therefore holds of it.
     pub fn client(&self) -> ClientNo
         ensures value { result ≡ self.now.hand.client }
         ensures arose { IsClient self.now.client }
@@ -64,7 +64,7 @@ impl<Q: Chooser> Worker<Q> {
         self.hand.client()
     }
 
-    /// Begins a transaction, and answers its number. It takes no lock.
+    /// Begins a transaction, and returns its number. It takes no lock.
     pub fn begin(&mut self) -> Result<TxnNo, ClientFault>
         ensures begins { Begins self.old.client result self.new.client }
         ensures rest { self.new ≡ with_client self.old self.new.client }
@@ -101,7 +101,8 @@ impl<Q: Chooser> Worker<Q> {
         }
     }
 
-    /// Reads the page in the open transaction, where it may without the office; whether it did.
+    /// Reads the page in the open transaction, if it may without the office. Returns whether it
+    /// did.
     fn touch(&mut self, page: PageNo) -> bool
         ensures touched { result ≡ may_hit self.old page }
         ensures after { self.new ≡ after_hit self.old page }
@@ -113,7 +114,7 @@ impl<Q: Chooser> Worker<Q> {
     }
 
     /// Reads the page in the open transaction, and lends its bytes: those of the copy whose grant
-    /// is in the worker's hand. `None` where the copy or its bytes aren't here, or the read is
+    /// is in the worker's hand. `None` if the copy or its bytes aren't here, or the read is
     /// refused; nothing changes then. It takes no lock.
     pub fn hit(&mut self, page: PageNo) -> Option<&[u8]>
         ensures* ends { sem 𝓛 (worker_ends Q.row Q.Chooser self.entry

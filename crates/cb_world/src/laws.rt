@@ -7,7 +7,7 @@ use cb_transcript::{Verdict, check_serial};
 use cb_twoq::Chooser;
 use std::alloc::{AllocError, Global};
 
-/// The serial check of a world's transcript: whatever was played, it says `Serial`, or memory was
+/// The serial check of a world's transcript says `Serial`, whatever was played, or memory was
 /// refused.
 pub fn worlds_are_serial<Q: Chooser>(alloc: Global, world: &World<Q>) -> Result<Verdict, AllocError>
     ensures { IfOk result (λ v. v ≡ verdict.Serial) }

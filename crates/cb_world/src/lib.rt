@@ -1,9 +1,9 @@
 //! The world: a server, its clients and their packets, played event by event.
 //!
 //! In contracts a running [`World`] is a world of the protocol that is reached from its opening
-//! store, whatever events are played: so the protocol's whole promise holds of it at each moment.
-//! [`Lives`] is the same over all lives of the server, which restarts.
-//! [`draw`] draws schedules: events at random, in a world that plays them as they come.
+//! store, whatever events are played. The protocol's whole promise therefore holds of it at each
+//! moment. [`Lives`] is the same for a server that restarts, over all its lives. [`draw`] draws
+//! schedules: random events, in a world that plays them as they come.
 #![tactic(auto)]
 
 mod laws;

@@ -37,8 +37,8 @@ pub(crate) fn may_be_on_disk(server: &Server, number: u64) -> bool
     commits.last_flushed() <= number && number <= commits.store().number()
 }
 
-/// The store that the disk has where it has the commits up to that number, and the server that
-/// begins its life with it. `AllocError` only where memory was refused.
+/// The store that the disk has if it has the commits up to that number, and the server that begins
+/// its life with it. `AllocError` only if memory was refused.
 pub(crate) fn next_life(
     alloc: Global,
     limits: &Limits,
@@ -73,8 +73,8 @@ fn first(commits: &[Commit], count: usize) -> &[Commit]
     &commits[..count]
 }
 
-/// A store with these commits written over it, the first one first. `AllocError` only where memory
-/// was refused.
+/// A store with these commits written over it, the first one first. `AllocError` only if memory was
+/// refused.
 fn store_on_disk(
     alloc: Global,
     limits: &Limits,

@@ -55,9 +55,11 @@ impl fmt::Debug for LivesFault {
     }
 }
 
-/// A server, its clients, every packet that was sent, and what became of every event, where the
-/// server restarts too: a life of it is from one start to the next. In contracts it is, while it
-/// runs, a world of the protocol over all lives, reached from the opening store.
+/// A server that restarts, its clients, every packet that was sent, and what became of every event.
+/// A life of the server is the time from one start to the next.
+///
+/// In contracts, while it runs, it is a world of the protocol over all lives, reached from the
+/// opening store.
 pub struct Lives<Q: Chooser> {
     alloc: Global,
     limits: Limits,
@@ -116,8 +118,8 @@ impl<Q: Chooser> Model for Lives<Q> {
 }
 
 impl<Q: Chooser> Lives<Q> {
-    /// The first life over a store, in which nothing has happened: each client at its first
-    /// incarnation, and no packet. `AllocError` only where memory was refused.
+    /// The first life over a store, before any event: each client is at its first incarnation, and
+    /// there are no packets. `AllocError` only if memory was refused.
     pub fn new(alloc: Global, limits: &Limits, store: Store) -> Result<Lives<Q>, AllocError>
         requires { IsOf limits.now store }
         ensures runs { IfOk result (λ v. v.stopped ≡ false) }
@@ -145,8 +147,8 @@ impl<Q: Chooser> Lives<Q> {
         })
     }
 
-    /// Plays one event of the present life. `AllocError` where memory was refused: the world is
-    /// stopped from then on, and each later call answers it again.
+    /// Plays one event of the present life. `AllocError` if memory was refused. The world is then
+    /// stopped, and each later call returns `AllocError` too.
     pub fn step(&mut self, event: Event) -> Result<Answer, AllocError>
         ensures ok { IfOk result (λ a. LivesStep self.old
             (entry.Within (record { event = event; answer = a })) self.new) }
@@ -170,14 +172,17 @@ impl<Q: Chooser> Lives<Q> {
         Ok(answer)
     }
 
-    /// The server restarts: its new life has that floor, and begins with the store in which the
-    /// disk has the commits up to that number. Clients know nothing of it, and every packet may
-    /// still be taken. Refused, with the first refusal that holds, exactly where the floor isn't a
-    /// new one, by what the server admitted, or the disk can't have the commits up to that number;
-    /// nothing changes then but that it is told.
+    /// Restarts the server. Its new life has that floor, and begins with the store as it was after
+    /// the commit of that number, which is all that the disk has. Clients know nothing of it, and
+    /// every packet may still be taken.
     ///
-    /// `AllocError` where memory was refused: the world is stopped from then on, and each later
-    /// call answers it again.
+    /// It is refused exactly if one of two conditions fails; the answer names the first that does.
+    /// The floor has to be above the present one and above each incarnation that the server
+    /// admitted. The number has to be from the last commit that was reported as on disk up to the
+    /// last one made. A refusal is told in the transcript, and changes nothing else.
+    ///
+    /// `AllocError` if memory was refused. The world is then stopped, and each later call returns
+    /// `AllocError` too.
     pub fn restart_server(
         &mut self,
         floor: Incarnation,
@@ -200,8 +205,8 @@ impl<Q: Chooser> Lives<Q> {
         Ok(answer)
     }
 
-    /// Plays events in order, restarts of the server among them, until memory is refused; then the
-    /// fault has what became of the events before. A stopped world plays none.
+    /// Plays events in order, restarts of the server among them, until memory is refused. The fault
+    /// then has what became of the events before. A stopped world plays none.
     pub fn play(mut self, events: &[LivesEvent]) -> Result<LivesTranscript, LivesFault>
         ensures ok { IfOk result (λ transcript. LivesPlayed self events.now transcript) }
         ensures serial { IfOk result IsSerialOverLives }
@@ -227,7 +232,7 @@ impl<Q: Chooser> Lives<Q> {
         Ok(self.into_transcript())
     }
 
-    /// What a restart of the server is answered.
+    /// The answer to a restart of the server.
     fn restart_answer(&self, floor: Incarnation, number: u64) -> RestartAnswer
         ensures { IsAnswerOf self.now floor number result }
     {
@@ -346,7 +351,7 @@ impl<Q: Chooser> Lives<Q> {
         Ok(())
     }
 
-    /// Whether no want of memory stopped the world.
+    /// Whether the world still runs: no want of memory has stopped it.
     pub fn is_running(&self) -> bool
         ensures value { IsTrue result ↔ (self.now.stopped ≡ false) }
         ensures reached { self.now.stopped ≡ false → IsReachedOverLives self.now }
@@ -396,7 +401,7 @@ impl<Q: Chooser> Lives<Q> {
 }
 
 /// Plays one event at the net and tells it, with the commit that it applied; so many of those told
-/// are of former lives. Where memory is refused nothing is told.
+/// are of former lives. If memory is refused nothing is told.
 fn play_in_life<Q: Chooser>(
     alloc: Global,
     net: &mut Net<Q>,

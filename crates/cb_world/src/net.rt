@@ -73,7 +73,7 @@ impl<Q: Chooser> Model for Net<Q> {
 
 impl<Q: Chooser> Net<Q> {
     /// The net of a store before any event: each client at its first incarnation, and no packet.
-    /// `AllocError` only where memory was refused.
+    /// `AllocError` only if memory was refused.
     pub(crate) fn new(alloc: Global, limits: &Limits, store: Store) -> Result<Net<Q>, AllocError>
         requires { IsOf limits.now store }
         ensures limits { IfOk result (λ net. limits_in net ≡ limits.now) }
@@ -112,7 +112,7 @@ impl<Q: Chooser> Net<Q> {
         &self.packets
     }
 
-    /// Only the first packets stay, so many of them: what was sent last is taken back.
+    /// Keeps the first so many packets. What was sent last is taken back.
     pub(crate) fn keep_packets(&mut self, count: usize)
         ensures { self.new ≡ record self.old {
           packets = record self.old.packets { sent = take count self.old.packets.sent };
@@ -130,9 +130,9 @@ impl<Q: Chooser> Net<Q> {
         self.server = server;
     }
 
-    /// One event happens. `AllocError` only where memory was refused, and never in place of a
-    /// client's refusal, nor where there is no such client or packet: no packet is sent then, but a
-    /// client may have changed.
+    /// One event happens. `AllocError` only if memory was refused, and never in place of a client's
+    /// refusal, nor if there is no such client or packet: no packet is sent then, but a client may
+    /// have changed.
     pub(crate) fn event(&mut self, alloc: Global, event: &Event) -> Result<Answer, AllocError>
         ensures ok { IfOk result (λ answer.
             NetBecomes self.old (event_of event.now) answer self.new) }
@@ -264,7 +264,7 @@ impl<Q: Chooser> Net<Q> {
         }
     }
 
-    /// The number, where the commit of that number was made and isn't on disk yet.
+    /// The number, if the commit of that number was made and isn't on disk yet.
     fn can_flush(&self, number: u64) -> Option<CommitNo>
         ensures { CanFlush self.now number result }
     {
@@ -279,8 +279,8 @@ impl<Q: Chooser> Net<Q> {
         }
     }
 
-    /// The answer of that word, once the frames are sent, in order. `AllocError` only where memory
-    /// was refused; then nothing is sent.
+    /// The answer of that word, once the frames are sent, in order. `AllocError` only if memory was
+    /// refused; then nothing is sent.
     fn answer(
         &mut self,
         alloc: Global,
@@ -305,7 +305,7 @@ impl<Q: Chooser> Net<Q> {
 }
 
 /// The packets that these frames are sent as, the last of them right before `end`. `AllocError`
-/// only where memory was refused.
+/// only if memory was refused.
 fn numbered(alloc: Global, end: usize, frames: &[Frame]) -> Result<SentPackets, AllocError>
     requires { length frames.now ≤ end }
     ensures ok { IfOk result (λ sent. (first : ℕ) → end ≡ first + length frames.now

@@ -9,9 +9,9 @@ use cb_page::Limits;
 use cb_twoq::TwoQ;
 use std::alloc::{AllocError, Global};
 
-/// So many events drawn by the words of a seed, one after another, in a world over a store of zeros
-/// with 2Q, which plays each as it comes: a packet to take is one that was sent so far.
-/// `AllocError` only where memory was refused.
+/// Draws so many events by the words of a seed, in a world over a store of zeros with 2Q. The world
+/// plays each event as it comes, so that an event which takes a packet takes one that was sent.
+/// `AllocError` only if memory was refused.
 pub fn draw(
     alloc: Global,
     limits: &Limits,

@@ -103,8 +103,8 @@ impl<Q: Chooser> Model for World<Q> {
 }
 
 impl<Q: Chooser> World<Q> {
-    /// The world of a store in which nothing has happened: each client at its first incarnation,
-    /// and no packet. `AllocError` only where memory was refused.
+    /// The world over a store, before any event: each client is at its first incarnation, and there
+    /// are no packets. `AllocError` only if memory was refused.
     pub fn new(alloc: Global, limits: &Limits, store: Store) -> Result<World<Q>, AllocError>
         requires { IsOf limits.now store }
         ensures runs { IfOk result (λ w. w.stopped ≡ false) }
@@ -130,8 +130,8 @@ impl<Q: Chooser> World<Q> {
         })
     }
 
-    /// Plays one event. `AllocError` where memory was refused: the world is stopped from then on,
-    /// and each later call answers it again.
+    /// Plays one event. `AllocError` if memory was refused. The world is then stopped, and each
+    /// later call returns `AllocError` too.
     pub fn step(&mut self, event: Event) -> Result<Answer, AllocError>
         ensures ok { IfOk result (λ a. Steps self.old event a self.new) }
         ensures stopped { OnErr result (self.new.stopped ≡ true) }
@@ -153,7 +153,7 @@ impl<Q: Chooser> World<Q> {
         answer
     }
 
-    /// Plays events in order until memory is refused; then the fault has what became of the events
+    /// Plays events in order until memory is refused. The fault then has what became of the events
     /// before. A stopped world plays none.
     pub fn play(mut self, events: &[Event]) -> Result<Transcript, PlayFault>
         ensures ok { IfOk result (λ transcript. Played self events.now transcript) }
@@ -209,7 +209,7 @@ impl<Q: Chooser> World<Q> {
         self.advance(event)
     }
 
-    /// Whether no want of memory stopped the world.
+    /// Whether the world still runs: no want of memory has stopped it.
     pub fn is_running(&self) -> bool
         ensures value { IsTrue result ↔ (self.now.stopped ≡ false) }
         ensures reached { self.now.stopped ≡ false → IsReached self.now }
@@ -232,9 +232,9 @@ impl<Q: Chooser> World<Q> {
         &self.transcript
     }
 
-    /// The commits so far, the first one first, with the pages that they wrote: those that the
-    /// transcript names. `None` once want of memory stopped the world: its server may have made one
-    /// more, which the transcript then doesn't name.
+    /// The commits so far, in order, with the pages that they wrote: those that the transcript
+    /// names. `None` once want of memory has stopped the world, since its server may have made one
+    /// commit more, which the transcript doesn't name.
     pub fn committed(&self) -> Option<&[Commit]>
         ensures value { IfSome result
             (λ cs. newest_first cs.now ≡ (server_of self.now.net.server).commits) }
@@ -247,7 +247,7 @@ impl<Q: Chooser> World<Q> {
         Some(self.net.server().committed())
     }
 
-    /// The client of that number, at its present incarnation. `None` where there is none.
+    /// The client of that number, at its present incarnation. `None` if there is none.
     pub fn client(&self, client: ClientNo) -> Option<&Client<Q>>
         ensures value { IfSome result
             (λ found. found.now ≡ client_at self.now.net.world_clients client) }
@@ -264,8 +264,8 @@ impl<Q: Chooser> World<Q> {
         self.net.packets().len()
     }
 
-    /// The bytes of the packet of that number among all that were ever sent, from 0: the frame that
-    /// was sent.
+    /// The bytes of the packet of that number, counted from 0 among all that were ever sent. They
+    /// are those of the frame that was sent.
     pub fn packet(&self, number: u64) -> Option<&[u8]>
         ensures bytes { option_copied result ≡ slice_get self.now.net.packets.sent number }
         ensures frame { IfSome result (λ bytes. IsSpelled self.now.limits bytes.now) }
@@ -289,8 +289,8 @@ impl<Q: Chooser> World<Q> {
     }
 }
 
-/// Plays one event at the net and tells it, with the commit that it applied. Where memory is
-/// refused nothing is told, and no packet is sent; the net may have changed otherwise.
+/// Plays one event at the net and tells it, with the commit that it applied. If memory is refused
+/// nothing is told, and no packet is sent; the net may have changed otherwise.
 fn tell<Q: Chooser>(
     alloc: Global,
     net: &mut Net<Q>,

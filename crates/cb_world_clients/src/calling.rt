@@ -20,8 +20,8 @@ use cb_transcript::AnswerWord;
 use cb_twoq::Chooser;
 use std::alloc::{AllocError, Global};
 
-/// The client is called. `AllocError` only where memory was refused for a call that the table
-/// accepts; the client may have changed then.
+/// The client is called. `AllocError` only if memory was refused for a call that the table accepts;
+/// the client may have changed then.
 pub(crate) fn answer<Q: Chooser>(
     alloc: Global,
     client: &mut Client<Q>,
@@ -44,8 +44,8 @@ pub(crate) fn answer<Q: Chooser>(
     }
 }
 
-/// The client takes a frame. `AllocError` only where memory was refused; then nothing changes. It
-/// is not refused where no frame needs room and no page comes in.
+/// The client takes a frame. `AllocError` only if memory was refused; then nothing changes. It is
+/// not refused if no frame needs room and no page comes in.
 pub(crate) fn deliver<Q: Chooser>(
     alloc: Global,
     client: &mut Client<Q>,

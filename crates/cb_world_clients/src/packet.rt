@@ -37,8 +37,8 @@ impl Packet {
     }
 }
 
-/// The frame that is spelled. It is refused only where memory for page bytes is: a spelled frame
-/// has no other fault.
+/// The frame that is spelled. It is refused only if memory for page bytes is: a spelled frame has
+/// no other fault.
 pub(crate) fn frame_in(alloc: Global, limits: &Limits, bytes: &[u8]) -> Result<Frame, AllocError>
     requires { (frame : Frame) × IsFrame limits.now frame bytes.now }
     ensures found { (frame : Frame) → IsFrame limits.now frame bytes.now

@@ -44,7 +44,7 @@ impl Model for Packets {
 }
 
 impl Packets {
-    /// Nothing was sent. It takes no memory.
+    /// No packets yet. It takes no memory.
     pub fn new(alloc: Global, limits: &Limits) -> Packets
         ensures { result ≡ record { limits = limits.now; sent = [] } }
     {
@@ -63,7 +63,7 @@ impl Packets {
         self.sent.len()
     }
 
-    /// Sends a frame: its bytes are the last packet. `AllocError` only where memory was refused;
+    /// Sends a frame: its bytes become the last packet. `AllocError` only if memory was refused;
     /// then nothing is sent.
     pub fn send(&mut self, alloc: Global, frame: &Frame) -> Result<(), AllocError>
         requires { Fits self.old.limits frame.now }
@@ -79,7 +79,7 @@ impl Packets {
         Ok(())
     }
 
-    /// Sends frames, in order. `AllocError` only where memory was refused; then none is sent.
+    /// Sends frames, in order. `AllocError` only if memory was refused; then none is sent.
     pub fn send_all(&mut self, alloc: Global, frames: &[Frame]) -> Result<(), AllocError>
         requires { AllByRecursion (Fits self.old.limits) frames.now }
         ensures ok { OnOk result (self.new
@@ -95,7 +95,7 @@ impl Packets {
         sent
     }
 
-    /// The same; where memory is refused the first of them may have been sent.
+    /// The same; if memory is refused the first of them may have been sent.
     fn send_each(&mut self, alloc: Global, frames: &[Frame]) -> Result<(), AllocError>
         requires { AllByRecursion (Fits self.old.limits) frames.now }
         ensures ok { OnOk result (self.new
@@ -110,14 +110,14 @@ impl Packets {
         Ok(())
     }
 
-    /// Only the first packets stay, so many of them: what was sent last is taken back.
+    /// Keeps the first so many packets. What was sent last is taken back.
     pub fn keep(&mut self, count: usize)
         ensures { self.new ≡ record self.old { sent = take count self.old.sent } }
     {
         self.sent.truncate(count);
     }
 
-    /// The bytes of the packet of that number; `None` where it was not sent yet.
+    /// The bytes of the packet of that number; `None` if it was not sent yet.
     pub fn bytes(&self, number: u64) -> Option<&[u8]>
         ensures { option_copied result ≡ slice_get self.now.sent number }
     {
@@ -127,8 +127,8 @@ impl Packets {
         }
     }
 
-    /// The frame of the packet of that number; `None` where it was not sent yet. `AllocError` only
-    /// where memory for the bytes of its pages was refused; so never at a frame without pages.
+    /// The frame of the packet of that number; `None` if it was not sent yet. `AllocError` only if
+    /// memory for the bytes of its pages was refused; so never at a frame without pages.
     pub fn frame(&self, alloc: Global, number: u64) -> Result<Option<Frame>, AllocError>
         ensures ok { IfOk result (IsAt self.now number) }
         ensures fails { OnErr result (slice_get self.now.sent number ≢ None) }

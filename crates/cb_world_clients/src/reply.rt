@@ -10,7 +10,7 @@ use cb_frame::Frame;
 use cb_transcript::{AnswerWord, Refusal};
 use std::alloc::{AllocError, Global};
 
-/// What a client answers to a call, and the frames that it says, in order.
+/// What a client answers to a call, and the frames that it sends, in order.
 #[derive(Drop)]
 pub struct Reply {
     pub word: AnswerWord,
@@ -18,7 +18,7 @@ pub struct Reply {
 }
 
 impl Reply {
-    /// A word, and nothing is said.
+    /// A word, and no frame.
     pub fn silent(alloc: Global, word: AnswerWord) -> Reply
         ensures word { result.word ≡ word }
         ensures said { result.said.items ≡ [] }
@@ -29,7 +29,7 @@ impl Reply {
         }
     }
 
-    /// A word, and one frame is said. `AllocError` only where memory was refused.
+    /// A word, and one frame. `AllocError` only if memory was refused.
     pub(crate) fn one(alloc: Global, word: AnswerWord, frame: Frame) -> Result<Reply, AllocError>
         ensures { IfOk result (λ reply. (reply.word ≡ word) × (reply.said.items ≡ frame ∷ [])) }
     {
@@ -38,7 +38,7 @@ impl Reply {
         Ok(Reply { word, said })
     }
 
-    /// The call was refused for that reason; `AllocError` where it is want of memory.
+    /// The call was refused for that reason; `AllocError` if it is want of memory.
     pub(crate) fn refused(alloc: Global, fault: ClientFault) -> Result<Reply, AllocError>
         ensures ok { IfOk result (λ reply. (reply.said.items ≡ [])
             × (Some (word_of reply.word) ≡ option_map Refused (refusal fault))) }

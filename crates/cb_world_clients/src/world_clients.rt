@@ -62,7 +62,7 @@ impl<Q: Chooser> Model for WorldClients<Q> {
 
 impl<Q: Chooser> WorldClients<Q> {
     /// The clients of these limits, each at the start of its first incarnation. `AllocError` only
-    /// where memory was refused.
+    /// if memory was refused.
     pub fn new(alloc: Global, limits: &Limits) -> Result<WorldClients<Q>, AllocError>
         ensures limits { IfOk result (λ world_clients. world_clients.limits ≡ limits.now) }
         ensures opening { IfOk result (λ world_clients. (opening : Opening)
@@ -85,7 +85,7 @@ impl<Q: Chooser> WorldClients<Q> {
         &self.limits
     }
 
-    /// The client of that number, at its present incarnation. `None` where there is none.
+    /// The client of that number, at its present incarnation. `None` if there is none.
     pub fn client(&self, client: ClientNo) -> Option<&Client<Q>>
         ensures value { IfSome result (λ found. found.now ≡ client_at self.now client) }
         ensures there { is_some result ≡ true ↔ client < self.now.limits.clients }
@@ -96,8 +96,8 @@ impl<Q: Chooser> WorldClients<Q> {
         Some(&self.clients[client.index()])
     }
 
-    /// Calls the client of that number, if there is one. `AllocError` only where memory was
-    /// refused, for a call that the client's table accepts; the client may have changed then.
+    /// Calls the client of that number, if there is one. `AllocError` only if memory was refused
+    /// for a call that the client's table accepts. The client may have changed then.
     pub fn call(
         &mut self,
         alloc: Global,
@@ -132,9 +132,10 @@ impl<Q: Chooser> WorldClients<Q> {
         answer(alloc, caller, call)
     }
 
-    /// The client that a frame names takes it, if it is of its incarnation; what it says to it.
-    /// `AllocError` only where memory was refused; then nothing changes. It is not refused where
-    /// the client needs no room for frames and no page comes in, so not at a frame that is ignored.
+    /// The client that a frame names takes it, if the frame is of its incarnation. Returns the
+    /// frames that the client sends in answer. `AllocError` only if memory was refused; then
+    /// nothing changes. It needs no memory, and so isn't refused, if the client sends no frames and
+    /// no page comes in; at an ignored frame, for instance.
     pub fn take(&mut self, alloc: Global, frame: Frame) -> Result<Vec<Frame>, AllocError>
         requires { Fits self.old.limits frame }
         ensures ok { IfOk result (λ said. Delivers self.old (message_of frame)
@@ -148,10 +149,9 @@ impl<Q: Chooser> WorldClients<Q> {
         deliver(alloc, taker, frame)
     }
 
-    /// The client of that number is new, at its next incarnation, if there is such a client and one
-    /// is left. `AllocError` only where memory was refused for its chooser; then nothing changes.
-    ///
-    /// It costs the making of that chooser, and what [`Client::restart`] says.
+    /// Restarts the client of that number, at its next incarnation, if there is such a client and
+    /// an incarnation is left. `AllocError` only if memory was refused for its chooser; then
+    /// nothing changes. It costs the making of that chooser and [`Client::restart`].
     pub fn restart(&mut self, alloc: Global, client: ClientNo) -> Result<AnswerWord, AllocError>
         ensures ok { IfOk result (λ word. Answers self.old (RestartEvent client) (word_of word) []
             self.new) }

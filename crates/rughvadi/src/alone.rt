@@ -17,7 +17,7 @@ use std::alloc::Global;
 pub struct FrameHead {
     /// The frame's bytes, the header's among them.
     pub length: u64,
-    /// The client that it is of or for.
+    /// The client that it comes from or goes to.
     pub client: u32,
     /// The code of its kind.
     pub kind: u32,
@@ -37,8 +37,7 @@ fn head_of(frame: &Frame, size: usize) -> FrameHead
     }
 }
 
-/// Reads the frame that the bytes begin with: how long it is, of which client and incarnation, and
-/// of which kind.
+/// Reads the frame at the front of the bytes: its length, client, incarnation and kind.
 fn read(
     alloc: Global,
     limits: &StoreLimits,
@@ -62,8 +61,8 @@ fn read(
     }
 }
 
-/// Reads the frame that the bytes begin with, and nothing else happens: so a host can cut a stream
-/// into frames, and knows whose they are.
+/// Reads the frame at the front of the bytes. Nothing else happens. By this call a host cuts a
+/// stream into frames, and learns whose they are.
 #[unsafe(no_mangle)]
 pub extern "C" fn rughvadi_frame_read(
     alloc: Global,
@@ -79,7 +78,7 @@ pub extern "C" fn rughvadi_frame_read(
     answer(read(alloc, limits, bytes, head))
 }
 
-/// The version of these calls. It changes where a call changes what it takes or does.
+/// The version of these calls. It changes if a call changes in what it takes or does.
 const VERSION: u32 = 1;
 
 /// The version of these calls.
@@ -90,8 +89,8 @@ pub extern "C" fn rughvadi_version() -> u32
     VERSION
 }
 
-/// Writes the text of a fault's number to the beginning of the room, and how many bytes it has.
-/// Where the room is too short, 772 is answered and nothing is written there.
+/// Writes the text of a fault's number to the front of the room, and puts its length into `size`.
+/// If the room is too short, it returns 772 and writes nothing there.
 #[unsafe(no_mangle)]
 pub extern "C" fn rughvadi_fault_text(fault: u32, room: &mut [u8], size: &mut usize) -> u32
     ensures size { size.new ≡ length (fault_text fault) }
@@ -110,7 +109,7 @@ pub extern "C" fn rughvadi_fault_text(fault: u32, room: &mut [u8], size: &mut us
     0
 }
 
-/// Copies the bytes to the beginning of the room.
+/// Copies the bytes to the front of the room.
 #[tactic(auto, using(std::proofs::lemmas::List::take_at))]
 fn put_front(bytes: &[u8], room: &mut [u8])
     requires { length bytes.now ≤ length room.old }

@@ -1,10 +1,10 @@
-//! What C is answered.
+//! The answers to C.
 ghost use Rattle.std.specs.Prelude.{◌≡◌, ◌≤◌, MatchResult};
 ghost use Rattle.cb_handle.specs.Faults.{number_of};
 
 use cb_handle::Refusal;
 
-/// The number of what came of a call: 0 where it is done, else the refusal's, which is never 0.
+/// The number that a call returns: 0 if it is done, otherwise the refusal's, which is never 0.
 pub(crate) fn answer(done: Result<(), Refusal>) -> u32
     ensures { MatchResult done (λ _. result ≡ 0)
         (λ refusal. (result ≡ number_of refusal) × (1 ≤ result)) }

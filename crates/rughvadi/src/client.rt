@@ -129,7 +129,7 @@ pub extern "C" fn rughvadi_client_hello(alloc: Global, h: &mut Handle) -> u32
     answer(done)
 }
 
-/// Begins a transaction; its number.
+/// Begins a transaction, and returns its number.
 #[unsafe(no_mangle)]
 pub extern "C" fn rughvadi_client_begin(alloc: Global, h: &mut Handle, txn: &mut u64) -> u32
     ensures live { h.new.live ≡ h.old.live }
@@ -148,7 +148,7 @@ pub extern "C" fn rughvadi_client_begin(alloc: Global, h: &mut Handle, txn: &mut
     answer(done)
 }
 
-/// Reads a page: its bytes are in the room where `here` is true, else it is asked for.
+/// Reads a page. If `here` is true, its bytes are in the room; otherwise the page is asked for.
 #[unsafe(no_mangle)]
 pub extern "C" fn rughvadi_client_read(
     alloc: Global,
@@ -176,7 +176,8 @@ pub extern "C" fn rughvadi_client_read(
     answer(done)
 }
 
-/// Wants to write a page: it may at once where `may` is true, else that is asked for.
+/// Asks to write a page. If `may` is true, it may be written at once; otherwise the permission is
+/// asked for.
 #[unsafe(no_mangle)]
 pub extern "C" fn rughvadi_client_want(
     alloc: Global,
@@ -260,7 +261,7 @@ pub extern "C" fn rughvadi_client_drop(alloc: Global, h: &mut Handle) -> u32
     answer(done)
 }
 
-/// The bytes of the client's copy of a page, which is no reference to it.
+/// The bytes of the client's copy of a page. This doesn't count as a reference to the page.
 #[unsafe(no_mangle)]
 pub extern "C" fn rughvadi_client_peek(
     alloc: Global,

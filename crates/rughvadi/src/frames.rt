@@ -9,7 +9,7 @@ use crate::held::Handle;
 use cb_handle::Refusal;
 use std::alloc::Global;
 
-/// Takes the frame that the bytes begin with, and says how many bytes it has: a server or a client.
+/// A server or a client takes the frame at the front of the bytes. Returns how many bytes it has.
 #[unsafe(no_mangle)]
 pub extern "C" fn rughvadi_take(
     alloc: Global,
@@ -34,8 +34,8 @@ pub extern "C" fn rughvadi_take(
     answer(done)
 }
 
-/// Fetches the oldest frame that was said, to the beginning of the room: how many bytes it has,
-/// and the client that it is of or for.
+/// Fetches the oldest frame that was sent, to the front of the room. Returns how many bytes it has,
+/// and the client that it comes from or goes to.
 #[unsafe(no_mangle)]
 pub extern "C" fn rughvadi_next(
     alloc: Global,
@@ -64,7 +64,7 @@ pub extern "C" fn rughvadi_next(
     answer(done)
 }
 
-/// What may be lost is said again.
+/// Resends what may be lost.
 #[unsafe(no_mangle)]
 pub extern "C" fn rughvadi_again(alloc: Global, h: &mut Handle) -> u32
     ensures live { h.new.live ≡ h.old.live }
@@ -83,7 +83,7 @@ pub extern "C" fn rughvadi_again(alloc: Global, h: &mut Handle) -> u32
     answer(done)
 }
 
-/// Lets the object go; nothing is held then.
+/// Frees the object. The handle holds nothing then.
 #[unsafe(no_mangle)]
 pub extern "C" fn rughvadi_free(alloc: Global, h: &mut Handle)
     ensures { h.new.live ≡ false }

@@ -14,7 +14,7 @@ use std::alloc::Global;
 use std::marker::Model;
 use std::mem::replace;
 
-/// A box of an object as its pointer, or no box: what it is of is known to the prover alone.
+/// A box of an object as its pointer, or no box. Only the prover knows which object it is.
 #[repr(C)]
 #[derive(Drop)]
 pub struct Held {
@@ -85,7 +85,7 @@ impl Handle {
         }
     }
 
-    /// Takes the object out; nothing is left.
+    /// Takes the object out, and leaves nothing.
     pub(crate) fn take(&mut self, alloc: Global) -> Option<Box<Object>>
         ensures value { MatchOption result (self.old.live ≡ false)
             (λ b. (self.old.live ≡ true) × (b.value ≡ self.old.held.value)) }

@@ -1,11 +1,11 @@
-//! The page server and the caching client for other languages: a handle, bytes in, and polled bytes
-//! out.
+//! The page server and the caching client for other languages. A program holds a handle, hands
+//! bytes in, and polls for bytes that go out.
 //!
 //! A handle holds nothing, the rows of a store that is to be opened, a server or a client. Every
-//! export is total: it asks nothing of its caller but memory that is valid, tests what it is given,
-//! and answers 0 or the number of a fault (`rughvadi_fault_text`), after which all is as before.
-//! What a call says is fetched frame by frame by `rughvadi_next`, before the next call that says
-//! something.
+//! export is total: it asks nothing of its caller but valid memory, and tests what it is given. It
+//! returns 0, or the number of a fault (`rughvadi_fault_text`), after which everything is as
+//! before. `rughvadi_next` fetches the frames that a call sends, one by one, before the next call
+//! that sends any.
 //!
 //! A handle may go to another thread (`handles_cross`), and has one call at a time.
 #![tactic(auto)]

@@ -21,7 +21,7 @@ pub struct StoreLimits {
     pub keep_write: u64,
 }
 
-/// The limits, where each is in its range.
+/// The limits, if each is in its range.
 pub(crate) fn limits_of(l: &StoreLimits) -> Result<Limits, Refusal>
     ensures limits { IfOk result (λ limits. limits ≡ bounds_of l.now) }
     ensures why { Decides (in_limits (bounds_of l.now)) never result }

@@ -24,8 +24,8 @@ fn opening(
     boxed(alloc, Object::opening(alloc, &limits, number, floor)?)
 }
 
-/// A store whose last commit has this number, without rows yet, in an empty handle. Its server is to
-/// be a new one, that knows no client.
+/// Puts a store whose last commit has this number, without rows yet, into an empty handle. Its
+/// server will be a new one, which knows no client.
 #[unsafe(no_mangle)]
 pub extern "C" fn rughvadi_open_begin(
     alloc: Global,
@@ -54,7 +54,8 @@ pub extern "C" fn rughvadi_open_begin(
     }
 }
 
-/// The same for a server in the life of this floor; where that is 0, in none.
+/// The same for a server in the life with this floor. A floor of 0 means that the server keeps no
+/// lives.
 #[unsafe(no_mangle)]
 pub extern "C" fn rughvadi_open_life(
     alloc: Global,
@@ -109,8 +110,8 @@ pub extern "C" fn rughvadi_open_row(
     answer(done)
 }
 
-/// The server over the rows, in the life that was asked for, if one was. Where memory is refused the
-/// rows are gone, and the handle is empty.
+/// Makes the server over the rows, in the life that was asked for, if one was. If memory is
+/// refused, the rows are gone, and the handle is empty.
 #[unsafe(no_mangle)]
 pub extern "C" fn rughvadi_open_serve(alloc: Global, h: &mut Handle) -> u32
     ensures done { result ≡ 0 → Serves h.old.held.value h.new.held.value }

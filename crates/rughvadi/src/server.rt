@@ -92,8 +92,8 @@ pub extern "C" fn rughvadi_server_incarnation(
     }
 }
 
-/// Makes the batch that is to be written next: the number of its last commit, and how many pages it
-/// has.
+/// Makes the batch that is to be written next. Returns the number of its last commit, and how many
+/// pages it has.
 #[unsafe(no_mangle)]
 pub extern "C" fn rughvadi_server_batch(
     alloc: Global,
@@ -147,7 +147,7 @@ pub extern "C" fn rughvadi_server_page(
     answer(done)
 }
 
-/// The commits up to this number are on disk now: Done is said for each that wasn't before.
+/// The commits up to this number are on disk now. A Done is sent for each that wasn't before.
 #[unsafe(no_mangle)]
 pub extern "C" fn rughvadi_server_flushed(alloc: Global, h: &mut Handle, number: u64) -> u32
     ensures live { h.new.live ≡ h.old.live }
@@ -165,7 +165,7 @@ pub extern "C" fn rughvadi_server_flushed(alloc: Global, h: &mut Handle, number:
     answer(done)
 }
 
-/// The commits up to this number, which is on disk, leave memory.
+/// Forgets the commits up to this number, which is on disk: they leave memory.
 #[unsafe(no_mangle)]
 pub extern "C" fn rughvadi_server_forget(alloc: Global, h: &mut Handle, number: u64) -> u32
     ensures live { h.new.live ≡ h.old.live }
@@ -183,7 +183,7 @@ pub extern "C" fn rughvadi_server_forget(alloc: Global, h: &mut Handle, number: 
     answer(done)
 }
 
-/// A client went away: at the server its next incarnation begins, which nobody is.
+/// A client went away. At the server its next incarnation begins, which belongs to nobody.
 #[unsafe(no_mangle)]
 pub extern "C" fn rughvadi_server_leave(alloc: Global, h: &mut Handle, client: u32) -> u32
     ensures live { h.new.live ≡ h.old.live }

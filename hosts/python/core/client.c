@@ -148,13 +148,14 @@ static PyMethodDef methods[] = {
     CORE_PARTY_METHODS,
     {"hello", client_hello, METH_NOARGS, "hello($self, /)\n--\n\nGreets the server."},
     {"begin", client_begin, METH_NOARGS,
-     "begin($self, /)\n--\n\nBegins a transaction; its number."},
+     "begin($self, /)\n--\n\nBegins a transaction. Returns its number."},
     {"read", core_client_read, METH_O,
      "read($self, page, /)\n--\n\n"
-     "Reads a page: its bytes, or None where an ask is out for it."},
+     "Reads a page. Returns its bytes, or None if an ask goes out for it."},
     {"want", client_want, METH_O,
      "want($self, page, /)\n--\n\n"
-     "Wants to write a page that was read: whether it may now. Else an ask is out."},
+     "Asks to write a page that was read. Returns whether it may be written now; if not, an\n"
+     "ask goes out."},
     {"write", (PyCFunction)(void (*)(void))client_write, METH_FASTCALL,
      "write($self, page, data, /)\n--\n\nWrites a page that was read and may be written."},
     {"finish", client_finish, METH_NOARGS, "finish($self, /)\n--\n\nCommits the transaction."},
@@ -164,15 +165,16 @@ static PyMethodDef methods[] = {
      "next_data($self, /)\n--\n\nThe bytes of `next_frame` alone."},
     {"peek", client_peek, METH_O,
      "peek($self, page, /)\n--\n\n"
-     "The bytes of the client's copy of a page, if it has one: no read, which locks nothing."},
+     "The bytes of the client's copy of a page, if it has one. This isn't a read, and locks\n"
+     "nothing."},
     {"may_write", client_may_write, METH_O,
      "may_write($self, page, /)\n--\n\nWhether the open transaction may write the page now."},
     {NULL, NULL, 0, NULL}};
 
 static PyGetSetDef properties[] = {
     CORE_PARTY_PROPERTIES,
-    {"status", client_status, NULL, "What the client says of itself; None once it is closed.",
-     NULL},
+    {"status", client_status, NULL,
+     "What the client reports about itself; None once it is closed.", NULL},
     {"last", client_last, NULL,
      "How the last transaction ended (None before the first did), and its commit or 0.", NULL},
     {NULL, NULL, NULL, NULL, NULL}};
@@ -180,8 +182,8 @@ static PyGetSetDef properties[] = {
 static PyType_Slot slots[] = {
     {Py_tp_doc,
      "Client(limits, client, incarnation)\n--\n\n"
-     "One incarnation of a client, which no earlier one of its number had. It sends nothing\n"
-     "itself: `frames` fetches what it says."},
+     "One incarnation of a client, which no earlier client of its number had. It sends nothing\n"
+     "itself: `frames` fetches its frames."},
     {Py_tp_new, client_new},
     {Py_tp_dealloc, core_dealloc},
     {Py_tp_traverse, core_traverse},

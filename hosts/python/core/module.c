@@ -47,7 +47,7 @@ static PyObject *version(PyObject *module, PyObject *unused) {
 static PyMethodDef functions[] = {
     {"read_frame", read_frame, METH_VARARGS,
      "read_frame($module, limits, data, /)\n--\n\n"
-     "Reads the frame that the bytes begin with. `FrameShort` where more bytes are needed."},
+     "Reads the frame at the front of the bytes. `FrameShort` if more bytes are needed."},
     {"version", version, METH_NOARGS,
      "version($module, /)\n--\n\nThe version of the library's interface."},
     {NULL, NULL, 0, NULL}};

@@ -181,22 +181,24 @@ static PyObject *server_next_incarnation(PyObject *self, PyObject *client) {
 static PyMethodDef methods[] = {
     CORE_PARTY_METHODS,
     {"batch", server_batch, METH_NOARGS,
-     "batch($self, /)\n--\n\nWhat is to be written next; None where every commit is on disk."},
+     "batch($self, /)\n--\n\nWhat is to be written next; None if every commit is on disk."},
     {"can_flush", server_can_flush, METH_O,
      "can_flush($self, number, /)\n--\n\n"
-     "Whether that commit was made and isn't on disk yet: then `flushed` takes it."},
+     "Whether that commit was made and isn't on disk yet, so that `flushed` takes it."},
     {"flushed", server_flushed, METH_O,
      "flushed($self, number, /)\n--\n\n"
-     "The commits up to this number are on disk now, synced: their clients are told."},
+     "Reports that the commits up to this number are on disk now, synced. Their clients are\n"
+     "told."},
     {"forget", server_forget, METH_O,
      "forget($self, number, /)\n--\n\n"
-     "The commits up to this number, which are on disk, leave memory, which else grows."},
+     "Drops the commits up to this number, which are on disk, from memory, which grows with\n"
+     "each commit otherwise."},
     {"leave", server_leave, METH_O,
      "leave($self, client, /)\n--\n\n"
-     "A client went away, and won't come back by its present incarnation."},
+     "Tells the server that a client went away and won't come back in its present incarnation."},
     {"next_incarnation", server_next_incarnation, METH_O,
      "next_incarnation($self, client, /)\n--\n\n"
-     "The incarnation that the client may greet with next."},
+     "The incarnation with which the client may greet next."},
     {NULL, NULL, 0, NULL}};
 
 static PyGetSetDef properties[] = {CORE_PARTY_PROPERTIES, {NULL, NULL, NULL, NULL, NULL}};
@@ -204,10 +206,11 @@ static PyGetSetDef properties[] = {CORE_PARTY_PROPERTIES, {NULL, NULL, NULL, NUL
 static PyType_Slot slots[] = {
     {Py_tp_doc,
      "Server(limits, last_commit=0, rows=None, *, floor=0)\n--\n\n"
-     "A page server over a store of zeros; or over the rows of one that was written before: the\n"
-     "number of its last commit, and the version and the bytes of each page. It writes nothing\n"
-     "itself: `batch` says what is to be written. Where the host keeps lives, it begins the one\n"
-     "of that floor: it takes no frame of an incarnation below. 0 is none."},
+     "A page server over a store of zeros, or over the rows of a store that was written before:\n"
+     "the number of its last commit, and the version and the bytes of each page. It writes\n"
+     "nothing itself: `batch` says what is to be written. For a host that keeps lives it begins\n"
+     "the life with that floor, and ignores every frame of a lower incarnation. 0 stands for no\n"
+     "life."},
     {Py_tp_new, server_new},
     {Py_tp_dealloc, core_dealloc},
     {Py_tp_traverse, core_traverse},

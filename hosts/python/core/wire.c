@@ -116,24 +116,24 @@ static PyObject *wire_transaction(PyObject *self, PyObject *link) {
 static PyMethodDef methods[] = {
     {"begin", wire_begin, METH_NOARGS,
      "begin($self, /)\n--\n\n"
-     "Begins a transaction: true. False where the link is gone, or something came."},
+     "Begins a transaction, and returns True. False if the link is gone, or something came."},
     {"read", wire_read, METH_O,
      "read($self, page, /)\n--\n\n"
-     "Reads a page: its bytes, or None where the link is gone, or an ask is out."},
+     "Reads a page. Returns its bytes, or None if the link is gone or an ask has no answer."},
     {"drop", wire_drop, METH_NOARGS,
      "drop($self, /)\n--\n\n"
-     "Ends the transaction without a commit: the frames that are to be sent, if there are any.\n"
-     "The link counts as gone then, until they were."},
+     "Ends the transaction without a commit. Returns the frames that are to be sent, if there\n"
+     "are any. The link then counts as gone until they are."},
     {"transaction", wire_transaction, METH_O,
      "transaction($self, link, /)\n--\n\nA transaction of the link, which is to have this wire."},
     {NULL, NULL, 0, NULL}};
 
 static PyMemberDef members[] = {
     {"gone", T_BOOL, offsetof(wire, gone), 0,
-     "Something was fetched and isn't sent whole, or came and isn't taken."},
-    {"is_silent", T_BOOL, offsetof(wire, is_silent), 0, "The transaction said nothing yet."},
+     "A frame was fetched and isn't sent completely, or bytes came and aren't taken."},
+    {"is_silent", T_BOOL, offsetof(wire, is_silent), 0, "The transaction sent nothing yet."},
     {"late", T_OBJECT, offsetof(wire, late), 0,
-     "A Drop of which the server needs to know nothing before it hears of something else."},
+     "A Drop that the server needn't hear of before it hears of something else."},
     {NULL, 0, 0, 0, NULL}};
 
 static PyType_Slot slots[] = {

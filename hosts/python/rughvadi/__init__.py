@@ -11,7 +11,7 @@ current, until the server restarts or is told that the client left.
 
 `connect` makes one to a store of a gateway. `rughvadi.aio` has the same two for asyncio.
 
-A call of `Server` or `Client` keeps the interpreter's lock, so no two are made at once. An
+A call of `Server` or `Client` keeps the interpreter's lock, so that no two run at once. An
 interpreter that runs without its lock takes it as this package is imported.
 """
 

@@ -9,15 +9,15 @@ from ._greeting import ANSWER_SIZE, greeting, host_and_port, seat
 from ._link import Link
 
 PATIENCE = 30
-"""For so many time-outs `connect` waits until it is connected, and then until it is welcome."""
+"""How many time-outs `connect` waits to be connected, and then to be welcomed."""
 
 
 def connect(
     address: str, token: bytes, store: str = "main", time_out: Optional[float] = 1.0
 ) -> Link:
-    """A link to a store of a gateway, which listens at HOST:PORT or on a Unix socket, whose path
-    has a `/` in it. What may be lost is said again after each time-out of so many seconds; None
-    waits forever, for the gateway too."""
+    """A link to a store of a gateway. The gateway listens at HOST:PORT or on a Unix socket, whose
+    path has a `/` in it. What may be lost is sent again after each time-out of so many seconds;
+    None waits forever, for the gateway too."""
     patience = None if time_out is None else PATIENCE * time_out
     connected = _dial(address, patience)
     try:

@@ -10,7 +10,7 @@ from ._faults import Aborted, Closed, Fault, FrameShort, NoTransaction, Unfetche
 from ._values import Ended, Limits, Status
 
 TRIES = 30
-"""How often it says again what may be lost, before it gives up."""
+"""How often it resends what may be lost, before it gives up."""
 
 _MOST_AT_ONCE = 1 << 16
 
@@ -18,10 +18,10 @@ _MOST_AT_ONCE = 1 << 16
 class Exchange:
     """A client over a connected stream socket.
 
-    It counts as gone from before a frame is fetched from the client until that is sent whole, and
-    from before bytes come from the socket until their frames are taken. So whatever ends such a
-    call early, a signal's exception too, leaves a link that is gone: no stream goes on behind half
-    a frame."""
+    It counts as gone from before a frame is fetched from the client until all of it is sent, and
+    from before bytes come from the socket until their frames are taken. Whatever ends such a call
+    early, even a signal's exception, therefore leaves a link that is gone. No stream goes on behind
+    half a frame."""
 
     def __init__(
         self, limits: Limits, client: int, incarnation: int, connected: socket.socket, owns: bool
@@ -33,7 +33,7 @@ class Exchange:
         self._came = bytearray()
 
     def close(self) -> None:
-        """Lets the client go. The socket stays the caller's, unless the link owns it."""
+        """Frees the client. The socket stays the caller's, unless the link owns it."""
         self._wire.gone = True
         self.client.close()
         if self._owns:
@@ -48,7 +48,7 @@ class Exchange:
             raise Closed("the connection ended")
 
     def _say(self) -> None:
-        """Sends all that the client said."""
+        """Sends all frames of the client."""
         self._wire.gone = True
         self._send_said()
         self._wire.gone = False
@@ -62,13 +62,13 @@ class Exchange:
             self._send(data)
 
     def _send_all(self, said: tuple[bytes, ...]) -> None:
-        """Sends what was fetched already, and all else that the client said."""
+        """Sends what was fetched already, and all other frames of the client."""
         for data in said:
             self._send(data)
         self._say()
 
     def _receive(self) -> None:
-        """Takes what the socket has, and sends what is said to it."""
+        """Takes what the socket has, and sends the answers."""
         self._wire.gone = True
         try:
             got = self._socket.recv(_MOST_AT_ONCE)
@@ -82,7 +82,7 @@ class Exchange:
         self._wire.gone = False
 
     def _take_frames(self) -> None:
-        # What comes may ask for what a Drop says.
+        # What comes may ask for pages that a waiting Drop gives back.
         self._send_said()
         while self._came:
             try:
@@ -93,15 +93,15 @@ class Exchange:
             self._send_said()
 
     def _look_and_begin(self) -> None:
-        """Begins a transaction, once what came meanwhile is taken: else a program that only reads
-        what it holds, and drops, would keep others waiting."""
+        """Begins a transaction, once what came meanwhile is taken. Without that, a program that
+        only reads what it holds, and drops, would keep others waiting."""
         while not self._wire.begin():
             self._check()
             self._receive()
 
     def _drop(self) -> None:
         """Ends the transaction without a commit. If the server heard nothing of it, its Drop waits
-        until something else is sent or comes: it costs no call of the system then."""
+        until something else is sent or comes, and costs no call of the system."""
         self._check()
         try:
             said = self._wire.drop()
@@ -113,8 +113,8 @@ class Exchange:
             self._send_all(said)
 
     def _leave(self) -> None:
-        """Drops the transaction, if one is open and the link isn't gone: an exception ends it. That
-        is what is told, and not that the connection failed besides."""
+        """Drops the transaction that an exception ends, if one is open and the link isn't gone.
+        That exception is raised, even if the connection fails besides."""
         if not self._wire.gone and self.client.status in (Status.OPEN, Status.WAITING):
             with contextlib.suppress(OSError):
                 self._drop()
@@ -128,7 +128,7 @@ class Exchange:
         raise why
 
     def _commit_number(self) -> int:
-        """The number of the commit that was answered."""
+        """The number of the commit that was just answered."""
         how, number = self.client.last
         if how is not Ended.COMMITTED:
             raise Aborted

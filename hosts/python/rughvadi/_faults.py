@@ -1,4 +1,4 @@
-"""What the package raises of its own."""
+"""The exceptions of this package."""
 
 from __future__ import annotations
 
@@ -46,11 +46,11 @@ _NUMBERS: dict[int, int] = {each.value: each for each in FaultNumber}
 
 
 class Error(Exception):
-    """What this package raises of its own."""
+    """The base of this package's own exceptions."""
 
 
 class Fault(Error):
-    """A call was refused; all is as it was before then."""
+    """A call was refused; everything is as it was before."""
 
     def __init__(self, number: int, text: str = "") -> None:
         super().__init__(number, text)
@@ -70,7 +70,7 @@ class TransactionOpen(Fault):
 
 
 class Waiting(Fault):
-    """An ask is out: hand frames in until it is answered."""
+    """An ask has no answer yet: hand frames in until it has."""
 
 
 class NotHere(Fault):
@@ -94,7 +94,7 @@ class LimitFault(Fault):
 
 
 class Unfetched(Fault):
-    """Fetch first what was said before."""
+    """First fetch the frames that wait."""
 
 
 class Aborted(Error):
@@ -105,7 +105,7 @@ class Aborted(Error):
 
 
 class Closed(Error, ConnectionError):
-    """The connection ended, or a call that sent or received on it did so early: make a new link."""
+    """The connection ended, or a call that sends or receives ended early: make a new link."""
 
 
 _CLASSES: dict[int, type[Fault]] = {

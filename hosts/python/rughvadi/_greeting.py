@@ -51,7 +51,7 @@ def host_and_port(address: str) -> tuple[str, int]:
 
 
 def greeting(token: bytes, store: str) -> bytes:
-    """What a client says first."""
+    """The greeting that a client sends first."""
     name = store.encode()
     if len(token) != 32 or len(name) > 63:
         raise ValueError("a token has 32 bytes, and a name at most 63")

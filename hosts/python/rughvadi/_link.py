@@ -18,10 +18,10 @@ T = TypeVar("T")
 
 
 class Link(Exchange):
-    """A client over a connected stream socket. Where the socket has a time-out, what may be lost is
-    said again after each. Once the connection failed or was closed, gave what can't be taken, or a
-    call that sent or received ended early by an exception, the client is gone: each later call
-    raises `Closed`, also of a page that it holds."""
+    """A client over a connected stream socket. If the socket has a time-out, what may be lost is
+    sent again after each time-out. The client is gone once the connection fails, is closed or gives
+    bytes that can't be taken, or once an exception ends a call that sends or receives. Each later
+    call then raises `Closed`, even for a page that the client holds."""
 
     def __init__(
         self,
@@ -46,8 +46,8 @@ class Link(Exchange):
         self.close()
 
     def transaction(self) -> Transaction:
-        """A transaction, which begins as it is entered by `with`: it commits at the end of that,
-        and is dropped where an exception leaves it. `Aborted` where it was a deadlock's victim."""
+        """A transaction for a `with` statement. It begins as the block is entered, commits at its
+        end, and is dropped if an exception leaves it. `Aborted` if it was a deadlock's victim."""
         return self._wire.transaction(self)
 
     def run(
@@ -57,9 +57,9 @@ class Link(Exchange):
         tries: Optional[int] = None,
         seconds: Optional[float] = None,
     ) -> T:
-        """Does the job in a transaction and commits it, all anew where it is aborted. Before each
-        further try it waits, for 0.5 ms at most and then up to twice as long each time, to 100 ms,
-        and serves others meanwhile. `Aborted` after so many tries, or where the next one would
+        """Does the job in a transaction and commits it, and begins again if it is aborted. Before
+        each further try it waits, for at most 0.5 ms at first and up to twice as long each time, to
+        100 ms, and serves others meanwhile. `Aborted` after so many tries, or if the next one would
         begin after so many seconds; without a bound it goes on."""
         further = waits(tries, seconds)
         while True:
@@ -73,8 +73,8 @@ class Link(Exchange):
             self._serve_for(wait)
 
     def serve(self) -> bool:
-        """Takes what the socket gives next: others wait for the pages that the client holds until
-        it has answered. False where the socket's time-out passed first."""
+        """Takes what the socket gives next. Others wait for the pages that the client holds until
+        it has answered. False if the socket's time-out passed first."""
         self._check()
         self._say()
         return self._receive_within(self._socket.gettimeout())
@@ -102,7 +102,7 @@ class Link(Exchange):
                     raise
 
     def _receive_within(self, seconds: Optional[float]) -> bool:
-        """Receives once; false where nothing came within so many seconds."""
+        """Receives once; false if nothing came within so many seconds."""
         if not self._poll.poll(None if seconds is None else math.ceil(1000 * seconds)):
             return False
         self._receive()
@@ -120,7 +120,7 @@ class Link(Exchange):
             self.client.again()
 
     def _answer(self, call: Callable[..., Optional[T]], *arguments: Any) -> T:
-        """What a call of the client answers, once it needs to wait for nothing."""
+        """What a call of the client returns, once it needs to wait for nothing."""
         while True:
             self._check()
             try:

@@ -8,14 +8,14 @@ import time
 from typing import Iterator, Optional
 
 FIRST = 0.0005
-"""Seconds that it waits at most before the second try; before each further one twice as long."""
+"""The most seconds that it waits before the second try; before each further one twice as long."""
 MOST = 0.1
 """But never longer than so many seconds."""
 
 
 def waits(tries: Optional[int], seconds: Optional[float]) -> Iterator[float]:
-    """The wait before each further try, drawn anew, as long as a further one is allowed: of so many
-    tries in all, each begun within so many seconds from now."""
+    """The wait before each further try, each drawn anew. They end after so many tries in all, or
+    once a try would begin more than so many seconds from now."""
     if tries is not None and tries < 1:
         raise ValueError("there is at least one try")
     end = None if seconds is None else time.monotonic() + seconds

@@ -1,4 +1,4 @@
-"""What the library is given and what it answers."""
+"""The values that the library takes and returns."""
 
 from __future__ import annotations
 
@@ -10,9 +10,9 @@ from typing import Optional, cast
 
 @dataclass(frozen=True)
 class Limits:
-    """The limits of one store. Its server and its clients have all but slots, kin and kout in
-    common: these are each client's own. A server doesn't use them, but refuses values out of range.
-    """
+    """The limits of one store, which its server and its clients share, except for slots, kin and
+    kout: each client has its own. A server doesn't use these three, but refuses values out of
+    range."""
 
     clients: int
     """1 to 32; they are numbered from 0."""
@@ -23,11 +23,11 @@ class Limits:
     slots: int
     """Pages in a client's pool: 2 to 1,024."""
     kin: int = cast(int, None)
-    """1 to one less than the slots: with more new pages in the pool, one of these goes. If it isn't
-    said, a quarter of the slots, at least 1."""
+    """1 to one less than the slots: with more new pages in the pool, one of these goes. By
+    default a quarter of the slots, at least 1."""
     kout: int = cast(int, None)
-    """1 to 4,096: how many new pages that went are remembered. If it isn't said, half the slots, at
-    least 1."""
+    """1 to 4,096: how many new pages that went are remembered. By default half the slots, at least
+    1."""
     keep_write: bool = False
     """Whether clients keep write permissions between transactions."""
 
@@ -45,7 +45,7 @@ class Limits:
 
 
 class Status(Enum):
-    """What a client says of itself."""
+    """What a client reports about itself."""
 
     NOT_WELCOME = 1
     IDLE = 2
@@ -70,7 +70,7 @@ ENDINGS: tuple[Optional[Ended], ...] = (None, *Ended)
 
 @dataclass(frozen=True)
 class Frame:
-    """A frame that was said, and the client that it is of or for."""
+    """A frame to be sent, and the client that it comes from or goes to."""
 
     client: int
     data: bytes

@@ -8,7 +8,7 @@
     async with await aio.connect("./socket", token) as link:
         await link.run(count)
 
-A link answers what others ask of it whenever the loop runs, also while no task waits for it.
+A link answers what others ask of it whenever the loop runs, even while no task waits for it.
 """
 
 from __future__ import annotations
@@ -32,8 +32,9 @@ T = TypeVar("T")
 
 
 class Link(Exchange):
-    """A client over a connected stream socket, on one loop. Tasks share it: their transactions
-    follow one another. It is gone as a blocking link is, and each later call raises `Closed`."""
+    """A client over a connected stream socket, on one loop. Tasks share it, and their transactions
+    follow one another. It is gone when a blocking link would be; each later call raises `Closed`.
+    """
 
     def __init__(
         self,
@@ -44,7 +45,7 @@ class Link(Exchange):
         owns: bool,
         time_out: Optional[float],
     ) -> None:
-        """Of no use by itself: `open` makes one."""
+        """Don't call this: `open` makes a link."""
         super().__init__(limits, client, incarnation, connected, owns)
         self._time_out = time_out
         self._loop = asyncio.get_running_loop()
@@ -67,7 +68,7 @@ class Link(Exchange):
         time_out: Optional[float] = 1.0,
     ) -> Link:
         """Greets the server over a connected socket, and waits until the client is welcome. What
-        may be lost is said again after each time-out of so many seconds; None waits forever."""
+        may be lost is sent again after each time-out of so many seconds; None waits forever."""
         link = cls(limits, client, incarnation, connected, owns, time_out)
         try:
             link.client.hello()
@@ -78,7 +79,7 @@ class Link(Exchange):
         return link
 
     def close(self) -> None:
-        """Lets the client go. The socket stays the caller's, unless the link owns it."""
+        """Frees the client. The socket stays the caller's, unless the link owns it."""
         self._wire.gone = True
         self._stop()
         super().close()
@@ -90,8 +91,8 @@ class Link(Exchange):
         self.close()
 
     def transaction(self) -> Transaction:
-        """A transaction, which begins as it is entered by `async with`, once it is its turn: it
-        commits at the end of that, and is dropped where an exception leaves it. `Aborted` where it
+        """A transaction for an `async with` statement. It begins as the block is entered, once it
+        is its turn, commits at its end, and is dropped if an exception leaves it. `Aborted` if it
         was a deadlock's victim."""
         return Transaction(self)
 
@@ -102,8 +103,8 @@ class Link(Exchange):
         tries: Optional[int] = None,
         seconds: Optional[float] = None,
     ) -> T:
-        """Does the job in a transaction and commits it, all anew where it is aborted; waits and
-        bounds are those of a blocking link's `run`."""
+        """Does the job in a transaction and commits it, and begins again if it is aborted. Waits
+        and bounds are those of a blocking link's `run`."""
         further = waits(tries, seconds)
         while True:
             try:
@@ -124,7 +125,7 @@ class Link(Exchange):
         self._guarded(self._go_on_sending)
 
     def _guarded(self, call: Callable[[], None]) -> None:
-        """Makes the call; whoever waits looks again, also where the link is gone after it."""
+        """Makes the call. Whoever waits looks again, even if the link is gone after it."""
         try:
             if not self._wire.gone:
                 call()
@@ -147,7 +148,7 @@ class Link(Exchange):
             self._send_what_goes()
 
     def _send_what_goes(self) -> None:
-        """Sends as much as the socket takes; once that takes more, the loop goes on."""
+        """Sends as much as the socket takes. The loop goes on once the socket takes more."""
         while self._unsent:
             try:
                 count = self._socket.send(self._unsent[0])
@@ -185,7 +186,7 @@ class Link(Exchange):
         self._check()
 
     async def _answer(self, call: Callable[..., Optional[T]], *arguments: Any) -> T:
-        """What a call of the client answers, once it needs to wait for nothing."""
+        """What a call of the client returns, once it needs to wait for nothing."""
         while True:
             self._check()
             try:
@@ -278,9 +279,9 @@ class Transaction:
         await self._link._put(page, data)
 
     def drop(self) -> None:
-        """Ends it, as the last call of the `async with`: nothing is written and no answer awaited,
-        where a commit of reads alone waits for a sync. What it read has no place among the
-        commits."""
+        """Ends the transaction without a commit, as the last call of the `async with`. Nothing is
+        written, and it waits for no answer, whereas a commit of reads alone waits for a sync. Its
+        reads have no place among the commits."""
         self._link._drop()
         self._dropped = True
 
@@ -288,9 +289,9 @@ class Transaction:
 async def connect(
     address: str, token: bytes, store: str = "main", time_out: Optional[float] = 1.0
 ) -> Link:
-    """A link to a store of a gateway, which listens at HOST:PORT or on a Unix socket, whose path
-    has a `/` in it. What may be lost is said again after each time-out of so many seconds; None
-    waits forever, for the gateway too."""
+    """A link to a store of a gateway. The gateway listens at HOST:PORT or on a Unix socket, whose
+    path has a `/` in it. What may be lost is sent again after each time-out of so many seconds;
+    None waits forever, for the gateway too."""
     connected = None
     try:
         async with asyncio.timeout(None if time_out is None else PATIENCE * time_out):

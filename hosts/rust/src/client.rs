@@ -4,7 +4,7 @@ use crate::object::Object;
 use crate::{ffi, Limits};
 use std::fmt;
 
-/// What a client says of itself.
+/// What a client reports about itself.
 #[derive(Clone, Copy, Debug, PartialEq, Eq)]
 pub enum Status {
     /// The server's Welcome has not come.
@@ -13,7 +13,7 @@ pub enum Status {
     Idle,
     /// A transaction is open, and waits for nothing.
     Open,
-    /// A transaction is open, and an ask is out.
+    /// A transaction is open, and its ask has no answer yet.
     Waiting,
     /// The transaction is committing.
     Committing,
@@ -30,7 +30,7 @@ pub enum Ended {
     Aborted,
 }
 
-/// One incarnation of a client. It sends nothing itself: what it says is fetched by
+/// One incarnation of a client. It sends nothing itself: fetch its frames by
 /// [`Client::next_frame`].
 pub struct Client {
     object: Object,
@@ -38,7 +38,7 @@ pub struct Client {
 }
 
 impl Client {
-    /// A client at the start of an incarnation, which no earlier one of its number had.
+    /// A client at the start of an incarnation that no earlier client of its number had.
     pub fn new(limits: &Limits, client: u32, incarnation: u64) -> Result<Client> {
         let object = Object::empty();
         // SAFETY: the handle is empty.
@@ -56,17 +56,17 @@ impl Client {
         self.page_size
     }
 
-    /// Takes the frame that the bytes begin with; how many bytes it has.
+    /// Takes the frame at the front of the bytes. Returns how many bytes it has.
     pub fn take(&mut self, bytes: &[u8]) -> Result<usize> {
         self.object.take(bytes)
     }
 
-    /// The oldest frame that was said, which is to be sent to the server.
+    /// Fetches the oldest frame that waits to be sent to the server.
     pub fn next_frame(&mut self) -> Result<Option<Vec<u8>>> {
         Ok(self.object.next_frame()?.map(|(_, frame)| frame))
     }
 
-    /// What may be lost is said again.
+    /// Resends what may be lost.
     pub fn again(&mut self) -> Result<()> {
         self.object.again()
     }
@@ -77,7 +77,7 @@ impl Client {
         done(unsafe { ffi::rughvadi_client_hello(self.object.at()) })
     }
 
-    /// Begins a transaction; its number.
+    /// Begins a transaction. Returns its number.
     pub fn begin(&mut self) -> Result<u64> {
         let mut txn = 0;
         // SAFETY: the handle is the object's own.
@@ -85,7 +85,7 @@ impl Client {
         Ok(txn)
     }
 
-    /// Reads a page: whether its bytes are in the room. Else an ask is out.
+    /// Reads a page. Returns whether its bytes are in the room; if not, an ask goes out.
     pub fn read(&mut self, page: u32, room: &mut [u8]) -> Result<bool> {
         let mut here = false;
         // SAFETY: the room is as long as it is said to be.
@@ -101,7 +101,8 @@ impl Client {
         Ok(here)
     }
 
-    /// Wants to write a page that was read: whether it may now. Else an ask is out.
+    /// Asks to write a page that was read. Returns whether it may be written now; if not, an ask
+    /// goes out.
     pub fn want(&mut self, page: u32) -> Result<bool> {
         let mut may = false;
         // SAFETY: the handle is the object's own.
@@ -129,7 +130,7 @@ impl Client {
         done(unsafe { ffi::rughvadi_client_drop(self.object.at()) })
     }
 
-    /// What the client says of itself.
+    /// What the client reports about itself.
     pub fn status(&self) -> Status {
         // SAFETY: the handle is the object's own.
         match unsafe { ffi::rughvadi_client_status(self.object.at()) } {
@@ -153,7 +154,8 @@ impl Client {
         }
     }
 
-    /// The bytes of the client's copy of a page, if it has one: no read, which locks nothing.
+    /// The bytes of the client's copy of a page, if it has one. This isn't a read, and locks
+    /// nothing.
     pub fn peek(&self, page: u32) -> Result<Option<Vec<u8>>> {
         let mut room = vec![0u8; self.page_size];
         // SAFETY: the room is as long as it is said to be.

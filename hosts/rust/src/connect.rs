@@ -13,13 +13,13 @@ use std::os::unix::net::UnixStream;
 use std::path::Path;
 use std::time::Duration;
 
-/// For so long a connection is awaited.
+/// How long a connection is awaited.
 const CONNECT: Duration = Duration::from_secs(5);
-/// For so long the answer to a greeting is awaited.
+/// How long the answer to a greeting is awaited.
 const GREETING: Duration = Duration::from_secs(10);
-/// For so long an answer is awaited, before what may be lost is said again.
+/// How long an answer is awaited, before what may be lost is sent again.
 const ANSWER: Duration = Duration::from_secs(1);
-/// For so long the other end may take no byte of a frame.
+/// How long the other end may take no byte of a frame.
 const SEND: Duration = Duration::from_secs(30);
 /// The name of a store has no more bytes.
 const NAME: usize = 63;
@@ -43,7 +43,7 @@ pub enum Refusal {
     Store,
     /// The store hasn't so many clients.
     Client,
-    /// The store isn't served at the moment: come again.
+    /// The store isn't served at the moment: try again later.
     Down,
 }
 
@@ -79,14 +79,15 @@ pub enum Stream {
 }
 
 impl Stream {
-    /// Connects to HOST:PORT, or to the path of a Unix socket: a name with a `/` in it. An address
-    /// that is silent for five seconds answers `TimedOut`.
+    /// Connects to HOST:PORT, or to the path of a Unix socket, which is a name with a `/` in it.
+    /// `TimedOut` if an address is silent for five seconds.
     pub fn dial(address: &str) -> io::Result<Stream> {
         Stream::dial_within(address, CONNECT)
     }
 
-    /// The same, within that time at each IP address. Over TCP it is found within 20 seconds that
-    /// the other end is gone, also where nothing is sent: the next read or write says so.
+    /// The same, within that time for each IP address. Over TCP the system notices within 20
+    /// seconds that the other end is gone, even if nothing is sent; the next read or write then
+    /// fails.
     pub fn dial_within(address: &str, most: Duration) -> io::Result<Stream> {
         let name = CString::new(address)?;
         let mut socket = -1;
@@ -105,7 +106,7 @@ impl Stream {
         })
     }
 
-    /// For so long a read waits.
+    /// Sets how long a read waits.
     pub fn set_read_timeout(&self, most: Option<Duration>) -> io::Result<()> {
         match self {
             Stream::Local(stream) => stream.set_read_timeout(most),
@@ -113,7 +114,7 @@ impl Stream {
         }
     }
 
-    /// For so long a write waits while no byte goes.
+    /// Sets how long a write waits while no byte goes.
     pub fn set_write_timeout(&self, most: Option<Duration>) -> io::Result<()> {
         match self {
             Stream::Local(stream) => stream.set_write_timeout(most),
@@ -214,8 +215,8 @@ fn greet(
     }
 }
 
-/// Where a store is served, and how long its client waits for what. A program that connects anew
-/// where its link is gone keeps it, since each call of [`Gateways::connect`] begins behind the
+/// Where a store is served, and how long its client waits. A program that connects again once its
+/// link is gone keeps this value, since each call of [`Gateways::connect`] begins behind the
 /// address that was tried last.
 #[derive(Clone)]
 pub struct Gateways {
@@ -231,8 +232,8 @@ pub struct Gateways {
 }
 
 impl Gateways {
-    /// The gateways at these addresses, with commas between them: each HOST:PORT, or the path of a
-    /// Unix socket, with a `/` in it.
+    /// The gateways at these addresses, which are separated by commas. Each is HOST:PORT, or the
+    /// path of a Unix socket, with a `/` in it.
     pub fn new(addresses: &str, token: &Token, store: &str) -> Gateways {
         Gateways {
             addresses: addresses.split(',').map(str::to_string).collect(),
@@ -246,31 +247,31 @@ impl Gateways {
         }
     }
 
-    /// For so long a connection is awaited at each address (5 seconds at first).
+    /// Sets how long a connection is awaited at each address (5 seconds at first).
     pub fn connect_timeout(self, connect: Duration) -> Gateways {
         Gateways { connect, ..self }
     }
 
-    /// For so long the whole answer to the greeting is awaited (10 seconds at first).
+    /// Sets how long the whole answer to the greeting is awaited (10 seconds at first).
     pub fn greeting_timeout(self, greeting: Duration) -> Gateways {
         Gateways { greeting, ..self }
     }
 
-    /// For so long a link awaits an answer, before it says again what may be lost, 30 times at most
+    /// Sets how long a link awaits an answer before it resends what may be lost, 30 times at most
     /// (1 second at first; not zero).
     pub fn answer_timeout(self, answer: Duration) -> Gateways {
         Gateways { answer, ..self }
     }
 
-    /// For so long the other end may take no byte of a frame, before the link is gone (30 seconds
+    /// Sets how long the other end may take no byte of a frame before the link is gone (30 seconds
     /// at first; not zero).
     pub fn send_timeout(self, send: Duration) -> Gateways {
         Gateways { send, ..self }
     }
 
-    /// A link to the store, and the store's limits. Each address is tried once: the next one where
-    /// nobody answers in time, the connection fails or ends, or the store isn't served there
-    /// ([`Refusal::Down`]). What was answered last is the error.
+    /// A link to the store, and the store's limits. Each address is tried once. The next one is
+    /// tried if nobody answers in time, the connection fails or ends, or the store isn't served
+    /// there ([`Refusal::Down`]). The last error is returned.
     pub fn connect(&mut self) -> Result<(Link<Stream>, Limits)> {
         let mut answer = Err(Error::Closed);
         for _ in 0..self.addresses.len() {

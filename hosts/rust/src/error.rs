@@ -3,7 +3,7 @@ use crate::connect::Refusal;
 use crate::ffi;
 use std::{error, fmt, io};
 
-/// Why a call was refused. All is as it was before then, but where the call says so.
+/// Why a call was refused. Everything is then as it was before, unless the call says otherwise.
 #[derive(Debug)]
 #[non_exhaustive]
 pub enum Error {
@@ -15,7 +15,7 @@ pub enum Error {
     TransactionOpen,
     /// The transaction is committing.
     Committing,
-    /// An ask is out.
+    /// An ask has no answer yet.
     Waiting,
     /// There is no such page.
     PageRange,
@@ -39,7 +39,7 @@ pub enum Error {
     Frame(u32),
     /// The limits are out of range: the number says which.
     Limits(u32),
-    /// What was said before is to be fetched first.
+    /// The frames that wait have to be fetched first.
     Unfetched,
     /// A buffer hasn't the length that is needed, or a page has its row already.
     Room,
@@ -57,7 +57,7 @@ pub enum Error {
     Other(u32),
 }
 
-/// What a call answers.
+/// What a call returns.
 pub type Result<T> = std::result::Result<T, Error>;
 
 pub(crate) const NO_TRANSACTION: u32 = 2;
@@ -90,7 +90,7 @@ impl Error {
         }
     }
 
-    /// The number of `rughvadi.h`; `None` of a fault that isn't the library's.
+    /// The number in `rughvadi.h`; `None` for a fault that isn't the library's.
     pub fn number(&self) -> Option<u32> {
         Some(match *self {
             Error::NotWelcome => 1,
@@ -116,7 +116,7 @@ impl Error {
     }
 }
 
-/// What a number means, by the library.
+/// The meaning of a number, as the library tells it.
 fn text_of(number: u32) -> String {
     let (mut room, mut size) = ([0u8; 64], 0);
     // SAFETY: the room is as long as it is said to be.
@@ -156,7 +156,7 @@ impl From<io::Error> for Error {
     }
 }
 
-/// `Ok` of 0, else the fault.
+/// `Ok` for 0, otherwise the fault.
 pub(crate) fn done(number: u32) -> Result<()> {
     match number {
         0 => Ok(()),

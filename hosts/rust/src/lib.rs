@@ -6,7 +6,7 @@
 //! fetched ([`Client::next_frame`]). [`Link`] is a client over a stream, for programs that may
 //! block; [`Gateways::connect`] makes one to a store of a gateway.
 //!
-//! Each may move to another thread, with all that it holds, and is used by one thread at a time:
+//! Each may move to another thread with all that it holds, and is used by one thread at a time:
 //!
 //! ```
 //! fn may_move<T: Send>() {}
@@ -15,7 +15,7 @@
 //! may_move::<rughvadi::Link<std::net::TcpStream>>();
 //! ```
 //!
-//! None may be shared by threads without a lock:
+//! Threads can't share one without a lock:
 //!
 //! ```compile_fail
 //! fn may_be_shared<T: Sync>() {}
@@ -38,8 +38,9 @@ pub use error::{Error, Result};
 pub use link::{Bound, Link, Transaction};
 pub use server::{Batch, BatchPage, Server};
 
-/// The limits of one store. Its server and its clients have all but `slots`, `kin` and `kout` in
-/// common: these are each client's own. A server doesn't use them, but refuses values out of range.
+/// The limits of one store, which its server and its clients share, except for `slots`, `kin` and
+/// `kout`: each client has its own. A server doesn't use these three, but refuses values out of
+/// range.
 #[derive(Clone, Copy, Debug, PartialEq, Eq)]
 pub struct Limits {
     /// 1 to 32; they are numbered from 0.
@@ -59,8 +60,8 @@ pub struct Limits {
 }
 
 impl Limits {
-    /// Limits of a store, where a client's pool has so many slots: `kin` is a quarter of them and
-    /// `kout` half of them, at least 1 each. No write permissions are kept.
+    /// Limits of a store with so many slots in a client's pool. `kin` is a quarter of them and
+    /// `kout` half of them, at least 1 each. Write permissions aren't kept.
     pub const fn new(clients: u32, pages: u32, page_size: usize, slots: usize) -> Limits {
         Limits {
             clients,
@@ -83,7 +84,7 @@ impl Limits {
         Limits { kout, ..self }
     }
 
-    /// The same where clients keep write permissions between transactions, or don't.
+    /// The same, with or without write permissions that clients keep between transactions.
     pub const fn with_keep_write(self, keep_write: bool) -> Limits {
         Limits { keep_write, ..self }
     }
@@ -118,7 +119,7 @@ impl Limits {
 pub struct FrameHead {
     /// The frame's bytes, the header's among them.
     pub length: usize,
-    /// The client that it is of or for.
+    /// The client that it comes from or goes to.
     pub client: u32,
     /// The code of its kind: below 64 it goes to the server.
     pub kind: u32,
@@ -126,7 +127,7 @@ pub struct FrameHead {
     pub incarnation: u64,
 }
 
-/// Reads the frame that the bytes begin with. [`Error::FrameShort`] where more bytes are needed.
+/// Reads the frame at the front of the bytes. [`Error::FrameShort`] if more bytes are needed.
 pub fn read_frame(limits: &Limits, bytes: &[u8]) -> Result<FrameHead> {
     let mut head = ffi::FrameHead::default();
     // SAFETY: the bytes are as many as they are said to be.

@@ -11,12 +11,12 @@ use std::io::{self, ErrorKind, Read, Write};
 use std::os::unix::io::{AsRawFd, RawFd};
 use std::time::{Duration, Instant};
 
-/// How often it says again what may be lost, before it gives up.
+/// How often it resends what may be lost, before it gives up.
 const TRIES: u32 = 30;
 /// How many bytes are received at once.
 const ROOM: usize = 65536;
 
-/// Between two tries of a job no more than this passes, after the first and in the end.
+/// The longest pause between two tries of a job: after the first try, and in the end.
 const FIRST_PAUSE: Duration = Duration::from_micros(500);
 const LONGEST_PAUSE: Duration = Duration::from_millis(100);
 
@@ -30,7 +30,7 @@ fn is_late(error: &io::Error) -> bool {
     }
 }
 
-/// How far [`Link::run_within`] goes on; `None`: there is no such bound.
+/// How long [`Link::run_within`] goes on. A field that is `None` sets no bound.
 #[derive(Clone, Copy, Debug, Default, PartialEq, Eq)]
 pub struct Bound {
     /// So many tries at most.
@@ -47,25 +47,25 @@ impl Bound {
     }
 }
 
-/// A client over a connected stream, which blocks. Where the stream has a time-out for reads, what
-/// may be lost is said again after each. Once the stream failed or ended, or gave what can't be
-/// taken, the client is gone: each later call answers [`Error::Closed`], also of a page that it
-/// holds. So it is, too, where a frame was sent in part: where the stream's time-out for writes
-/// passed, or a panic left a call of the stream.
+/// A client over a connected stream, which blocks. If the stream has a time-out for reads, what may
+/// be lost is sent again after each time-out. Once the stream fails, ends, or gives bytes that
+/// can't be taken, the client is gone: each later call returns [`Error::Closed`], even for a page
+/// that the client holds. The client is also gone if a frame was sent in part: the stream's
+/// time-out for writes passed, or a panic left a call of the stream.
 pub struct Link<S> {
     client: Client,
     stream: S,
     /// The socket that the stream is, if it is one: it can be asked whether something came.
     socket: Option<RawFd>,
     gone: bool,
-    /// Whether the open transaction has said nothing yet.
+    /// Whether the open transaction has sent nothing yet.
     is_silent: bool,
-    /// A Drop of a transaction that said nothing else: it goes before all that is sent next.
+    /// The Drop of a transaction that sent nothing else: it goes out before all that is sent next.
     late: VecDeque<Vec<u8>>,
     /// What came and isn't taken yet.
     came: Vec<u8>,
     room: Box<[u8]>,
-    /// What pauses are drawn from; not 0.
+    /// The numbers from which pauses are drawn; not 0.
     draws: u64,
 }
 
@@ -122,10 +122,10 @@ impl<S: Read + Write> Link<S> {
         &self.stream
     }
 
-    /// Begins a transaction, which is dropped where it isn't committed. A link over a socket takes
-    /// what came first. Over another stream, a program whose transactions read held pages alone,
-    /// and are dropped, receives nothing by them: it calls [`Link::serve`] in between, since others
-    /// may wait for these pages.
+    /// Begins a transaction, which is dropped unless it is committed. A link over a socket takes
+    /// what came first. Over another stream nothing is received by transactions that read only held
+    /// pages and are dropped. A program with such transactions calls [`Link::serve`] in between,
+    /// since others may wait for these pages.
     pub fn transaction(&mut self) -> Result<Transaction<'_, S>> {
         self.check()?;
         self.serve_until(Instant::now())?;
@@ -134,11 +134,13 @@ impl<S: Read + Write> Link<S> {
         Ok(Transaction { link: self })
     }
 
-    /// Does the job in a transaction and commits it, all anew as often as it is aborted, and as the
-    /// job answers [`Error::Aborted`]; what the job answered, and the commit's number. Over a
-    /// socket a moment passes between two tries, in which the link takes what comes. It is drawn
-    /// evenly from nothing to a bound, which is half a millisecond at first and twice as long after
-    /// each try, up to a tenth of a second.
+    /// Does the job in a transaction and commits it. It begins again as often as the transaction is
+    /// aborted or the job returns [`Error::Aborted`]. Returns what the job returned, and the
+    /// commit's number.
+    ///
+    /// Over a socket it pauses between two tries, and takes what comes. The pause is drawn evenly
+    /// between 0 and a bound, which is half a millisecond at first and doubles after each try, up
+    /// to a tenth of a second.
     pub fn run<T>(
         &mut self,
         job: impl FnMut(&mut Transaction<'_, S>) -> Result<T>,
@@ -146,7 +148,7 @@ impl<S: Read + Write> Link<S> {
         self.run_within(Bound::default(), job)
     }
 
-    /// The same within a bound: [`Error::Aborted`] where it is reached. Nothing is committed then.
+    /// The same within a bound. [`Error::Aborted`] if it is reached; nothing is committed then.
     pub fn run_within<T>(
         &mut self,
         bound: Bound,
@@ -177,8 +179,9 @@ impl<S: Read + Write> Link<S> {
         Ok((answer, transaction.commit()?))
     }
 
-    /// How long the next try waits, after so many of them were aborted. Those who aborted each
-    /// other part so. Without a socket it would hold others up meanwhile: it doesn't wait.
+    /// How long the next try waits, after so many of them were aborted. Clients that aborted each
+    /// other come apart by this. Without a socket there is no wait, which would only hold others
+    /// up.
     fn pause(&mut self, aborted: u32) -> Duration {
         if self.socket.is_none() {
             return Duration::ZERO;
@@ -191,8 +194,8 @@ impl<S: Read + Write> Link<S> {
         Duration::from_nanos(self.draws % (most + 1))
     }
 
-    /// Takes what the stream gives next: others wait for the pages that the client holds until it
-    /// has answered. `false` where the stream's time-out for reads passed first.
+    /// Takes what the stream gives next. Others wait for the pages that the client holds until it
+    /// has answered. `false` if the stream's time-out for reads passed first.
     pub fn serve(&mut self) -> Result<bool> {
         self.check()?;
         self.send_said()?;
@@ -219,9 +222,9 @@ impl<S: Read + Write> Link<S> {
         Ok(())
     }
 
-    /// Sends a Drop that waits, and all that the client said. From when a frame is fetched until it
-    /// is sent whole the link is gone. So it stays, whatever ends this early: an error, or a panic
-    /// of the stream's.
+    /// Sends a Drop that waits, and all frames of the client. From when a frame is fetched until
+    /// all of it is sent, the link counts as gone. It therefore stays gone if an error or a panic
+    /// of the stream ends this early.
     fn send_said(&mut self) -> Result<()> {
         self.check()?;
         while let Some(frame) = self.next_said()? {
@@ -244,9 +247,9 @@ impl<S: Read + Write> Link<S> {
         Ok(frame)
     }
 
-    /// Sends what is said of the end of a transaction. Where it said nothing else its Drop waits
-    /// until something else is sent, in place of one that waits already: the server knows nothing of
-    /// either.
+    /// Sends the frames of a transaction's end. If the transaction sent nothing else, its Drop
+    /// waits until something else is sent. It replaces a Drop that waits already, since the server
+    /// knows nothing of either.
     fn send_drop(&mut self) -> Result<()> {
         if self.is_silent {
             self.late.clear();
@@ -259,7 +262,7 @@ impl<S: Read + Write> Link<S> {
         self.send_said()
     }
 
-    /// Receives once, and takes each whole frame; `false` where nothing came in time.
+    /// Receives once, and takes each whole frame; `false` if nothing came in time.
     fn receive(&mut self) -> Result<bool> {
         self.check()?;
         self.gone = true;
@@ -281,7 +284,7 @@ impl<S: Read + Write> Link<S> {
         Ok(true)
     }
 
-    /// Takes each whole frame that came, and sends what is said to it.
+    /// Takes each whole frame that came, and sends the answers.
     fn take_frames(&mut self) -> Result<()> {
         let mut at = 0;
         while at < self.came.len() {
@@ -299,7 +302,7 @@ impl<S: Read + Write> Link<S> {
         Ok(())
     }
 
-    /// Waits while the client has that status, and says again what may be lost.
+    /// Waits while the client has that status, and resends what may be lost.
     fn wait_while(&mut self, status: Status) -> Result<()> {
         let mut silent = 0;
         while self.client.status() == status {
@@ -316,7 +319,7 @@ impl<S: Read + Write> Link<S> {
         Ok(())
     }
 
-    /// A transaction that is gone was aborted, if that is how the last one ended.
+    /// Makes `NoTransaction` into `Aborted`, if that is how the last transaction ended.
     fn aborted_or(&self, error: Error) -> Error {
         match (&error, self.client.last()) {
             (Error::NoTransaction, Some(Ended::Aborted)) => Error::Aborted,
@@ -374,16 +377,16 @@ impl<S> fmt::Debug for Link<S> {
     }
 }
 
-/// A transaction that is open. Where it isn't committed it is dropped, without an answer being
-/// awaited, and what it wrote is undone. If the server heard nothing of it nothing is sent then: its
-/// Drop goes before what the link next sends or answers.
+/// An open transaction. Unless it is committed, it is dropped, without waiting for an answer, and
+/// what it wrote is undone. If the server heard nothing of it, nothing is sent then: its Drop goes
+/// out before the link's next frame.
 pub struct Transaction<'l, S: Read + Write> {
     link: &'l mut Link<S>,
 }
 
 impl<'l, S: Read + Write> Transaction<'l, S> {
-    /// The bytes of a page, to the room, which is as long as a page. Nobody writes the page before
-    /// the transaction ends, unless the server restarts or is told that the client left.
+    /// Reads a page into the room, which is as long as a page. Nobody writes the page before the
+    /// transaction ends, unless the server restarts or is told that the client left.
     pub fn read_into(&mut self, page: u32, room: &mut [u8]) -> Result<()> {
         self.link.fetch(page, room)
     }
@@ -395,8 +398,8 @@ impl<'l, S: Read + Write> Transaction<'l, S> {
         Ok(room)
     }
 
-    /// Asks to write a page that the transaction has read, and doesn't wait for the answer; whether
-    /// it may already.
+    /// Asks to write a page that the transaction has read, and doesn't wait for the answer. Returns
+    /// whether it may be written already.
     pub fn ask_to_write(&mut self, page: u32) -> Result<bool> {
         self.link.check()?;
         match self.link.client.want(page) {
@@ -414,7 +417,7 @@ impl<'l, S: Read + Write> Transaction<'l, S> {
         }
     }
 
-    /// Commits, and waits until the commit is on disk; its number.
+    /// Commits, and waits until the commit is on disk. Returns its number.
     pub fn commit(self) -> Result<u64> {
         // What is left to drop is nothing, unless the commit was refused.
         self.link.commit()

@@ -3,7 +3,7 @@ use crate::error::{done, Error, Result, NOTHING, ROOM};
 use crate::ffi;
 use std::cell::UnsafeCell;
 
-/// A handle with its object, which it lets go.
+/// A handle with its object, which is freed with it.
 pub(crate) struct Object {
     handle: UnsafeCell<ffi::Handle>,
 }
@@ -22,7 +22,7 @@ impl Object {
         self.handle.get()
     }
 
-    /// How many bytes of these the frame has that they begin with, which is taken.
+    /// Takes the frame at the front of the bytes. Returns how many bytes it has.
     pub(crate) fn take(&mut self, bytes: &[u8]) -> Result<usize> {
         let mut used = 0;
         // SAFETY: the bytes are as many as they are said to be.
@@ -30,7 +30,7 @@ impl Object {
         Ok(used)
     }
 
-    /// The oldest frame that was said, and whose it is.
+    /// Fetches the oldest frame that waits, and tells whose it is.
     pub(crate) fn next_frame(&mut self) -> Result<Option<(u32, Vec<u8>)>> {
         let mut room = vec![0u8; 64];
         loop {
@@ -57,7 +57,7 @@ impl Object {
         }
     }
 
-    /// What may be lost is said again.
+    /// Resends what may be lost.
     pub(crate) fn again(&mut self) -> Result<()> {
         // SAFETY: the handle is the object's own.
         done(unsafe { ffi::rughvadi_again(self.at()) })

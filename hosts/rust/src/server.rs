@@ -15,7 +15,7 @@ pub struct BatchPage {
     pub bytes: Vec<u8>,
 }
 
-/// What is to be written next: in one transaction of the store, and synced.
+/// What is to be written next, in one transaction of the store, and synced.
 #[derive(Clone, Debug, PartialEq, Eq)]
 pub struct Batch {
     /// The last commit in it, which is kept with the pages.
@@ -31,7 +31,7 @@ pub struct Server {
 }
 
 impl Server {
-    /// A server over a store of zeros: the first time that a store is used.
+    /// A server over a store of zeros, for the first time that a store is used.
     pub fn new(limits: &Limits) -> Result<Server> {
         let object = Object::empty();
         // SAFETY: the handle is empty.
@@ -42,8 +42,8 @@ impl Server {
         })
     }
 
-    /// A server over a store that was written before: the number of its last commit, and of each
-    /// page, by rising number, its version and its bytes. It knows no client.
+    /// A server over a store that was written before. It takes the number of the store's last
+    /// commit, and the version and bytes of each page, by rising number. It knows no client.
     pub fn open<B: AsRef<[u8]>>(
         limits: &Limits,
         last_commit: u64,
@@ -52,9 +52,10 @@ impl Server {
         Server::open_life(limits, last_commit, 0, rows)
     }
 
-    /// The same where the host keeps lives: the server begins the one whose floor this is. It takes
-    /// no frame of an incarnation below, whenever that comes. The host has a bound on disk, below
-    /// which each incarnation is that a former server heard of: the floor is that bound. 0 is none.
+    /// The same for a host that keeps lives: the server begins a life with this floor. It ignores
+    /// every frame of a lower incarnation, whenever that comes. The host keeps a bound on disk,
+    /// which is above every incarnation that a former server heard of; the floor is that bound. 0
+    /// stands for no life.
     pub fn open_life<B: AsRef<[u8]>>(
         limits: &Limits,
         last_commit: u64,
@@ -87,22 +88,22 @@ impl Server {
         })
     }
 
-    /// Takes the frame that the bytes begin with; how many bytes it has.
+    /// Takes the frame at the front of the bytes. Returns how many bytes it has.
     pub fn take(&mut self, bytes: &[u8]) -> Result<usize> {
         self.object.take(bytes)
     }
 
-    /// The oldest frame that was said, and the client that it is for.
+    /// Fetches the oldest frame that waits, and the client that it goes to.
     pub fn next_frame(&mut self) -> Result<Option<(u32, Vec<u8>)>> {
         self.object.next_frame()
     }
 
-    /// What may be lost is said again.
+    /// Resends what may be lost.
     pub fn again(&mut self) -> Result<()> {
         self.object.again()
     }
 
-    /// What is to be written next; `None` where every commit is on disk.
+    /// What is to be written next; `None` if every commit is on disk.
     pub fn batch(&mut self) -> Result<Option<Batch>> {
         let (mut number, mut count) = (0, 0);
         // SAFETY: the handle is the object's own.
@@ -135,31 +136,32 @@ impl Server {
         })
     }
 
-    /// Whether that commit was made and isn't on disk yet: then [`Server::flushed`] takes it.
+    /// Whether that commit was made and isn't on disk yet, so that [`Server::flushed`] takes it.
     pub fn can_flush(&self, number: u64) -> bool {
         // SAFETY: the handle is the object's own.
         unsafe { ffi::rughvadi_server_can_flush(self.object.at(), number) }
     }
 
-    /// The commits up to this number are on disk now, synced: their clients are told.
+    /// Reports that the commits up to this number are on disk now, synced. Their clients are told.
     pub fn flushed(&mut self, number: u64) -> Result<()> {
         // SAFETY: the handle is the object's own.
         done(unsafe { ffi::rughvadi_server_flushed(self.object.at(), number) })
     }
 
-    /// The commits up to this number, which are on disk, leave memory, which else grows with each.
+    /// Drops the commits up to this number, which are on disk, from memory, which grows with each
+    /// commit otherwise.
     pub fn forget(&mut self, number: u64) -> Result<()> {
         // SAFETY: the handle is the object's own.
         done(unsafe { ffi::rughvadi_server_forget(self.object.at(), number) })
     }
 
-    /// A client went away, and won't come back by its present incarnation.
+    /// Tells the server that a client went away and won't come back in its present incarnation.
     pub fn leave(&mut self, client: u32) -> Result<()> {
         // SAFETY: the handle is the object's own.
         done(unsafe { ffi::rughvadi_server_leave(self.object.at(), client) })
     }
 
-    /// The incarnation that the client may greet with next.
+    /// The incarnation with which the client may greet next.
     pub fn next_incarnation(&self, client: u32) -> Result<u64> {
         let mut incarnation = 0;
         // SAFETY: the handle is the object's own.

@@ -4,8 +4,8 @@ use std::io::{self, ErrorKind};
 use std::os::unix::io::RawFd;
 use std::time::{Duration, Instant};
 
-/// Waits until there is something to receive, or the connection ended, at most to that moment;
-/// whether it is so. A signal ends no wait.
+/// Waits until there is something to receive or the connection ended, at most until that moment.
+/// Returns whether it is so. A signal doesn't end the wait.
 pub(crate) fn comes(socket: RawFd, until: Instant) -> io::Result<bool> {
     loop {
         let left = until.saturating_duration_since(Instant::now());

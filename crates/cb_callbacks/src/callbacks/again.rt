@@ -12,8 +12,7 @@ use cb_outbox::Outbox;
 use cb_page::Limits;
 
 impl Callbacks {
-    /// Whether anything is to be sent again. It looks no further than the first message that it
-    /// finds.
+    /// Whether anything is to be resent. It looks no further than the first message that it finds.
     pub fn sends_again(&self, limits: &Limits) -> bool
         requires of { AreOf limits.now self.now.state }
         ensures { result ≡ sends_any (server_again (server_of self.now.state)) }
@@ -21,8 +20,8 @@ impl Callbacks {
         self.state.sends_again(limits.clients())
     }
 
-    /// What may be lost is sent again: for the first ask of each page, Callbacks or a Downgrade to
-    /// those that have not said InUse; and AbortNow to each client whose transaction is doomed.
+    /// Resends what may be lost: for the first ask of each page, Callbacks or a Downgrade to those
+    /// that haven't said InUse, and AbortNow to each client whose transaction is doomed.
     pub fn again(&self, limits: &Limits, outbox: &mut Outbox)
         requires of { AreOf limits.now self.now.state }
         requires room { HasRoomFor (server_again (server_of self.now.state)) outbox.old }
@@ -33,10 +32,9 @@ impl Callbacks {
         self.state.again_doomed(limits.clients(), outbox);
     }
 
-    /// It sends at most as many messages as settling may, so at most 33 for each ask that waits, an
-    /// AbortNow to each client, and no copy.
-    ///
-    /// It does nothing: who is to send again cites it for the room that is needed.
+    /// A law, for whoever resends and has to make room first. Resending takes at most as many
+    /// messages as settling may, so at most 33 for each ask that waits, an AbortNow to each client,
+    /// and no copy.
     pub fn resending_is_bounded(&self)
         ensures by_kind { (outbox : OutboxState) → length outbox.sent
             + (messages_for_pages (server_of self.now.state) (server_of self.now.state).pages

@@ -7,8 +7,8 @@ use crate::callbacks::ends::follow_pages;
 use cb_waits::View;
 
 impl Callbacks {
-    /// Who waits for whom, built anew from the queues of asks: the slow form, to compare with
-    /// [`Callbacks::kept_view`]. Both have the same rows.
+    /// Who waits for whom, built anew from the queues of asks. It is slow, and there to be compared
+    /// with [`Callbacks::kept_view`], which has the same rows.
     pub fn view(&self) -> View
         ensures { Follows result (server_of self.now.state) }
     {

@@ -55,7 +55,7 @@ impl Callbacks {
         follow_page(&mut self.view, &self.state, page);
     }
 
-    /// The page's write holder is permitted again, for its last transaction, and hears so.
+    /// The page's write holder is permitted again, for its last transaction, and is told so.
     pub fn permit_again(
         &mut self,
         client: ClientNo,
@@ -84,8 +84,8 @@ impl Callbacks {
 
     /// Makes room for one more ask at the page. Whether it is refused or not, nothing else changes.
     ///
-    /// `AllocError` only where memory was refused, so never where there is room, as where nobody
-    /// waits for the page.
+    /// `AllocError` only if memory was refused. It never is if there is room, which there is if
+    /// nobody waits for the page.
     pub fn reserve_ask(&mut self, page: PageNo) -> Result<(), AllocError>
         requires { HasPage self.old.state page }
         ensures changes { Does self.old.state [] self.new.state }
@@ -97,8 +97,9 @@ impl Callbacks {
         self.state.asks.reserve(page)
     }
 
-    /// An ask of the client goes to the end of the page's queue: to write by the grant of its copy,
-    /// else to read. Where it isn't first and closes a cycle, its client is doomed at once.
+    /// An ask of the client enters at the end of the page's queue. It is to write by that grant of
+    /// the client's copy, or else to read. If it isn't first and closes a cycle, its client is
+    /// doomed at once.
     pub fn enter(
         &mut self,
         client: ClientNo,

@@ -18,8 +18,8 @@ use cb_outbox::Outbox;
 use cb_page::{ClientNo, ClientSet, GrantNo, PageNo};
 
 impl Callbacks {
-    /// What is done about the first ask of the page. The next ask is to be looked at where it
-    /// answers true; else the page is settled.
+    /// What is done about the first ask of the page. The next ask is to be looked at if it answers
+    /// true; else the page is settled.
     pub(crate) fn decide(&mut self, page: PageNo, outbox: &mut Outbox) -> bool
         requires page { HasPage self.old.state page }
         requires left { first_free_grant (server_of self.old.state) ≤ max_number + 1 }
@@ -40,7 +40,7 @@ impl Callbacks {
         }
     }
 
-    /// The first ask is to read: it is granted where the client has no copy and no other client has
+    /// The first ask is to read: it is granted if the client has no copy and no other client has
     /// the write permission.
     fn decide_read(&mut self, page: PageNo, first: Waiting, outbox: &mut Outbox) -> bool
         requires page { HasPage self.old.state page }
@@ -68,8 +68,8 @@ impl Callbacks {
         }
     }
 
-    /// The first ask is to write by that grant: it is permitted where the client has that copy and
-    /// no other client has a copy or the write permission.
+    /// The first ask is to write by that grant: it is permitted if the client has that copy and no
+    /// other client has a copy or the write permission.
     fn decide_write(
         &mut self,
         page: PageNo,
@@ -101,7 +101,7 @@ impl Callbacks {
         }
     }
 
-    /// The first ask can't be met: where its client lies on a cycle of waits, its transaction is
+    /// The first ask can't be met: if its client lies on a cycle of waits, its transaction is
     /// doomed.
     fn wait_or_doom(&mut self, client: ClientNo, page: PageNo, outbox: &mut Outbox) -> bool
         requires page { HasPage self.old.state page }

@@ -61,10 +61,10 @@ impl Callbacks {
         follow_all(&mut self.view, &self.state, client);
     }
 
-    /// The client's live transaction, which is handed in, ends by the next commit, whose number is
-    /// answered. The commit keeps the pages that are handed in.
+    /// Commits the client's live transaction, which is handed in, and returns the commit's number.
+    /// The commit keeps the pages that are handed in.
     ///
-    /// Refused only where memory was, and the pages come back; nothing changes then.
+    /// Refused only if memory was; then the pages come back, and nothing changes.
     pub fn apply_commit(
         &mut self,
         client: ClientNo,
@@ -92,11 +92,11 @@ impl Callbacks {
         Ok(number)
     }
 
-    /// A later transaction of the client begins and ends by the next commit, whose number is
-    /// answered; the one before it, if it lives, ends as dropped. The commit keeps the pages that
-    /// are handed in.
+    /// A later transaction of the client begins and commits; returns the commit's number. The
+    /// transaction before it, if it lives, ends as dropped. The commit keeps the pages that are
+    /// handed in.
     ///
-    /// Refused only where memory was, and the pages come back; then no transaction begins.
+    /// Refused only if memory was; then the pages come back, and no transaction begins.
     pub fn commit_later(
         &mut self,
         client: ClientNo,
@@ -124,10 +124,10 @@ impl Callbacks {
         Ok(commit)
     }
 
-    /// The commits up to this number are on disk now: a Done for each that wasn't before, in order.
-    /// The list has room for these and no more.
+    /// The commits up to this number are on disk now. Returns a Done for each that wasn't before,
+    /// in order, in a list with no more room than that.
     ///
-    /// `AllocError` only where memory was refused.
+    /// `AllocError` only if memory was refused.
     pub fn flushed(&mut self, alloc: Global, number: CommitNo) -> Result<Vec<Frame>, AllocError>
         requires { can_flush (server_of self.old.state) number ≡ true }
         ensures dones { IfOk result (λ frames. messages_of frames.items
@@ -141,7 +141,7 @@ impl Callbacks {
         Ok(dones)
     }
 
-    /// The commits up to this number, which are on disk, are forgotten: they leave memory.
+    /// Forgets the commits up to this number, which are on disk: they leave memory.
     pub fn forget(&mut self, number: CommitNo)
         requires on_disk { number ≤ (server_of self.old.state).flushed }
         ensures { self.new ≡ record self.old { state = forgot self.old.state number } }

@@ -11,8 +11,8 @@ use cb_links::Standing;
 use cb_page::{ClientNo, GrantNo, MAX_NUMBER, PageNo, TxnNo};
 
 impl Callbacks {
-    /// Whether an ask to read would enter a queue, and no grant number is left for it beyond one
-    /// for each that waits.
+    /// Whether an ask to read would enter a queue, although no grant number is left for it beyond
+    /// those for the asks that wait.
     pub fn lacks_grant(&self, client: ClientNo, txn: TxnNo, page: PageNo) -> bool
         requires client { HasClient self.now.state client }
         requires page { HasPage self.now.state page }
@@ -39,7 +39,7 @@ impl Callbacks {
         }
     }
 
-    /// Whether permissions are kept and the client has this one: by that grant, of that tag.
+    /// Whether permissions are kept and the client has this one, by that grant and with that tag.
     pub fn has_kept_permission(
         &self,
         client: ClientNo,

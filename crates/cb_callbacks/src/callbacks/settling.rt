@@ -21,7 +21,7 @@ use cb_server_state::ServerState;
 use cb_waits::View;
 
 impl Callbacks {
-    /// Every page with asks is settled, rising.
+    /// Settles every page that has asks, in rising order.
     pub fn settle(&mut self, outbox: &mut Outbox)
         requires left { first_free_grant (server_of self.old.state) ≤ max_number + 1 }
         requires size { IsAsLarge outbox.old self.old.state }
@@ -42,8 +42,8 @@ impl Callbacks {
         }
     }
 
-    /// How many messages settling sends at most, by the asks that wait: two for each ask to read,
-    /// and for each ask to write one to each client and one more to its own.
+    /// The most messages that settling sends: two for each ask to read that waits, and for each ask
+    /// to write one to each client and one more to its own.
     pub fn messages_to_settle(&self, limits: &Limits) -> usize
         requires { AreOf limits.now self.now.state }
         ensures messages { result ≡ messages_for_pages (server_of self.now.state)
@@ -55,11 +55,10 @@ impl Callbacks {
         2 * reads + (usize::from(limits.clients()) + 1) * writes
     }
 
-    /// Settling sends at most as many messages as `messages_to_settle` says, so at most 33 for each
-    /// ask that waits (to each of 32 clients, and one more to its own), and a copy for each ask to
-    /// read; and at most 32 asks wait, one of each client.
-    ///
-    /// It changes nothing: who is to settle cites it for the room that is needed.
+    /// A law, for whoever settles and has to make room first. Settling sends at most as many
+    /// messages as `messages_to_settle` says. That is at most 33 for each ask that waits (one to
+    /// each of 32 clients, and one more to its own), with a copy for each ask to read. At most 32
+    /// asks wait, one of each client.
     pub fn settling_is_bounded(&self)
         ensures by_kind { (outbox : OutboxState) → length outbox.sent
             + messages_for_pages (server_of self.now.state) (server_of self.now.state).pages

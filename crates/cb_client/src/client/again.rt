@@ -1,4 +1,4 @@
-//! What may be lost is said again.
+//! What may be lost is sent again.
 ghost use Rattle.std.specs.Prelude.{◌≡◌, ◌+◌, ◌<◌, ◌≤◌, ◌++◌, List, option_to_list, IfErr, IfOk};
 ghost use Rattle.std.specs.Prelude.{IfSome, IsOk, [], ℕ, false, length, true, unwrap_or};
 ghost use Rattle.std.specs.List.{AllByRecursion};
@@ -25,11 +25,12 @@ use cb_twoq::Chooser;
 use std::alloc::{AllocError, Global};
 
 impl<Q: Chooser> Client<Q> {
-    /// Says again what may be lost: Hello until the Welcome came; then the Drop of the last
-    /// transaction, the ask and the Commit, as far as each is still open.
+    /// Resends what may be lost. Until the Welcome came that is Hello. Later it is the Drop, if the
+    /// last transaction was dropped or aborted, and the ask and the Commit, if they have no answer
+    /// yet.
     ///
-    /// `Memory` only where memory for these was refused; it takes no more than they need, so none
-    /// where it says nothing.
+    /// `Memory` only if memory for these was refused. It takes no more than they need, so none if
+    /// there is nothing to resend.
     pub fn again(&self, alloc: Global) -> Result<Vec<Frame>, ClientFault>
         ensures by_table { IfOk result (λ frames. Calls self.now CallAgain AnsweredOk
             (messages_of frames.items) as_before self.now) }
@@ -88,9 +89,9 @@ impl<Q: Chooser> Client<Q> {
         self.core.say(ShortBody::Drop { txn })
     }
 
-    /// The Commit of the transaction that is committing, if one is: the one that `finish` answered.
+    /// The Commit that `finish` returned, if a transaction is committing.
     ///
-    /// `AllocError` only where memory for its pages was refused.
+    /// `AllocError` only if memory for its pages was refused.
     pub fn commit_again(&self, alloc: Global) -> Result<Option<Frame>, AllocError>
         ensures by_table { IfOk result (λ commit. (operations : List Operation)
             → messages_from self.now

@@ -56,8 +56,8 @@ impl<Q: Chooser> Client<Q> {
         Frame::from(self.core.say(ShortBody::Hello))
     }
 
-    /// The bytes of the client's copy of a page, also while there is no transaction. `None` where
-    /// it has none, or there is no such page. It is no reference to the page.
+    /// The bytes of the client's copy of a page, in a transaction or not. `None` if it has none, or
+    /// there is no such page. It doesn't count as a reference to the page.
     pub fn peek(&self, page: PageNo) -> Option<&[u8]>
         ensures { Calls self.now (CallPeek page) (peek_word (option_copied result)) [] as_before
             self.now }
@@ -65,7 +65,7 @@ impl<Q: Chooser> Client<Q> {
         self.core.copies.peek(page)
     }
 
-    /// The number of the next transaction, where none is under way and one is left.
+    /// The number of the next transaction, if none is under way and one is left.
     #[tactic(auto, using(cb_protocol::proofs::Cases::fault_of_begin))]
     fn next_txn(&self) -> Result<TxnNo, ClientFault>
         ensures decided { IsDecided self.now CallBegin result }
@@ -84,7 +84,7 @@ impl<Q: Chooser> Client<Q> {
         next.ok_or(ClientFault::Exhausted)
     }
 
-    /// Begins a transaction, and answers its number.
+    /// Begins a transaction, and returns its number.
     pub fn begin(&mut self) -> Result<TxnNo, ClientFault>
         ensures { Begins self.old result self.new }
     {
@@ -179,7 +179,7 @@ impl<Q: Chooser> Client<Q> {
         Ok(())
     }
 
-    /// Reads the page where its bytes are in the pool, and says whether they are: a transaction is
+    /// Reads the page if its bytes are in the pool, and says whether they are: a transaction is
     /// open, and waits for nothing.
     fn read_copy(&mut self, page: PageNo) -> bool
         requires free { IsDecided {X = ⊤} self.old CallFinish (Ok tt) }
@@ -196,9 +196,9 @@ impl<Q: Chooser> Client<Q> {
         true
     }
 
-    /// Reads a page in the open transaction where its bytes are in the pool, which is a reference
-    /// to it, and says whether it did: as `read` where that answers Bytes. Else nothing changes,
-    /// and nothing is asked for.
+    /// Reads a page in the open transaction if its bytes are in the pool, and says whether it did.
+    /// This does what `read` does when it answers Bytes, and counts as a reference to the page.
+    /// Otherwise nothing changes, and the page isn't asked for.
     pub fn read_here(&mut self, page: PageNo) -> bool
         ensures here { result ≡ reads_here self.old page }
         ensures after { self.new ≡ after_read_here self.old page }
@@ -232,8 +232,8 @@ impl<Q: Chooser> Client<Q> {
         Ok(())
     }
 
-    /// Reads the page where its bytes are in the pool, and says whether they are; else an ask for
-    /// it is out, if there is room for them.
+    /// Reads the page if its bytes are in the pool, and says whether they are; else an ask for it
+    /// is out, if there is room for them.
     fn read_or_ask(&mut self, page: PageNo) -> Result<bool, ClientFault>
         ensures decided { IsDecided self.old (CallRead page) result }
         ensures after { self.new ≡ after_read self.old page }
@@ -249,8 +249,8 @@ impl<Q: Chooser> Client<Q> {
         Ok(false)
     }
 
-    /// Reads a page in the open transaction, and lends its bytes, which is a reference to it; or
-    /// asks for it where they are not in the pool.
+    /// Reads a page in the open transaction and lends its bytes, which counts as a reference to the
+    /// page. If the bytes aren't in the pool, it asks for the page.
     pub fn read(&mut self, page: PageNo) -> Result<ReadAnswer<'_>, ClientFault>
         ensures* ends { sem 𝓛 (client_ends_as Q.row Q.Chooser self.entry
             (after_read self.old page)) }
@@ -277,7 +277,8 @@ impl<Q: Chooser> Client<Q> {
         grant
     }
 
-    /// Wants to write a page in the open transaction: the pool keeps it until that ends.
+    /// Asks to write a page in the open transaction. The pool keeps the page until the transaction
+    /// ends.
     pub fn want(&mut self, page: PageNo) -> Result<WantAnswer, ClientFault>
         ensures by_table { Wants self.old page result self.new }
         ensures fits { IfOk result (WantFits self.old.copies.limits) }
@@ -304,7 +305,7 @@ impl<Q: Chooser> Client<Q> {
         Ok(())
     }
 
-    /// The frame of the ask that is out, if any is.
+    /// The frame of the ask that has no answer yet, if there is one.
     pub fn ask(&self) -> Option<ShortFrame>
         ensures by_table { (operations : List Operation)
             → messages_from self.now (bodies_said (say_ask (client_of self.now operations)

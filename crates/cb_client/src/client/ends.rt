@@ -19,11 +19,11 @@ use cb_twoq::Chooser;
 use std::alloc::Global;
 
 impl<Q: Chooser> Client<Q> {
-    /// Ends the transaction without a commit. Answers what its end says: that it is dropped, and
-    /// what is given back, by rising page.
+    /// Ends the transaction without a commit. Returns the frames of its end: the Drop, then what is
+    /// given back, by rising page.
     ///
-    /// `Memory` only where it was refused for these frames: for the one that says so, and one of
-    /// each page that is due, bare or written.
+    /// `Memory` only if it was refused for these frames: the Drop, and one for each page that is
+    /// due, bare or written.
     pub fn drop_txn(&mut self, alloc: Global) -> Result<Vec<Frame>, ClientFault>
         ensures ok { IfOk result (λ frames. Calls self.old CallDrop AnsweredOk
             (messages_of frames.items) over self.new) }

@@ -33,7 +33,7 @@ impl<Q: Chooser> Client<Q> {
 
     /// Commits the open transaction: the frame has the pages that it wrote.
     ///
-    /// It takes memory for these pages. `Memory` only where it was refused, so never where the
+    /// It takes memory for these pages. `Memory` only if it was refused, so never if the
     /// transaction wrote nothing.
     pub fn finish(&mut self, alloc: Global) -> Result<Frame, ClientFault>
         ensures by_table { Finishes self.old result self.new }
@@ -47,11 +47,10 @@ impl<Q: Chooser> Client<Q> {
         Ok(commit)
     }
 
-    /// The frame of the transaction's commit, with the pages that it wrote so far: of the one that
-    /// is open, or committing. Nothing changes. `AllocError` only where memory for these pages was
-    /// refused.
+    /// The Commit frame of the open or committing transaction, with the pages that it wrote so far.
+    /// Nothing changes. `AllocError` only if memory for these pages was refused.
     ///
-    /// So a commit can be copied before a lock is taken, and said under it by
+    /// A caller can therefore make the frame before it takes a lock, and commit under the lock by
     /// [`Client::finish_with`].
     pub fn commit_frame(&self, alloc: Global) -> Result<Frame, AllocError>
         requires { self.now.stage ≢ Idle }
@@ -70,9 +69,8 @@ impl<Q: Chooser> Client<Q> {
         })
     }
 
-    /// Commits the open transaction by a frame that says its commit, if it is open: the one that
-    /// [`Client::commit_frame`] made, while nothing was written since. As `finish`, and it takes no
-    /// memory.
+    /// Commits the open transaction by the frame that [`Client::commit_frame`] made of it; nothing
+    /// may have been written since. As `finish`, but it takes no memory.
     pub fn finish_with(&mut self, commit: &Frame) -> Result<(), ClientFault>
         requires says { self.old.stage ≢ Idle → SaysCommit self.old commit.now }
         ensures by_table { FinishesWith self.old commit.now result self.new }

@@ -21,13 +21,14 @@ use cb_twoq::Chooser;
 use std::alloc::Global;
 
 impl<Q: Chooser> Client<Q> {
-    /// Takes a frame, and answers what the client says to it. A frame for another client or another
-    /// incarnation is ignored, and so are one for the server and, before the Welcome, all others.
+    /// Takes a frame, and returns the frames that the client sends in answer. A frame for another
+    /// client or another incarnation is ignored, and so is one for the server. Before the Welcome,
+    /// so is every frame but the Welcome.
     ///
-    /// `Memory` only where a growth was refused. It makes room for the frames that it may say and
-    /// no more: for none where a page comes in and a slot is free. It is not refused where these
-    /// are none and no page comes in, for which memory is needed: so not at a frame that is
-    /// ignored. The bytes of a page that comes in are copied, and no others.
+    /// `Memory` only if a growth was refused. It makes room for the frames that it may send and no
+    /// more: for none if a page comes in and a slot is free. It needs no memory, and so isn't
+    /// refused, if it sends nothing and no page comes in; at an ignored frame, for instance. The
+    /// bytes of a page that comes in are copied, and no others.
     pub fn take(&mut self, alloc: Global, frame: &Frame) -> Result<Vec<Frame>, ClientFault>
         requires { Fits self.old.copies.limits frame.now }
         ensures ok { IfOk result (λ said. TakesFrame self.old frame.now (messages_of said.items)
@@ -47,8 +48,8 @@ impl<Q: Chooser> Client<Q> {
         Ok(self.core.take_body(alloc, &frame.body)?)
     }
 
-    /// As `take`, of a frame that is handed over: the bytes of a page that comes in are moved, and
-    /// the frame comes back with the fault.
+    /// As `take`, but the frame is handed over: the bytes of a page that comes in are moved, and
+    /// the frame comes back with a fault.
     pub fn take_owned(
         &mut self,
         alloc: Global,
@@ -86,8 +87,8 @@ impl<Q: Chooser> Client<Q> {
         Err((ClientFault::Memory, frame))
     }
 
-    /// Takes the frame that the bytes begin with, whatever follows it, and answers what the client
-    /// says to it and how many bytes the frame has.
+    /// Takes the frame at the front of the bytes, whatever follows it. Returns the frames that the
+    /// client sends in answer, and how many bytes the frame has.
     pub fn take_bytes(
         &mut self,
         alloc: Global,

@@ -32,7 +32,7 @@ impl<Q: Chooser> ClientCore<Q> {
         self.stage == Stage::Committing && same
     }
 
-    /// The commit is on disk. Answers what the end of the transaction says.
+    /// The commit is on disk. Returns the frames of the transaction's end.
     pub(super) fn take_done(
         &mut self,
         alloc: Global,
@@ -60,7 +60,7 @@ impl<Q: Chooser> ClientCore<Q> {
         Ok(frames)
     }
 
-    /// The transaction is to be aborted, where it is open. Answers what its end says.
+    /// Aborts the transaction, if it is open. Returns the frames of its end.
     pub(super) fn take_abort(&mut self, alloc: Global, txn: TxnNo) -> Result<Vec<Frame>, AllocError>
         requires sound { IsClient (client_in self.old) }
         requires welcomed { self.old.welcomed ≡ true }

@@ -104,7 +104,7 @@ impl<Q: Chooser> ClientCore<Q> {
         }
     }
 
-    /// A grant comes whose page doesn't come in, whatever its bytes. Answers the frame that gives
+    /// A grant comes whose page doesn't come in, whatever its bytes. Returns the frame that gives
     /// it back.
     pub(super) fn turn_away(
         &mut self,
@@ -140,10 +140,10 @@ impl<Q: Chooser> ClientCore<Q> {
         }
     }
 
-    /// A grant comes whose page comes in. Answers the frame that gives the copy of the page that
-    /// went for it back.
+    /// A grant comes whose page comes in. If a page went for it, returns the frame that gives that
+    /// page's copy back.
     ///
-    /// Refused only where a growth was; nothing changes then, and the bytes come back.
+    /// Refused only if a growth was; nothing changes then, and the bytes come back.
     pub(super) fn take_in(
         &mut self,
         case: GrantCase,
@@ -197,7 +197,8 @@ fn is_new(seen: Option<GrantNo>, grant: GrantNo) -> bool
     }
 }
 
-/// The page that went for one that came in, where there was room; else its bytes.
+/// The page that went for the one that came in, if there was room; otherwise the bytes of the
+/// latter.
 fn come_in(
     came: Result<Option<PageNo>, (PoolFault, Page)>,
 ) -> Result<Option<PageNo>, AllocFailed<Page>>
@@ -213,7 +214,7 @@ fn come_in(
     }
 }
 
-/// A page whose bytes went from the pool: its grant is bare where the transaction has read it, else
+/// A page whose bytes went from the pool: its grant is bare if the transaction has read it, else
 /// its copy is given back.
 fn give_gone<Q: Chooser>(
     copies: &mut Cache<Q>,

@@ -40,7 +40,7 @@ impl<Q: Chooser> ClientCore<Q> {
         }
     }
 
-    /// A copy is called back: in use where the transaction has read it, else given back.
+    /// A copy is called back: in use if the transaction has read it, else given back.
     pub(super) fn take_callback(&mut self, page: PageNo, grant: GrantNo) -> Frame
         requires sound { IsClient (client_in self.old) }
         requires welcomed { self.old.welcomed ≡ true }
@@ -75,8 +75,8 @@ impl<Q: Chooser> ClientCore<Q> {
         self.copies.may_write(page) && tagged
     }
 
-    /// A permission to write a page is called back alone, where permissions are kept: in use where
-    /// the transaction wrote the page or wants to, else given up.
+    /// A permission to write a page is called back alone, if permissions are kept: in use if the
+    /// transaction wrote the page or wants to, else given up.
     pub(super) fn take_downgrade(&mut self, page: PageNo, grant: GrantNo, tag: TxnNo) -> Frame
         requires sound { IsClient (client_in self.old) }
         requires welcomed { self.old.welcomed ≡ true }
@@ -135,7 +135,7 @@ impl<Q: Chooser> ClientCore<Q> {
         self.is_open_txn(txn) && self.asks_to_write(page) && self.holds(page, grant)
     }
 
-    /// The transaction may write a page: where it asked to, and the grant is held.
+    /// The transaction may write a page: if it asked to, and the grant is held.
     pub(super) fn take_may_write(&mut self, txn: TxnNo, page: PageNo, grant: GrantNo)
         requires sound { IsClient (client_in self.old) }
         requires welcomed { self.old.welcomed ≡ true }

@@ -28,13 +28,13 @@ pub(super) enum Met {
 }
 
 impl<Q: Chooser> ClientCore<Q> {
-    /// Takes the body of a frame of its own number and incarnation, and answers what the client
-    /// says to it. One for the server is ignored and, before the Welcome, all others. The bytes of
-    /// a page that comes in are copied.
+    /// Takes the body of a frame of its own number and incarnation, and returns the frames that the
+    /// client sends in answer. A body for the server is ignored. Before the Welcome, so is every
+    /// body but the Welcome. The bytes of a page that comes in are copied.
     ///
-    /// `AllocError` only where a growth was refused; nothing changes then. It makes room for the
-    /// frames that the message may need and no more, and is not refused where these are none and
-    /// no page comes into the pool, for which memory is needed.
+    /// `AllocError` only if a growth was refused; nothing changes then. It makes room for the
+    /// frames that the message may need and no more. It needs no memory, and so isn't refused, if
+    /// the message needs no frame and no page comes into the pool.
     pub fn take_body(&mut self, alloc: Global, body: &Body) -> Result<Vec<Frame>, AllocError>
         requires sound { IsClient (client_in self.old) }
         requires body { BodyFits self.old.copies.limits body.now }
@@ -65,8 +65,8 @@ impl<Q: Chooser> ClientCore<Q> {
         }
     }
 
-    /// As `take_body`; the bytes of a page that comes in are moved, and the body comes back where a
-    /// growth was refused.
+    /// As `take_body`, but the bytes of a page that comes in are moved, and the body comes back if
+    /// a growth was refused.
     pub fn take_owned(&mut self, alloc: Global, body: Body) -> Result<Vec<Frame>, AllocFailed<Body>>
         requires sound { IsClient (client_in self.old) }
         requires body { BodyFits self.old.copies.limits body }
@@ -222,7 +222,7 @@ impl<Q: Chooser> ClientCore<Q> {
         }
     }
 
-    /// Takes a Downgrade, which is ignored where permissions aren't kept.
+    /// Takes a Downgrade, which is ignored if permissions aren't kept.
     fn say_downgrade(
         &mut self,
         alloc: Global,

@@ -39,7 +39,7 @@ impl Object {
         }
     }
 
-    /// Begins a transaction; its number.
+    /// Begins a transaction, and returns its number.
     pub fn begin(&mut self, txn: &mut u64) -> Result<(), Refusal>
         ensures ok { IfOk result (λ _. Begins self.old txn.new self.new) }
         ensures why { Decides (begin_cause self.old) never result }
@@ -55,7 +55,7 @@ impl Object {
         }
     }
 
-    /// Reads a page: its bytes are in the room where `here` is true, else it is asked for.
+    /// Reads a page. If `here` is true, its bytes are in the room; otherwise the page is asked for.
     pub fn read(&mut self, page: u32, room: &mut [u8], here: &mut bool) -> Result<(), Refusal>
         ensures ok { IfOk result (λ _. Reads self.old page room.old room.new here.new self.new) }
         ensures why { Decides (read_cause self.old page (length room.old)) never result }
@@ -73,7 +73,8 @@ impl Object {
         }
     }
 
-    /// Wants to write a page: it may at once where `may` is true, else that is asked for.
+    /// Asks to write a page. If `may` is true, it may be written at once; otherwise the permission
+    /// is asked for.
     pub fn want(&mut self, page: u32, may: &mut bool) -> Result<(), Refusal>
         ensures ok { IfOk result (λ _. Wants self.old page may.new self.new) }
         ensures why { Decides (want_cause self.old page) never result }
@@ -147,7 +148,7 @@ impl Object {
         }
     }
 
-    /// The bytes of the client's copy of a page, which is no reference to it.
+    /// The bytes of the client's copy of a page. This doesn't count as a reference to the page.
     pub fn peek(&self, page: u32, room: &mut [u8]) -> Result<(), Refusal>
         ensures ok { IfOk result (λ _. Peeks self.now page room.new) }
         ensures why { Decides (peek_cause self.now page (length room.old)) never result }

@@ -26,8 +26,8 @@ impl Object {
         Ok(Object::Server(PolledServer::zeros(alloc, limits)?))
     }
 
-    /// No rows yet, of a store whose last commit has this number, for a server in the life of this
-    /// floor; where that is 0, in none.
+    /// No rows yet, of a store whose last commit has this number, for a server in the life with
+    /// this floor. A floor of 0 means that the server keeps no lives.
     pub fn opening(
         alloc: Global,
         limits: &Limits,
@@ -52,8 +52,8 @@ impl Object {
         }
     }
 
-    /// The rows become the server over them. `Room` where there isn't one of each page. Where
-    /// memory was refused the rows are gone, and there is nothing in their place.
+    /// Makes the server over the rows. `Room` if there isn't one row for each page. If memory was
+    /// refused, the rows are gone, and the handle holds nothing.
     pub fn serve(&mut self, alloc: Global) -> Result<(), Refusal>
         ensures ok { IfOk result (λ _. Serves self.old self.new) }
         ensures why { Decides (serve_cause self.old) memory result }
@@ -81,7 +81,7 @@ impl Object {
         Ok(())
     }
 
-    /// Makes the batch that is to be written next: its number and how many pages it has.
+    /// Makes the batch that is to be written next. Returns its number, and how many pages it has.
     pub fn batch(
         &mut self,
         alloc: Global,
@@ -153,7 +153,7 @@ impl Object {
         }
     }
 
-    /// The commits up to this number, which is on disk, leave memory.
+    /// Forgets the commits up to this number, which is on disk: they leave memory.
     pub fn forget(&mut self, number: u64) -> Result<(), Refusal>
         ensures ok { IfOk result (λ _. Forgets self.old number self.new) }
         ensures why { Decides (forget_cause self.old number) never result }
@@ -165,7 +165,7 @@ impl Object {
         }
     }
 
-    /// A client went away: at the server its next incarnation begins, which nobody is.
+    /// A client went away. At the server its next incarnation begins, which belongs to nobody.
     pub fn leave(&mut self, alloc: Global, client: u32) -> Result<(), Refusal>
         ensures ok { IfOk result (λ _. Leaves self.old client self.new) }
         ensures why { Decides (leave_cause self.old client) memory result }

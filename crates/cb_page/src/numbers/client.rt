@@ -31,7 +31,7 @@ impl ClientNo {
         ClientNo { value }
     }
 
-    /// The number as one of this store's clients; `None` where the store has no such client.
+    /// The number as one of this store's clients; `None` if the store has no such client.
     pub fn in_store(limits: &Limits, value: u64) -> Option<ClientNo>
         ensures value { IfSome result (λ n. n ≡ value) }
         ensures succeeds { IsSome result ↔ (value < limits.now.clients) }

@@ -32,7 +32,7 @@ impl GrantNo {
         GrantNo { value }
     }
 
-    /// A number from outside; `None` where it is 0 or too great.
+    /// Checks a number from outside; `None` if it is 0 or too great.
     pub fn checked(value: u64) -> Option<GrantNo>
         ensures value { IfSome result (λ n. n ≡ value) }
         ensures succeeds { IsSome result ↔ IsNumber value }
@@ -53,7 +53,7 @@ impl GrantNo {
         self.value
     }
 
-    /// The next grant's number; `None` where all numbers are used up.
+    /// The next grant's number; `None` if all numbers are used up.
     pub fn next(self) -> Option<GrantNo>
         ensures value { IfSome result (λ n. n ≡ self + 1) }
         ensures succeeds { IsSome result ↔ (self + 1 ≤ max_number) }

@@ -31,7 +31,7 @@ impl PageNo {
         PageNo { value }
     }
 
-    /// The number as one of this store's pages; `None` where the store has no such page.
+    /// The number as one of this store's pages; `None` if the store has no such page.
     pub fn in_store(limits: &Limits, value: u64) -> Option<PageNo>
         ensures value { IfSome result (λ n. n ≡ value) }
         ensures succeeds { IsSome result ↔ (value < limits.now.pages) }

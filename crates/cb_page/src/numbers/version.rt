@@ -30,7 +30,7 @@ impl Version {
         Version { value }
     }
 
-    /// A version from outside; `None` where it is too great.
+    /// Checks a version from outside; `None` if it is too great.
     pub fn checked(value: u64) -> Option<Version>
         ensures value { IfSome result (λ n. n ≡ value) }
         ensures succeeds { IsSome result ↔ (value ≤ max_number) }

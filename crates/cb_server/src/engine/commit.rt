@@ -122,7 +122,7 @@ impl Engine {
     /// A commit of which `meet` said that it is to be applied, and how its transaction stands, is
     /// applied, and all pages are settled.
     ///
-    /// Refused only where memory was, and the pages come back; nothing changes then.
+    /// Refused only if memory was; then the pages come back, and nothing changes.
     pub(crate) fn apply(
         &mut self,
         client: ClientNo,
@@ -146,7 +146,7 @@ impl Engine {
 
     /// The same of a commit's body that is lent: its pages are copied.
     ///
-    /// `AllocError` only where memory was refused; nothing changes then.
+    /// `AllocError` only if memory was refused; nothing changes then.
     pub(crate) fn apply_copy(
         &mut self,
         alloc: Global,

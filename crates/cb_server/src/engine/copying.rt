@@ -5,7 +5,7 @@ use cb_frame::{Write, Writes};
 use cb_page::Page;
 use std::alloc::{AllocError, Global};
 
-/// A copy of the pages. `AllocError` only where memory was refused.
+/// A copy of the pages. `AllocError` only if memory was refused.
 pub(crate) fn copy_of(alloc: Global, writes: &[Write]) -> Result<Writes, AllocError>
     ensures { IfOk result (λ copy. copy ≡ writes.now) }
 {

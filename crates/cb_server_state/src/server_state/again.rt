@@ -15,7 +15,7 @@ use cb_outbox::Outbox;
 use cb_page::{ClientNo, ClientSet, PageNo, TxnNo};
 
 impl ServerState {
-    /// For the first ask of each page, rising.
+    /// Resends what the first ask of each page waits for, by rising page.
     pub fn again_pages(&self, outbox: &mut Outbox)
         requires agree { PartsAgree self.now }
         requires waits { Waits (server_of self.now) }
@@ -81,7 +81,7 @@ impl ServerState {
         self.ask_down(keeper, page, tag, outbox);
     }
 
-    /// AbortNow to each client whose transaction is doomed, rising.
+    /// Sends AbortNow to each client whose transaction is doomed, in rising order.
     pub fn again_doomed(&self, clients: u16, outbox: &mut Outbox)
         requires all { clients ≡ (server_of self.now).clients }
         requires few { clients ≤ 32 }
@@ -96,7 +96,7 @@ impl ServerState {
         }
     }
 
-    /// The client's live transaction, where it is the victim of a deadlock.
+    /// The client's live transaction, if it is the victim of a deadlock.
     pub(crate) fn victim(&self, client: ClientNo) -> Option<TxnNo>
         requires { HasClient self.now client }
         ensures { MatchOption result ((server_of self.now).doomed client ≡ false)

@@ -13,7 +13,7 @@ use cb_outbox::Outbox;
 use cb_page::{ClientNo, ClientSet, PageNo, TxnNo};
 
 impl ServerState {
-    /// A Callback to each other client that has a copy of the page, save those left out.
+    /// Sends a Callback to each other client that has a copy of the page, except those left out.
     pub fn call_back(&self, asker: ClientNo, page: PageNo, left_out: ClientSet, outbox: &mut Outbox)
         requires agree { PartsAgree self.now }
         requires page { HasPage self.now page }
@@ -64,7 +64,7 @@ impl ServerState {
         outbox.say(client, incarnation, ShortBody::Callback { page, grant });
     }
 
-    /// The client, another than the asker, that merely keeps the page's write permission.
+    /// The client, other than the asker, that merely keeps the page's write permission.
     pub fn keeper(&self, page: PageNo, asker: ClientNo) -> Option<ClientNo>
         requires agree { PartsAgree self.now }
         requires page { HasPage self.now page }
@@ -83,7 +83,7 @@ impl ServerState {
         Some(holder)
     }
 
-    /// A Downgrade of the permission with that tag to a client, if it has a copy.
+    /// Sends a Downgrade of the permission with that tag to a client, if it has a copy.
     pub fn ask_down(&self, client: ClientNo, page: PageNo, tag: TxnNo, outbox: &mut Outbox)
         requires agree { PartsAgree self.now }
         requires client { HasClient self.now client }

@@ -35,8 +35,8 @@ impl ServerState {
         true
     }
 
-    /// Whether the commit would be allowed once a later transaction of the client had begun: with
-    /// one that lives, its permissions go.
+    /// Whether the commit would be allowed once a later transaction of the client had begun. If a
+    /// transaction lives, its permissions go with it.
     pub fn commit_allowed_later(&self, client: ClientNo, writes: &[Write]) -> bool
         requires agree { PartsAgree self.now }
         requires client { HasClient self.now client }
@@ -62,10 +62,10 @@ impl ServerState {
         self.is_write_holder(client, write.page) && self.has_row(client, write.page, write.grant)
     }
 
-    /// The client's live transaction, which is handed in, ends by the next commit, whose number is
-    /// answered. The commit keeps the pages that are handed in.
+    /// Commits the client's live transaction, which is handed in, and returns the commit's number.
+    /// The commit keeps the pages that are handed in.
     ///
-    /// Refused only where memory was, and the pages come back; nothing changes then.
+    /// Refused only if memory was; then the pages come back, and nothing changes.
     pub fn apply_commit(
         &mut self,
         client: ClientNo,
@@ -98,11 +98,11 @@ impl ServerState {
         Ok(number)
     }
 
-    /// A later transaction of the client begins and ends by the next commit, whose number is
-    /// answered; the one before it, if it lives, ends as dropped. The commit keeps the pages that
-    /// are handed in.
+    /// A later transaction of the client begins and commits; returns the commit's number. The
+    /// transaction before it, if it lives, ends as dropped. The commit keeps the pages that are
+    /// handed in.
     ///
-    /// Refused only where memory was, and the pages come back; then no transaction begins.
+    /// Refused only if memory was; then the pages come back, and no transaction begins.
     pub fn commit_later(
         &mut self,
         client: ClientNo,

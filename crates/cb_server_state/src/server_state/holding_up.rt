@@ -12,7 +12,7 @@ use crate::ServerState;
 use cb_page::{ClientNo, ClientSet, PageNo};
 
 impl ServerState {
-    /// The clients that hold up the first ask of the page; nobody where none waits.
+    /// The clients that hold up the first ask of the page; nobody if none waits.
     pub fn held_up_by(&self, page: PageNo) -> ClientSet
         requires agree { PartsAgree self.now }
         requires page { HasPage self.now page }
@@ -32,7 +32,7 @@ impl ServerState {
         clients
     }
 
-    /// Where the ask is to write, the clients that use the page.
+    /// If the ask is to write, the clients that use the page.
     fn users_if(&self, writes: bool, page: PageNo) -> ClientSet
         requires agree { PartsAgree self.now }
         requires page { HasPage self.now page }
@@ -46,7 +46,7 @@ impl ServerState {
         }
     }
 
-    /// The page's write holder, where its permission isn't merely kept or it uses the page.
+    /// The page's write holder, if its permission isn't merely kept or it uses the page.
     fn holder_in_use(&self, page: PageNo) -> Option<ClientNo>
         requires agree { PartsAgree self.now }
         requires page { HasPage self.now page }

@@ -11,8 +11,8 @@ use crate::ServerState;
 use cb_page::{ClientNo, ClientSet, PageNo};
 
 impl ServerState {
-    /// Whether anything is to be sent again: to those in the way of a first ask, or to a client
-    /// whose transaction is doomed. It looks no further than the first message that it finds.
+    /// Whether anything is to be resent, to those in the way of a first ask or to a client whose
+    /// transaction is doomed. It looks no further than the first message that it finds.
     pub fn sends_again(&self, clients: u16) -> bool
         requires agree { PartsAgree self.now }
         requires waits { Waits (server_of self.now) }

@@ -10,7 +10,7 @@ use cb_links::{Admission, Standing};
 use cb_page::{ClientNo, GrantNo, Incarnation, PageNo, TxnNo};
 
 impl ServerState {
-    /// What an incarnation is beside the client's current one.
+    /// How an incarnation compares with the client's current one.
     pub fn admission(&self, client: ClientNo, incarnation: Incarnation) -> Admission
         requires { HasClient self.now client }
         ensures { result ≡ admission_in (server_of self.now) client incarnation }
@@ -20,7 +20,7 @@ impl ServerState {
         self.sessions.admit(client, incarnation)
     }
 
-    /// What a transaction of the current incarnation is beside the client's last one.
+    /// How a transaction of the current incarnation compares with the client's last one.
     pub fn standing(&self, client: ClientNo, txn: TxnNo) -> Standing
         requires agree { PartsAgree self.now }
         requires client { HasClient self.now client }
@@ -77,8 +77,8 @@ impl ServerState {
         }
     }
 
-    /// Whether the client's permission for the page would be of its live transaction: the one that
-    /// was last permitted to write the page has the number of the client's, which lives.
+    /// Whether the client's permission for the page would belong to its live transaction: that
+    /// transaction lives, and has the number of the one that was last permitted to write the page.
     pub fn is_live_permission(&self, client: ClientNo, page: PageNo) -> bool
         requires agree { PartsAgree self.now }
         requires client { HasClient self.now client }

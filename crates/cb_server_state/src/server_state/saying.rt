@@ -20,7 +20,7 @@ use cb_outbox::Outbox;
 use cb_page::{ClientNo, GrantNo, PageNo};
 
 impl ServerState {
-    /// The client becomes the page's write holder, for its last transaction, and hears so.
+    /// The client becomes the page's write holder, for its last transaction, and is told so.
     pub fn give_permission(
         &mut self,
         client: ClientNo,
@@ -86,7 +86,7 @@ impl ServerState {
         ask.granted()
     }
 
-    /// The first ask of the page is granted: its client gets a copy by the next grant.
+    /// The first ask of the page is granted: its client gets a copy, by the next grant.
     pub fn grant_first(&mut self, client: ClientNo, page: PageNo, outbox: &mut Outbox) -> Fate
         requires agree { PartsAgree self.old }
         requires client { HasClient self.old client }
@@ -113,8 +113,8 @@ impl ServerState {
         self.asks.leave(page).granted()
     }
 
-    /// The client's transaction is the victim of a deadlock: its ask goes as doomed, and it hears
-    /// AbortNow.
+    /// The client's transaction becomes the victim of a deadlock: its ask goes as doomed, and
+    /// AbortNow is sent to it.
     pub fn doom(&mut self, client: ClientNo, outbox: &mut Outbox) -> Option<Fate>
         requires agree { PartsAgree self.old }
         requires client { HasClient self.old client }

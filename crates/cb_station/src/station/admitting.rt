@@ -43,8 +43,8 @@ impl Model for EndedTry {
 }
 
 impl Station {
-    /// Lets a try of the client in, and answers its ticket, exactly where the window has room for
-    /// it and the client isn't passed over; else the client waits, and is to be told in its turn.
+    /// Lets a try of the client in, and returns its ticket, exactly if the window has room for it
+    /// and the client isn't passed over. Otherwise the client waits, and is told when it is next.
     pub fn admit(&mut self, client: ClientNo) -> Option<Ticket>
         ensures exact { is_some result ≡ may_enter self.old.flags.window client }
         ensures after { MatchOption result
@@ -61,7 +61,7 @@ impl Station {
         Some(ticket)
     }
 
-    /// A try ends, and gives its ticket back; who is next is to be told.
+    /// A try ends, and gives its ticket back. Whoever is next is to be told.
     pub fn end_try(&mut self, ended: EndedTry)
         ensures ends { self.new ≡ with_untold (with_window self.old
             (after_try self.old.flags.window ended)) (untold_in self.new) }
@@ -72,9 +72,9 @@ impl Station {
         self.notice_next();
     }
 
-    /// A try of the client's ends, and gives its ticket back; then the client's next one is let in
-    /// as by [`Station::admit`]. Only then is looked who is next: so nobody is to be told where the
-    /// client takes the place that it gave back, and no room is left beside it.
+    /// A try of the client's ends, and gives its ticket back. Then the client's next try is let in
+    /// as by [`Station::admit`]. Who is next is decided only after that, so nobody is told if the
+    /// client takes the place that it gave back and no other room is left.
     pub fn try_again(&mut self, ended: EndedTry, client: ClientNo) -> Option<Ticket>
         ensures exact { is_some result
             ≡ may_enter (after_try self.old.flags.window ended) client }
@@ -120,7 +120,7 @@ impl Station {
         self.flags.window.leave(end);
     }
 
-    /// The client no longer waits to be let in; who is next is to be told.
+    /// The client no longer waits to be let in. Whoever is next is to be told.
     pub fn stop_waiting(&mut self, client: ClientNo)
         ensures gives_up { GivesUp self.old.flags.window client self.new.flags.window }
         ensures rest { self.new

@@ -23,13 +23,12 @@ use cb_page::{ClientNo, GrantNo, PageNo, TxnNo};
 use cb_server_state::ServerState;
 
 impl Station {
-    /// The oldest frame to the client; `None` exactly where its mailbox is empty. A grant that
-    /// comes makes the hand hold the page while its row stands, a permission to write marks it
-    /// while the transaction has it. A copy that the hand comes to hold has the store's bytes and
+    /// Takes the oldest frame to the client; `None` exactly if its mailbox is empty. A grant that
+    /// comes makes the hand hold the page, if its row stands. A permission to write marks the page,
+    /// if the transaction has it. A copy that the hand comes to hold has the store's bytes and
     /// version.
     ///
-    /// `Foreign` exactly where the hand isn't the one stored; `Memory` only where a growth was
-    /// refused.
+    /// `Foreign` exactly if the hand isn't the one stored; `Memory` only if a growth was refused.
     pub fn collect(&mut self, hand: &mut Hand) -> Result<Option<Frame>, OfficeFault>
         ensures foreign { (result ≡ Err office.Foreign)
             ↔ (IsHeld self.old.hands hand.old → ⊥) }

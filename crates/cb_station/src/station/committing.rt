@@ -28,15 +28,15 @@ use cb_past::Past;
 use std::alloc::{AllocError, Global};
 
 impl Station {
-    /// The transaction commits, having read these pages. One entry is put behind the history: it,
-    /// these pages at the versions of the grants held, and the pages that it writes. The grants of
-    /// the written pages are of the new version, and the permissions to write end.
+    /// Commits the transaction, which read these pages. One entry is appended to the history: the
+    /// transaction, these pages at the versions of the grants held, and the pages that it writes.
+    /// The grants of the written pages get the new version, and the permissions to write end.
     ///
-    /// `Foreign` exactly where the frame isn't a Commit of the hand's or the hand isn't the one
-    /// stored; else `NotHeld` exactly where a page read has no grant, or a page written isn't shown
-    /// as this transaction's to write, by the frame's grant; else `NotLive` exactly where the
-    /// transaction has ended or is doomed; else `Exhausted` exactly where no commit number is left;
-    /// else `Memory`, only where a growth was refused.
+    /// `Foreign` exactly if the frame isn't a Commit of the hand's or the hand isn't the one
+    /// stored. Otherwise `NotHeld` exactly if a page read has no grant, or the hand doesn't show a
+    /// page written as this transaction's to write, by the frame's grant. Otherwise `NotLive`
+    /// exactly if the transaction has ended or is doomed. Otherwise `Exhausted` exactly if no
+    /// commit number is left. Otherwise `Memory`, only if a growth was refused.
     pub fn commit(
         &mut self,
         alloc: Global,
@@ -88,8 +88,8 @@ impl Station {
         Ok(number)
     }
 
-    /// As `commit`, of a frame that is handed over: the pages of a commit that is taken are moved
-    /// and not copied. The very frame comes back with each fault.
+    /// As `commit`, but the frame is handed over: the pages of a commit that is taken are moved,
+    /// not copied. The very frame comes back with each fault.
     pub fn commit_owned(
         &mut self,
         alloc: Global,

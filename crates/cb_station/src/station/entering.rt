@@ -18,10 +18,9 @@ use cb_page::{ClientNo, Incarnation};
 use std::alloc::Global;
 
 impl Station {
-    /// The client joins, in its next incarnation, 1 at first.
-    ///
-    /// `Foreign` where the limits have no such client, `Joined` where it has joined, `Exhausted`
-    /// where no incarnation is left, `Memory` only where a growth was refused.
+    /// The client joins, in its next incarnation, which is 1 at first. `Foreign` if the limits have
+    /// no such client, `Joined` if it has joined, `Exhausted` if no incarnation is left, `Memory`
+    /// only if a growth was refused.
     pub fn join(&mut self, alloc: Global, client: ClientNo) -> Result<Hand, OfficeFault>
         ensures foreign { (result ≡ Err office.Foreign)
             ↔ (self.old.dispatcher.server.limits.clients ≤ client) }
@@ -87,11 +86,9 @@ impl Station {
         }
     }
 
-    /// The client begins another incarnation: its hand holds nothing.
-    ///
-    /// The hand comes back with each fault, as it was: `Foreign` where it isn't the one stored,
-    /// `Old` where the incarnation isn't greater than the hand's, `Memory` only where a growth was
-    /// refused.
+    /// The client begins another incarnation, whose hand holds nothing. The hand comes back with
+    /// each fault, as it was. `Foreign` if it isn't the one stored, `Old` if the incarnation isn't
+    /// greater than the hand's, `Memory` only if a growth was refused.
     pub fn restart(
         &mut self,
         alloc: Global,
@@ -135,11 +132,10 @@ impl Station {
         Ok(hand)
     }
 
-    /// The client leaves: at the server its next incarnation begins, which nobody is. Its number
-    /// may join again.
-    ///
-    /// The hand comes back with each fault, as it was: `Foreign` where it isn't the one stored,
-    /// `Exhausted` where no incarnation is left, `Memory` only where a growth was refused.
+    /// The client leaves. At the server its next incarnation begins, which belongs to nobody. Its
+    /// number may join again. The hand comes back with each fault, as it was. `Foreign` if it isn't
+    /// the one stored, `Exhausted` if no incarnation is left, `Memory` only if a growth was
+    /// refused.
     pub fn leave(&mut self, alloc: Global, hand: Hand) -> Result<(), (OfficeFault, Hand)>
         ensures refused { IfErr result (λ refused. (refused.1 ≡ hand)
             × IsUnchanged self.old self.new) }

@@ -89,7 +89,7 @@ impl Station {
         self.flags.news = true;
     }
 
-    /// No call of `work` begins any more, and nobody waits: each client is to be told.
+    /// No call of `work` begins any more, and nobody waits. Each client is to be told.
     pub fn halt(&mut self)
         ensures halted { self.new ≡ halted self.old (untold_in self.new) }
         ensures everybody { (client : ℕ) → client < 32
@@ -100,8 +100,8 @@ impl Station {
         self.dispatcher.notice_all();
     }
 
-    /// A call of `work` begins, and is going on then; `false` where the station is closed, or so
-    /// many are going on that one more can't be counted. Nothing changes then.
+    /// A call of `work` begins, and is counted as going on. `false` if the station is closed, or if
+    /// so many are going on that one more can't be counted; nothing changes then.
     pub fn begin_work(&mut self) -> bool
         ensures begins { result ≡ may_begin self.old.flags }
         ensures after { MatchBool result
@@ -119,7 +119,7 @@ impl Station {
         true
     }
 
-    /// One call of `work` that began has ended; the last one closes the station.
+    /// One call of `work` that began has ended. The last one closes the station.
     pub fn end_work(&mut self)
         ensures { self.new ≡ after_work self.old }
     {
@@ -162,8 +162,8 @@ impl Station {
         self.flags.news = false;
     }
 
-    /// Whether calls of `work` may have left jobs undone: the station is halted, or such calls are
-    /// still to end that it is for.
+    /// Whether calls of `work` may have left jobs undone: the station is halted, or it still
+    /// expects such calls to end.
     pub fn is_cut_off(&self) -> bool
         ensures { result ≡ is_cut_off self.now.flags }
     {

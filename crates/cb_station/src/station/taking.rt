@@ -23,13 +23,13 @@ use cb_server_state::ServerState;
 use std::alloc::Global;
 
 impl Station {
-    /// The server takes a frame of the client's, other than Hello and Commit. What a GiveBack names
-    /// goes from the hand; where the hand doesn't hold it by that grant, nothing changes. A hand
-    /// whose transaction has ended by the frame loses its permissions to write.
+    /// The server takes a frame of the client's, other than Hello and Commit. A copy that a
+    /// GiveBack names goes from the hand; if the hand doesn't hold it by that grant, nothing
+    /// changes. If the frame ends the hand's transaction, the hand loses its permissions to write.
     ///
-    /// `Foreign` exactly where the frame isn't the hand's or isn't taken here, or the hand isn't
-    /// the one stored; else `Exhausted` exactly where the server has no number left for it; else
-    /// `Memory`, only where a growth was refused.
+    /// `Foreign` exactly if the frame isn't the hand's or isn't taken here, or the hand isn't the
+    /// one stored. Otherwise `Exhausted` exactly if the server has no number left for the frame.
+    /// Otherwise `Memory`, only if a growth was refused.
     pub fn take(&mut self, alloc: Global, frame: &Frame, hand: &mut Hand) -> Result<(), OfficeFault>
         ensures foreign { (result ≡ Err office.Foreign) ↔ (IsOwn self.old frame.now hand.old
             × (is_plain frame.now.body ≡ true) → ⊥) }
@@ -69,10 +69,8 @@ impl Station {
         Ok(())
     }
 
-    /// The commits up to this number are on disk; nothing changes where there is no such commit or
-    /// it was already.
-    ///
-    /// `Memory` only where a growth was refused.
+    /// The commits up to this number are on disk. Nothing changes if there is no such commit, or it
+    /// was on disk already. `Memory` only if a growth was refused.
     pub fn flushed(&mut self, alloc: Global, number: CommitNo) -> Result<(), OfficeFault>
         ensures idle { can_flush (server_of self.old) number ≡ false
             → (result ≡ Ok tt) × IsUnchanged self.old self.new }

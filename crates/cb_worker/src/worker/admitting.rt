@@ -32,9 +32,9 @@ impl<Q: Chooser> Worker<Q> {
         self.wait_to_enter(rt, alloc, office, station, first)
     }
 
-    /// Ends a try, gives its ticket back, and waits as [`Worker::enter`] until the
-    /// client's next one is let in. Both are done under one lock: where the client goes on at once
-    /// nobody else is told, unless there is room for one more.
+    /// Ends a try, gives its ticket back, and waits as [`Worker::enter`] does until the client's
+    /// next try is let in. Both happen under one lock. If the client goes on at once, nobody else
+    /// is told, unless there is room for one more.
     pub fn enter_again<R: Wait>(
         &mut self,
         rt: &R,
@@ -51,8 +51,8 @@ impl<Q: Chooser> Worker<Q> {
         self.wait_to_enter(rt, alloc, office, station, first)
     }
 
-    /// Waits, and serves meanwhile, until the client is let in: at once where it was, or where that
-    /// was refused.
+    /// Waits, and serves meanwhile, until the client is let in. It returns at once if the client
+    /// was let in already, or if that was refused.
     fn wait_to_enter<'a, R: Wait>(
         &mut self,
         rt: &R,
@@ -79,7 +79,7 @@ impl<Q: Chooser> Worker<Q> {
         unreachable!()
     }
 
-    /// Serves, and asks for a ticket. `None` where it is to be waited for.
+    /// Serves, and asks for a ticket. `None` if it has to be waited for.
     fn enter_at<R: Wait>(
         &mut self,
         rt: &R,
@@ -104,8 +104,7 @@ impl<Q: Chooser> Worker<Q> {
         Ok(ticket)
     }
 
-    /// Serves, ends the try, and asks for another. `None` where that is to be
-    /// waited for.
+    /// Serves, ends the try, and asks for another one. `None` if that has to be waited for.
     fn enter_again_at<R: Wait>(
         &mut self,
         rt: &R,
@@ -129,7 +128,7 @@ impl<Q: Chooser> Worker<Q> {
         Ok(again)
     }
 
-    /// Serves, and waits until there may be a frame, no longer than so long.
+    /// Serves, and waits until there may be a frame, but no longer than this.
     pub fn serve_and_wait<R: Wait + Clock>(
         &mut self,
         rt: &R,

@@ -18,9 +18,9 @@ use cb_twoq::Chooser;
 use std::alloc::Global;
 
 impl<Q: Chooser> Worker<Q> {
-    /// The open transaction commits, having read the pages that it locked: what is committed is
-    /// exactly what it wrote. Where the station refused it the client is committing, and the next
-    /// call hands the same commit in.
+    /// Commits the open transaction, which read the pages that it locked. What is committed is
+    /// exactly what it wrote. If the station refused it, the client is committing, and the next
+    /// call hands in the same commit.
     ///
     /// It copies these pages at the locked station; `finish` does so before it takes the lock. The
     /// flusher is told of the commit as the guard of `Office::lock` goes, which has to go before a
@@ -36,7 +36,7 @@ impl<Q: Chooser> Worker<Q> {
         Ok(self.hand_frame_in(alloc, frame, station)?)
     }
 
-    /// As `commit_at`, by a frame that says the commit already, if one is to be said: no page is
+    /// As `commit_at`, but by a frame that has the commit already, if one is to be sent. No page is
     /// copied.
     pub(super) fn commit_by(
         &mut self,
@@ -51,8 +51,8 @@ impl<Q: Chooser> Worker<Q> {
         Ok(self.hand_frame_in(alloc, frame, station)?)
     }
 
-    /// The frame of the commit of the transaction that is open, or committing. It takes no lock,
-    /// and nothing changes.
+    /// The Commit frame of the open or committing transaction. It takes no lock, and nothing
+    /// changes.
     pub(super) fn frame_to_commit(&self, alloc: Global) -> Result<Frame, WorkerFault>
         requires { HasTransaction self.now }
         ensures says { IfOk result (SaysCommit self.now.client) }
@@ -80,7 +80,7 @@ impl<Q: Chooser> Worker<Q> {
         Ok(frame)
     }
 
-    /// The open transaction is committing by that frame, unless it was before.
+    /// Makes the open transaction commit by that frame, unless it is committing already.
     fn finish_by(&mut self, frame: &Frame) -> Result<(), ClientFault>
         requires says { self.old.client.stage ≢ Idle → SaysCommit self.old.client frame.now }
         ensures ok { OnOk result (FinishesOrAgain self.old.client frame.now self.new.client) }
@@ -115,7 +115,7 @@ impl<Q: Chooser> Worker<Q> {
     }
 }
 
-/// The fault of a refused commit. Its frame goes, since the client can say it again.
+/// The fault of a refused commit. The frame is dropped, since the client can make it again.
 fn fault_of(refused: (OfficeFault, Frame)) -> OfficeFault
     ensures { result ≡ refused.0 }
 {

@@ -21,8 +21,8 @@ use std::alloc::Global;
 use std::marker::Model;
 use std::sync::Wait;
 
-/// Says that a client's worker left an office: nobody but [`Worker::take_leave`] makes one, and
-/// nobody copies it. In contracts it is the client's number.
+/// Says that a client's worker left an office. Only [`Worker::take_leave`] makes one, and nobody
+/// can copy it. In contracts it is the client's number.
 #[derive(Drop)]
 pub struct Left {
     client: ClientNo,
@@ -46,11 +46,11 @@ impl Left {
 }
 
 impl<Q: Chooser> Worker<Q> {
-    /// The client joins the office, over an empty chooser, and is welcomed. Its incarnation is the
-    /// one that the station gave its hand. A client that these limits haven't got is `Foreign`, and
-    /// so is one that comes with other limits than the station's.
+    /// The client joins the office, with an empty chooser, and is welcomed. Its incarnation is the
+    /// one that the station gave its hand. `Foreign` if these limits have no such client, or aren't
+    /// the station's.
     ///
-    /// Where there is no memory for the client, or its Welcome doesn't come, it leaves again. Of a
+    /// If there is no memory for the client, or its Welcome doesn't come, it leaves again. Of a
     /// call of `work` that the office expects nothing changes: whoever gives that up calls
     /// `Office::skip_work`.
     pub fn join<R: Wait>(
@@ -93,8 +93,8 @@ impl<Q: Chooser> Worker<Q> {
 
     /// The client begins another incarnation, and is welcomed.
     ///
-    /// The worker comes back with each fault: as it was; or in that incarnation, where the Welcome
-    /// didn't come.
+    /// The worker comes back with each fault, as it was. If only the Welcome didn't come, it is in
+    /// the new incarnation.
     pub fn restart<R: Wait>(
         self,
         rt: &R,
@@ -158,7 +158,7 @@ impl<Q: Chooser> Worker<Q> {
         }
     }
 
-    /// As [`Worker::leave`]; who is answered Ok holds that the client left.
+    /// As [`Worker::leave`], but Ok has a value which says that the client left.
     pub fn take_leave<R: Wait>(
         self,
         rt: &R,
@@ -196,7 +196,7 @@ impl<Q: Chooser> Worker<Q> {
         self.into_hand().abandon();
     }
 
-    /// A worker that has collected and said nothing.
+    /// A worker that has collected and sent nothing.
     fn new(alloc: Global, client: Client<Q>, hand: Hand) -> Worker<Q>
         ensures { result ≡ record {
           client = client;
@@ -249,7 +249,7 @@ impl<Q: Chooser> Worker<Q> {
         }
     }
 
-    /// Its hand; all else is let go.
+    /// Its hand; all else is dropped.
     fn into_hand(self) -> Hand
         ensures { result ≡ self.hand }
     {

@@ -11,12 +11,12 @@ use cb_twoq::Chooser;
 use std::alloc::Global;
 
 impl<Q: Chooser> Worker<Q> {
-    /// Does the first that there is to do: hands the oldest kept frame in; lets the client take the
-    /// kept collected frame; collects one, and lets the client take it. `false` where there is
-    /// nothing to do.
+    /// Does the first of these that there is to do. It hands in the oldest kept frame, lets the
+    /// client take the kept collected frame, or collects a frame and lets the client take it.
+    /// `false` if there is nothing to do.
     ///
-    /// After a fault the frame that it was about stays kept. A collected frame that doesn't fit the
-    /// worker's own limits is `Foreign`.
+    /// After a fault the frame stays kept. A collected frame that doesn't fit the worker's own
+    /// limits is `Foreign`.
     pub fn turn_at(&mut self, alloc: Global, station: &mut Station) -> Result<bool, WorkerFault>
         ensures { Turns self.old station.old result self.new station.new }
     {

@@ -110,7 +110,8 @@ impl<Q: Chooser> Worker<Q> {
         unreachable!()
     }
 
-    /// Serves first, as each call does: whether that aborted the transaction, where there was one.
+    /// Serves first, as each call does. Returns whether that aborted the transaction, if there was
+    /// one.
     fn serve_first<R: Wait>(
         &mut self,
         rt: &R,
@@ -130,9 +131,9 @@ impl<Q: Chooser> Worker<Q> {
         Ok(self.is_aborted())
     }
 
-    /// Reads a page in the open transaction, and lends its bytes: at once where it holds them, else
-    /// once they came. Where no transaction is open or committing, the client's own fault refuses
-    /// it.
+    /// Reads a page in the open transaction, and lends its bytes: at once if it holds them,
+    /// otherwise once they came. If no transaction is open or committing, the client's own fault
+    /// refuses it.
     pub fn fetch<R: Wait>(
         &mut self,
         rt: &R,
@@ -157,7 +158,7 @@ impl<Q: Chooser> Worker<Q> {
         Ok(Fetched::Bytes(bytes))
     }
 
-    /// Reads a page; `false` where the transaction was aborted.
+    /// Reads a page; `false` if the transaction was aborted.
     fn fetch_copy<R: Wait>(
         &mut self,
         rt: &R,
@@ -185,8 +186,8 @@ impl<Q: Chooser> Worker<Q> {
         }
     }
 
-    /// Serves, and reads the page, or asks for it where it isn't here. `None` where it is to be
-    /// waited for.
+    /// Serves, and reads the page, or asks for it if it isn't here. `None` if it has to be waited
+    /// for.
     fn begin_fetch<R: Wait>(
         &mut self,
         rt: &R,
@@ -211,8 +212,8 @@ impl<Q: Chooser> Worker<Q> {
         self.go_on(rt, alloc, office, &Awaited::Page(page), station)
     }
 
-    /// Reads the page where its bytes and the hand's copy of it are here, and says whether it did;
-    /// else the client asks for it.
+    /// Reads the page if its bytes and the hand's copy of it are here, and says whether it did.
+    /// Otherwise the client asks for it.
     fn read_or_ask(&mut self, page: PageNo) -> Result<bool, WorkerFault>
         requires { self.old.said ≡ [] }
         ensures still { IsStill self.old self.new }
@@ -236,9 +237,9 @@ impl<Q: Chooser> Worker<Q> {
         Ok(false)
     }
 
-    /// Wants to write a page that the open transaction has read, and waits until it may. The page's
-    /// bytes are then as they were. Where no transaction is open or committing, the client's own
-    /// fault refuses it.
+    /// Asks to write a page that the open transaction has read, and waits until it may. The page's
+    /// bytes are then as they were. If no transaction is open or committing, the client's own fault
+    /// refuses it.
     pub fn want<R: Wait>(
         &mut self,
         rt: &R,
@@ -267,7 +268,7 @@ impl<Q: Chooser> Worker<Q> {
         }
     }
 
-    /// Serves, and asks for the permission. `None` where it is to be waited for.
+    /// Serves, and asks for the permission. `None` if it has to be waited for.
     fn begin_want<R: Wait>(
         &mut self,
         rt: &R,
@@ -292,7 +293,7 @@ impl<Q: Chooser> Worker<Q> {
         self.go_on(rt, alloc, office, &Awaited::Permission(page), station)
     }
 
-    /// The client wants to write the page, and asks for the permission if it hasn't got it.
+    /// The client asks to write the page, and for the permission if it hasn't got it.
     fn ask_to_write(&mut self, page: PageNo) -> Result<(), WorkerFault>
         requires { self.old.said ≡ [] }
         ensures still { IsStill self.old self.new }
@@ -306,9 +307,9 @@ impl<Q: Chooser> Worker<Q> {
         Ok(())
     }
 
-    /// Ends the open transaction without a commit; nothing is open or committing then, and its Drop
-    /// was handed in, unless it was aborted. Where nothing is before either, the client's own fault
-    /// refuses it.
+    /// Ends the open transaction without a commit. Nothing is open or committing then, and the Drop
+    /// was handed in, unless the transaction was aborted. If nothing is open or committing before,
+    /// the client's own fault refuses the call.
     ///
     /// After a fault of the office the Drop is kept, and a later call hands it in.
     pub fn drop_txn<R: Wait>(
@@ -348,7 +349,7 @@ impl<Q: Chooser> Worker<Q> {
         self.hand_all_in(alloc, office, station)
     }
 
-    /// The client drops its transaction; what it says of that is kept.
+    /// The client drops its transaction. The frames that it sends are kept.
     fn drop_open(&mut self, alloc: Global) -> Result<(), WorkerFault>
         requires { self.old.said ≡ [] }
         ensures dropped { OnOk result (Ended self.new protocol.Dropped) }
@@ -361,7 +362,7 @@ impl<Q: Chooser> Worker<Q> {
         Ok(())
     }
 
-    /// Hands in all that the client said, takes nothing, and tells all who are to be told.
+    /// Hands in all frames of the client, takes nothing, and tells all who are to be told.
     fn hand_all_in(
         &mut self,
         alloc: Global,
@@ -381,7 +382,7 @@ impl<Q: Chooser> Worker<Q> {
         handed
     }
 
-    /// Hands in all that the client said, and takes nothing.
+    /// Hands in all frames of the client, and takes nothing.
     fn hand_kept_in(&mut self, alloc: Global, station: &mut Station) -> Result<(), WorkerFault>
         ensures hands { HandsAllIn self.old station.old result self.new station.new }
         ensures client { self.new.client ≡ self.old.client }
@@ -398,14 +399,16 @@ impl<Q: Chooser> Worker<Q> {
         Ok(())
     }
 
-    /// The open transaction commits; waits until its commit is on disk. What is committed is exactly
-    /// what it wrote. Where no transaction is open or committing, the client's own fault refuses it.
+    /// Commits the open transaction, and waits until the commit is on disk. What is committed is
+    /// exactly what the transaction wrote. If no transaction is open or committing, the client's
+    /// own fault refuses the call.
     ///
-    /// By its clauses the commit was handed in, at some station, unless the client was committing
-    /// before. No clause says that it is on disk, or that the number is its own: the Done says both.
+    /// Its clauses say that the commit was handed in, at some station, unless the client was
+    /// committing before. They don't say that the commit is on disk, or that the number is its own.
+    /// Both are what the Done says.
     ///
-    /// The pages that it wrote are copied before the lock is taken, and under it none is. `Memory` of
-    /// its client only where memory for that copy was refused, or for what it serves.
+    /// The written pages are copied before the lock is taken, and none under it. The client's
+    /// `Memory` comes only if memory was refused for that copy, or for what the call serves.
     ///
     /// After a fault of the office the client is committing, and a later call goes on.
     pub fn finish<R: Wait>(
@@ -430,8 +433,8 @@ impl<Q: Chooser> Worker<Q> {
         }
     }
 
-    /// Serves, and commits by that frame unless the transaction is over; the frame goes then. `None`
-    /// where its end is to be waited for.
+    /// Serves, and commits by that frame unless the transaction is over; then the frame is dropped.
+    /// `None` if the end has to be waited for.
     fn begin_finish<R: Wait>(
         &mut self,
         rt: &R,
@@ -460,8 +463,8 @@ impl<Q: Chooser> Worker<Q> {
         self.go_on(rt, alloc, office, &Awaited::End, station)
     }
 
-    /// Waits, and serves meanwhile, until something came of it: at once where the step that began
-    /// it has an answer.
+    /// Waits, and serves meanwhile, until there is an answer. It returns at once if the step that
+    /// began the wait has one.
     pub(super) fn wait_on<'a, R: Wait>(
         &mut self,
         rt: &R,
@@ -493,7 +496,7 @@ impl<Q: Chooser> Worker<Q> {
         unreachable!()
     }
 
-    /// Serves, and looks what has come. `None` where nothing has.
+    /// Serves, and looks at what has come. `None` if nothing has.
     pub(super) fn go_on<R: Wait>(
         &mut self,
         rt: &R,
@@ -513,7 +516,7 @@ impl<Q: Chooser> Worker<Q> {
         Ok(self.come(awaited))
     }
 
-    /// What has come; a page is read then.
+    /// What has come. If it is a page, the page is read.
     fn come(&mut self, awaited: &Awaited) -> Option<Came>
         ensures comes { IfSome result (Comes awaited.now self.new) }
         ensures served { IsServed self.old → IsServed self.new }
