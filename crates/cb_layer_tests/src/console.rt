@@ -1,5 +1,6 @@
 //! The console and the serial check.
 
+mod greatest;
 mod histories;
 mod often;
 mod plays;

@@ -1,6 +1,6 @@
 //! Clients over choosers: what they refer to and let go, and many pages that they write.
 
-ghost use Rattle.std.specs.Prelude.{◌≡◌, ◌<◌, ◌≤◌, []};
+ghost use Rattle.std.specs.Prelude.{◌≡◌, ◌<◌, ◌≤◌, [], IfOk, IfSome};
 
 use crate::client::laws::{called, gives_back_once};
 use crate::pool::{Called, Fifo, Recorder};
@@ -9,7 +9,7 @@ use cb_frame::{Body, Frame, ShortBody};
 use cb_page::{ClientNo, CommitNo, GrantNo, Incarnation, Limits, PageNo, TxnNo, Version};
 use cb_test_parts::stores::page_of;
 use cb_twoq::{Chooser, PlainTwoQ, TwoQ};
-use std::alloc::Global;
+use std::alloc::{AllocError, Global};
 use std::test::Fail;
 
 /// A frame for client 0 at incarnation 1.
@@ -27,6 +27,7 @@ pub(crate) fn frame(body: Body) -> Frame
 fn client_over<Q: Chooser>(alloc: Global, limits: &Limits, chooser: Q) -> Option<Client<Q>>
     requires members { Q.members chooser ≡ [] }
     requires slots { Q.slots chooser ≡ limits.now.slots }
+    ensures { IfSome result (λ client. client.copies.limits ≡ limits.now) }
 {
     // There is one client at least: `clients` says so.
     let _known = limits.clients();
@@ -43,19 +44,40 @@ fn client_over<Q: Chooser>(alloc: Global, limits: &Limits, chooser: Q) -> Option
 }
 
 /// The same over a new chooser.
-fn new_client<Q: Chooser>(alloc: Global, limits: &Limits) -> Option<Client<Q>> {
+fn new_client<Q: Chooser>(alloc: Global, limits: &Limits) -> Option<Client<Q>>
+    ensures { IfSome result (λ client. client.copies.limits ≡ limits.now) }
+{
     match Q::make(alloc, limits) {
         Ok(chooser) => client_over(alloc, limits, chooser),
         Err(_) => None,
     }
 }
 
-/// The same over one that keeps the list of its calls, and has one on it.
+/// A chooser that keeps the list of its calls, and has one on it.
+fn recorder<Q: Chooser>(alloc: Global, limits: &Limits) -> Result<Recorder<Q>, AllocError>
+    ensures members { IfOk result (λ recorder. Q.members recorder ≡ []) }
+    ensures slots { IfOk result (λ recorder. Q.slots recorder ≡ limits.now.slots) }
+{
+    let mut recorder = Recorder::<Q>::make(alloc, limits)?;
+    recorder.note(Called::Reference(PageNo::new(7)));
+    Ok(recorder)
+}
+
+/// A new client over such a chooser.
 fn recorded<Q: Chooser>(alloc: Global, limits: &Limits) -> Option<Client<Recorder<Q>>> {
-    match Recorder::<Q>::make(alloc, limits) {
-        Ok(mut recorder) => {
-            recorder.note(Called::Reference(PageNo::new(7)));
-            client_over(alloc, limits, recorder)
+    match recorder(alloc, limits) {
+        Ok(recorder) => client_over(alloc, limits, recorder),
+        Err(_) => None,
+    }
+}
+
+/// A client that restarted over such a chooser.
+fn restarted<Q: Chooser>(alloc: Global, limits: &Limits) -> Option<Client<Recorder<Q>>> {
+    let mut client = new_client(alloc, limits)?;
+    match recorder(alloc, limits) {
+        Ok(recorder) => {
+            client.restart(Incarnation::new(1), recorder);
+            Some(client)
         }
         Err(_) => None,
     }
@@ -182,20 +204,23 @@ fn refers_as_wanted<Q: Chooser>(alloc: Global, client: &mut Client<Recorder<Q>>)
     played && given && client.chooser().calls() == calls.as_slice()
 }
 
-/// The same of a new client.
-fn new_one_refers<Q: Chooser>(alloc: Global, limits: &Limits) -> bool {
-    match recorded::<Q>(alloc, limits) {
+/// The same of a new client, where there is one.
+fn new_one_refers<Q: Chooser>(alloc: Global, client: Option<Client<Recorder<Q>>>) -> bool {
+    match client {
         Some(mut client) => refers_as_wanted(alloc, &mut client),
         None => false,
     }
 }
 
 /// A hit and an install are references; a refused read, an ask and a repeated Granted are not. A
-/// page is forgotten as its copy goes.
+/// page is forgotten as its copy goes. So it is from a client's begin on, and from its restart on.
 #[test]
 fn references_of_a_client(rt: HostRuntime) -> Result<(), Fail> {
     let limits = Limits::new(2, 8, 16, 4, 1, 2)?;
-    assert!(rt; new_one_refers::<TwoQ>(rt.alloc(), &limits));
+    let new = recorded::<TwoQ>(rt.alloc(), &limits);
+    assert!(rt; new_one_refers(rt.alloc(), new));
+    let restarted = restarted::<TwoQ>(rt.alloc(), &limits);
+    assert!(rt; new_one_refers(rt.alloc(), restarted));
     Ok(())
 }
 

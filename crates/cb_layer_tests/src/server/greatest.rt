@@ -79,10 +79,9 @@ fn all_permitted(
     Some(writes)
 }
 
-/// How many pages reach the disk, and how many frames that says.
-fn flushed(alloc: Global, server: &mut Server) -> Option<[usize; 2]> {
+/// How many pages reach the disk with the commits up to a number, and how many frames that says.
+fn flushed(alloc: Global, server: &mut Server, number: CommitNo) -> Option<[usize; 2]> {
     let written = server.batch(alloc).ok()??.pages().len();
-    let number = CommitNo::new(1);
     if !server.can_flush(number) {
         return None;
     }
@@ -110,22 +109,37 @@ fn commits_all(alloc: Global, limits: &Limits, server: &mut Server) -> Option<[u
     Some([waiting, granted, called, server.again(alloc).ok()?.len()])
 }
 
-/// Both at a server of zeros, of 32 clients and so many pages.
+/// How many frames are answered as 31 clients commit, which wrote nothing.
+fn all_finish(alloc: Global, limits: &Limits, server: &mut Server) -> Option<usize> {
+    let mut frames = 0usize;
+    for number in 0..31 {
+        let client = ClientNo::in_store(limits, number)?;
+        let nothing = Writes::from_vec(Vec::new(alloc));
+        let answered = committed(alloc, server, client, TxnNo::new(1), nothing)?;
+        frames = frames.wrapping_add(answered);
+    }
+    Some(frames)
+}
+
+/// Both at a server of zeros, of 32 clients and so many pages; and how many frames are answered as
+/// the other clients commit, before all 32 commits reach the disk.
 fn all_are_committed(
     alloc: Global,
     pages: u64,
     page_size: u64,
-) -> Option<([usize; 4], [usize; 2])> {
+) -> Option<([usize; 4], usize, [usize; 2])> {
     let limits = Limits::new(32, pages, page_size, 1024, 1, 4096).ok()?;
     let store = Store::zeros(alloc, &limits).ok()?;
     let mut server = Server::new(alloc, &limits, store).ok()?;
     let frames = commits_all(alloc, &limits, &mut server)?;
-    Some((frames, flushed(alloc, &mut server)?))
+    let finished = all_finish(alloc, &limits, &mut server)?;
+    let number = CommitNo::new(32);
+    Some((frames, finished, flushed(alloc, &mut server, number)?))
 }
 
 #[test]
 fn all_pages_are_committed(rt: HostRuntime) {
     let frames = [31, 31, 31, 31];
-    assert!(rt; all_are_committed(rt.alloc(), 4096, 4096) == Some((frames, [4096, 1])));
-    assert!(rt; all_are_committed(rt.alloc(), 4, 65_536) == Some((frames, [4, 1])));
+    assert!(rt; all_are_committed(rt.alloc(), 4096, 4096) == Some((frames, 0, [4096, 32])));
+    assert!(rt; all_are_committed(rt.alloc(), 4, 65_536) == Some((frames, 0, [4, 32])));
 }

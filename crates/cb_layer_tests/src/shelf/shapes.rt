@@ -28,7 +28,7 @@ pub(crate) static NEW: &'static str =
      x'07070707070707070707070707070707'), (1, 0, x'00000000000000000000000000000000'); COMMIT";
 
 /// What makes a shelf's tables a store of no such limits.
-static SPOILED: [&'static str; 14] = [
+static SPOILED: [&'static str; 18] = [
     "DELETE FROM page2 WHERE no = 1",
     "UPDATE page2 SET no = 2 WHERE no = 1",
     "UPDATE page2 SET version = 4 WHERE no = 0",
@@ -39,6 +39,10 @@ static SPOILED: [&'static str; 14] = [
     "DELETE FROM part WHERE no = 0",
     "UPDATE mark2 SET page_size = 32",
     "UPDATE mark2 SET pages = 3",
+    "UPDATE mark2 SET commits = 4611686018427387904",
+    "UPDATE mark2 SET commits = -1",
+    "DROP TABLE page2; CREATE TABLE page2(no, version); INSERT INTO page2 VALUES (0, 'x'), (1, 0)",
+    "UPDATE part SET place = 1 WHERE no = 0",
     "DELETE FROM mark2",
     "UPDATE mark2 SET id = 2",
     "INSERT INTO mark2 VALUES (2, 3, 16, 2)",
