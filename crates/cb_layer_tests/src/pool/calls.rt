@@ -213,13 +213,13 @@ fn pool_of<Q: Chooser>(alloc: Global, limits: &Limits) -> Result<Pool<Q>, AllocE
     Pool::new(alloc, Q::make(alloc, limits)?, limits)
 }
 
-/// Whether a page of the greatest size is taken in.
+/// Whether a page is taken in.
 fn takes_in<Q: Chooser>(pool: &mut Pool<Q>, page: PageNo, bytes: Page) -> bool
     requires pages { length pool.old.fixed ≡ 4096 }
-    requires size { pool.old.page_size ≡ 4096 }
-    requires bytes { length bytes ≡ 4096 }
+    requires size { pool.old.page_size ≡ 16 }
+    requires bytes { length bytes ≡ 16 }
     ensures pages { length pool.new.fixed ≡ 4096 }
-    ensures size { pool.new.page_size ≡ 4096 }
+    ensures size { pool.new.page_size ≡ 16 }
 {
     match pool.install(page, bytes) {
         Ok(_) => true,
@@ -227,15 +227,15 @@ fn takes_in<Q: Chooser>(pool: &mut Pool<Q>, page: PageNo, bytes: Page) -> bool
     }
 }
 
-/// Whether each page of the greatest store, of the greatest size, is taken in.
+/// Whether each page of the greatest store is taken in.
 fn takes_all<Q: Chooser>(alloc: Global, pool: &mut Pool<Q>) -> Result<bool, AllocError>
     requires pages { length pool.old.fixed ≡ 4096 }
-    requires size { pool.old.page_size ≡ 4096 }
+    requires size { pool.old.page_size ≡ 16 }
     ensures pages { length pool.new.fixed ≡ 4096 }
-    ensures size { pool.new.page_size ≡ 4096 }
+    ensures size { pool.new.page_size ≡ 16 }
 {
     for page in 0..4096u32 {
-        let bytes = page_of(alloc, 1, 4096)?;
+        let bytes = page_of(alloc, 1, 16)?;
         if !takes_in(pool, PageNo::new(page), bytes) {
             return Ok(false);
         }
@@ -245,7 +245,7 @@ fn takes_all<Q: Chooser>(alloc: Global, pool: &mut Pool<Q>) -> Result<bool, Allo
 
 /// Whether a pool of the greatest limits takes in each page twice.
 fn takes_all_twice<Q: Chooser>(alloc: Global) -> Result<bool, AllocError> {
-    match Limits::new(32, 4096, 4096, 1024, 1023, 4096) {
+    match Limits::new(32, 4096, 16, 1024, 1023, 4096) {
         Ok(limits) => {
             let mut pool = pool_of::<Q>(alloc, &limits)?;
             Ok(takes_all(alloc, &mut pool)? && takes_all(alloc, &mut pool)?)
@@ -254,7 +254,7 @@ fn takes_all_twice<Q: Chooser>(alloc: Global) -> Result<bool, AllocError> {
     }
 }
 
-/// At the greatest limits no call wants memory.
+/// At the greatest limits no call wants memory. Great pages are in `greatest_client`.
 #[test]
 fn greatest_pool(rt: HostRuntime) -> Result<(), Fail> {
     assert!(rt; takes_all_twice::<TwoQ>(rt.alloc())?);

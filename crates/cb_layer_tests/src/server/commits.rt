@@ -1,5 +1,5 @@
-//! Commits at great limits: one that gives up from some number of pages, of commits or of bytes on
-//! is refused here, which no clause can say.
+//! Commits at great limits: one that gives up from some number of pages or of commits on is refused
+//! here, which no clause can say. Great pages are in `all_pages_are_committed`.
 ghost use Rattle.cb_commit.specs.Stores.{IsOf};
 
 use cb_commit::{Commits, Store};
@@ -79,7 +79,7 @@ fn new_ones_hold_all(alloc: Global, limits: &Limits) -> Result<bool, AllocError>
 
 #[test]
 fn batches_and_dones(rt: HostRuntime) -> Result<(), Fail> {
-    let limits = Limits::new(32, 4096, 4096, 1024, 1, 4096)?;
+    let limits = Limits::new(32, 4096, 16, 1024, 1, 4096)?;
     assert!(rt; new_ones_hold_all(rt.alloc(), &limits)?);
     Ok(())
 }

@@ -3,4 +3,4 @@ use Rattle.std.proofs.Common.{◌≡◌, length}
 use Rattle.cb_layer_tests.proofs.pool.calls.takes_all.Given as goal
 
 abbrev pub invariant-loop-page : goal.invariant-loop-page
-invariant-loop-page g l = (length l.pool.fixed ≡ 4096) × (l.pool.page_size ≡ 4096)
+invariant-loop-page g l = (length l.pool.fixed ≡ 4096) × (l.pool.page_size ≡ 16)
