@@ -3,7 +3,8 @@
 //!
 //! An event is a call of a client, a packet that is taken by its addressee, a client's restart, or
 //! what is left to the server: to send again, and that commits are on the disk. [`read_schedule`]
-//! reads a list of them from its text, one on a line.
+//! reads a list of them from its text, one on a line. [`read_lives`] reads one in which the server
+//! restarts too.
 //!
 //! A [`Drawing`] takes the words of a PCG generator, and gives one event after another, for a world
 //! in which so many packets were sent so far.
@@ -14,12 +15,15 @@ mod command;
 mod drawing;
 mod event;
 mod kind;
+mod lines;
 mod lives_event;
+mod lives_text;
 mod pieces;
 mod text;
 
 pub use drawing::Drawing;
 pub use event::{Call, Event};
 pub use lives_event::LivesEvent;
+pub use lives_text::read_lives;
 pub use pieces::{is_text, number_of, split_line, split_word};
 pub use text::{ScheduleFault, read_schedule};
