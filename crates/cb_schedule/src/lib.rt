@@ -5,8 +5,8 @@
 //! and [`draw`] draws one by a seed. A [`World`] is a server with its clients and their packets. It
 //! plays events one by one, each with an [`Answer`], or a whole list, which gives a [`Transcript`];
 //! [`check_serial`] tells of any transcript whether its commits are a serial history. [`Lives`] is
-//! such a world whose server restarts too: it plays [`LivesEvent`]s, and gives a
-//! [`LivesTranscript`].
+//! such a world whose server restarts too: it plays [`LivesEvent`]s, which [`read_lives`] reads, and
+//! gives a [`LivesTranscript`].
 //!
 //! What each call promises stands where it is made: `cb_event`, `cb_transcript` and `cb_world`.
 //! The limits, the store and the chooser that a world is made of are handed on too.
@@ -25,7 +25,7 @@
 #![tactic(auto)]
 
 pub use cb_commit::Store;
-pub use cb_event::{Call, Event, LivesEvent, ScheduleFault, read_schedule};
+pub use cb_event::{Call, Event, LivesEvent, ScheduleFault, read_lives, read_schedule};
 pub use cb_page::{Incarnation, Limits};
 pub use cb_transcript::{
     Answer, LivesEntry, LivesTranscript, RestartAnswer, RestartRefusal, Transcript, Verdict,
