@@ -159,7 +159,7 @@ struct key {
   uint32_t number;
 };
 
-enum { CLIENTS, PAGES, PAGE_SIZE, SLOTS, KIN, KOUT, JOBS, KEEP_WRITE, KEYS };
+enum { CLIENTS, PAGES, PAGE_SIZE, SLOTS, KIN, KOUT, JOBS, KEEP_WRITE, LIVES, KEYS };
 
 struct config {
   struct key keys[KEYS];
@@ -206,6 +206,7 @@ static bool limits_read(struct limits *limits, const char *path) {
       [KOUT] = {"kout", 1, 4096, false, false, 0},
       [JOBS] = {"jobs", 0, 100000, false, false, 0}, /* of a run: it counts for nothing here */
       [KEEP_WRITE] = {"keep_write", 0, 1, false, false, 0},
+      [LIVES] = {"lives", 0, 1, false, false, 0}, /* of a played schedule: nor does this */
   }};
   FILE *file = opened(path);
   if (file == NULL || !each_line(file, path, take_setting, &config)) {

@@ -49,14 +49,14 @@ int words_read(struct settings *settings, int count, char **words) {
 
 /* ---- the configuration ---- */
 
-enum { CLIENTS, PAGES, PAGE_SIZE, SLOTS, KIN, KOUT, JOBS, KEEP_WRITE, KEYS };
+enum { CLIENTS, PAGES, PAGE_SIZE, SLOTS, KIN, KOUT, JOBS, KEEP_WRITE, LIVES, KEYS };
 
 enum { MOST_KEY = 64, MOST_JOBS = 100000 };
 
 static const uint64_t MOST_NUMBER = (UINT64_C(1) << 62) - 1;
 
 static const char *const NAMES[KEYS] = {"clients", "pages", "page_size", "slots",
-                                        "kin",     "kout",  "jobs",      "keep_write"};
+                                        "kin",     "kout",  "jobs",      "keep_write", "lives"};
 
 struct config {
   bool is_there[KEYS];
@@ -185,9 +185,10 @@ static bool in_range(const struct config *config, const rughvadi_limits *limits)
     fprintf(stderr, "config: limit %u %s\n", place + 1, names[place]);
     return false;
   }
-  const char *wrong = config->numbers[JOBS] > MOST_JOBS       ? "jobs"
+  const char *wrong = config->numbers[JOBS] > MOST_JOBS ? "jobs"
                       : config->numbers[KEEP_WRITE] > 1 ? "keep_write"
-                                                              : NULL;
+                      : config->numbers[LIVES] > 1      ? "lives"
+                                                        : NULL;
   if (wrong != NULL) {
     fprintf(stderr, "config: %s\n", wrong);
   }

@@ -30,7 +30,7 @@ LISTS = sorted(str(it) for it in (TOP / "crates/cb_play/data").glob("*_*.list"))
 # The runs of each word, in order.
 RUNS = [
     ("docs", []), ("model", []), ("wrong", ["--list"]),
-    ("faults", []), ("sides", LISTS), ("schedules", []), ("limits", []),
+    ("faults", []), ("sides", LISTS), ("schedules", []), ("schedules", ["lives"]), ("limits", []),
     ("refused", ["calls"]), ("refused", ["plays"]), ("refused", ["run"]), ("load", ["2"]),
     ("library", ["--built"]), ("serve", ["--built"]), ("storm", ["--built"]),
     ("takeover", ["--built"]), ("lives", ["--built"]),

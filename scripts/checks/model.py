@@ -1,15 +1,19 @@
-"""Compares a play of 2Q with a model of three lists that knows nothing of the code.
+"""Compares stored plays with models that know nothing of the code.
 
-    scripts/check model                     the schedule and the output that cb_play has are its
+    scripts/check model                     the schedule and the output of 2Q that cb_play has are
+                                            those of a model of its three lists, and every stored
+                                            play without a fault is as a model of the whole protocol
+                                            plays it (scripts/checks/world_model.py)
     scripts/check model schedule KIN KOUT   prints the model's schedule for other bounds
     scripts/check model lines KIN KOUT      prints the lines of its play, but the two at the end
 
 The schedule has two clients that read and drop pages in turn. Its output tells the lists' bounds
 Kin and Kout from others. cb_play plays it with 4 slots, Kin 2 and Kout 4
 (`two_clients_let_go_by_kin_and_kout`), and the gate compares its output with the stored one. It
-needs nothing, and takes less than a second.
+needs nothing, and takes a few seconds.
 """
 from building import TOP
+from checks import world_model
 
 SLOTS = 4
 NAME = "two_clients_let_go_by_kin_and_kout"
@@ -98,6 +102,30 @@ def texts(kin, kout):
     return {"schedule": "\n".join(play.events), "lines": "\n".join(play.lines)}
 
 
+def stored_plays(crate):
+    """The configuration, the schedule and the output of each stored play without a fault."""
+    data, stored = crate / "data", crate.joinpath("stdout").read_text()
+    for command in data.joinpath("examples.txt").read_text().splitlines():
+        if not command.startswith("play ") or f"{command}\n" not in stored:
+            continue
+        _, _, stored = stored.partition(f"{command}\n")
+        output, is_right, _ = stored.partition("status 0\n")
+        config, schedule = (data / name for name in (command.split() + ["", ""])[1:3])
+        if is_right and "status" not in output and schedule.is_file():
+            yield config, schedule, output
+
+
+def all_played(crate):
+    """Whether the model of the protocol plays each of them so."""
+    right = []
+    for config, schedule, output in stored_plays(crate):
+        right.append(world_model.played(config.read_text(), schedule.read_text()) == output)
+        if not right[-1]:
+            print(f"{schedule.name}: NOT as the model plays it")
+    print(f"{sum(right)} of {len(right)} stored plays are as the model plays them")
+    return all(right)
+
+
 def main(words):
     if words:
         what, kin, kout = words
@@ -109,4 +137,4 @@ def main(words):
     right = crate.joinpath(f"data/{NAME}.schedule").read_text() == made["schedule"] + "\n"
     right &= stored.startswith(made["lines"] + "\n")
     print(f"{NAME}: {'as' if right else 'NOT as'} the model plays it")
-    return 0 if right else 1
+    return 0 if all_played(crate) and right else 1

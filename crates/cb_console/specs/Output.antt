@@ -5,12 +5,16 @@ use Rattle.std.specs.List.{list_all, flat_map}
 use Rattle.std.specs.Fmt.{decimal}
 use Rattle.cb_console.specs.Escaped.{two_digits}
 use Rattle.cb_frame.specs.Kinds.{name_of}
-use Rattle.cb_transcript.specs.RefusalTexts.{refusal_text}
+use Rattle.cb_transcript.specs.RefusalTexts.{refusal_text, restart_refusal_text}
 use Rattle.cb_transcript.specs.declared.answer.AnswerWord.{AnswerWord}
 use Rattle.cb_transcript.specs.declared.answer.AnswerWord.TheVariants as word
 use Rattle.cb_transcript.specs.declared.answer.SentPacket.{SentPacket}
 use Rattle.cb_transcript.specs.declared.answer.Answer.{Answer}
 use Rattle.cb_transcript.specs.declared.answer.TranscriptEntry.{TranscriptEntry}
+use Rattle.cb_transcript.specs.declared.lives_transcript.LivesEntry.{LivesEntry}
+use Rattle.cb_transcript.specs.declared.lives_transcript.LivesEntry.TheVariants as entry
+use Rattle.cb_transcript.specs.declared.restart.RestartAnswer.{RestartAnswer}
+use Rattle.cb_transcript.specs.declared.restart.RestartAnswer.TheVariants as restart
 
 -- the byte that all the bytes are, if they are all one
 unfoldable pub only_byte : List ℕ → Option ℕ
@@ -52,10 +56,29 @@ line place answer =
     decimal place ++ (codes " " ++ (word_text answer.word
     ++ (flat_map packet_text answer.sent ++ 10 ∷ [])))
 
+-- whether the server restarted, or why not
+abbrev pub restart_text : RestartAnswer → List ℕ
+restart_text restart.Restarted = codes "restarted"
+restart_text (restart.Refused refusal) = codes "refused " ++ restart_refusal_text refusal
+
+-- the line of what happened over several lives of the server, at its place
+abbrev pub lives_line : ℕ → LivesEntry → List ℕ
+lives_line place (entry.Within told) = line place told.answer
+lives_line place (entry.ServerRestarts told) =
+    decimal place ++ (codes " " ++ (restart_text told.answer ++ 10 ∷ []))
+
+-- the lines of a list, each by its item and its place, the first at this place
+abbrev pub numbered_lines : {E : Type 0} → (ℕ → E → List ℕ) → ℕ → List E → List ℕ
+numbered_lines text place [] = []
+numbered_lines text place (item ∷ items) = text place item ++ numbered_lines text (place + 1) items
+
 -- the lines of events, the first at this place
 abbrev pub lines_from : ℕ → List TranscriptEntry → List ℕ
-lines_from place [] = []
-lines_from place (entry ∷ entries) = line place entry.answer ++ lines_from (place + 1) entries
+lines_from place entries = numbered_lines (λ n entry. line n entry.answer) place entries
+
+-- the same over several lives of the server
+abbrev pub lives_lines_from : ℕ → List LivesEntry → List ℕ
+lives_lines_from place entries = numbered_lines lives_line place entries
 
 abbrev pub yes_or_no : Bool → List ℕ
 yes_or_no true = codes "yes"

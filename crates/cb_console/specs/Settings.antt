@@ -44,11 +44,12 @@ key_name key.Kin = codes "kin"
 key_name key.Kout = codes "kout"
 key_name key.Jobs = codes "jobs"
 key_name key.KeepWrite = codes "keep_write"
+key_name key.Lives = codes "lives"
 
 abbrev pub all_keys : List Key
 all_keys =
     key.Clients ∷ key.Pages ∷ key.PageSize ∷ key.Slots
-    ∷ key.Kin ∷ key.Kout ∷ key.Jobs ∷ key.KeepWrite ∷ []
+    ∷ key.Kin ∷ key.Kout ∷ key.Jobs ∷ key.KeepWrite ∷ key.Lives ∷ []
 
 -- whether some setting has this key
 unfoldable pub is_known : List ℕ → Bool
@@ -104,6 +105,10 @@ jobs_of table = unwrap_or (number_at table key.Jobs) 0
 abbrev pub keep_write_of : Members → ℕ
 keep_write_of table = unwrap_or (number_at table key.KeepWrite) 0
 
+-- whether a schedule is one over several lives of the server
+abbrev pub lives_of : Members → ℕ
+lives_of table = unwrap_or (number_at table key.Lives) 0
+
 -- the numbers of the settings that must be there
 abbrev pub required_of : Members → RequiredNumbers
 required_of table = record {
@@ -120,6 +125,7 @@ defaulted_of table = record {
   kout = kout_of table;
   jobs = jobs_of table;
   keep_write = keep_write_of table;
+  lives = lives_of table;
 }
 
 -- the limits of these numbers
@@ -139,6 +145,7 @@ abbrev pub config_by : RequiredNumbers → DefaultedNumbers → Config
 config_by required others = record {
   limits = bounds_by required others;
   jobs = others.jobs;
+  lives = others.lives == 1;
 }
 
 -- numbers that are no limits of a store
@@ -150,11 +157,12 @@ bounds_causes bounds =
     map limit_cause
     (limit_causes bounds.clients bounds.pages bounds.page_size bounds.slots bounds.kin bounds.kout)
 
--- jobs, and whether permissions are kept, out of range
+-- jobs, whether permissions are kept, and whether there are several lives, out of range
 unfoldable pub others_causes : DefaultedNumbers → List (Bool × List ℕ)
 others_causes others =
     (nat_lt 100000 others.jobs, codes "jobs")
-    ∷ (nat_lt 1 others.keep_write, codes "keep_write") ∷ []
+    ∷ (nat_lt 1 others.keep_write, codes "keep_write")
+    ∷ (nat_lt 1 others.lives, codes "lives") ∷ []
 
 -- what is wrong with the values at the keys that must be there
 unfoldable pub required_values : Members → List (Bool × List ℕ)
@@ -170,7 +178,8 @@ defaulted_values table =
     optional_causes table key.Kin
     ++ (optional_causes table key.Kout
     ++ (optional_causes table key.Jobs
-    ++ optional_causes table key.KeepWrite))
+    ++ (optional_causes table key.KeepWrite
+    ++ optional_causes table key.Lives)))
 
 -- what is wrong with the ranges of these numbers
 unfoldable pub range_causes : RequiredNumbers → DefaultedNumbers → List (Bool × List ℕ)
@@ -193,6 +202,7 @@ config_text (fault.NotWhole key) = key_name key ++ codes " is not a whole number
 config_text (fault.Limit e) = codes "limit " ++ limit_text e
 config_text fault.Jobs = codes "jobs"
 config_text fault.KeepWrite = codes "keep_write"
+config_text fault.Lives = codes "lives"
 config_text fault.Memory = codes "memory"
 
 -- the same as a line shows it, with an unknown key's control characters escaped

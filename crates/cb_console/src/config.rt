@@ -34,6 +34,7 @@ pub enum Key {
     Kout,
     Jobs,
     KeepWrite,
+    Lives,
 }
 
 impl Key {
@@ -50,6 +51,7 @@ impl Key {
             Key::Kout => "kout",
             Key::Jobs => "jobs",
             Key::KeepWrite => "keep_write",
+            Key::Lives => "lives",
         }
     }
 }
@@ -64,7 +66,7 @@ impl fmt::Display for Key {
 }
 
 /// Every setting.
-const KEYS: [Key; 8] = [
+const KEYS: [Key; 9] = [
     Key::Clients,
     Key::Pages,
     Key::PageSize,
@@ -73,6 +75,7 @@ const KEYS: [Key; 8] = [
     Key::Kout,
     Key::Jobs,
     Key::KeepWrite,
+    Key::Lives,
 ];
 
 /// What is wrong with a configuration, in the order of the checks; the first is answered. The text
@@ -93,6 +96,8 @@ pub enum ConfigFault {
     Jobs,
     /// Whether permissions to write are kept is neither 0 nor 1.
     KeepWrite,
+    /// Whether the schedule is one over several lives of the server is neither 0 nor 1.
+    Lives,
     /// There is no memory to read the text.
     Memory,
 }
@@ -112,6 +117,7 @@ impl fmt::Display for ConfigFault {
             ConfigFault::Limit(fault) => write!(f, "limit {fault}"),
             ConfigFault::Jobs => write!(f, "jobs"),
             ConfigFault::KeepWrite => write!(f, "keep_write"),
+            ConfigFault::Lives => write!(f, "lives"),
             ConfigFault::Memory => write!(f, "memory"),
         }
     }
@@ -140,6 +146,8 @@ pub struct Config {
     pub limits: Limits,
     /// How many jobs each worker has.
     pub jobs: u32,
+    /// Whether a schedule is played over several lives of the server.
+    pub lives: bool,
 }
 
 /// The most jobs of a worker.
@@ -161,12 +169,14 @@ struct DefaultedNumbers {
     kout: u64,
     jobs: u64,
     keep_write: u64,
+    lives: u64,
 }
 
 /// Reads a configuration: TOML with whole numbers.
 ///
 /// `clients`, `pages`, `page_size` and `slots` are required. `kin` is a quarter of the slots if it
-/// isn't there, `kout` half of them, both at least 1; `jobs` and `keep_write` are 0.
+/// isn't there, `kout` half of them, both at least 1; `jobs`, `keep_write` and
+/// `lives` are 0.
 pub fn read_config(alloc: Global, text: &[u8]) -> Result<Config, ConfigFault>
     ensures ok { IfOk result (IsConfig text.now) }
     ensures in_range { IfOk result (λ config. AreInRange config.limits) }
@@ -216,6 +226,7 @@ fn defaulted_of(table: &Table, slots: u64) -> Result<DefaultedNumbers, ConfigFau
         kout: optional(table, Key::Kout)?.unwrap_or(default_kout(slots)),
         jobs: optional(table, Key::Jobs)?.unwrap_or(0),
         keep_write: optional(table, Key::KeepWrite)?.unwrap_or(0),
+        lives: optional(table, Key::Lives)?.unwrap_or(0),
     })
 }
 
@@ -228,10 +239,15 @@ fn config_of(required: RequiredNumbers, others: DefaultedNumbers) -> Result<Conf
 {
     let limits = limits_of(required, others)?;
     let jobs = jobs_of(others)?;
-    Ok(Config { limits, jobs })
+    Ok(Config {
+        limits,
+        jobs,
+        lives: others.lives == 1,
+    })
 }
 
-/// How many jobs. Refuses too many, and what is neither 0 nor 1 for whether permissions are kept.
+/// How many jobs. Refuses too many, and what is neither 0 nor 1 for whether permissions are kept or
+/// the server has several lives.
 #[tactic(auto, unfolding(crate::specs::Settings::others_causes))]
 fn jobs_of(others: DefaultedNumbers) -> Result<u32, ConfigFault>
     ensures { Gives (first_fault (others_causes others)) others.jobs result }
@@ -241,6 +257,9 @@ fn jobs_of(others: DefaultedNumbers) -> Result<u32, ConfigFault>
     }
     if others.keep_write > 1 {
         return Err(ConfigFault::KeepWrite);
+    }
+    if others.lives > 1 {
+        return Err(ConfigFault::Lives);
     }
     Ok(others.jobs as u32)
 }

@@ -22,7 +22,7 @@ mod statuses;
 pub use config::{Config, ConfigFault, Key, read_config};
 pub use drawn::{draw_to, name_of as call_name, put_event, put_events};
 pub use escaped::Escaped;
-pub use output::{only_byte, put_entries, put_verdict, put_word};
+pub use output::{only_byte, put_entries, put_lives_entries, put_verdict, put_word};
 pub use play::{Play, ReadFault, play_to, print_fault, print_outcome, read_and_play};
 pub use running::{RunFault, print_refusal, run_settings};
 pub use statuses::{DONE, NO_MEMORY, NOT_SERIAL, WRONG_INPUT};

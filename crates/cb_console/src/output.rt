@@ -1,13 +1,15 @@
 //! What `play` prints.
-ghost use Rattle.std.specs.Prelude.{◌≡◌, ◌==◌, OnOk};
+ghost use Rattle.std.specs.Prelude.{◌≡◌, ◌==◌, [], ◌∷◌, ◌++◌, codes, OnOk};
+ghost use Rattle.std.specs.Fmt.{decimal};
 ghost use Rattle.std.specs.List.{flat_map, list_all};
 ghost use Rattle.std.specs.Io.KnownBytes.{Appends};
-ghost use Rattle.cb_console.specs.Output.{bytes_text, last_lines, line, lines_from, only_byte};
-ghost use Rattle.cb_console.specs.Output.{packet_text, word_text};
+ghost use Rattle.cb_console.specs.Output.{bytes_text, last_lines, line, lines_from, lives_line};
+ghost use Rattle.cb_console.specs.Output.{lives_lines_from, only_byte, packet_text, restart_text};
+ghost use Rattle.cb_console.specs.Output.{word_text};
 ghost use Rattle.cb_console.specs.Escaped.{two_digits};
 
 use cb_page::Page;
-use cb_transcript::{Answer, AnswerWord, SentPackets, TranscriptEntry};
+use cb_transcript::{Answer, AnswerWord, LivesEntry, RestartAnswer, SentPackets, TranscriptEntry};
 use std::io;
 use std::io::Write;
 
@@ -19,6 +21,18 @@ pub fn put_entries<O: Write>(out: &mut O, entries: &[TranscriptEntry]) -> io::Re
 {
     for (index, entry) in entries.iter().enumerate() {
         put_line(out, index + 1, &entry.answer)?;
+    }
+    Ok(())
+}
+
+/// Prints the same of what happened over several lives of the server. The line of a restart of it
+/// has `restarted`, or `refused` with the refusal's number and name.
+pub fn put_lives_entries<O: Write>(out: &mut O, entries: &[LivesEntry]) -> io::Result<()>
+    ensures { OnOk result
+        (Appends (O.contents out.old) (O.contents out.new) (lives_lines_from 1 entries.now)) }
+{
+    for (index, entry) in entries.iter().enumerate() {
+        put_lives_line(out, index + 1, entry)?;
     }
     Ok(())
 }
@@ -40,6 +54,26 @@ fn put_line<O: Write>(out: &mut O, place: usize, answer: &Answer) -> io::Result<
     put_word(out, &answer.word)?;
     put_sent(out, &answer.sent)?;
     out.write_all(b"\n")
+}
+
+fn put_lives_line<O: Write>(out: &mut O, place: usize, entry: &LivesEntry) -> io::Result<()>
+    ensures { OnOk result
+        (Appends (O.contents out.old) (O.contents out.new) (lives_line place entry.now)) }
+{
+    match entry {
+        LivesEntry::Within(told) => put_line(out, place, &told.answer),
+        LivesEntry::ServerRestarts(told) => put_restart(out, place, told.answer),
+    }
+}
+
+fn put_restart<O: Write>(out: &mut O, place: usize, answer: RestartAnswer) -> io::Result<()>
+    ensures { OnOk result (Appends (O.contents out.old) (O.contents out.new)
+        (decimal place ++ (codes " " ++ (restart_text answer ++ 10 ∷ [])))) }
+{
+    match answer {
+        RestartAnswer::Restarted => writeln!(out, "{place} restarted"),
+        RestartAnswer::Refused(refusal) => writeln!(out, "{place} refused {refusal}"),
+    }
 }
 
 /// Prints the words of an answer, without the packets sent.

@@ -1,2 +1,3 @@
+mod LivesLemmas
 mod PiecesLemmas
 mod TextLemmas

@@ -20,6 +20,7 @@ use Rattle.std.specs.Prelude.{
 use Rattle.std.specs.Option.{option_map}
 use Rattle.std.specs.Str.{bytes_eq}
 use Rattle.cb_page.specs.Bounds.{Bounds}
+use Rattle.cb_page.specs.Numbers.{is_number}
 use Rattle.cb_event.specs.declared.command.Command.{Command}
 use Rattle.cb_event.specs.declared.command.Command.TheVariants as command
 use Rattle.cb_event.specs.declared.command.SpelledEvent.{SpelledEvent}
@@ -61,7 +62,7 @@ command_of first rest = option_map (λ named. told_apart named rest) (command_na
 
 -- what a number behind a command stands for
 pub data Argument : Type 0 where
-  Client Page Byte Number : Argument
+  Client Page Byte Number Floor : Argument
 
 -- the numbers that a command wants behind it
 abbrev pub arguments_of : Command → List Argument
@@ -97,12 +98,13 @@ event_of limits (spelled.Whole made) = made
 event_of limits (spelled.Write client page byte) =
     event.Call client (call.Write page (replicate limits.page_size byte))
 
--- whether there is such a client, page or byte
+-- whether there is such a client, page or byte, and whether a floor is an incarnation
 abbrev pub is_in_range : Bounds → Argument → ℕ → Bool
 is_in_range limits Client n = nat_lt n limits.clients
 is_in_range limits Page n = nat_lt n limits.pages
 is_in_range limits Byte n = nat_lt n 256
 is_in_range limits Number n = true
+is_in_range limits Floor n = is_number n
 
 -- the same of the numbers behind a command, each for what it stands for
 abbrev pub are_in_range : Bounds → List Argument → List ℕ → Bool

@@ -3,6 +3,8 @@ pub mod Events
 pub mod LivesEvents
 pub mod Pieces
 pub mod FaultTexts
+pub mod Lines
 pub mod ScheduleText
+pub mod LivesText
 pub mod Drawn
 pub mod RandomWords

@@ -3,9 +3,6 @@
 use Rattle.std.specs.Prelude.{
   ◌≡◌,
   ℕ,
-  ◌+◌,
-  ◌<◌,
-  ◌≤◌,
   Bool,
   true,
   not,
@@ -18,7 +15,6 @@ use Rattle.std.specs.Prelude.{
   ◌++◌,
   length,
   map,
-  take,
   Option,
   Some,
   None,
@@ -26,18 +22,17 @@ use Rattle.std.specs.Prelude.{
   Result,
   Ok,
   Err,
-  IsSome,
   if◌then◌else◌,
   slice_index,
-  slice_index_or,
 }
-use Rattle.std.specs.List.{list_all, filter_map}
+use Rattle.std.specs.List.{list_all}
 use Rattle.std.specs.Option.{option_map}
 use Rattle.cb_page.specs.Bounds.{Bounds}
 use Rattle.cb_page.specs.Faults.{first_fault}
 use Rattle.cb_event.specs.Commands.{Argument, command_of, arguments_of, spelled_by, event_of}
 use Rattle.cb_event.specs.Commands.{are_in_range}
-use Rattle.cb_event.specs.Pieces.{lines_of, words_of, is_text, is_number, number_of}
+use Rattle.cb_event.specs.Lines.{Grammar, IsText, RefusesText}
+use Rattle.cb_event.specs.Pieces.{words_of, is_text, is_number, number_of}
 use Rattle.cb_event.specs.declared.command.Command.{Command}
 use Rattle.cb_event.specs.declared.command.SpelledEvent.{SpelledEvent}
 use Rattle.cb_event.specs.declared.event.Event.{Event}
@@ -101,39 +96,17 @@ causes_behind limits number earlier line =
     line_causes limits number line
     ++ (is_some (spelled_of_line line) && nat_le most_events earlier, fault.Long number) ∷ []
 
--- the events of lines, in order
-abbrev pub events_of : Bounds → List (List ℕ) → List Event
-events_of limits lines = filter_map (event_of_line limits) lines
+-- what the lines of a schedule may say
+abbrev pub schedule_grammar : Bounds → Grammar Event
+schedule_grammar limits = record { causes = causes_behind limits; event = event_of_line limits }
 
--- the lowest fault of the line of this index; lines are numbered from 1
-unfoldable pub fault_at : Bounds → List (List ℕ) → ℕ → Option ScheduleFault
-fault_at limits lines i =
-    first_fault (causes_behind limits (i + 1) (length (events_of limits (take i lines)))
-    (slice_index_or lines i []))
+-- The text is a schedule of these events.
+abbrev pub IsSchedule : Bounds → List ℕ → List Event → Type 0
+IsSchedule limits text events = IsText (schedule_grammar limits) text events
 
--- The text is a schedule of these events: no line has a fault.
-pub record IsSchedule (limits : Bounds) (text : List ℕ) (events : List Event) : Type 0 where
-  pub faultless : (i : ℕ) → i < length (lines_of text) → fault_at limits (lines_of text) i ≡ None
-  pub meaning : events ≡ events_of limits (lines_of text)
-
--- The first faulty line has this lowest fault.
-pub record HasFault (limits : Bounds) (text : List ℕ) (fault : ScheduleFault) : Type 0 where
-  pub line : ℕ
-  pub is_line : line < length (lines_of text)
-  pub faultless : (i : ℕ) → i < line → fault_at limits (lines_of text) i ≡ None
-  pub lowest : fault_at limits (lines_of text) line ≡ Some fault
-
--- There is an event, and no fault up to it.
-pub record HasEvent (limits : Bounds) (text : List ℕ) : Type 0 where
-  pub line : ℕ
-  pub is_line : line < length (lines_of text)
-  pub faultless : (i : ℕ) → i ≤ line → fault_at limits (lines_of text) i ≡ None
-  pub event : IsSome (spelled_of_line (slice_index_or (lines_of text) line []))
-
--- Why a text was not read: its first faulty line's lowest fault; or memory ran out, at an event.
+-- Why a text was not read as a schedule.
 abbrev pub Refuses : Bounds → List ℕ → ScheduleFault → Type 0
-Refuses limits text fault.Memory = HasEvent limits text
-Refuses limits text other = HasFault limits text other
+Refuses limits text fault = RefusesText (schedule_grammar limits) text fault
 
 -- what a reader of one line answers: its value where no cause stands, else the first fault
 abbrev pub Gives : {X : Type 0} → Option ScheduleFault → X → Result X ScheduleFault → Type 0

@@ -2,13 +2,16 @@
 ghost use Rattle.std.specs.Prelude.{◌≡◌, ◌==◌, true, false, [], ◌∷◌, length, map, slice_index};
 ghost use Rattle.std.specs.Prelude.{nat_lt, IfOk, IfErr, OnOk};
 ghost use Rattle.cb_event.specs.Commands.{Byte, Client, Page};
+ghost use Rattle.cb_event.specs.LivesText.{life_arguments};
 ghost use Rattle.cb_event.specs.ScheduleText.{Gives, argument_causes};
+ghost use Rattle.cb_page.specs.Bounds.{Bounds};
 ghost use Rattle.cb_page.specs.Faults.{first_fault};
+ghost use Rattle.cb_page.specs.Numbers as numbers;
 ghost use Rattle.cb_event.specs.Pieces.{is_number, number_of, words_of};
 
 use crate::pieces::{number_of, split_word};
 use crate::text::ScheduleFault;
-use cb_page::{ClientNo, Limits, PageNo};
+use cb_page::{ClientNo, Incarnation, Limits, PageNo};
 
 /// That there is no word.
 pub(crate) fn no_words(line: u64, words: &[u8]) -> Result<(), ScheduleFault>
@@ -100,6 +103,15 @@ fn byte_of(line: u64, number: u64) -> Result<u8, ScheduleFault>
         .ok_or(ScheduleFault::Range { line })
 }
 
+/// The floor of this number.
+fn floor_of(line: u64, number: u64) -> Result<Incarnation, ScheduleFault>
+    ensures ok { IfOk result (λ floor. (floor ≡ number) × (numbers.is_number number ≡ true)) }
+    ensures fault { IfErr result (λ e. (e ≡ ScheduleFault.Range line)
+        × (numbers.is_number number ≡ false)) }
+{
+    Incarnation::checked(number).ok_or(ScheduleFault::Range { line })
+}
+
 /// The one client behind a command.
 pub(crate) fn client_argument(
     limits: &Limits,
@@ -161,4 +173,19 @@ pub(crate) fn client_page_and_byte(
         page_of(limits, line, page)?,
         byte_of(line, byte)?,
     ))
+}
+
+/// The floor and the number of commits behind `life`.
+pub(crate) fn floor_and_number(line: u64, words: &[u8]) -> Result<(Incarnation, u64), ScheduleFault>
+    ensures { (limits : Bounds) → Gives
+        (first_fault (argument_causes limits line life_arguments (words_of words.now))) (
+          slice_index (map number_of (words_of words.now)) 0,
+          slice_index (map number_of (words_of words.now)) 1,
+        )
+        result }
+{
+    let (first, second) = two_words(line, words)?;
+    let floor = spelled_number(line, first)?;
+    let number = spelled_number(line, second)?;
+    Ok((floor_of(line, floor)?, number))
 }

@@ -1,14 +1,13 @@
 //! Reads the text of a schedule.
-ghost use Rattle.std.specs.Prelude.{◌≡◌, ◌≢◌, ◌++◌, List, Some, None, length, map, IfOk, IfErr};
-ghost use Rattle.std.specs.Prelude.{OnOk, IsSome, MatchResult};
-ghost use Rattle.std.specs.Option.{option_to_list};
+ghost use Rattle.std.specs.Prelude.{◌≡◌, List, [], ◌∷◌, Some, None, true, false, map, IfOk, IfErr};
+ghost use Rattle.std.specs.Prelude.{OnOk, MatchOption, MatchResult};
 ghost use Rattle.cb_page.specs.Faults.{first_fault};
 ghost use Rattle.cb_event.specs.Commands.{arguments_of, spelled_by};
 ghost use Rattle.cb_event.specs.FaultTexts.{fault_text};
-ghost use Rattle.cb_event.specs.Pieces.{number_of, words_of};
+ghost use Rattle.cb_event.specs.Pieces.{is_text, number_of, words_of};
 ghost use Rattle.cb_event.specs.ScheduleText.{Gives, is_comment, argument_causes, line_causes};
-ghost use Rattle.cb_event.specs.ScheduleText.{causes_behind, event_of_line, spelled_of_line};
-ghost use Rattle.cb_event.specs.ScheduleText.{IsSchedule, Refuses};
+ghost use Rattle.cb_event.specs.ScheduleText.{IsSchedule, Refuses, schedule_grammar};
+ghost use Rattle.cb_event.specs.ScheduleText.{spelled_of_line, spelled_of_words, words_causes};
 ghost use Rattle.cb_event.specs.declared.event.Event.{Event};
 ghost use Rattle.cb_event.specs.declared.text.ScheduleFault.TheVariants.{Memory};
 
@@ -17,7 +16,8 @@ use crate::arguments::{
 };
 use crate::command::{Command, SpelledEvent, command_of};
 use crate::event::{Call, Event};
-use crate::pieces::{is_text, split_line, split_word};
+use crate::lines::{LineEvent, read_lines, refuse_long};
+use crate::pieces::{is_text, split_word};
 use cb_page::Limits;
 use std::alloc::{AllocError, AllocFailed, Global};
 use std::fmt;
@@ -35,7 +35,7 @@ pub enum ScheduleFault {
     Count { line: u64 },
     /// A word that is no number: not all decimal digits, or 2^62 and more.
     Number { line: u64 },
-    /// There is no such client or page, or a byte above 255.
+    /// There is no such client or page, or a byte above 255. In a text of lives also a floor of 0.
     Range { line: u64 },
     /// The event after the 1,000,000th.
     Long { line: u64 },
@@ -121,6 +121,42 @@ fn command_event(
     })
 }
 
+/// The first word of a line, and the line behind it, if it has a word.
+pub(crate) fn first_word(line: u64, bytes: &[u8]) -> Result<Option<(&[u8], &[u8])>, ScheduleFault>
+    ensures text { OnOk result (is_text bytes.now ≡ true) }
+    ensures word { IfOk result (λ found. MatchOption found
+        (words_of bytes.now ≡ [])
+        (λ r. words_of bytes.now ≡ r.0.now ∷ words_of r.1.now)) }
+    ensures fault { IfErr result (λ e. (e ≡ ScheduleFault.NotText line)
+        × (is_text bytes.now ≡ false)) }
+{
+    if !is_text(bytes) {
+        return Err(ScheduleFault::NotText { line });
+    }
+    Ok(split_word(bytes))
+}
+
+/// What the words of a line spell, if it isn't skipped.
+pub(crate) fn words_event(
+    limits: &Limits,
+    line: u64,
+    first: &[u8],
+    rest: &[u8],
+) -> Result<Option<SpelledEvent>, ScheduleFault>
+    ensures { Gives
+        (first_fault (words_causes limits.now line (first.now ∷ words_of rest.now)))
+        (spelled_of_words (first.now ∷ words_of rest.now))
+        result }
+{
+    if is_comment(first) {
+        return Ok(None);
+    }
+    let Some((command, words)) = command_of(first, rest) else {
+        return Err(ScheduleFault::Word { line });
+    };
+    Ok(Some(command_event(limits, line, command, words)?))
+}
+
 /// What a line spells, if it isn't skipped.
 fn line_event(
     limits: &Limits,
@@ -131,19 +167,10 @@ fn line_event(
         (spelled_of_line bytes.now)
         result }
 {
-    if !is_text(bytes) {
-        return Err(ScheduleFault::NotText { line });
-    }
-    let Some((first, rest)) = split_word(bytes) else {
+    let Some((first, rest)) = first_word(line, bytes)? else {
         return Ok(None);
     };
-    if is_comment(first) {
-        return Ok(None);
-    }
-    let Some((command, words)) = command_of(first, rest) else {
-        return Err(ScheduleFault::Word { line });
-    };
-    Ok(Some(command_event(limits, line, command, words)?))
+    words_event(limits, line, first, rest)
 }
 
 fn is_comment(first: &[u8]) -> bool
@@ -152,36 +179,23 @@ fn is_comment(first: &[u8]) -> bool
     matches!(first, [b'#', ..])
 }
 
-/// The most events of a schedule.
-const MOST_EVENTS: usize = 1_000_000;
+impl LineEvent for Event {
+    ghost grammar = { schedule_grammar };
 
-/// Adds the event of a line, if it has one.
-#[tactic(auto, using(crate::proofs::TextLemmas::clear_append, crate::proofs::TextLemmas::fault_append))]
-fn add_line(
-    alloc: Global,
-    limits: &Limits,
-    line: u64,
-    bytes: &[u8],
-    events: &mut Vec<Event>,
-) -> Result<(), ScheduleFault>
-    ensures ok { OnOk result
-        (first_fault (causes_behind limits.now line (length events.old.items) bytes.now) ≡ None) }
-    ensures added { OnOk result (events.new.items ≡ events.old.items
-        ++ option_to_list (event_of_line limits.now bytes.now)) }
-    ensures fault { IfErr result (λ e. e ≢ ScheduleFault.Memory →
-        first_fault (causes_behind limits.now line (length events.old.items) bytes.now) ≡ Some e) }
-    ensures memory { IfErr result (λ e. e ≡ ScheduleFault.Memory →
-        (first_fault (causes_behind limits.now line (length events.old.items) bytes.now) ≡ None)
-        × IsSome (spelled_of_line bytes.now)) }
-{
-    let Some(spelled) = line_event(limits, line, bytes)? else {
-        return Ok(());
-    };
-    if events.len() >= MOST_EVENTS {
-        return Err(ScheduleFault::Long { line });
+    #[tactic(auto, using(crate::proofs::TextLemmas::clear_append, crate::proofs::TextLemmas::fault_append))]
+    fn of_line(
+        alloc: Global,
+        limits: &Limits,
+        line: u64,
+        earlier: usize,
+        bytes: &[u8],
+    ) -> Result<Option<Event>, ScheduleFault> {
+        let Some(spelled) = line_event(limits, line, bytes)? else {
+            return Ok(None);
+        };
+        refuse_long(line, earlier)?;
+        Ok(Some(spelled.event(alloc, limits)?))
     }
-    events.push(spelled.event(alloc, limits)?)?;
-    Ok(())
 }
 
 /// Reads a schedule: its events, in order. A text that isn't a schedule is refused by the lowest
@@ -198,13 +212,5 @@ pub fn read_schedule(
         MatchResult result (λ events. events.items ≡ meant) (λ e. e ≡ ScheduleFault.Memory) }
     ensures fault { IfErr result (Refuses limits.now text.now) }
 {
-    let mut events = Vec::new(alloc);
-    let mut line = 0;
-    let mut rest = text;
-    while let Some((bytes, after)) = split_line(rest) {
-        line += 1;
-        add_line(alloc, limits, line, bytes, &mut events)?;
-        rest = after;
-    }
-    Ok(events)
+    read_lines(alloc, limits, text)
 }

@@ -89,7 +89,7 @@ static OF_SHELVES: [(ShelfFault, &str); 3] = [
     (ShelfFault::Memory, "3 Memory"),
 ];
 
-static OF_KEYS: [(Key, &str); 8] = [
+static OF_KEYS: [(Key, &str); 9] = [
     (Key::Clients, "clients"),
     (Key::Pages, "pages"),
     (Key::PageSize, "page_size"),
@@ -98,6 +98,7 @@ static OF_KEYS: [(Key, &str); 8] = [
     (Key::Kout, "kout"),
     (Key::Jobs, "jobs"),
     (Key::KeepWrite, "keep_write"),
+    (Key::Lives, "lives"),
 ];
 
 static OF_SCHEDULES: [(ScheduleFault, &str); 7] = [
@@ -128,6 +129,7 @@ fn configs_are_printed(alloc: Global) -> bool {
         (ConfigFault::Limit(LimitFault::Kin), "limit 5 Kin"),
         (ConfigFault::Jobs, "jobs"),
         (ConfigFault::KeepWrite, "keep_write"),
+        (ConfigFault::Lives, "lives"),
         (ConfigFault::Memory, "memory"),
     ];
     let Ok(name) = String::from_str(alloc, "colour") else {

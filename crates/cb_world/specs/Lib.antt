@@ -5,5 +5,6 @@ pub mod Plays
 pub mod Draws
 pub mod NextLife
 pub mod LivesState
+pub mod FirstLife
 pub mod LivesTold
 pub mod LivesPlays

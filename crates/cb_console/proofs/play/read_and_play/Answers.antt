@@ -1,14 +1,25 @@
 -- Goals of `read_and_play`.
-use Rattle.std.proofs.Common.{rules}
-use Rattle.cb_console.proofs.Playing.{told_of}
-use Rattle.cb_console.specs.Runs.{IsPlayOf}
-use Rattle.cb_event.specs.ScheduleText.{IsSchedule}
+use Rattle.std.proofs.Common.{rules, true, false}
+use Rattle.cb_console.proofs.Playing.{refused_for, told, told_lives}
 use Rattle.cb_console.specs.Settings.{IsConfig}
 use Rattle.cb_console.proofs.play.read_and_play.Goals as goal
+
+pub returns-then-config-clause-ok : goal.returns-then-config-clause-ok
+returns-then-config-clause-ok c =
+    let config : IsConfig c.args.config.now c.in_ok-config.config = search rules in
+    told_lives c.args.config.now c.args.schedule.now c.in_ok-config.config c.play_lives_text.result config c.if-config.true c.play_lives_text.ensures.ok
+
+pub returns-then-config-clause-fault : goal.returns-then-config-clause-fault
+returns-then-config-clause-fault c =
+    let config : IsConfig c.args.config.now c.in_ok-config.config = search rules in
+    refused_for c.args.config.now c.args.schedule.now c.in_ok-config.config true c.play_lives_text.result config c.if-config.true c.play_lives_text.ensures.fault
 
 pub returns-clause-ok : goal.returns-clause-ok
 returns-clause-ok c =
     let config : IsConfig c.args.config.now c.in_ok-config.config = search rules in
-    let schedule : IsSchedule c.in_ok-config.config.limits c.args.schedule.now c.in_ok-events.events.items = search rules in
-    let plays : IsPlayOf c.in_ok-config.config.limits c.in_ok-events.events.items c.in_ok-play_from_zeros.field-0 = search rules in
-    told_of c.args.config.now c.args.schedule.now c.in_ok-config.config c.in_ok-events.events.items c.in_ok-play_from_zeros.field-0 config schedule plays
+    told c.args.config.now c.args.schedule.now c.in_ok-config.config c.play_text.result config c.if-config.false c.play_text.ensures.ok
+
+pub returns-clause-fault : goal.returns-clause-fault
+returns-clause-fault c =
+    let config : IsConfig c.args.config.now c.in_ok-config.config = search rules in
+    refused_for c.args.config.now c.args.schedule.now c.in_ok-config.config false c.play_text.result config c.if-config.false c.play_text.ensures.fault

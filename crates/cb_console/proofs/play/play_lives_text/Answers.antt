@@ -1,0 +1,8 @@
+-- Goals of `play_lives_text`.
+use Rattle.std.proofs.Common.{true}
+use Rattle.cb_console.proofs.Playing.{schedule_fault}
+use Rattle.cb_console.proofs.play.play_lives_text.Goals as goal
+
+pub returns-in_err-events-clause-fault : goal.returns-in_err-events-clause-fault
+returns-in_err-events-clause-fault c =
+    schedule_fault true c.args.limits.now c.args.schedule.now c.in_err-events.field-0.0 c.from_residual.result c.from_residual.ensures.1 c.in_err-events.ensures.fault
