@@ -184,8 +184,8 @@ pub(crate) fn floor_and_number(line: u64, words: &[u8]) -> Result<(Incarnation, 
         )
         result }
 {
-    let (first, second) = two_words(line, words)?;
+    let (first, number) = two_words(line, words)?;
     let floor = spelled_number(line, first)?;
-    let number = spelled_number(line, second)?;
+    let number = spelled_number(line, number)?;
     Ok((floor_of(line, floor)?, number))
 }
