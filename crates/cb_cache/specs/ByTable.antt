@@ -4,7 +4,8 @@ use Rattle.cb_protocol.specs.Basics.{Bytes}
 use Rattle.cb_protocol.specs.Cache.{Fill, Install, MakeBare}
 use Rattle.cb_protocol.specs.Client.{ChangeCache, Client, ClientStep, client_after}
 use Rattle.cb_protocol.specs.ClientMessages.{MayLetGo}
-use Rattle.cb_cache.specs.CacheState.{CacheState, client_with, content_at, limits_of, referred_pages}
+use Rattle.cb_cache.specs.CacheState.{CacheState, client_with, content_at, limits_of}
+use Rattle.cb_cache.specs.CacheState.{referred_pages}
 
 -- The copies become what these steps of the protocol make of them, whichever client has them. No
 -- page is referred to.

@@ -3,7 +3,8 @@ ghost use Rattle.std.specs.Prelude.{◌≡◌, ◌≢◌, ◌↔◌, codes, IfOk
 ghost use Rattle.std.specs.Io.KnownBytes.{Appends};
 ghost use Rattle.cb_console.specs.Output.{lines_from, lives_lines_from};
 ghost use Rattle.cb_console.specs.Runs.{BecomesOfConfig, BecomesOfSchedule, Ends, EndsEarly};
-ghost use Rattle.cb_console.specs.Runs.{EndsLives, IsLivesPlayOf, IsLivesPlayOfText, IsPlay, IsPlayOf};
+ghost use Rattle.cb_console.specs.Runs.{EndsLives, IsLivesPlayOf, IsLivesPlayOfText, IsPlay};
+ghost use Rattle.cb_console.specs.Runs.{IsPlayOf};
 ghost use Rattle.cb_console.specs.Runs.{IsPlayOfText, IsPlayRefusal, IsRun, IsScheduleRefusal};
 ghost use Rattle.cb_console.specs.Runs.{PrintsFault, PrintsOutcome, PrintsVerdict, read_fault_line};
 ghost use Rattle.cb_console.specs.declared.play.ReadFault.TheVariants as fault;
@@ -89,8 +90,8 @@ pub enum Play {
 
 /// Plays the schedule over a store of zeros with the configuration's limits, and prints what became
 /// of each event, the number of commits, and whether they are serial. Where the configuration says
-/// `lives = 1`, the schedule is one over several lives of the server, and the commits are those that
-/// count.
+/// `lives = 1`, the schedule is one over several lives of the server, and the commits are those
+/// that count.
 ///
 /// The answer is the program's status. The configuration is checked first, then the schedule; a
 /// fault is said on `err`, and then nothing is on `out`. Where memory is refused in the play, the

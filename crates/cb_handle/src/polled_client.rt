@@ -1,5 +1,6 @@
 //! A client over 2Q, and what it said.
-ghost use Rattle.std.specs.Prelude.{◌≡◌, ◌≢◌, ◌<◌, ◌≤◌, ℕ, [], ◌∷◌, IfErr, IfOk, OnErr, IsOk, length};
+ghost use Rattle.std.specs.Prelude.{◌≡◌, ◌≢◌, ◌<◌, ◌≤◌, ℕ, [], ◌∷◌, IfErr, IfOk, OnErr, IsOk};
+ghost use Rattle.std.specs.Prelude.{length};
 ghost use Rattle.std.specs.Prelude.{true, false, not, ◌==◌, Some, None};
 ghost use Rattle.std.specs.Option.{option_or};
 ghost use Rattle.cb_cache.specs.CacheState.{content_at};

@@ -3,7 +3,8 @@ ghost use Rattle.std.specs.Prelude.{◌≡◌, ◌≢◌, ◌+◌, ◌<◌, ◌�
 ghost use Rattle.std.specs.Prelude.{OnErr, IsOk, None, Some, Err, length, true};
 ghost use Rattle.cb_commit.specs.Stores.{IsOf, zeros};
 ghost use Rattle.cb_outbox.specs.Messages.{messages_of};
-ghost use Rattle.cb_handle.specs.Causes.{Decides, after_fetch, all_on_disk, memory, never, next_cause};
+ghost use Rattle.cb_handle.specs.Causes.{Decides, after_fetch, all_on_disk, memory, never};
+ghost use Rattle.cb_handle.specs.Causes.{next_cause};
 ghost use Rattle.cb_handle.specs.Causes.{no_page, not_on_disk, not_to_flush, said_cause, said_may};
 ghost use Rattle.cb_handle.specs.Causes.{in_bytes, server_take_may};
 ghost use Rattle.cb_handle.specs.Fetching.{Fetches};
@@ -237,7 +238,8 @@ impl PolledServer {
         ensures fetched { IsOk result → self.old.said ≡ [] }
         ensures could { IsOk result → can_flush (server_of self.old.server) number ≡ true }
         ensures written { IsOk result → self.new.batch ≡ None }
-        ensures why { Decides (after_fetch self.old.said (not_to_flush self.old.server number)) memory
+        ensures why { Decides
+            (after_fetch self.old.said (not_to_flush self.old.server number)) memory
             result }
         ensures unchanged { OnErr result (IsUnchanged self.old.server self.new.server) }
         ensures unsaid { OnErr result (self.new.said ≡ self.old.said) }

@@ -17,8 +17,8 @@
 //! `cb_station`, `cb_worker`, `cb_jobs` and `cb_run`. The types of which an office and a worker are
 //! made are exported too.
 //!
-//! An example, which is compiled and run as the test `example` of `cb_tests`. A client reads a page,
-//! writes it and commits:
+//! An example, which is compiled and run as the test `example` of `cb_tests`. A client reads a
+//! page, writes it and commits:
 //!
 //! ```
 //! worker.begin()?;

@@ -6,8 +6,8 @@
 //! and [`draw`] draws one by a seed. A [`World`] is a server with its clients and their packets. It
 //! plays events one by one, each with an [`Answer`], or a whole list, which gives a [`Transcript`];
 //! [`check_serial`] tells of any transcript whether its commits are a serial history. [`Lives`] is
-//! such a world whose server restarts too: it plays [`LivesEvent`]s, which [`read_lives`] reads, and
-//! gives a [`LivesTranscript`].
+//! such a world whose server restarts too: it plays [`LivesEvent`]s, which [`read_lives`] reads,
+//! and gives a [`LivesTranscript`].
 //!
 //! The promise of each call stands in the call's own crate: `cb_event`, `cb_transcript` and
 //! `cb_world`. The limits, the store and the chooser of which a world is made are exported too. So

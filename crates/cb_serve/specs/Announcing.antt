@@ -11,7 +11,8 @@ abbrev pub announcement : (floor : ℕ) → List ℕ
 announcement floor = 2 ∷ 0 ∷ 0 ∷ 0 ∷ (word w64 floor ++ (0 ∷ 0 ∷ 0 ∷ 0 ∷ []))
 
 -- why it wasn't said, or not whole: memory was refused, and nothing put out; or a front of it was
-abbrev pub StaysUnannounced : RoundFault → (floor : ℕ) → (old_out new_out : Option (List ℕ)) → Type 0
+abbrev pub StaysUnannounced : RoundFault → (floor : ℕ) → (old_out new_out : Option (List ℕ))
+    → Type 0
 StaysUnannounced round.Memory floor old_out new_out = new_out ≡ old_out
 StaysUnannounced (round.Output e) floor old_out new_out =
     (n : ℕ) × Appends old_out new_out (take n (announcement floor))

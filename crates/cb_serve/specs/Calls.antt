@@ -7,8 +7,8 @@ use Rattle.std.specs.declared.io.ErrorKind.{ErrorKind}
 use Rattle.std.specs.declared.io.ErrorKind.TheVariants.{Interrupted, OutOfMemory}
 use Rattle.cb_serve.specs.declared.calls.Refusal.{Refusal}
 
--- no signal interrupted the call, so it isn't made again; or as many calls in a row were interrupted
--- as 64 bits can count
+-- no signal interrupted the call, so it isn't made again; or as many calls in a row were
+-- interrupted as 64 bits can count
 abbrev pub IsFinal : Refusal → Type 0
 IsFinal refusal = (error_kind refusal.error ≢ Interrupted) ⊎ (refusal.calls ≡ 2 ^ 64 - 1)
 

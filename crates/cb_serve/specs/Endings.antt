@@ -27,7 +27,8 @@ becomes_of_shelf shelf.Memory = round.Memory
 
 -- the line and the status of an input that couldn't be read, or for want of memory
 abbrev pub input_line : Refusal → List ℕ
-input_line refusal = if lacks_memory (error_kind refusal.error) then codes "memory" else codes "input: cannot read"
+input_line refusal =
+    if lacks_memory (error_kind refusal.error) then codes "memory" else codes "input: cannot read"
 
 abbrev pub input_status : Refusal → ℕ
 input_status refusal = if lacks_memory (error_kind refusal.error) then 4 else 3

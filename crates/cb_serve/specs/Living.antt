@@ -25,7 +25,8 @@ module _ {S : Type 0} (g : Ghosts S) where
         → (HasCleanDisk (state g new_tables)
         → MakesAll g (life_row new ∷ []) (state g old_tables).now (state g new_tables).committed)
         → (HasCleanDisk (state g new_tables) → IsSettled (state g new_tables))
-        → Survives (state g old_tables) (state g new_tables) (MadeBy g (life_row new ∷ []) old_tables)
+        → Survives (state g old_tables) (state g new_tables)
+        (MadeBy g (life_row new ∷ []) old_tables)
         → MakesRoom old new old_tables new_tables
 
   -- The tables have room for all that the server knows.

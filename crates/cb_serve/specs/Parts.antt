@@ -109,7 +109,8 @@ module _ {S : Type 0} (g : Ghosts S) where
 
   -- No room was found for whom the server knew once it had taken these pieces; nothing was put out.
   pub record FindsNoRoom (fault : RoundFault) (old : ServerValue) (bytes : List ℕ)
-      (life : LifeState) (old_tables new_tables : Held S) (old_out new_out : Option (List ℕ)) : Type 0 where
+      (life : LifeState) (old_tables new_tables : Held S) (old_out new_out : Option (List ℕ))
+      : Type 0 where
     pub pieces : List Piece
     pub rest : List ℕ
     pub are : AllByRecursion (IsPiece old.limits) pieces
@@ -184,13 +185,16 @@ module _ {S : Type 0} (g : Ghosts S) where
       (new ≡ old) × Consumes old_in new_in [] × IsAtEnd new_in × (new_out ≡ old_out)
       × (new_life ≡ old_life)
   EndsRound limits end.GoesOn old new old_life new_life old_in new_in old_out new_out =
-      DoesRound limits old new old_life new_life old_in new_in old_out new_out × IsPart limits new.waiting
+      DoesRound limits old new old_life new_life old_in new_in old_out new_out
+      × IsPart limits new.waiting
   EndsRound limits end.NoFrame old new old_life new_life old_in new_in old_out new_out =
-      DoesRound limits old new old_life new_life old_in new_in old_out new_out × IsNoFrame limits new.waiting
+      DoesRound limits old new old_life new_life old_in new_in old_out new_out
+      × IsNoFrame limits new.waiting
 
   -- A round was begun and not finished, behind less than a whole piece.
   pub record StopsRound (limits : Bounds) (fault : RoundFault) (old : Standing S)
-      (life : LifeState) (tables : Held S) (old_in new_in old_out new_out : Option (List ℕ)) : Type 0 where
+      (life : LifeState) (tables : Held S) (old_in new_in old_out new_out : Option (List ℕ))
+      : Type 0 where
     pub read : List ℕ
     pub reads : Consumes old_in new_in read
     pub put : List ℕ

@@ -72,9 +72,9 @@ module _ {S : Type 0} (g : Ghosts S) (limits : Bounds) where
   LeavesBatch batch old new = Survives (state g old) (state g new) (λ trees.
       IfSome batch (λ b. Wrote g b old trees))
 
-  -- A round: something is read; the bytes are cut into pieces and a rest that is no whole one; the protocol's server is
-  -- called with the pieces; all that is committed is written; and the commits are on disk when the
-  -- Dones are said.
+  -- A round: something is read; the bytes are cut into pieces and a rest that is no whole one; the
+  -- protocol's server is called with the pieces; all that is committed is written; and the commits
+  -- are on disk when the Dones are said.
   pub record IsRound (round : Round) (old new : Standing S) : Type 0 where
     pub some : round.read ≢ []
     pub are : AllByRecursion (IsPiece limits) round.pieces
@@ -82,9 +82,11 @@ module _ {S : Type 0} (g : Ghosts S) (limits : Bounds) where
     pub rest : IsRest limits new.waiting
     pub passed : new.passed ≡ counted_on old.passed (count_passed round.pieces)
     pub answers : Spells limits (said_to old.server (inputs_in round.pieces)) round.answers
-    pub batch : next_batch (after_inputs old.server (inputs_in round.pieces)) ≡ option_map batch_of round.batch
+    pub batch : next_batch (after_inputs old.server (inputs_in round.pieces))
+        ≡ option_map batch_of round.batch
     pub written : Writes round.batch old.tables new.tables
     pub crash : LeavesBatch round.batch old.tables new.tables
-    pub dones : SaysDones limits (after_inputs old.server (inputs_in round.pieces)) round.batch round.dones
+    pub dones : SaysDones limits (after_inputs old.server (inputs_in round.pieces)) round.batch
+        round.dones
     pub server : new.server ≡ reached (after_inputs old.server (inputs_in round.pieces)) round.batch
     pub all_on_disk : next_batch new.server ≡ None

@@ -44,8 +44,8 @@ abbrev pub HoldsStore : {S : Type 0} → Ghosts S → StoreState → Held S → 
 HoldsStore g store tables = HasCleanDisk (state g tables) → IsTrue (state g tables).is_open
     → HoldsNewer (state g tables).now store
 
--- The cause of a round that wasn't finished: a read was refused, which gave nothing; or something was
--- read. A call that was refused wasn't interrupted, or as often in a row as 64 bits can count.
+-- The cause of a round that wasn't finished: a read was refused, which gave nothing; or something
+-- was read. A call that was refused wasn't interrupted, or as often in a row as 64 bits can count.
 abbrev pub HasCause : RoundFault → (read : List ℕ) → Type 0
 HasCause (round.Input refusal) read = IsFinal refusal × (read ≡ [])
 HasCause (round.Output refusal) read = IsFinal refusal × (read ≢ [])
@@ -155,7 +155,8 @@ module _ {S : Type 0} (g : Ghosts S) (limits : Bounds) where
 
   -- Rounds from there on, and how they end.
   pub record Serves {E : Type 0} (ending : Result E ServeFault) (old : Standing S)
-      (life : LifeState) (tables : Held S) (old_in new_in old_out new_out : Option (List ℕ)) : Type 0 where
+      (life : LifeState) (tables : Held S) (old_in new_in old_out new_out : Option (List ℕ))
+      : Type 0 where
     pub rounds : List Round
     pub last : Standing S
     pub last_life : LifeState
@@ -169,7 +170,8 @@ module _ {S : Type 0} (g : Ghosts S) (limits : Bounds) where
   -- Rounds over a store that the tables hold: the first of them begins with the server of a life
   -- over it, and with these tables.
   pub record ServesStore {E : Type 0} (store : StoreState) (life : LifeState)
-      (ending : Result E ServeFault) (old new : Held S) (old_in new_in old_out new_out : Option (List ℕ)) : Type 0 where
+      (ending : Result E ServeFault) (old new : Held S)
+      (old_in new_in old_out new_out : Option (List ℕ)) : Type 0 where
     pub holds : HoldsStore g store old
     pub serves : Serves ending
         (record { server = opened limits store life.floor; waiting = []; passed = 0; tables = old })

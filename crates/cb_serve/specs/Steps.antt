@@ -11,8 +11,8 @@ use Rattle.cb_serve.specs.declared.taking.Step.{Step}
 use Rattle.cb_serve.specs.declared.taking.Step.TheVariants as step
 use Rattle.cb_serve.specs.declared.taking.Taken.{Taken}
 
--- what became of the first piece of the bytes, if that is whole: it was taken, and `said` is what is
--- said to it
+-- what became of the first piece of the bytes, if that is whole: it was taken, and `said` is what
+-- is said to it
 abbrev pub TakesFront : ServerValue → List ℕ → Step → (said : List ℕ) → ServerValue → Type 0
 TakesFront old bytes (step.Taken used count) said new = (0 < used) × (piece : Piece)
     × TakesPieces old bytes (piece ∷ []) used said new × (count ≡ count_passed (piece ∷ []))

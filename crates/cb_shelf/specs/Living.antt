@@ -36,7 +36,8 @@ below_text = codes "SELECT below FROM life WHERE id = 1"
 -- they have no such table.
 abbrev pub TellsBelow : Database → ℕ → Type 0
 TellsBelow db below =
-    ((can_answer db.schema below_text ≡ true) × RepliesRow db (question below_text) (number_values below))
+    ((can_answer db.schema below_text ≡ true)
+    × RepliesRow db (question below_text) (number_values below))
     ⊎ ((can_answer db.schema below_text ≡ false) × (below ≡ unkept_below))
 
 -- the table is there, and doesn't tell a number

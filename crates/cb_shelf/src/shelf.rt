@@ -1,5 +1,6 @@
 //! The shelf.
-ghost use Rattle.std.specs.Prelude.{◌≡◌, ◌≢◌, ◌≤◌, ◌<◌, ◌==◌, ◌↔◌, [], ◌∷◌, if◌then◌else◌, Some, None};
+ghost use Rattle.std.specs.Prelude.{◌≡◌, ◌≢◌, ◌≤◌, ◌<◌, ◌==◌, ◌↔◌, [], ◌∷◌, if◌then◌else◌, Some};
+ghost use Rattle.std.specs.Prelude.{None};
 ghost use Rattle.std.specs.Prelude.{Err, IsTrue};
 ghost use Rattle.std.specs.Prelude.{IfOk, IfErr, OnOk, OnErr};
 ghost use Rattle.sqlite.specs.State.{HasCleanDisk, Survives};
@@ -156,8 +157,8 @@ impl<S: Alter> Shelf<S> {
         raise(&mut self.conn, life, incarnation)
     }
 
-    /// Sets the pages and the number of a batch, in one transaction. The answer says that the tables
-    /// hold it.
+    /// Sets the pages and the number of a batch, in one transaction. The answer says that the
+    /// tables hold it.
     pub fn write(&mut self, batch: &Batch) -> Result<Written, ShelfFault>
         ensures number { IfOk result (λ written. written ≡ batch.now.number) }
         ensures limits { self.new.limits ≡ self.old.limits }

@@ -156,7 +156,8 @@ life_rows older db = filter (is_of_page 1) (db.trees (life_tree older))
 -- what the row says
 abbrev pub IsLife : Bool → Database → LifeState → Type 0
 IsLife older db life =
-    life_rows older db ≡ (Int (pos 1) ∷ Null ∷ Int (pos life.floor) ∷ Int (pos life.below) ∷ []) ∷ []
+    life_rows older db
+    ≡ (Int (pos 1) ∷ Null ∷ Int (pos life.floor) ∷ Int (pos life.below) ∷ []) ∷ []
 
 -- The row of life says this; the other tables have the rows that they had.
 pub record PutsLife (older : Bool) (life : LifeState) (before after : Database) : Type 0 where

@@ -81,7 +81,8 @@ fn put_part<S: Alter>(
 ) -> Result<(), ShelfFault>
     requires { place < part_count (length bytes.now) }
     ensures same_reference { tx.new.conn.ghost_name ≡ tx.old.conn.ghost_name }
-    ensures inside { Inside S.Store (MakesAll S.Store (part_statement rows page bytes.now place ∷ []))
+    ensures inside { Inside S.Store
+        (MakesAll S.Store (part_statement rows page bytes.now place ∷ []))
         tx.old.conn.now tx.new.conn.now result }
     ensures fault { result ≢ Err ShelfFault.Shape }
 {

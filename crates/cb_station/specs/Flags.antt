@@ -18,7 +18,7 @@ abbrev pub is_over : Flags → Bool
 is_over flags = flags.halted || (flags.closed && flags.working == 0)
 
 -- Whether calls of `work` may have left jobs undone: the station is halted, or such calls are still
--- to end that it is for (this project's). Once no call of `work` commits any more, one that is still
--- to end never begins.
+-- to end that it is for (this project's). Once no call of `work` commits any more, one that is
+-- still to end never begins.
 abbrev pub is_cut_off : Flags → Bool
 is_cut_off flags = flags.halted || nat_lt 0 flags.left

@@ -66,7 +66,8 @@ halted station clients = with_untold (record station {
 abbrev pub NoticesNext : WindowState → (before after : Clients) → Type 0
 NoticesNext window before after =
     (NoneIsNext window × (after ≡ before))
-    ⊎ ((next : ℕ) × IsNextIn window next × ((client : ℕ) → has after client ≡ with before next client))
+    ⊎ ((next : ℕ) × IsNextIn window next
+    × ((client : ℕ) → has after client ≡ with before next client))
 
 -- A try ended so, and then all who were to be told were: among them who is to be let in next.
 pub record EndsTry (before : StationState) (end : TryEnd) (after : StationState) : Type 0 where

@@ -1,6 +1,7 @@
 -- Which public calls are steps, by what their contracts say. Each has the clauses of one call as
 -- premises, and says which step it is, of whatever program it was called in.
-use Rattle.std.specs.Prelude.{◌≡◌, ◌≤◌, ◌∷◌, ℕ, true, List, [], Bool, Option, Some, None, Result, Ok}
+use Rattle.std.specs.Prelude.{◌≡◌, ◌≤◌, ◌∷◌, ℕ, true, List, [], Bool, Option, Some, None, Result}
+use Rattle.std.specs.Prelude.{Ok}
 use Rattle.std.specs.Prelude.{⊤, replicate}
 use Rattle.cb_client.specs.CallAnswers.{Begins, Writes}
 use Rattle.cb_client_core.specs.ClientState.{IsClient}

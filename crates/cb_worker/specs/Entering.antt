@@ -96,8 +96,8 @@ abbrev pub LeavesAndTells : StationState → HandState → Result ⊤ (OfficeFau
 LeavesAndTells before hand result after = (left : StationState)
     × Left before hand result left × Tells left after
 
--- a client that comes with limits of its own joins where these are the station's; else it is refused
--- as Foreign, and nothing changes
+-- a client that comes with limits of its own joins where these are the station's; else it is
+-- refused as Foreign, and nothing changes
 abbrev pub JoinsWith : StationState → (limits : Bounds) → (client : ℕ)
     → Result HandState OfficeFault → StationState → Type 0
 JoinsWith before limits client result after =

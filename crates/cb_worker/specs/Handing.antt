@@ -12,8 +12,8 @@ use Rattle.cb_worker.specs.Workers.{IsIdle, WorkerState, seen_by}
 use Rattle.cb_worker.specs.declared.answers.Finished.{Finished}
 use Rattle.cb_worker.specs.declared.answers.Finished.TheVariants as finished
 
--- Once it had served, its commit was handed in, at a station of which all holds that always does. It
--- says exactly what the transaction had written, by the grants by which it had read.
+-- Once it had served, its commit was handed in, at a station of which all holds that always does.
+-- It says exactly what the transaction had written, by the grants by which it had read.
 pub record HandedCommitIn (old : WorkerState) : Type 0 where
   pub served : WorkerState
   pub still : IsStill old served

@@ -213,7 +213,8 @@ pub extern "C" fn rughvadi_client_write(
     ensures held { result ≡ 0 → h.old.live ≡ true }
     ensures done { result ≡ 0 → Writes h.old.held.value page bytes.now h.new.held.value }
     ensures left { result ≢ 0 → h.old.live ≡ true → IsLeft h.old.held.value h.new.held.value }
-    ensures why { h.old.live ≡ true → IsAnswer (write_cause h.old.held.value page bytes.now) never result }
+    ensures why { h.old.live ≡ true
+        → IsAnswer (write_cause h.old.held.value page bytes.now) never result }
     ensures empty { h.old.live ≡ false → result ≡ 769 }
 {
     let Some(mut b) = h.take(alloc) else {

@@ -1,6 +1,7 @@
 //! A server's calls.
 ghost use Rattle.std.specs.Prelude.{◌≡◌, ◌≢◌, IfOk, false, length, true};
-ghost use Rattle.cb_handle.specs.Causes.{Decides, IsAnswer, batch_cause, flushed_cause, forget_cause};
+ghost use Rattle.cb_handle.specs.Causes.{Decides, IsAnswer, batch_cause, flushed_cause};
+ghost use Rattle.cb_handle.specs.Causes.{forget_cause};
 ghost use Rattle.cb_handle.specs.Causes.{incarnation_cause, leave_cause, memory, never, page_cause};
 ghost use Rattle.cb_handle.specs.Causes.{server_cause};
 ghost use Rattle.cb_handle.specs.Objects.{CanFlush, Flushes, Forgets, IsLeft};
@@ -74,7 +75,8 @@ pub extern "C" fn rughvadi_server_incarnation(
     ensures held { result ≡ 0 → h.old.live ≡ true }
     ensures done { result ≡ 0 → IsNextIncarnation h.old.held.value client incarnation.new }
     ensures same { h.old.live ≡ true → h.new.held.value ≡ h.old.held.value }
-    ensures why { h.old.live ≡ true → IsAnswer (incarnation_cause h.old.held.value client) never result }
+    ensures why { h.old.live ≡ true
+        → IsAnswer (incarnation_cause h.old.held.value client) never result }
     ensures incarnation { result ≢ 0 → incarnation.new ≡ incarnation.old }
     ensures empty { h.old.live ≡ false → result ≡ 769 }
 {
@@ -154,7 +156,8 @@ pub extern "C" fn rughvadi_server_flushed(alloc: Global, h: &mut Handle, number:
     ensures held { result ≡ 0 → h.old.live ≡ true }
     ensures done { result ≡ 0 → Flushes h.old.held.value number h.new.held.value }
     ensures left { result ≢ 0 → h.old.live ≡ true → IsLeft h.old.held.value h.new.held.value }
-    ensures why { h.old.live ≡ true → IsAnswer (flushed_cause h.old.held.value number) memory result }
+    ensures why { h.old.live ≡ true
+        → IsAnswer (flushed_cause h.old.held.value number) memory result }
     ensures empty { h.old.live ≡ false → result ≡ 769 }
 {
     let Some(mut b) = h.take(alloc) else {

@@ -1,6 +1,7 @@
 //! The calls of a client.
 ghost use Rattle.std.specs.Prelude.{◌≡◌, IfOk, None, OnErr, length};
-ghost use Rattle.cb_handle.specs.Causes.{Decides, begin_cause, drop_cause, finish_cause, finish_may};
+ghost use Rattle.cb_handle.specs.Causes.{Decides, begin_cause, drop_cause, finish_cause};
+ghost use Rattle.cb_handle.specs.Causes.{finish_may};
 ghost use Rattle.cb_handle.specs.Causes.{hello_cause, memory, never, peek_cause, read_cause};
 ghost use Rattle.cb_handle.specs.Causes.{unknown_client, want_cause, write_cause};
 ghost use Rattle.cb_handle.specs.Objects.{Begins, Clients, Drops, Finishes, Greets, IsLeft, Peeks};

@@ -193,8 +193,8 @@ fn commits_page(alloc: Global, limits: &Limits, server: &mut Server) -> Option<[
     ])
 }
 
-/// Whether the batch is refused under a limit of one step, with the tables as before, and is written
-/// without one.
+/// Whether the batch is refused under a limit of one step, with the tables as before, and is
+/// written without one.
 fn is_refused_once<S: Alter>(
     alloc: Global,
     limits: &Limits,

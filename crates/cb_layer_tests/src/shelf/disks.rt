@@ -8,8 +8,8 @@ use sqlite::{Alter, Connection, FileStore, Files, Options};
 use sqlite_disk::{Crash, Fuse, Memory};
 use std::alloc::Global;
 
-/// A database is opened, texts run over it, and a shelf of these limits is opened; this is done to it
-/// then.
+/// A database is opened, texts run over it, and a shelf of these limits is opened; this is done to
+/// it then.
 #[derive(Clone, Copy)]
 pub(crate) struct Session<'a> {
     pub(crate) limits: &'a Limits,
@@ -105,8 +105,8 @@ fn connect(
     }
 }
 
-/// The store of a connection. It has no clause: of a store over files the prover takes half a minute
-/// for those of `into_store`.
+/// The store of a connection. It has no clause: of a store over files the prover takes half a
+/// minute for those of `into_store`.
 fn store_of<S: Alter + Drop>(conn: Connection<S>) -> S {
     conn.into_store()
 }

@@ -39,8 +39,8 @@ pub(crate) const NONE: Faults<'static> = Faults {
     clock: None,
 };
 
-/// Room for all pages of the tables, which an open clears; and a short log, since a sync of a disk in
-/// memory copies it. Without proofs more of either takes most of the tests' time.
+/// Room for all pages of the tables, which an open clears; and a short log, since a sync of a disk
+/// in memory copies it. Without proofs more of either takes most of the tests' time.
 const SHORT: Options = Options {
     cache_pages: 32,
     spill_pages: 2000,
@@ -62,8 +62,8 @@ fn connect<D: Disk + Drop>(
     }
 }
 
-/// The store of a connection. It has no clause: of a store over files the prover takes half a minute
-/// for those of `into_store`.
+/// The store of a connection. It has no clause: of a store over files the prover takes half a
+/// minute for those of `into_store`.
 fn store_of<S: Alter + Drop>(conn: Connection<S>) -> S {
     conn.into_store()
 }

@@ -60,8 +60,8 @@ fn commit_first<R: Wait>(rt: &R, alloc: Global, office: &Office) {
     }
 }
 
-/// Client 0 joins and commits, and waits until the office is closed, which who is told of the commit
-/// does. Where it can't commit the office is halted.
+/// Client 0 joins and commits, and waits until the office is closed, which who is told of the
+/// commit does. Where it can't commit the office is halted.
 fn commit_and_wait<R: Wait>(rt: &R, alloc: Global, office: &Office) {
     let joined = office.lock(rt).join(alloc, ClientNo::new(0));
     let Ok(mut hand) = joined else {

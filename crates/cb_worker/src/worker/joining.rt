@@ -1,5 +1,5 @@
-//! A client joins the office, begins another incarnation, and leaves, each under the lock. Who is to
-//! be told of it is told there.
+//! A client joins the office, begins another incarnation, and leaves, each under the lock. Who is
+//! to be told of it is told there.
 ghost use Rattle.cb_worker.specs.Entering.{JoinsAndTells, JoinsSome, JoinsWith, LeavesAndTells};
 ghost use Rattle.cb_worker.specs.Entering.{LeavesSome, RestartsAndTells, RestartsSome};
 ghost use Rattle.cb_worker.specs.Entering.{TriesToLeave};
